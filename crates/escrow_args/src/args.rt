@@ -13,11 +13,11 @@ use std::convert::AsStr;
 /// What the program is asked to do.
 #[derive(Clone, Copy, Debug, PartialEq, Eq)]
 pub enum Mode {
-    /// To serve a script, line after line.
+    /// Serve a script, line after line.
     Run,
-    /// To serve a script phase by phase, the sessions of a phase at the same time.
+    /// Serve a script phase by phase, with the sessions of a phase at the same time.
     Free,
-    /// To serve lines, one after another, until its input ends.
+    /// Serve lines, one after another, until the input ends.
     Serve,
 }
 
@@ -26,24 +26,26 @@ pub enum Mode {
 pub struct Args {
     /// What it is to do.
     pub mode: Mode,
-    /// The file of the first database's store, if stores are in files. A further database's has the
-    /// same path with a point and its number behind it.
+    /// The file of the first database's store, if stores are in files. A further database's file
+    /// has the same path, a point and the database's number.
     pub path: Option<Text>,
     /// How many databases there are, from 1 to 16.
     pub databases: u8,
 }
 
-/// Why there are no arguments to go on with.
+/// Why there are no arguments to continue with.
 #[derive(Drop)]
 pub struct ArgFault {
-    /// The exit status: 0 where help or the version is asked, 1 for want of memory, 2 for a mistake.
+    /// The exit status: 0 if help or the version is asked for, 1 if memory is refused, 2 for a
+    /// mistake.
     pub status: u8,
-    /// The text to print: help or the version, or what is wrong with the words. Empty for want of memory.
+    /// The text to print: help or the version, or what is wrong with the words. Empty if memory is
+    /// refused.
     pub text: Text,
 }
 
 impl ArgFault {
-    /// Returns the fault where memory was refused. Takes no memory.
+    /// Returns the fault of refused memory. Takes no memory.
     fn memory(alloc: Global) -> Self
         ensures { result ≡ no_memory }
     {
@@ -54,15 +56,16 @@ impl ArgFault {
     }
 }
 
-/// Reads the words of a command line, the program's name first: `run`, `free` or `serve`, `--store PATH`, which may be
-/// left out, and `--databases N` with N from 1 to 16, which is 1 where it isn't given.
+/// Reads the words of a command line, beginning with the program's name. They are `run`, `free` or
+/// `serve`, an optional `--store PATH`, and an optional `--databases N`, with N from 1 to 16 and 1
+/// by default.
 ///
 /// # Errors
 ///
-/// Help or the version where the words ask for it, a mistake where anything is wrong with them, and want of memory,
-/// which may come at any words.
+/// Returns help or the version if the words ask for it, and a mistake if anything is wrong with
+/// them. Memory may be refused for any words.
 pub fn read_args<S: AsStr>(alloc: Global, words: &[S]) -> Result<Args, ArgFault>
-    // Words that ask are refused for want of memory alone, and others always.
+    // Valid words fail only if memory is refused, and all others always fail.
     ensures asked { (args : Args) → asked_by (map S.text words.now) ≡ Some args
         → MatchResult result (λ read. read ≡ args) (λ fault. fault ≡ no_memory) }
     ensures refused { asked_by (map S.text words.now) ≡ None
@@ -75,7 +78,7 @@ pub fn read_args<S: AsStr>(alloc: Global, words: &[S]) -> Result<Args, ArgFault>
     }
 }
 
-/// The words, as clap matches them.
+/// Returns the words, as clap matches them.
 fn parsed<'a, S: AsStr>(alloc: Global, words: &'a [S]) -> Result<ArgMatches<'a>, Error>
     ensures rows { IfOk result (λ matches. rows_of (found_of matches) ≡ matches_of app (map S.text words.entry.now)) }
     ensures kinds { FailsBy (faults_of (map S.text words.entry.now)) result }
@@ -84,7 +87,7 @@ fn parsed<'a, S: AsStr>(alloc: Global, words: &'a [S]) -> Result<ArgMatches<'a>,
     command.try_get_matches_from(words)
 }
 
-/// The command line of the program.
+/// Returns the command line of the program.
 fn command<'a>(alloc: Global) -> Result<Command<'a>, AllocError>
     ensures { IfOk result (λ command. app_of command ≡ app) }
 {
@@ -98,7 +101,7 @@ fn command<'a>(alloc: Global) -> Result<Command<'a>, AllocError>
         .arg(databases_arg(alloc))
 }
 
-/// The mode.
+/// Returns the mode.
 fn mode_arg<'a>(alloc: Global) -> Arg<'a>
     ensures rule { rule_of result ≡ mode_rule }
     ensures local { result.global ≡ false }
@@ -112,7 +115,7 @@ fn mode_arg<'a>(alloc: Global) -> Arg<'a>
         )
 }
 
-/// `--store PATH`.
+/// Returns `--store PATH`.
 fn store_arg<'a>(alloc: Global) -> Arg<'a>
     ensures rule { rule_of result ≡ store_rule }
     ensures local { result.global ≡ false }
@@ -126,7 +129,7 @@ fn store_arg<'a>(alloc: Global) -> Arg<'a>
         )
 }
 
-/// `--databases N`.
+/// Returns `--databases N`.
 fn databases_arg<'a>(alloc: Global) -> Arg<'a>
     ensures rule { rule_of result ≡ databases_rule }
     ensures local { result.global ≡ false }
@@ -175,7 +178,7 @@ which case nothing was read.
 Later versions add statements, answer those of this one as it does, and read the
 stores that it wrote. --version prints which one this is.";
 
-/// The arguments that the values ask, or what is wrong with a value.
+/// Returns the arguments of the values, or what is wrong with a value.
 fn asked(alloc: Global, matches: &ArgMatches<'_>) -> Result<Args, ArgFault>
     ensures values { MatchResult result (λ args. values_ask (rows_of (found_of matches.now)) ≡ Some args)
         (λ fault. (fault ≡ no_memory) ⊎ ((values_ask (rows_of (found_of matches.now)) ≡ None) × (fault.status ≡ 2))) }
@@ -197,7 +200,7 @@ fn asked(alloc: Global, matches: &ArgMatches<'_>) -> Result<Args, ArgFault>
     }
 }
 
-/// The path that a value asks, if there is one.
+/// Returns the path of a value, if there is one.
 fn path_of(alloc: Global, value: Option<&str>) -> Result<Option<Text>, AllocError>
     ensures { IfOk result (λ path. path ≡ option_map (λ s. s.now) value.entry) }
 {
@@ -207,7 +210,7 @@ fn path_of(alloc: Global, value: Option<&str>) -> Result<Option<Text>, AllocErro
     }
 }
 
-/// The mode of a name.
+/// Returns the mode with this name.
 fn mode_of(name: Option<&str>) -> Option<Mode>
     ensures { result ≡ mode_of (option_map (λ s. s.now) name.entry) }
 {
@@ -219,8 +222,8 @@ fn mode_of(name: Option<&str>) -> Option<Mode>
     }
 }
 
-/// How many databases a value asks, from 1 to 16: a number as Rust reads a `u8`, so `+3` and
-/// `00000016` are taken.
+/// Returns the number of databases of a value, from 1 to 16. The number is read as Rust reads a
+/// `u8`, so `+3` and `00000016` are accepted.
 fn databases_of(value: Option<&str>) -> Option<u8>
     ensures value { result ≡ databases_of (option_map (λ s. s.now) value.entry) }
     ensures range { IfSome result (λ count. (1 ≤ count) × (count ≤ MAX_DATABASES)) }
@@ -236,7 +239,7 @@ fn databases_of(value: Option<&str>) -> Option<u8>
     }
 }
 
-/// What a parse without matches gives to print.
+/// Returns what to print for a parse without matches.
 fn fault_of(alloc: Global, error: &Error) -> ArgFault
     ensures status { (result ≡ no_memory) ⊎ (result.status ≡ status_of (kind_of error.now)) }
     ensures memory { kind_of error.now ≡ ErrorKind.OutOfMemory → result ≡ no_memory }
@@ -254,12 +257,13 @@ fn fault_of(alloc: Global, error: &Error) -> ArgFault
     }
 }
 
-/// The text without clap's word for an error in front.
+/// Returns the text without clap's word for an error at its beginning.
 fn without_prefix(text: &str) -> &str {
     text.strip_prefix("error: ").unwrap_or(text)
 }
 
-/// The fault of words that clap refuses with a text. A word too many is most likely a script's file.
+/// Returns the fault of words that clap refuses with a text. An extra word is most likely a
+/// script's file.
 fn wrong_words(alloc: Global, text: &str) -> ArgFault
     ensures { (result ≡ no_memory) ⊎ (result.status ≡ 2) }
 {
@@ -271,28 +275,29 @@ fn wrong_words(alloc: Global, text: &str) -> ArgFault
     }
 }
 
-/// How clap's text of a word too many begins.
+/// The beginning of clap's text for an extra word.
 const WORD: &str = "unexpected argument '";
 
-/// What is said between that text and the usage.
+/// The text between that and the usage.
 const FILE_TIP: &str = "
   tip: a script is read from standard input, as in 'escrowd run < FILE'
 ";
 
-/// Whether a text of clap's is of a word too many that is no option.
+/// Returns whether a text of clap's is about an extra word that is no option.
 fn names_a_file(text: &str) -> bool {
     text.strip_prefix(WORD)
         .is_some_and(|word| !word.starts_with('-'))
 }
 
-/// The fault of words that are wrong, and a text says why.
+/// Returns the fault of wrong words, with a text that says why.
 fn wrong(alloc: Global, text: &str) -> ArgFault
     ensures { (result ≡ no_memory) ⊎ (result.status ≡ 2) }
 {
     mistake(alloc, String::from_str(alloc, text))
 }
 
-/// The fault of words that are wrong, with the text that says why, or of memory where it was refused for the text.
+/// Returns the fault of wrong words, with the text that says why, or that of memory if it was
+/// refused for the text.
 fn mistake(alloc: Global, text: Result<String, AllocError>) -> ArgFault
     ensures { (result ≡ no_memory) ⊎ (result.status ≡ 2) }
 {

@@ -1,7 +1,10 @@
 //! The arguments of the program.
 //!
-//! Its one contract: [`read_args`] returns what the words of a command line ask for, by clap's definition of a simple
-//! command, or the text and the exit status with which the program ends.
+//! Its main contract is that of [`read_args`]: it returns what the words of a command line ask for,
+//! by clap's definition of a simple command. Otherwise it returns the text and the exit status with
+//! which the program ends.
+//!
+//! Begin with [`read_args`].
 #![tactic(auto)]
 
 mod args;

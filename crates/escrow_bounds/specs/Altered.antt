@@ -1,4 +1,4 @@
--- Believed: what becomes of the places of a table whose checks are altered.
+-- Believed: how places change when the checks of their table are altered.
 use Rattle.std.specs.Prelude.{◌≡◌, ℕ, ℤ, true, false, Option, Some, None, List, bytes_eq, remove}
 use Rattle.escrow_num.specs.declared.reservation.Reservation.{Reservation}
 use Rattle.escrow_num.specs.declared.value.RowName.{RowName}
@@ -8,12 +8,12 @@ use Rattle.escrow_bounds.specs.Held.{of_row}
 use Rattle.escrow_bounds.specs.Kept.{Kept, checks_of}
 use Rattle.escrow_bounds.specs.Places.{Places, place_at}
 
--- where there was a place there still is one, which comes of the old one so; where there was none there is none
+-- if there was a place, there still is one, which follows from the old one by Step; if there was none, there is none
 abbrev pub Goes : (Kept → Kept → Type 0) → Option Kept → Option Kept → Type 0
 Goes Step None after = after ≡ None
 Goes Step (Some old) after = (new : Kept) × (after ≡ Some new) × Step old new
 
--- the places of a table's rows come of the old ones so, each as its row says, and those of other tables stay
+-- the places of a table's rows follow from the old ones by each row's Step, and those of other tables stay as they are
 pub record TableGoes (table : List ℕ) (Step : RowName → Kept → Kept → Type 0) (old new : Places) : Type 0 where
   pub own : (row : RowName) → bytes_eq row.table table ≡ true → Goes (Step row) (place_at old row) (place_at new row)
   pub others : (row : RowName) → bytes_eq row.table table ≡ false → place_at new row ≡ place_at old row
@@ -30,18 +30,18 @@ pub record IsOver (checks : List Check) (reservations : List (List ℤ)) (old ne
   pub checks_are : checks_of new.checks ≡ checks
   pub counts : Counts new reservations
 
--- an addition has a place for each row of a table that has one, over these checks, which counts those of the held
--- reservations that are of the row; and no others
+-- an addition has a place for each row of a table that has one, over these checks, which counts the held reservations
+-- of the row; and it has no others
 pub record ArePrepared (table : List ℕ) (checks : List Check) (held : List Reservation) (places addition : Places) : Type 0 where
   pub own : (row : RowName) → bytes_eq row.table table ≡ true → Goes (IsOver checks (of_row row held)) (place_at places row) (place_at addition row)
   pub others : (row : RowName) → bytes_eq row.table table ≡ false → place_at addition row ≡ None
 
--- what an addition makes of a place that there is: its own place of the row, where it has one
+-- how an addition changes a place that exists: it replaces the place if it has one for the row
 abbrev pub adopted : Option Kept → Option Kept → Option Kept
 adopted None old = old
 adopted (Some place) None = None
 adopted (Some place) (Some old) = Some place
 
--- each place that there was is the addition's, where that has one of its row, or stays
+-- each place is replaced by the addition's place for its row, or stays if there is none
 abbrev pub Adopts : Places → Places → Places → Type 0
 Adopts addition old new = (row : RowName) → place_at new row ≡ adopted (place_at addition row) (place_at old row)

@@ -1,4 +1,4 @@
--- Believed: where the place of a row stands among all.
+-- Believed: the index of a row's place among all places.
 use Rattle.std.specs.Prelude.{◌≡◌, ℕ, Some, option_map, slice_get}
 use Rattle.escrow_num.specs.declared.value.RowName.{RowName}
 use Rattle.escrow_bounds.specs.Kept.{Kept}

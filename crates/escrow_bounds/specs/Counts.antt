@@ -1,4 +1,4 @@
--- Believed: which reservations a place counts, and what a call changes of it.
+-- Believed: which reservations a place counts, and how a call changes that.
 use Rattle.std.specs.Prelude.{◌≡◌, ℤ, Bool, false, not, nat_eq, Option, List, [], ◌∷◌, ◌++◌, length}
 use Rattle.std.specs.List.{AllByRecursion}
 use Rattle.std.specs.Option.{option_map_or}
@@ -13,12 +13,12 @@ use Rattle.escrow_bounds.specs.Moved.{amounts_after}
 abbrev pub HaveSums : List Tracked → List (List ℤ) → Type 0
 HaveSums forms reservations = AllByRecursion (λ (form : Tracked). IsSpread form.check.coeffs reservations form.spread) forms
 
--- a place counts these reservations: its number is theirs, and its spreads are. Their order doesn't matter: a
--- reservation is put and taken wherever it stands among them (TakesIn, GivesBack)
+-- a place counts these reservations: its number and its spreads are theirs. Their order doesn't matter: a reservation
+-- is added and removed at any place among them (TakesIn, GivesBack)
 abbrev pub Counts : Kept → List (List ℤ) → Type 0
 Counts place reservations = (place.count ≡ length reservations) × HaveSums place.checks reservations × HaveSums place.columns reservations
 
--- there is a place, and it counts a reservation
+-- whether there is a place that counts a reservation
 abbrev pub is_counting : Option Kept → Bool
 is_counting place = option_map_or (λ (kept : Kept). not (nat_eq kept.count 0)) place false
 
@@ -28,13 +28,13 @@ pub record IsNew (amounts : List ℤ) (checks : List Check) (place : Kept) : Typ
   pub checks_are : checks_of place.checks ≡ checks
   pub counts : Counts place []
 
--- a place counts changes besides those that it counted
+-- a place counts changes in addition to those that it counted
 pub record TakesIn (changes : List ℤ) (old new : Kept) : Type 0 where
   pub amounts : new.amounts ≡ old.amounts
   pub checks : checks_of new.checks ≡ checks_of old.checks
   pub counts : (before after : List (List ℤ)) → Counts old (before ++ after) → Counts new (before ++ changes ∷ after)
 
--- a place counts changes no more, and where they are committed the amounts have them
+-- a place no longer counts changes, and if they are committed its amounts include them
 pub record GivesBack (end : End) (changes : List ℤ) (old new : Kept) : Type 0 where
   pub amounts : new.amounts ≡ amounts_after end old.amounts changes
   pub checks : checks_of new.checks ≡ checks_of old.checks

@@ -1,4 +1,4 @@
--- Believed: what is left of places when reservations have ended.
+-- Believed: which places remain after reservations have ended.
 use Rattle.std.specs.Prelude.{◌≡◌, ℤ, Some, List}
 use Rattle.escrow_num.specs.declared.reservation.Reservation.{Reservation}
 use Rattle.escrow_num.specs.declared.session.End.{End}
@@ -8,14 +8,14 @@ use Rattle.escrow_bounds.specs.Kept.{Kept, checks_of}
 use Rattle.escrow_bounds.specs.Moved.{amounts_after_all}
 use Rattle.escrow_bounds.specs.Places.{Places, place_at}
 
--- a place when reservations with such changes have ended: the checks are the same, and the amounts have
--- what was committed
+-- a place after reservations with these changes have ended: the checks are the same, and the amounts include what was
+-- committed
 pub record HasEnded (end : End) (ended : List (List ℤ)) (old new : Kept) : Type 0 where
   pub checks : checks_of new.checks ≡ checks_of old.checks
   pub amounts : new.amounts ≡ amounts_after_all end old.amounts ended
 
--- places when reservations have ended: each that there is was there before, and those of its row have
--- ended
+-- places after reservations have ended: each that exists existed before, and the ended reservations of its row have
+-- ended in it
 abbrev pub AreEnded : End → List Reservation → Places → Places → Type 0
 AreEnded end ended old new =
     (row : RowName) (place : Kept) → place_at new row ≡ Some place → (before : Kept) × (place_at old row ≡ Some before) × HasEnded end (of_row row ended) before place

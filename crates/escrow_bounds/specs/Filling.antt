@@ -11,7 +11,7 @@ use Rattle.escrow_bounds.specs.Places.{Places, place_at}
 abbrev pub of_table : List ℕ → List Reservation → List Reservation
 of_table table held = filter (λ r. bytes_eq r.row.table table) held
 
--- a place of a row is over these checks, and has the amounts of the one that the row has among other places
+-- a place of a row is over these checks, and has the amounts that the row's place among other places has
 pub record IsCopied (table : List ℕ) (checks : List Check) (places : Places) (row : RowName) (place : Kept) : Type 0 where
   pub within : bytes_eq row.table table ≡ true
   pub copied : Kept
@@ -19,7 +19,7 @@ pub record IsCopied (table : List ℕ) (checks : List Check) (places : Places) (
   pub amounts : place.amounts ≡ copied.amounts
   pub checks_are : checks_of place.checks ≡ checks
 
--- places of a table's rows, copied so, count those of the reservations that are of the table
+-- places of a table's rows, copied like this, count the reservations that are of the table
 pub record AreFilled (table : List ℕ) (checks : List Check) (held : List Reservation) (places filled : Places) : Type 0 where
   pub counts : CountsAll filled (of_table table held)
   pub each : (row : RowName) (place : Kept) → place_at filled row ≡ Some place → IsCopied table checks places row place

@@ -1,4 +1,4 @@
--- Believed: which places count the open reservations.
+-- Believed: places that count the open reservations.
 use Rattle.std.specs.Prelude.{◌≡◌, ◌<◌, if◌then◌else◌, ℤ, Option, Some, None, List, [], ◌∷◌}
 use Rattle.escrow_num.specs.declared.reservation.Reservation.{Reservation}
 use Rattle.escrow_num.specs.declared.value.RowName.{RowName}
@@ -8,17 +8,17 @@ use Rattle.escrow_bounds.specs.Counts.{Counts}
 use Rattle.escrow_bounds.specs.Kept.{Kept}
 use Rattle.escrow_bounds.specs.Places.{Places, place_at}
 
--- the changes of the open reservations that are of a row, in their order
+-- the changes of the open reservations of a row, in their order
 abbrev pub of_row : RowName → List Reservation → List (List ℤ)
 of_row row [] = []
 of_row row (r ∷ held) = if same_row row r.row then deltas r.changes ∷ of_row row held else of_row row held
 
--- a place counts just these reservations; where there is no place, there are none
+-- a place counts exactly these reservations; if there is no place, there are none
 abbrev pub CountsJust : Option Kept → List (List ℤ) → Type 0
 CountsJust None reservations = reservations ≡ []
 CountsJust (Some place) reservations = Counts place reservations
 
--- each place counts just the open reservations of its row, and a row without a place has none
+-- each place counts exactly the open reservations of its row, and a row without a place has none
 abbrev pub CountsAll : Places → List Reservation → Type 0
 CountsAll places held = (row : RowName) → CountsJust (place_at places row) (of_row row held)
 

@@ -12,7 +12,7 @@ use Rattle.escrow_bounds.specs.Kept.{Kept, checks_of}
 abbrev pub kept_of : Inside → Kept
 kept_of place = record { amounts = place.amounts.items; count = place.count; checks = place.checks.items; columns = place.columns.items }
 
--- a place: there is an amount for each coefficient, a form for each column, and it counts some reservations
+-- a valid place: there is an amount for each coefficient, a form for each column, and it counts some reservations
 pub record IsPlace (place : Kept) : Type 0 where
   pub covered : AllByRecursion (λ (check : Check). IsCovered check.coeffs place.amounts) (checks_of place.checks)
   pub columns : checks_of place.columns ≡ column_checks (length place.amounts) (length place.amounts)

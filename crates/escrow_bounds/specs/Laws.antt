@@ -17,26 +17,26 @@ use Rattle.escrow_bounds.specs.Places.{Places, place_at, OthersStay, Becomes}
 
 -- ---- what a place counts is enough
 
--- the grant rule over all open reservations is that over those of the row
+-- the grant rule over all open reservations gives the same as over those of the row
 abbrev pub SameGrantRule : Type 0
 SameGrantRule =
     (checks : List Check) (amounts changes : List ℤ) (row : RowName) (held : List Reservation) → AllByRecursion (λ (check : Check). IsCovered check.coeffs amounts) checks
     → broken checks amounts changes (map (changes_at row) held) ≡ broken checks amounts changes (of_row row held)
 
--- and so are the extremes of a form
+-- the extremes of a form do too
 abbrev pub SameExtremes : Type 0
 SameExtremes =
     (coeffs amounts : List ℤ) (row : RowName) (held : List Reservation) → IsCovered coeffs amounts
     → (least coeffs amounts (map (changes_at row) held) ≡ least coeffs amounts (of_row row held))
     × (greatest coeffs amounts (map (changes_at row) held) ≡ greatest coeffs amounts (of_row row held))
 
--- ---- every list of calls: places count just what is open, by the clauses of each call
+-- ---- every list of calls: places count exactly what is open, by the clauses of each call
 
--- where there are no places and nothing is open
+-- with no places, nothing is open
 abbrev pub NothingCounts : Type 0
 NothingCounts = CountsAll [] []
 
--- `reserve` leaves what is counted: a new place counts nothing, and its row has nothing open
+-- `reserve` doesn't change what is counted: a new place counts nothing, and its row has nothing open
 abbrev pub ReserveCounts : Type 0
 ReserveCounts =
     (old new : Places) (row : RowName) (amounts : List ℤ) (checks : List Check) (held : List Reservation) → CountsAll old held
@@ -44,7 +44,7 @@ ReserveCounts =
     → (place_at old row ≡ None → (place : Kept) × (place_at new row ≡ Some place) × IsNew amounts checks place)
     → OthersStay row old new → CountsAll new held
 
--- `add` counts one more, wherever it stands among the others
+-- `add` counts one more, at any place among the others
 abbrev pub AddCounts : Type 0
 AddCounts =
     (old new : Places) (r : Reservation) (before after : List Reservation) → CountsAll old (before ++ after) → IsSome (place_at old r.row)
@@ -68,14 +68,15 @@ ReleaseCounts =
 
 -- ---- a table's checks are altered
 
--- `adopt` leaves what is counted, and so does the addition: after it the table's places are over its checks
+-- `adopt` doesn't change what is counted, and neither does the addition: after it the table's places are over its
+-- checks
 abbrev pub AdoptCounts : Type 0
 AdoptCounts =
     (table : List ℕ) (checks : List Check) (held : List Reservation) (old addition new : Places) → CountsAll old held → AllCount old
     → ArePrepared table checks held old addition → Adopts addition old new
     → CountsAll new held × AllCount new × TableGoes table (λ row. IsOver checks (of_row row held)) old new
 
--- `drop_check` leaves what is counted
+-- `drop_check` doesn't change what is counted
 abbrev pub DropCheckCounts : Type 0
 DropCheckCounts =
     (table : List ℕ) (index : ℕ) (held : List Reservation) (old new : Places) → CountsAll old held → AllCount old

@@ -9,14 +9,14 @@ use Rattle.escrow_bounds.specs.Kept.{Kept}
 abbrev pub Places : Type 0
 Places = List (RowName × Kept)
 
--- the place of a row, where it has one
+-- the place of a row, if it has one
 abbrev pub place_at : Places → RowName → Option Kept
 place_at places row = lookup (same_row row) places
 
--- each other row has the place that it had, or has none as before
+-- each other row has the place that it had, or still has none
 abbrev pub OthersStay : RowName → Places → Places → Type 0
 OthersStay row old new = (other : RowName) → same_row row other ≡ false → place_at new other ≡ place_at old other
 
--- where there was a place there still is one, which comes of the old one so
+-- if there was a place, there still is one, which follows from the old one by Step
 abbrev pub Becomes : (Kept → Kept → Type 0) → Option Kept → Option Kept → Type 0
 Becomes Step before after = (old : Kept) → before ≡ Some old → (new : Kept) × (after ≡ Some new) × Step old new

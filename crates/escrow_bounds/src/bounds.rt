@@ -30,17 +30,18 @@ use indexmap::IndexMap;
 use std::alloc::{AllocError, Global};
 use std::marker::Model;
 
-/// Places of rows, each with the row's committed amounts, the number of its open reservations, and
-/// their worst-case sums under each check and each RESERVABLE column: sums and a number, no list.
-/// A place counts a list of reservations, in any order, where its sums and its number are theirs.
-/// A row without an open reservation needs no place. Only [`Bounds::reserve`], [`Bounds::make`] and
-/// [`Bounds::prepare`] take memory.
+/// Places of rows. A place keeps a row's committed amounts, the number of its open reservations,
+/// and their worst-case sums under each check and each RESERVABLE column. It keeps no list.
+///
+/// A place counts a list of reservations, in any order, if its sums and its number are those of the
+/// list. A row without an open reservation needs no place. Only [`Bounds::reserve`],
+/// [`Bounds::make`] and [`Bounds::prepare`] take memory.
 #[derive(Debug)]
 pub struct Bounds {
     places: IndexMap<RowName, Place>,
 }
 
-// It is written out, so that no crate above proves again how its part is dropped.
+// Written out, so that crates above need not prove again how its parts are dropped.
 impl Drop for Bounds {
     fn drop(self) {
         let Bounds { places: _ } = self;
@@ -56,7 +57,7 @@ impl Model for Bounds {
 }
 
 impl Bounds {
-    /// No places. Takes no memory.
+    /// Returns an empty list of places. Takes no memory.
     pub fn new(alloc: Global) -> Self
         ensures { result ≡ [] }
     {
@@ -65,10 +66,10 @@ impl Bounds {
         }
     }
 
-    /// Makes a place for a row with its committed amounts and the checks of its table, which counts
-    /// nothing; or finds the place that there is, and leaves it. Want of memory is the only error, and
-    /// leaves all places. There is an amount for each RESERVABLE column, at most 10, and a check has no
-    /// more coefficients.
+    /// Makes a place for a row, with its committed amounts and the checks of its table; the place
+    /// counts nothing. If the row has a place, it stays as it is. There must be an amount for each
+    /// RESERVABLE column, at most 10, and no check may have more coefficients. Fails only if memory
+    /// is refused, and then all places are unchanged.
     pub fn reserve(
         &mut self,
         row: &RowName,
@@ -90,8 +91,8 @@ impl Bounds {
         Ok(())
     }
 
-    /// Makes a place for a row that has none, as [`Bounds::reserve`] does. Answers where it stands among
-    /// all.
+    /// Makes a place for a row that has none, as [`Bounds::reserve`] does. Returns its index among
+    /// all places.
     pub fn make(
         &mut self,
         row: &RowName,
@@ -112,8 +113,8 @@ impl Bounds {
         Ok(index)
     }
 
-    /// Where the place of a row stands among all, if it has one. It stands there until one is made or
-    /// dropped.
+    /// Returns the index of a row's place, if it has one. The index is valid until a place is made
+    /// or dropped.
     pub fn find(&self, row: &RowName) -> Option<usize>
         ensures found { is_some result ≡ is_some (place_at self.now row.now) }
         ensures at { IfSome result (λ index. IsAt self.now row.now index) }
@@ -121,7 +122,7 @@ impl Bounds {
         self.places.get_index_of(row)
     }
 
-    /// Drops the place of a row if it has one that counts nothing.
+    /// Drops the place of a row, if it has one that counts nothing.
     pub fn release(&mut self, row: &RowName)
         ensures empty { is_counting (place_at self.old row.now) ≡ false → place_at self.new row.now ≡ None }
         ensures counting { is_counting (place_at self.old row.now) ≡ true → self.new ≡ self.old }
@@ -132,7 +133,7 @@ impl Bounds {
         }
     }
 
-    /// Drops the place at an index where it counts nothing.
+    /// Drops the place at an index, if it counts nothing.
     pub fn release_at(&mut self, index: usize)
         ensures empty { (row : RowName) → IsAt self.old row index → is_counting (place_at self.old row) ≡ false → place_at self.new row ≡ None }
         ensures counting { (row : RowName) → IsAt self.old row index → is_counting (place_at self.old row) ≡ true → self.new ≡ self.old }
@@ -143,7 +144,7 @@ impl Bounds {
         }
     }
 
-    /// Whether the place at an index counts a reservation.
+    /// Returns whether the place at an index counts a reservation.
     fn is_counting_at(&self, index: usize) -> bool
         ensures { (row : RowName) → IsAt self.now row index → result ≡ is_counting (place_at self.now row) }
     {
@@ -160,14 +161,14 @@ impl Bounds {
         self.places.clear();
     }
 
-    /// Whether a row has a place.
+    /// Returns whether a row has a place.
     pub fn has_place(&self, row: &RowName) -> bool
         ensures { result ≡ is_some (place_at self.now row.now) }
     {
         self.places.contains_key(row)
     }
 
-    /// Whether a row has a place that counts a reservation.
+    /// Returns whether a row has a place that counts a reservation.
     pub fn is_reserved(&self, row: &RowName) -> bool
         ensures { result ≡ is_counting (place_at self.now row.now) }
     {
@@ -177,14 +178,14 @@ impl Bounds {
         }
     }
 
-    /// Whether a row of a table has a place.
+    /// Returns whether a row of a table has a place.
     pub fn has_place_in(&self, table: Name) -> bool
         ensures { result ≡ list_any (λ p. bytes_eq p.0.table table) self.now }
     {
         self.places.keys().any(|row| row.table == table)
     }
 
-    /// The committed amounts of a row that has a place.
+    /// Returns the committed amounts of a row that has a place.
     pub fn amounts(&self, row: &RowName) -> Option<&[Amount]>
         ensures { option_copied result ≡ option_map (λ place. place.amounts) (place_at self.now row.now) }
     {
@@ -194,8 +195,9 @@ impl Bounds {
         }
     }
 
-    /// The least and the greatest value to which any choice of the reservations that the row's place
-    /// counts brings the form of a check, which is given by its index among the checks of the place.
+    /// Returns the least and the greatest value of a check's form, over every choice of the
+    /// reservations that the row's place counts. `check` is its index among the checks of the
+    /// place.
     pub fn worst(&self, row: &RowName, check: usize) -> (Wide, Wide)
         requires placed { IsSome (place_at self.now row.now) }
         requires check { (place : Kept) → place_at self.now row.now ≡ Some place → check < length place.checks }
@@ -206,8 +208,8 @@ impl Bounds {
         self.place(row).worst(check)
     }
 
-    /// O'Neil's `inf` and `sup` (1986) of a column: the least and the greatest value to which any
-    /// choice of the reservations that the row's place counts brings it.
+    /// Returns O'Neil's `inf` and `sup` (1986) of a column: its least and its greatest value, over
+    /// every choice of the reservations that the row's place counts.
     pub fn inf_sup(&self, row: &RowName, column: usize) -> (Wide, Wide)
         requires placed { IsSome (place_at self.now row.now) }
         requires column { (place : Kept) → place_at self.now row.now ≡ Some place → column < length place.amounts }
@@ -219,9 +221,10 @@ impl Bounds {
         self.place(row).inf_sup(column)
     }
 
-    /// The grant rule: whether changes of a row that has a place are granted, over every choice of the
-    /// reservations that the place counts with these changes; if not, the first check, in the table's
-    /// order, that they can break, and its low side before its high side.
+    /// Applies the grant rule: returns whether changes of a row that has a place are granted, over
+    /// every choice of the reservations that the place counts with these changes. If not, it
+    /// returns the first check, in the table's order, that they can break, its low side before its
+    /// high side.
     pub fn verdict(&self, row: &RowName, changes: &[Amount]) -> Verdict
         requires { IsSome (place_at self.now row.now) }
         ensures { (place : Kept) (reservations : List (List ℤ)) → place_at self.now row.now ≡ Some place → Counts place reservations
@@ -230,9 +233,10 @@ impl Bounds {
         Verdict::of(self.place(row).verdict(changes))
     }
 
-    /// The grant rule: what changes of the row whose place stands at an index would break of the first
-    /// check, in the table's order, that they can break, over every choice of the reservations that the
-    /// place counts which holds them. `None` where they are granted.
+    /// Applies the grant rule at the place at an index: returns what changes of its row would break
+    /// of the first check, in the table's order, that they can break. The choices are those of the
+    /// reservations that the place counts with these changes. Returns `None` if the changes are
+    /// granted.
     pub fn verdict_at(&self, index: usize, changes: &[Amount]) -> Option<Violation>
         requires { (row : RowName) × IsAt self.now row index }
         ensures { (row : RowName) (place : Kept) (reservations : List (List ℤ)) → IsAt self.now row index → place_at self.now row ≡ Some place → Counts place reservations
@@ -242,7 +246,7 @@ impl Bounds {
         place.verdict(changes)
     }
 
-    /// Counts a new reservation of a row, whose place counts fewer than 16,384.
+    /// Counts a new reservation of a row. Its place must count fewer than 16,384.
     pub fn add(&mut self, row: &RowName, changes: &[Amount])
         requires placed { IsSome (place_at self.old row.now) }
         requires room { (place : Kept) → place_at self.old row.now ≡ Some place → place.count < MAX_OPEN }
@@ -254,7 +258,8 @@ impl Bounds {
         }
     }
 
-    /// Counts a new reservation of the row whose place stands at an index, and counts fewer than 16,384.
+    /// Counts a new reservation of the row whose place is at an index. The place must count fewer
+    /// than 16,384.
     pub fn add_at(&mut self, index: usize, changes: &[Amount])
         requires placed { (row : RowName) × IsAt self.old row index }
         requires room { (row : RowName) (place : Kept) → IsAt self.old row index → place_at self.old row ≡ Some place → place.count < MAX_OPEN }
@@ -265,9 +270,9 @@ impl Bounds {
         place.take_in(changes);
     }
 
-    /// Counts a reservation of a row no more, since its transaction has ended: one that the row's place
-    /// counts, which stays. A commit moves its changes into the committed amounts, as
-    /// [`Bounds::remove_at`] does.
+    /// Removes a reservation whose transaction has ended from the count. The row's place must count
+    /// it, and stays. A commit adds its changes to the committed amounts, as [`Bounds::remove_at`]
+    /// does.
     pub fn remove(&mut self, row: &RowName, changes: &[Amount], end: End)
         requires { (place : Kept) × (before after : List (List ℤ))
             × (place_at self.old row.now ≡ Some place) × Counts place (before ++ changes.now ∷ after) }
@@ -279,9 +284,9 @@ impl Bounds {
         }
     }
 
-    /// Counts a reservation no more, since its transaction has ended: one that the place at an index counts,
-    /// which stays there. A commit moves its changes into the committed amounts, of which one stays where the
-    /// sum would be no amount.
+    /// Removes a reservation whose transaction has ended from the count. The place at an index must
+    /// count it, and stays there. A commit adds its changes to the committed amounts. If a sum
+    /// would be no amount, that amount stays as it is.
     pub fn remove_at(&mut self, index: usize, changes: &[Amount], end: End)
         requires { (row : RowName) × (place : Kept) × (before after : List (List ℤ))
             × IsAt self.old row index × (place_at self.old row ≡ Some place) × Counts place (before ++ changes.now ∷ after) }
@@ -293,8 +298,8 @@ impl Bounds {
         place.give_back(changes, end);
     }
 
-    /// Counts reservations no more, since they have ended so, one after another: some of those that
-    /// the places count. Drops each place that then counts nothing.
+    /// Removes reservations whose transaction has ended from the count, one after another. The
+    /// places must count them. Drops each place that counts nothing any more.
     pub fn remove_all(&mut self, reservations: &[Reservation], end: End)
         requires counted { (rest : List Reservation) × CountsAll self.old (reservations.now ++ rest) }
         requires short { AllByRecursion (λ r. length r.changes ≤ MAX_LEN) reservations.now }
@@ -307,8 +312,8 @@ impl Bounds {
         }
     }
 
-    /// Counts a reservation no more, since it has ended so, and drops its place if that then counts
-    /// nothing.
+    /// Removes a reservation whose transaction has ended from the count, and drops its place if it
+    /// counts nothing any more.
     fn remove_one(&mut self, r: &Reservation, end: End)
         requires counted { (rest : List Reservation) × CountsAll self.old (r.now ∷ rest) }
         requires short { length r.now.changes ≤ MAX_LEN }
@@ -322,7 +327,7 @@ impl Bounds {
         self.release_at(index);
     }
 
-    /// The place of a row.
+    /// Returns the place of a row.
     fn place(&self, row: &RowName) -> &Place
         requires { IsSome (place_at self.now row.now) }
         ensures { Some result.now ≡ place_at self.now row.now }

@@ -1,4 +1,4 @@
-//! What the changes of a reservation add, in place.
+//! What the changes of a reservation add, held in place.
 ghost use Rattle.std.specs.Prelude.{◌≡◌, ◌≤◌, length, take};
 ghost use Rattle.escrow_num.specs.Reservation.{deltas};
 ghost use Rattle.escrow_checks.specs.declared.coefficients.TheConstants.Coefficients.{MAX_LEN};
@@ -6,8 +6,8 @@ ghost use Rattle.escrow_checks.specs.declared.coefficients.TheConstants.Coeffici
 use escrow_checks::Coefficients;
 use escrow_num::Amount;
 
-/// What changes add, column by column, in place: nothing where the UPDATE doesn't assign the column.
-/// They stand before what isn't used.
+/// Returns what changes add, column by column, in an array: zero if the UPDATE doesn't assign the
+/// column. The rest of the array isn't used.
 pub fn deltas(changes: &[Option<Amount>]) -> [Amount; Coefficients::MAX_LEN]
     requires { length changes.now ≤ MAX_LEN }
     ensures { take (length changes.now) result ≡ deltas changes.now }

@@ -1,8 +1,11 @@
-//! Worst-case sums for each row and check, kept between calls: what the open reservations of a row
-//! can do to its checks is looked up, and no reservation is walked.
+//! Worst-case sums for each row and check, kept between calls. What a row's open reservations can
+//! do to its checks is looked up, without a walk over the reservations.
 //!
-//! Its one contract: the verdict on a new reservation is that of the grant rule, over every choice
-//! of the reservations that the row's place counts ([`Bounds::verdict`], [`Bounds::verdict_at`]).
+//! Its main contract is that of [`Bounds::verdict`] and [`Bounds::verdict_at`]: the verdict on a
+//! new reservation is that of the grant rule. It is taken over every choice of the reservations
+//! that the row's place counts.
+//!
+//! Begin with [`Bounds`], then read [`laws`].
 #![tactic(auto)]
 
 mod bounds;

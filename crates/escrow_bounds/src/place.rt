@@ -24,8 +24,8 @@ use std::alloc::{AllocError, Global};
 use std::marker::Model;
 
 /// What is kept of a row: its committed amounts, the number of its open reservations, and their
-/// spread under each check and under each RESERVABLE column; and the value of each check's form at the
-/// amounts.
+/// spread under each check and each RESERVABLE column. It also keeps the value of each check's form
+/// at the amounts.
 #[derive(Debug)]
 pub struct Place {
     amounts: Vec<Amount>,
@@ -35,7 +35,7 @@ pub struct Place {
     columns: Vec<Tracked>,
 }
 
-// It is written out, so that no crate above proves again how each part is dropped.
+// Written out, so that crates above need not prove again how its parts are dropped.
 impl Drop for Place {
     fn drop(self) {
         let Place {
@@ -67,7 +67,7 @@ impl Model for Place {
 }
 
 impl Place {
-    /// The place of a row of which no reservation is open.
+    /// Returns the place of a row that has no open reservation.
     pub(crate) fn new(
         alloc: Global,
         amounts: &[Amount],
@@ -86,21 +86,21 @@ impl Place {
         })
     }
 
-    /// The committed amounts.
+    /// Returns the committed amounts.
     pub(crate) fn amounts(&self) -> &[Amount]
         ensures { result.now ≡ self.now.amounts }
     {
         &self.amounts
     }
 
-    /// How many reservations are counted.
+    /// Returns how many reservations are counted.
     pub(crate) fn count(&self) -> usize
         ensures { result ≡ self.now.count }
     {
         self.count
     }
 
-    /// The least and the greatest value of the form of the check at an index.
+    /// Returns the least and the greatest value of the form of the check at an index.
     pub(crate) fn worst(&self, check: usize) -> (Wide, Wide)
         requires { check < length self.now.checks }
         ensures { (form : Tracked) (reservations : List (List ℤ)) → slice_get self.now.checks check ≡ Some form → Counts self.now reservations
@@ -110,7 +110,7 @@ impl Place {
         form.check.extremes(&self.amounts, &form.spread)
     }
 
-    /// The least and the greatest value of a column.
+    /// Returns the least and the greatest value of a column.
     pub(crate) fn inf_sup(&self, column: usize) -> (Wide, Wide)
         requires { column < length self.now.amounts }
         ensures { (reservations : List (List ℤ)) → Counts self.now reservations
@@ -121,7 +121,7 @@ impl Place {
         form.check.extremes(&self.amounts, &form.spread)
     }
 
-    /// What changes would break of the first check that they can break, or `None`.
+    /// Returns what changes would break of the first check that they can break, if any.
     pub(crate) fn verdict(&self, changes: &[Amount]) -> Option<Violation>
         ensures { (reservations : List (List ℤ)) → Counts self.now reservations
             → result ≡ broken (checks_of self.now.checks) self.now.amounts changes.now reservations }
@@ -129,8 +129,8 @@ impl Place {
         first_violation(&self.checks, &self.values, changes)
     }
 
-    /// What the reservations that are counted could break of the first check that they can break,
-    /// among some that stand one behind another, or `None`.
+    /// Returns what the counted reservations could break of the first check that they can break, if
+    /// any, among some consecutive checks.
     pub(crate) fn violation(&self, first: usize, count: usize) -> Option<Violation>
         requires { first + count ≤ length self.now.checks }
         ensures { (reservations : List (List ℤ)) → Counts self.now reservations
@@ -143,7 +143,7 @@ impl Place {
         )
     }
 
-    /// Takes out the check at an index. Where there is none, all stays.
+    /// Removes the check at an index. If there is none, nothing changes.
     pub(crate) fn drop_check(&mut self, index: usize)
         ensures { IsWithout index self.old self.new }
     {
@@ -161,8 +161,8 @@ impl Place {
         self.recount(changes, Counting::In);
     }
 
-    /// Counts one of its reservations no more, and moves its changes into the committed amounts
-    /// where it is committed.
+    /// Removes one of its reservations from the count. If it is committed, its changes are added to
+    /// the committed amounts.
     pub(crate) fn give_back(&mut self, changes: &[Amount], end: End)
         requires { (before after : List (List ℤ)) × Counts self.old (before ++ changes.now ∷ after) }
         ensures { GivesBack end changes.now self.old self.new }
@@ -174,7 +174,7 @@ impl Place {
         }
     }
 
-    /// Counts one more reservation, or one of them no more.
+    /// Counts one more reservation, or removes one from the count.
     fn recount(&mut self, changes: &[Amount], counting: Counting)
         requires { CanRecount counting changes.now self.old }
         ensures { IsRecounted counting changes.now self.old self.new }
@@ -185,7 +185,7 @@ impl Place {
         self.count = counting.number(self.count);
     }
 
-    /// Moves changes into the committed amounts.
+    /// Adds changes to the committed amounts.
     fn commit(&mut self, changes: &[Amount])
         ensures { self.new ≡ record self.old { amounts = all_moved self.old.amounts changes.now } }
     {
@@ -194,7 +194,7 @@ impl Place {
     }
 }
 
-/// The forms of checks, with no reservation counted.
+/// Returns the forms of checks, with no reservation counted.
 fn all_forms(alloc: Global, checks: &[Check]) -> Result<Vec<Tracked>, AllocError>
     ensures checks { IfOk result (λ forms. checks_of forms.items ≡ checks.now) }
     ensures sums { IfOk result (λ forms. HaveSums forms.items []) }
@@ -206,7 +206,7 @@ fn all_forms(alloc: Global, checks: &[Check]) -> Result<Vec<Tracked>, AllocError
     Ok(forms)
 }
 
-/// The forms of columns, with no reservation counted.
+/// Returns the forms of columns, with no reservation counted.
 fn all_columns(alloc: Global, columns: usize) -> Result<Vec<Tracked>, AllocError>
     requires { columns ≤ MAX_LEN }
     ensures checks { IfOk result (λ forms. checks_of forms.items ≡ column_checks columns columns) }
@@ -219,7 +219,7 @@ fn all_columns(alloc: Global, columns: usize) -> Result<Vec<Tracked>, AllocError
     Ok(forms)
 }
 
-/// A check without limits, whose form is a column.
+/// Returns a check without limits whose form is a column.
 fn column_check(columns: usize, place: usize) -> Check
     requires within { place < columns }
     requires few { columns ≤ MAX_LEN }
@@ -233,8 +233,8 @@ fn column_check(columns: usize, place: usize) -> Check
     }
 }
 
-/// Adds to the amounts of a row what reservations of it change, as their COMMIT does, one after another.
-/// Those of other rows add nothing.
+/// Adds to the amounts of a row the changes of its reservations, as their COMMITs do, one after
+/// another. Reservations of other rows add nothing.
 pub fn commit_amounts(amounts: &mut [Amount], row: &RowName, reservations: &[Reservation])
     requires { AllByRecursion (λ r. length r.changes ≤ MAX_LEN) reservations.now }
     ensures { amounts.new ≡ amounts_after_all End.Commit amounts.old (of_row row.now reservations.now) }
@@ -247,7 +247,8 @@ pub fn commit_amounts(amounts: &mut [Amount], row: &RowName, reservations: &[Res
     }
 }
 
-/// Adds changes to amounts, column by column. An amount stays where the sum would be none.
+/// Adds changes to amounts, column by column. If a sum would be no amount, the amount stays as it
+/// is.
 fn move_all(amounts: &mut [Amount], changes: &[Amount])
     ensures { amounts.new ≡ all_moved amounts.old changes.now }
 {
@@ -256,14 +257,14 @@ fn move_all(amounts: &mut [Amount], changes: &[Amount])
     }
 }
 
-/// The change of the column at an index, which is zero where it isn't listed.
+/// Returns the change of the column at an index, or zero if it isn't listed.
 fn change_at(changes: &[Amount], index: usize) -> Amount
     ensures { result ≡ slice_index_or changes.now index (pos 0) }
 {
     changes.get(index).copied().unwrap_or(Amount::ZERO)
 }
 
-/// An amount with a change added, or the amount where the sum is none.
+/// Returns an amount with a change added, or the amount alone if the sum would be no amount.
 fn moved(amount: Amount, change: Amount) -> Amount
     ensures { result ≡ moved amount change }
 {

@@ -12,17 +12,17 @@ use escrow_checks::{Check, Sparse, Spread};
 use escrow_num::{Amount, Span, Violation, Wide};
 use std::alloc::{AllocError, Global};
 
-/// Whether one more reservation is counted, or one of them no more.
+/// Whether one more reservation is counted, or one is removed from the count.
 #[derive(Clone, Copy)]
 pub(crate) enum Counting {
-    /// One more.
+    /// One more is counted.
     In,
-    /// One no more.
+    /// One is removed.
     Out,
 }
 
 impl Counting {
-    /// How many are counted then.
+    /// Returns how many are counted after that.
     pub(crate) fn number(self, count: usize) -> usize
         requires { (before : List (List ℤ)) × (changes : List ℤ) × (after : List (List ℤ))
             × (count ≡ length (counted_before self before changes after)) × HasRoom self (before ++ after) }
@@ -35,7 +35,7 @@ impl Counting {
         }
     }
 
-    /// Their spread then, where the one contributes so much to the form.
+    /// Returns the spread after that, if the reservation contributes this much to the form.
     pub(crate) fn spread(self, spread: Spread, contribution: Wide) -> Spread
         requires within { IsContribution contribution }
         requires counted { (coeffs : List ℤ) × (before : List (List ℤ)) × (changes : List ℤ) × (after : List (List ℤ))
@@ -51,7 +51,7 @@ impl Counting {
     }
 }
 
-/// A check of a row with the spread of the open reservations that are counted.
+/// A check of a row, with the spread of the counted reservations.
 #[derive(Clone, Copy, Debug)]
 pub struct Tracked {
     /// The check.
@@ -61,7 +61,7 @@ pub struct Tracked {
 }
 
 impl Tracked {
-    /// Counts one more reservation, or one of them no more.
+    /// Counts one more reservation, or removes one from the count.
     fn recount(&mut self, changes: &Sparse<'_>, counting: Counting)
         requires { (before : List (List ℤ)) × (after : List (List ℤ))
             × IsSpread self.old.check.coeffs (counted_before counting before changes.now after) self.old.spread × HasRoom counting (before ++ after) }
@@ -74,12 +74,12 @@ impl Tracked {
     }
 }
 
-/// Adds a check, of which no reservation is counted yet.
+/// Adds a check, with no reservation counted yet.
 pub(crate) fn push_check(forms: &mut Vec<Tracked>, check: Check) -> Result<(), AllocError>
     ensures check { OnOk result (checks_of forms.new.items ≡ checks_of forms.old.items ++ check ∷ []) }
     ensures sums { OnOk result (HaveSums forms.old.items [] → HaveSums forms.new.items []) }
 {
-    // The prover has to see what is in the span where a check goes into a list.
+    // The prover needs to see the fields of the span when a check is added to a list.
     let Span { lo, hi } = check.span;
     let span = Span { lo, hi };
     forms.push(Tracked {
@@ -89,7 +89,7 @@ pub(crate) fn push_check(forms: &mut Vec<Tracked>, check: Check) -> Result<(), A
     Ok(())
 }
 
-/// Counts one more reservation in each form, or one of them no more.
+/// Counts one more reservation in each form, or removes one from the count.
 pub(crate) fn recount(forms: &mut [Tracked], changes: &Sparse<'_>, counting: Counting)
     requires { (before : List (List ℤ)) × (after : List (List ℤ)) × HaveSums forms.old (counted_before counting before changes.now after) × HasRoom counting (before ++ after) }
     ensures { AreRecounted counting changes.now forms.old forms.new }
@@ -99,7 +99,7 @@ pub(crate) fn recount(forms: &mut [Tracked], changes: &Sparse<'_>, counting: Cou
     }
 }
 
-/// The values of the forms of checks at a row's amounts.
+/// Returns the values of the forms of checks at a row's amounts.
 pub(crate) fn all_values(
     alloc: Global,
     checks: &[Check],
@@ -116,7 +116,7 @@ pub(crate) fn all_values(
     Ok(values)
 }
 
-/// Puts the values of forms at a row's new amounts where those at the old ones stand.
+/// Replaces the values of forms by those at a row's new amounts.
 pub(crate) fn revalue(values: &mut [Wide], forms: &[Tracked], amounts: &[Amount])
     requires { length values.old ≡ length forms.now }
     ensures values { values.new ≡ map (λ check. form check.coeffs amounts.now) (checks_of forms.now) }
@@ -128,9 +128,8 @@ pub(crate) fn revalue(values: &mut [Wide], forms: &[Tracked], amounts: &[Amount]
     }
 }
 
-/// What changes would break of the first check that they can break, over every choice of the
-/// reservations that are counted, where these are the values of the forms. `None` where they break
-/// nothing.
+/// Returns what changes would break of the first check that they can break, over every choice of
+/// the counted reservations. `values` are those of the forms. Returns `None` if they break nothing.
 pub(crate) fn first_violation(
     forms: &[Tracked],
     values: &[Wide],

@@ -1,4 +1,4 @@
-//! What the grant rule says of changes of a row.
+//! The grant rule's verdict on changes of a row.
 ghost use Rattle.std.specs.Prelude.{◌≡◌};
 ghost use Rattle.escrow_bounds.specs.Verdict.{verdict_of};
 
@@ -13,9 +13,9 @@ pub enum Verdict {
     Broken {
         /// The name of the first such check, in the table's order.
         check: Name,
-        /// The side on which the worst value lies beyond the limit.
+        /// The side on which the worst value passes the limit.
         side: Side,
-        /// The worst value that a choice brings the check's form to, in units of the check's scale.
+        /// The worst value that a choice gives the check's form, in units of the check's scale.
         worst: Wide,
         /// The limit of that side, in the same units.
         limit: Wide,
@@ -23,7 +23,7 @@ pub enum Verdict {
 }
 
 impl Verdict {
-    /// Returns the verdict on changes that break this, or nothing.
+    /// Returns the verdict on changes that break this limit, or no limit.
     pub(crate) fn of(violation: Option<Violation>) -> Verdict
         ensures { result ≡ verdict_of violation }
     {

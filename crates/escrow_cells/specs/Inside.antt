@@ -1,4 +1,4 @@
--- Helps: what private contracts say of a call inside a transaction. Nothing that callers see rests on it.
+-- Helps: what private contracts say of a call inside a transaction. No contract of a public call uses it.
 use Rattle.std.specs.Prelude.{◌≡◌, ◌<◌, ℕ, Bool, true, IsTrue, List, length, Ok}
 use Rattle.sqlite_value.specs.Order.{Row}
 use Rattle.sqlite.specs.Effect.{Database}
@@ -11,15 +11,15 @@ pub record IsPending (old new : State) : Type 0 where
   pub survives : Survives old new (λ _. ⊥)
   pub kept : HasCleanDisk new → KeepsCommit old new
 
--- A statement inside a transaction: where it is done the store was open, the transaction goes on, and it did what
--- its text says. Whatever comes of it, nothing is committed.
+-- A statement inside a transaction. If it is done, the store was open, the transaction goes on, and the statement did
+-- what its text says. Whatever happens, nothing is committed.
 pub record Wrote (sql : List ℕ) (params : Row) (old new : State) (is_done : Bool) : Type 0 where
   pub done : is_done ≡ true → HasCleanDisk new → IsTrue old.in_transaction → IsTrue new.in_transaction × (n : ℕ) × Executes sql params old new (Ok n)
   pub was_open : is_done ≡ true → HasCleanDisk new → IsTrue old.in_transaction → IsTrue old.is_open
   pub pending : IsPending old new
 
--- A call inside a transaction, of so many steps: where it is done the transaction goes on, and its database is one
--- that the call makes of the old one; a step found the store open. Whatever comes of it, nothing is committed.
+-- A call inside a transaction, of this many steps. If it is done, the transaction goes on, the call made its database
+-- from the old one, and if there was a step, the store was open. Whatever happens, nothing is committed.
 pub record Acts (old new : State) (is_done : Bool) (steps : ℕ) (Makes : Database → Database → Type 0) : Type 0 where
   pub done : is_done ≡ true → HasCleanDisk new → IsTrue old.in_transaction → IsTrue new.in_transaction × Makes old.now new.now
   pub was_open : is_done ≡ true → HasCleanDisk new → IsTrue old.in_transaction → 0 < steps → IsTrue old.is_open
@@ -29,7 +29,7 @@ pub record Acts (old new : State) (is_done : Bool) (steps : ℕ) (Makes : Databa
 abbrev pub ActsBy : State → State → Bool → List Step → Type 0
 ActsBy old new is_done steps = Acts old new is_done (length steps) (Does steps)
 
--- a transaction that has begun goes on after so many steps, and its database is one that is made of the old one
+-- a transaction that has begun goes on after this many steps, and its database is made from the old one
 pub record GoesOn (steps : ℕ) (Makes : Database → Database → Type 0) (old new : State) : Type 0 where
   pub pending : IsPending old new
   pub inside : HasCleanDisk new → IsTrue new.in_transaction

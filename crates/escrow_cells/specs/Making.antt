@@ -1,4 +1,4 @@
--- Helps: what private contracts say of a store that is being made. Nothing that callers see rests on it.
+-- Helps: what private contracts say of a store that is being made. No contract of a public call uses it.
 use Rattle.std.specs.Prelude.{◌≡◌, []}
 use Rattle.std.specs.List.{AllByRecursion}
 use Rattle.sqlite_schema.specs.declared.schema.Table.{Table}
@@ -25,15 +25,15 @@ pub record IsBare (schema : Schema) (db : Database) : Type 0 where
   pub schema_is : db.schema ≡ schema
   pub bare : AllByRecursion (λ (t : Table). db.trees t.tree ≡ []) schema.tables
 
--- of a database without rows that has one schema comes one that has the next
+-- a database without rows that has one schema becomes one that has the next
 abbrev pub Extends : Schema → Schema → Database → Database → Type 0
 Extends before after old new = IsBare before old → IsBare after new
 
--- of a database without rows that has a schema comes an empty store
+-- a database without rows that has a schema becomes an empty store
 abbrev pub Fills : Schema → Database → Database → Type 0
 Fills before old new = IsBare before old → IsEmpty new
 
--- what is made of a database without objects, or of a store
+-- what is made from a database without objects, or from a store
 abbrev pub made_of : Origin → Database → Database → Type 0
 made_of Nothing = MakesStore
 made_of Store = Migrates

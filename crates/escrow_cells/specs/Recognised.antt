@@ -1,8 +1,8 @@
--- Helps: what private contracts say of a schema. Nothing that callers see rests on it.
+-- Helps: what private contracts say of a schema. No contract of a public call uses it.
 use Rattle.std.specs.Prelude.{◌≡◌, false, []}
 use Rattle.sqlite_schema.specs.declared.schema.Table.{Table}
 
--- a table has no CHECK, no foreign key, no default that is computed, and no AUTOINCREMENT
+-- a table has no CHECK, no foreign key, no computed default and no AUTOINCREMENT
 pub record IsUnruled (t : Table) : Type 0 where
   pub unchecked : t.checks ≡ []
   pub no_keys : t.references ≡ []

@@ -1,4 +1,4 @@
--- Believed: what is read of a part of a row.
+-- Believed: what calls read from a part of a row.
 use Rattle.std.specs.Prelude.{ℤ, Bool, ◌&&◌, List, [], ◌∷◌, map, filter, IsPermutation, IsSorted}
 use Rattle.std.specs.Ordering.{on}
 use Rattle.sqlite_value.specs.declared.value.Value.{Value}
@@ -10,7 +10,7 @@ use Rattle.sqlite_sql.specs.declared.ops.CompareOp.TheVariants.{Ge, Le}
 use Rattle.sqlite_sql.specs.Ops.{binary, is_true}
 use Rattle.escrow_cells.specs.Step.{is_of}
 
--- to SQLite a place is a first one or one behind it, and it is a last one or one before it
+-- SQLite's comparisons say that a place is not before a first one, and not after a last one
 abbrev pub is_from : ℤ → Value → Bool
 is_from first place = is_true (binary (Compare Ge Binary) place (Int first))
 
@@ -20,7 +20,7 @@ is_up_to last place = is_true (binary (Compare Le Binary) place (Int last))
 abbrev pub is_within : ℤ → ℤ → Value → Bool
 is_within first last place = is_from first place && is_up_to last place
 
--- the cells of the row of a key from one place to another, each by its place and its value, in order of place
+-- the cells of the row of a key from one place to another, each with its place and its value, in order of place
 pub record AreOfSpan (first last : ℤ) (table key : Value) (cells : List Row) (answer : List Row) : Type 0 where
   pub same_cells : IsPermutation (filter (λ r. is_within first last (column r 0)) (map (λ c. column c 2 ∷ column c 3 ∷ []) (filter (is_of table key) cells))) answer
   pub in_order : IsSorted (on (λ r. column r 0) value_cmp) answer

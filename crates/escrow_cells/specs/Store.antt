@@ -39,19 +39,19 @@ pub record IsStoreSchema (schema : Schema) : Type 0 where
   pub tables : HasTables schema
   pub no_keys : AllByRecursion (λ (t : Table). t.references ≡ []) schema.tables
 
--- SQLite numbers rows by whole numbers, and no number comes twice
+-- SQLite's numbers of the rows are whole, and no number occurs twice
 pub record NumbersDiffer (rows : List Row) : Type 0 where
   pub whole : AllByRecursion (λ r. IsTrue (is_int (rowid r))) rows
   pub apart : IsAscending (λ a b. is_eq (value_cmp (rowid a) (rowid b)) ≡ false) rows
 
--- SQLite's own numbers of the rows of the three tables are whole, and none comes twice in a table
+-- SQLite's own numbers of the rows of the three tables are whole, and none occurs twice in a table
 pub record AreAllNumbered (db : Database) : Type 0 where
   pub metas : NumbersDiffer (db.trees meta_tree)
   pub tabs : NumbersDiffer (db.trees tab_tree)
   pub cells : NumbersDiffer (db.trees cell_tree)
 
--- A store: a database of SQLite with the three tables first, their rows numbered, and without foreign keys, which would
--- let a write to one table reach another.
+-- A store: a database of SQLite whose first tables are these three, with their rows numbered. It has no foreign keys,
+-- which would let a write to one table reach another.
 pub record IsStore (db : Database) : Type 0 where
   pub tables : HasTables db.schema
   pub sound : IsDatabase db
@@ -60,28 +60,28 @@ pub record IsStore (db : Database) : Type 0 where
   pub tabs_numbered : NumbersDiffer (db.trees tab_tree)
   pub cells_numbered : NumbersDiffer (db.trees cell_tree)
 
--- the rows of META in a store of the format of a number: one, which says that number
+-- the rows of META in a store whose format has this number: one row, with the number
 abbrev pub format : ℤ → List Row
 format number = (Text (codes "format") ∷ Int number ∷ []) ∷ []
 
--- a store of the known format (FORMAT) whose TAB and CELL are empty
+-- a store in the known format (FORMAT) whose TAB and CELL are empty
 pub record IsEmpty (db : Database) : Type 0 where
   pub store : IsStore db
   pub metas_are : metas db ≡ format FORMAT
   pub tabs_are : tabs db ≡ []
   pub cells_are : cells db ≡ []
 
--- an empty store is made of a database without objects
+-- a database without objects becomes an empty store
 abbrev pub MakesStore : Database → Database → Type 0
 MakesStore old new = old.schema ≡ no_schema → IsEmpty new
 
--- a store of the known format (FORMAT), with the rows of TAB and CELL that another had
+-- a store in the known format (FORMAT), with the rows of TAB and CELL that another had
 pub record HasMigrated (old new : Database) : Type 0 where
   pub store : IsStore new
   pub metas_are : metas new ≡ format FORMAT
   pub tabs_are : tabs new ≡ tabs old
   pub cells_are : cells new ≡ cells old
 
--- a store of whatever format is brought to the known one
+-- a store in any format is migrated to the known one
 abbrev pub Migrates : Database → Database → Type 0
 Migrates old new = (number : ℤ) → IsStore old → metas old ≡ format number → HasMigrated old new

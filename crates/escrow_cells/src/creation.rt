@@ -1,4 +1,4 @@
-//! A store that is made: of a database without objects, or of a store in another format.
+//! How a store is made: from a database without objects, or from a store in another format.
 ghost use Rattle.std.specs.Prelude.{◌≡◌, false, is_ok, IsTrue};
 ghost use Rattle.sqlite.specs.Held.{state};
 ghost use Rattle.escrow_cells.specs.Calls.{Transacts};
@@ -11,17 +11,17 @@ use crate::statement::write;
 use escrow_num::Failure;
 use sqlite::{Alter, Connection, Error, Transaction};
 
-/// What a store is made of.
+/// What a store is made from.
 #[derive(Clone, Copy)]
 pub(crate) enum Origin {
     /// A database without objects.
     Nothing,
-    /// A store of whatever format.
+    /// A store in any format.
     Store,
 }
 
-/// Makes an empty store of a database without objects, in one transaction: all of it, or nothing. A
-/// connection that is inside a transaction is refused.
+/// Makes an empty store from a database without objects, in one transaction: all of it or nothing.
+/// A connection that is inside a transaction is refused.
 pub fn create<S: Alter>(conn: &mut Connection<S>) -> Result<(), Failure>
     ensures writes { Transacts (state S.Store conn.old) (state S.Store conn.new) (is_ok result) MakesStore }
     ensures mode { conn.old.in_transaction ≡ false → conn.new.in_transaction ≡ false }
@@ -29,8 +29,8 @@ pub fn create<S: Alter>(conn: &mut Connection<S>) -> Result<(), Failure>
     make(conn, Origin::Nothing)
 }
 
-/// Brings a store of whatever format to the known one, in one transaction: its tables and cells stay. A
-/// connection that is inside a transaction is refused.
+/// Migrates a store in any format to the known one, in one transaction. Its tables and cells stay.
+/// A connection that is inside a transaction is refused.
 pub fn migrate<S: Alter>(conn: &mut Connection<S>) -> Result<(), Failure>
     ensures writes { Transacts (state S.Store conn.old) (state S.Store conn.new) (is_ok result) Migrates }
     ensures mode { conn.old.in_transaction ≡ false → conn.new.in_transaction ≡ false }
@@ -49,7 +49,7 @@ fn make<S: Alter>(conn: &mut Connection<S>, origin: Origin) -> Result<(), Failur
     make_outside(conn, origin).map_err(failure_of)
 }
 
-/// The same, in a connection that is outside a transaction.
+/// Makes a store as [`make`] does, in a connection that is outside a transaction.
 fn make_outside<S: Alter>(conn: &mut Connection<S>, origin: Origin) -> Result<(), Error>
     requires outside { conn.old.in_transaction ≡ false }
     requires settled { IsTrue (state S.Store conn.old).is_open → (state S.Store conn.old).now ≡ (state S.Store conn.old).committed }
@@ -61,7 +61,7 @@ fn make_outside<S: Alter>(conn: &mut Connection<S>, origin: Origin) -> Result<()
     tx.commit()
 }
 
-/// The same, inside a transaction.
+/// Makes a store as [`make`] does, inside a transaction.
 fn make_inside<S: Alter>(tx: &mut Transaction<'_, S>, origin: Origin) -> Result<(), Error>
     ensures same_reference { tx.new.conn.ghost_name ≡ tx.old.conn.ghost_name }
     ensures acts { Acts (state S.Store tx.old.conn.now) (state S.Store tx.new.conn.now) (is_ok result) 1 (made_of origin) }
@@ -95,7 +95,7 @@ fn make_tables<S: Alter>(tx: &mut Transaction<'_, S>) -> Result<(), Error>
     write(tx, "INSERT INTO META VALUES ('format', 2)", &[])
 }
 
-/// Puts into META that the store has the known format.
+/// Writes the number of the known format into META.
 fn update_format<S: Alter>(tx: &mut Transaction<'_, S>) -> Result<(), Error>
     ensures same_reference { tx.new.conn.ghost_name ≡ tx.old.conn.ghost_name }
     ensures acts { Acts (state S.Store tx.old.conn.now) (state S.Store tx.new.conn.now) (is_ok result) 1 Migrates }

@@ -1,13 +1,18 @@
-//! The three tables of a store, in SQLite: what each statement makes of their rows, a list of steps in
-//! one transaction, and what is read.
+//! The three tables of a store, in SQLite: how each statement changes their rows, a list of steps
+//! in one transaction, and reads.
 //!
-//! Its contracts: a list of steps is done whole, or not at all, also over a crash ([`run`], [`run_if_found`],
-//! [`run_unless_refused`]), and so is a new store made ([`create`]), and one of another format brought to the known one ([`migrate`]).
+//! Its main contract is that of [`run`]: a list of steps is done completely or not at all, even
+//! over a crash. The same holds for [`run_if_found`] and [`run_unless_refused`], for [`create`],
+//! which makes a store, and for [`migrate`], which migrates one of another format.
+//!
+//! Begin with [`Step`] and [`run`]. Then read [`row_cells`] and [`table_cells`], which read the
+//! cells of a row and of a table.
 #![tactic(auto)]
 
 mod creation;
 mod datum;
-// Open, since the prover looks for a function that is handed on as a value where it stands.
+// Public, since the prover looks for a function that is passed as a value in the module that
+// defines it.
 pub mod failure;
 mod formats;
 mod new_cell;

@@ -4,7 +4,7 @@ ghost use Rattle.escrow_cells.specs.NewCell.{step_of};
 use crate::datum::Datum;
 use crate::step::Step;
 
-/// A new cell, as the step that puts it has it.
+/// A new cell, with the fields of the step that inserts it.
 #[derive(Clone, Copy, Debug)]
 pub(crate) struct NewCell<'a> {
     /// The table's number.
@@ -18,7 +18,7 @@ pub(crate) struct NewCell<'a> {
 }
 
 impl<'a> NewCell<'a> {
-    /// The cell that a step puts, if it puts one.
+    /// Returns the cell that a step inserts, if it inserts one.
     pub(crate) fn of(step: &Step<'a>) -> Option<Self>
         ensures { IfSome result (λ cell. step.now ≡ step_of cell) }
     {

@@ -27,7 +27,7 @@ pub(crate) struct Numbers {
 }
 
 impl Numbers {
-    /// One more value.
+    /// Adds one more value.
     fn add(&mut self, value: ValueRef<'_>)
         ensures { self.new ≡ with_number self.old (owned value.entry) }
     {
@@ -61,8 +61,8 @@ impl Sink for Numbers {
     }
 }
 
-/// Whether SQLite's own numbers of the rows of META, of TAB and of CELL are whole, and no number comes
-/// twice in one of them.
+/// Returns whether SQLite's own numbers of the rows of META, TAB and CELL are whole, and no number
+/// occurs twice in one of them.
 pub fn are_numbered<S: Alter>(conn: &mut Connection<S>) -> Result<bool, Failure>
     ensures numbered { HasCleanDisk (state S.Store conn.new) → IfOk result (λ are. HasTables (state S.Store conn.old).now.schema → (IsTrue are ↔ AreAllNumbered (state S.Store conn.old).now)) }
     ensures leaves_idle { conn.old.in_transaction ≡ false → LeavesIdle S.Store conn.old conn.new }
@@ -101,7 +101,7 @@ fn are_cells_numbered<S: Alter>(conn: &mut Connection<S>) -> Result<bool, Failur
     numbers_rise(conn, "SELECT rowid FROM CELL ORDER BY rowid")
 }
 
-/// Whether the first values that a query answers are whole numbers that rise.
+/// Returns whether the first values in the rows of a query are whole numbers that rise.
 fn numbers_rise<S: Alter>(conn: &mut Connection<S>, sql: &str) -> Result<bool, Failure>
     requires { IsReading sql.now }
     ensures rise { HasCleanDisk (state S.Store conn.new) → IfOk result (λ rise. (rows : List Cells) × Shown sql.now [] (state S.Store conn.old) (state S.Store conn.new) rows × (rise ≡ (with_numbers (record { last = None; rise = true }) rows).rise)) }

@@ -1,4 +1,4 @@
-//! What is read. Each call changes nothing, and refuses a connection that is inside a transaction.
+//! Reads. No call changes anything, and each refuses a connection that is inside a transaction.
 ghost use Rattle.std.specs.Prelude.{◌≡◌, false, ◌&&◌, length, filter, IsPermutation, IsTrue, IfOk, OnOk};
 ghost use Rattle.sqlite_value.specs.declared.value.Value.TheVariants.{Int};
 ghost use Rattle.sqlite_value.specs.Order.{column};
@@ -18,7 +18,7 @@ use escrow_num::Failure;
 use sqlite::types::{ToSql, ValueRef};
 use sqlite::{Alter, Connection, Row, params};
 
-/// All rows of a query.
+/// Returns all rows of a query.
 fn read_all<S: Alter>(
     conn: &mut Connection<S>,
     sql: &str,
@@ -38,7 +38,7 @@ fn read_all<S: Alter>(
     }
 }
 
-/// The rows of a query, each given to a sink as it is read.
+/// Gives each row of a query to a sink as it is read.
 pub(crate) fn read_each<S: Alter, K: Sink>(
     conn: &mut Connection<S>,
     sql: &str,
@@ -70,7 +70,7 @@ pub(crate) fn read_each<S: Alter, K: Sink>(
     Err(Failure::Store)
 }
 
-/// Gives a sink the rows of META, in any order: each has its K and its V.
+/// Gives the rows of META to a sink, in any order. Each has its K and its V.
 pub fn metas<S: Alter, K: Sink>(conn: &mut Connection<S>, sink: &mut K) -> Result<(), Failure>
     ensures rows { HasCleanDisk (state S.Store conn.new) → OnOk result (HasTables (state S.Store conn.old).now.schema → Takes K.has_taken (IsPermutation (metas (state S.Store conn.old).now)) sink.old sink.new) }
     ensures leaves_idle { conn.old.in_transaction ≡ false → LeavesIdle S.Store conn.old conn.new }
@@ -79,7 +79,7 @@ pub fn metas<S: Alter, K: Sink>(conn: &mut Connection<S>, sink: &mut K) -> Resul
     read_each(conn, "SELECT K, V FROM META", &[], sink)
 }
 
-/// The rows of TAB, in order of ID: each has its ID, its NAME and its DDL.
+/// Returns the rows of TAB, in order of ID. Each has its ID, its NAME and its DDL.
 pub fn tabs<S: Alter>(conn: &mut Connection<S>) -> Result<Vec<Row>, Failure>
     ensures rows { HasCleanDisk (state S.Store conn.new) → IfOk result (λ rows. IsStore (state S.Store conn.old).now → AreTabs (tabs (state S.Store conn.old).now) rows.items) }
     ensures leaves_idle { conn.old.in_transaction ≡ false → LeavesIdle S.Store conn.old conn.new }
@@ -88,7 +88,7 @@ pub fn tabs<S: Alter>(conn: &mut Connection<S>) -> Result<Vec<Row>, Failure>
     read_all(conn, "SELECT ID, NAME, DDL FROM TAB ORDER BY ID", &[])
 }
 
-/// The cells of the row of a key, in order of place: each has its place and its value.
+/// Returns the cells of the row of a key, in order of place. Each has its place and its value.
 pub fn row_cells<S: Alter>(
     conn: &mut Connection<S>,
     table: i64,
@@ -105,8 +105,8 @@ pub fn row_cells<S: Alter>(
     )
 }
 
-/// The cells of the row of a key from one place to another, in order of place: each has its place and its
-/// value.
+/// Returns the cells of the row of a key from one place to another, in order of place. Each has its
+/// place and its value.
 pub fn span_cells<S: Alter>(
     conn: &mut Connection<S>,
     table: i64,
@@ -125,8 +125,8 @@ pub fn span_cells<S: Alter>(
     )
 }
 
-/// Gives a sink the cells of a table, in order of key and place: each has its key, its place and its
-/// value.
+/// Gives the cells of a table to a sink, in order of key and place. Each has its key, its place and
+/// its value.
 pub fn table_cells<S: Alter, K: Sink>(
     conn: &mut Connection<S>,
     table: i64,
@@ -144,7 +144,7 @@ pub fn table_cells<S: Alter, K: Sink>(
     )
 }
 
-/// Gives a sink the keys of a table's cells at one place, in any order.
+/// Gives the keys of a table's cells at one place to a sink, in any order.
 pub fn key_cells<S: Alter, K: Sink>(
     conn: &mut Connection<S>,
     table: i64,
@@ -163,7 +163,7 @@ pub fn key_cells<S: Alter, K: Sink>(
     )
 }
 
-/// How many cells of a table are at one place.
+/// Returns how many cells of a table are at one place.
 pub fn count_keys<S: Alter>(
     conn: &mut Connection<S>,
     table: i64,
@@ -178,7 +178,7 @@ pub fn count_keys<S: Alter>(
     Ok(counter.rows)
 }
 
-/// How many cells are at a place of the row of a key: one, or none.
+/// Returns how many cells are at a place of the row of a key: one or none.
 pub fn count_cells<S: Alter>(
     conn: &mut Connection<S>,
     table: i64,
@@ -199,7 +199,7 @@ pub fn count_cells<S: Alter>(
     Ok(counter.rows)
 }
 
-/// Gives a sink the table of each cell, in any order.
+/// Gives the table of each cell to a sink, in any order.
 pub fn cell_tables<S: Alter, K: Sink>(conn: &mut Connection<S>, sink: &mut K) -> Result<(), Failure>
     ensures rows { HasCleanDisk (state S.Store conn.new) → OnOk result (HasTables (state S.Store conn.old).now.schema → Takes K.has_taken (AreTablesOfCells (cells (state S.Store conn.old).now)) sink.old sink.new) }
     ensures leaves_idle { conn.old.in_transaction ≡ false → LeavesIdle S.Store conn.old conn.new }

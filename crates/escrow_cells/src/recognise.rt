@@ -1,4 +1,4 @@
-//! The schema of a store, told from any other.
+//! Tells the schema of a store from any other.
 ghost use Rattle.std.specs.Prelude.{◌≡◌, ◌↔◌, [], ◌∷◌, true, false, IsTrue};
 ghost use Rattle.std.specs.List.{AllByRecursion};
 ghost use Rattle.sqlite_value.specs.declared.keys.Collation.TheVariants.{Binary};
@@ -15,15 +15,15 @@ use sqlite_schema::schema::{Column, Kind, Schema, Stamps, Table};
 use sqlite_value::keys::{Collation, Order};
 use sqlite_value::value::Value;
 
-/// Whether a schema is that of a store: META, TAB and CELL are its first tables, as their texts make
-/// them, and no table has a foreign key.
+/// Returns whether a schema is that of a store: META, TAB and CELL are its first tables, as their
+/// texts make them, and no table has a foreign key.
 pub fn is_store_schema(schema: &Schema) -> bool
     ensures { IsTrue result ↔ IsStoreSchema schema.now }
 {
     has_tables(schema) && has_no_keys(schema.tables.as_slice())
 }
 
-/// Whether META, TAB and CELL are the first tables.
+/// Returns whether META, TAB and CELL are the first tables.
 fn has_tables(schema: &Schema) -> bool
     ensures { IsTrue result ↔ HasTables schema.now }
 {
@@ -33,21 +33,21 @@ fn has_tables(schema: &Schema) -> bool
     are_first(first, second, third)
 }
 
-/// Whether three tables are META, TAB and CELL.
+/// Returns whether three tables are META, TAB and CELL.
 fn are_first(first: &Table, second: &Table, third: &Table) -> bool
     ensures { IsTrue result ↔ ((first.now ≡ meta) × (second.now ≡ tab) × (third.now ≡ cell)) }
 {
     is_meta(first) && is_tab(second) && is_cell(third)
 }
 
-/// Whether no table has a foreign key.
+/// Returns whether no table has a foreign key.
 fn has_no_keys(tables: &[Table]) -> bool
     ensures { IsTrue result ↔ AllByRecursion (λ (t : TableOf). t.references ≡ []) tables.now }
 {
     tables.iter().all(|table| table.references.is_empty())
 }
 
-/// Whether a table is META, as its text makes it.
+/// Returns whether a table is META, as its text makes it.
 fn is_meta(table: &Table) -> bool
     ensures { IsTrue result ↔ (table.now ≡ meta) }
 {
@@ -57,7 +57,7 @@ fn is_meta(table: &Table) -> bool
         && is_unruled(table)
 }
 
-/// Whether a table is TAB, as its text makes it.
+/// Returns whether a table is TAB, as its text makes it.
 fn is_tab(table: &Table) -> bool
     ensures { IsTrue result ↔ (table.now ≡ tab) }
 {
@@ -67,7 +67,7 @@ fn is_tab(table: &Table) -> bool
         && is_unruled(table)
 }
 
-/// Whether a table is CELL, as its text makes it.
+/// Returns whether a table is CELL, as its text makes it.
 fn is_cell(table: &Table) -> bool
     ensures { IsTrue result ↔ (table.now ≡ cell) }
 {
@@ -77,15 +77,15 @@ fn is_cell(table: &Table) -> bool
         && is_unruled(table)
 }
 
-/// Whether a table has this name, and its rows stand in the tree of this number.
+/// Returns whether a table has this name, and its rows are in the tree of this number.
 fn is_named(table: &Table, name: &str, tree: u32) -> bool
     ensures { IsTrue result ↔ ((table.now.name ≡ name.now) × (table.now.tree ≡ tree)) }
 {
     table.name.as_slice() == name.as_bytes() && table.tree == tree
 }
 
-/// Whether these are the keys: the INTEGER PRIMARY KEY, the places of the primary key, and those of the
-/// one key that an index keeps.
+/// Returns whether these are the keys of a table: the INTEGER PRIMARY KEY, the places of the
+/// primary key, and those of the one key that an index keeps.
 fn is_keyed(table: &Table, key: Option<usize>, primary: &[usize], unique: &[usize]) -> bool
     ensures { IsTrue result ↔ ((table.now.key ≡ key) × (table.now.primary ≡ primary.now) × (table.now.uniques ≡ unique.now ∷ []) × (table.now.orders ≡ plain ∷ [])) }
 {
@@ -95,7 +95,7 @@ fn is_keyed(table: &Table, key: Option<usize>, primary: &[usize], unique: &[usiz
         && is_plain(table.orders.as_slice())
 }
 
-/// Whether these are the places of the one key.
+/// Returns whether these are the places of the one key.
 fn is_only(keys: &[Items<usize>], places: &[usize]) -> bool
     ensures { IsTrue result ↔ (keys.now ≡ places.now ∷ []) }
 {
@@ -105,7 +105,7 @@ fn is_only(keys: &[Items<usize>], places: &[usize]) -> bool
     key.as_slice() == places
 }
 
-/// Whether the one index of a table ascends by bytes.
+/// Returns whether the one index of a table ascends by bytes.
 fn is_plain(orders: &[Order]) -> bool
     ensures { IsTrue result ↔ (orders.now ≡ plain ∷ []) }
 {
@@ -115,7 +115,7 @@ fn is_plain(orders: &[Order]) -> bool
     *order == Order::PLAIN
 }
 
-/// Whether these are the columns of META.
+/// Returns whether these are the columns of META.
 fn are_meta_columns(columns: &[Column]) -> bool
     ensures { IsTrue result ↔ (columns.now ≡ meta.columns) }
 {
@@ -125,7 +125,7 @@ fn are_meta_columns(columns: &[Column]) -> bool
     is_column(k, "K", Kind::Text, true) && is_column(v, "V", Kind::Integer, true)
 }
 
-/// Whether these are the columns of TAB.
+/// Returns whether these are the columns of TAB.
 fn are_tab_columns(columns: &[Column]) -> bool
     ensures { IsTrue result ↔ (columns.now ≡ tab.columns) }
 {
@@ -137,7 +137,7 @@ fn are_tab_columns(columns: &[Column]) -> bool
         && is_column(ddl, "DDL", Kind::Text, true)
 }
 
-/// Whether these are the columns of CELL.
+/// Returns whether these are the columns of CELL.
 fn are_cell_columns(columns: &[Column]) -> bool
     ensures { IsTrue result ↔ (columns.now ≡ cell.columns) }
 {
@@ -150,7 +150,7 @@ fn are_cell_columns(columns: &[Column]) -> bool
         && is_column(value, "V", Kind::Any, true)
 }
 
-/// Whether a column is this one of a STRICT table.
+/// Returns whether a column is this one of a STRICT table.
 fn is_column(column: &Column, name: &str, kind: Kind, not_null: bool) -> bool
     ensures { IsTrue result ↔ (column.now ≡ record (filled name.now kind) { not_null = not_null }) }
 {
@@ -160,21 +160,21 @@ fn is_column(column: &Column, name: &str, kind: Kind, not_null: bool) -> bool
         && is_strict(column)
 }
 
-/// Whether a column of a STRICT table has no default, and is ordered by bytes.
+/// Returns whether a column is of a STRICT table, has no default, and is ordered by bytes.
 fn is_strict(column: &Column) -> bool
     ensures { IsTrue result ↔ ((column.now.is_strict ≡ true) × (column.now.default ≡ Null) × (column.now.collation ≡ Binary)) }
 {
     column.is_strict && is_null(&column.default) && column.collation == Collation::Binary
 }
 
-/// Whether a value is NULL.
+/// Returns whether a value is NULL.
 fn is_null(value: &Value) -> bool
     ensures { IsTrue result ↔ (value.now ≡ Null) }
 {
     matches!(value, Value::Null)
 }
 
-/// Whether a table has no CHECK, no foreign key, no default that is computed, and no AUTOINCREMENT.
+/// Returns whether a table has no CHECK, no foreign key, no computed default and no AUTOINCREMENT.
 fn is_unruled(table: &Table) -> bool
     ensures { IsTrue result ↔ IsUnruled table.now }
 {
@@ -185,14 +185,14 @@ fn is_unruled(table: &Table) -> bool
         && !table.is_counted
 }
 
-/// Whether there are no terms.
+/// Returns whether there are no terms.
 fn is_empty(terms: &Terms) -> bool
     ensures { IsTrue result ↔ (terms.now ≡ []) }
 {
     terms.roots.is_empty()
 }
 
-/// Whether no default reads the time.
+/// Returns whether no default reads the time.
 fn is_unstamped(stamps: &Stamps) -> bool
     ensures { IsTrue result ↔ (stamps.now ≡ record { places = []; terms = []; formats = [] }) }
 {

@@ -1,4 +1,4 @@
-//! What takes rows as they are read.
+//! Sinks, which take rows as they are read.
 ghost use Rattle.std.specs.Prelude.{List, [], ◌∷◌, ◌++◌, OnOk};
 ghost use Rattle.sqlite_value.specs.Order.{Row as Cells};
 
@@ -7,7 +7,8 @@ use sqlite::Row;
 
 /// Takes rows, one after another.
 pub trait Sink {
-    // Whether a sink that was the first of these is the second one once it has taken these rows.
+    // Whether a sink that began as the first of these is the second one after it has taken these
+    // rows.
     ghost has_taken: { Self → Self → List Cells → Type 0 };
 
     /// Takes one more row.

@@ -17,7 +17,7 @@ use crate::step::Step;
 use sqlite::types::{ToSql, ValueRef};
 use sqlite::{Alter, Error, Transaction, params};
 
-/// Executes a statement that writes. Answers how many rows it put in, changed or took out.
+/// Executes a statement that writes. Returns how many rows it inserted, changed or deleted.
 fn change<S: Alter>(
     tx: &mut Transaction<'_, S>,
     sql: &str,
@@ -45,7 +45,7 @@ pub(crate) fn write<S: Alter>(
     Ok(())
 }
 
-/// Puts a new cell.
+/// Inserts a new cell.
 fn insert_cell<S: Alter>(tx: &mut Transaction<'_, S>, cell: &NewCell<'_>) -> Result<(), Error>
     ensures same_reference { tx.new.conn.ghost_name ≡ tx.old.conn.ghost_name }
     ensures acts { ActsBy (state S.Store tx.old.conn.now) (state S.Store tx.new.conn.now) (is_ok result) (step_of cell.now ∷ []) }
@@ -57,7 +57,7 @@ fn insert_cell<S: Alter>(tx: &mut Transaction<'_, S>, cell: &NewCell<'_>) -> Res
     )
 }
 
-/// Puts two new cells.
+/// Inserts two new cells.
 fn insert_two<S: Alter>(
     tx: &mut Transaction<'_, S>,
     a: &NewCell<'_>,
@@ -75,7 +75,7 @@ fn insert_two<S: Alter>(
     )
 }
 
-/// Puts three new cells.
+/// Inserts three new cells.
 fn insert_three<S: Alter>(
     tx: &mut Transaction<'_, S>,
     a: &NewCell<'_>,
@@ -95,7 +95,7 @@ fn insert_three<S: Alter>(
     )
 }
 
-/// Puts four new cells.
+/// Inserts four new cells.
 fn insert_four<S: Alter>(
     tx: &mut Transaction<'_, S>,
     a: &NewCell<'_>,
@@ -116,7 +116,7 @@ fn insert_four<S: Alter>(
     )
 }
 
-/// Puts another value in a cell that stands. Answers how many there are: one, or none.
+/// Sets the value of an existing cell. Returns how many such cells there are: one or none.
 fn set_cell<S: Alter>(
     tx: &mut Transaction<'_, S>,
     table: i64,
@@ -136,7 +136,7 @@ fn set_cell<S: Alter>(
     )
 }
 
-/// Takes out the cells of the row of a key. Answers how many there were.
+/// Deletes the cells of the row of a key. Returns how many there were.
 fn delete_row<S: Alter>(
     tx: &mut Transaction<'_, S>,
     table: i64,
@@ -154,7 +154,7 @@ fn delete_row<S: Alter>(
     )
 }
 
-/// Takes out the cells of a table.
+/// Deletes the cells of a table.
 fn delete_cells<S: Alter>(tx: &mut Transaction<'_, S>, table: i64) -> Result<(), Error>
     ensures same_reference { tx.new.conn.ghost_name ≡ tx.old.conn.ghost_name }
     ensures acts { ActsBy (state S.Store tx.old.conn.now) (state S.Store tx.new.conn.now) (is_ok result) (step.DeleteCells table ∷ []) }
@@ -162,7 +162,7 @@ fn delete_cells<S: Alter>(tx: &mut Transaction<'_, S>, table: i64) -> Result<(),
     write(tx, "DELETE FROM CELL WHERE TAB = ?1", params![table])
 }
 
-/// Puts a new table.
+/// Inserts a new table.
 fn insert_tab<S: Alter>(
     tx: &mut Transaction<'_, S>,
     id: i64,
@@ -179,7 +179,7 @@ fn insert_tab<S: Alter>(
     )
 }
 
-/// Takes out a table's name and text.
+/// Deletes the name and the text of a table.
 fn delete_tab<S: Alter>(tx: &mut Transaction<'_, S>, id: i64) -> Result<(), Error>
     ensures same_reference { tx.new.conn.ghost_name ≡ tx.old.conn.ghost_name }
     ensures acts { ActsBy (state S.Store tx.old.conn.now) (state S.Store tx.new.conn.now) (is_ok result) (step.DeleteTab id ∷ []) }
@@ -226,7 +226,7 @@ fn do_step<S: Alter>(tx: &mut Transaction<'_, S>, step: &Step<'_>) -> Result<(),
     }
 }
 
-/// Does one step. Answers whether it found a cell, where it goes by a key.
+/// Does one step. Returns whether it found a cell, if it goes by a key.
 pub(crate) fn do_finding<S: Alter>(
     tx: &mut Transaction<'_, S>,
     step: &Step<'_>,
@@ -257,10 +257,10 @@ pub(crate) fn do_finding<S: Alter>(
     }
 }
 
-/// The most new cells that one statement puts.
+/// The most new cells that one statement inserts.
 pub(crate) const TOGETHER: usize = 4;
 
-/// Does steps, one after another; as one statement where they are a few, and all put cells.
+/// Does steps, one after another. If they are few and all insert cells, they are one statement.
 pub(crate) fn do_steps<S: Alter>(
     tx: &mut Transaction<'_, S>,
     steps: &[Step<'_>],
@@ -291,7 +291,7 @@ pub(crate) fn do_steps<S: Alter>(
     do_each(tx, steps)
 }
 
-/// Does steps, each as a statement.
+/// Does steps, each as its own statement.
 fn do_each<S: Alter>(tx: &mut Transaction<'_, S>, steps: &[Step<'_>]) -> Result<(), Error>
     ensures same_reference { tx.new.conn.ghost_name ≡ tx.old.conn.ghost_name }
     ensures acts { ActsBy (state S.Store tx.old.conn.now) (state S.Store tx.new.conn.now) (is_ok result) steps.now }

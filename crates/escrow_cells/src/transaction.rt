@@ -11,7 +11,7 @@ use crate::step::Step;
 use escrow_num::Failure;
 use sqlite::{Alter, Connection, Error, ErrorCode};
 
-/// Does steps, one after another, in one transaction: all of them, or none. A connection that is
+/// Does steps, one after another, in one transaction: all of them or none. A connection that is
 /// inside a transaction is refused.
 pub fn run<S: Alter>(conn: &mut Connection<S>, steps: &[Step<'_>]) -> Result<(), Failure>
     ensures writes { Transacts (state S.Store conn.old) (state S.Store conn.new) (is_ok result) (Does steps.now) }
@@ -23,8 +23,8 @@ pub fn run<S: Alter>(conn: &mut Connection<S>, steps: &[Step<'_>]) -> Result<(),
     run_outside(conn, steps).map_err(failure_of)
 }
 
-/// Does steps as [`run`] does, unless SQLite finds that one of them breaks a constraint, as a new cell at
-/// the place of one that stands. Answers whether they are done; else none is.
+/// Does steps as [`run`] does, unless SQLite finds that one of them breaks a constraint, such as a
+/// new cell at the place of an existing one. Returns whether they are done. If not, none is.
 pub fn run_unless_refused<S: Alter>(
     conn: &mut Connection<S>,
     steps: &[Step<'_>],
@@ -42,8 +42,8 @@ pub fn run_unless_refused<S: Alter>(
     }
 }
 
-/// Does steps as [`run`] does, if the first finds a cell where it goes by a key. Answers whether they are
-/// done; else none is.
+/// Does steps as [`run`] does, if the first finds a cell or doesn't go by a key. Returns whether
+/// they are done. If not, none is.
 pub fn run_if_found<S: Alter>(
     conn: &mut Connection<S>,
     first: &Step<'_>,
@@ -86,7 +86,7 @@ fn do_nothing<S: Alter>(conn: &mut Connection<S>) -> Result<(), Error>
     Ok(())
 }
 
-/// Does steps, of which there are some, in a connection that is outside a transaction.
+/// Does some steps, at least one, in a connection that is outside a transaction.
 fn transact<S: Alter>(conn: &mut Connection<S>, steps: &[Step<'_>]) -> Result<(), Error>
     requires some { 0 < length steps.now }
     requires outside { conn.old.in_transaction ≡ false }
@@ -101,8 +101,8 @@ fn transact<S: Alter>(conn: &mut Connection<S>, steps: &[Step<'_>]) -> Result<()
     tx.commit()
 }
 
-/// Does a step, if it finds a cell where it goes by a key, and then others, in a connection that is outside a
-/// transaction. Else the transaction is rolled back.
+/// Does a step and then others, in a connection that is outside a transaction. If the first goes by
+/// a key and finds no cell, the transaction is rolled back. Returns whether they are done.
 fn transact_if_found<S: Alter>(
     conn: &mut Connection<S>,
     first: &Step<'_>,

@@ -1,5 +1,5 @@
--- Believed: which checks the CHECKs of a table declare, by name, coefficients, scale and limits.
--- Beside the columns' names stand their scales.
+-- Believed: which checks the CHECKs of a table declare, by name, coefficients, scale and limits. The columns' names
+-- come with their scales.
 use Rattle.std.specs.Prelude.{ℕ, ℤ, pos, neg_ℤ, ◌+◌, ◌==◌, ◌+ℤ◌, ◌-ℤ◌, Bool, true, not, ◌&&◌, nat_le, int_le, int_div, int_rem, if◌then◌else◌, Option, Some, None, option_and_then, option_map, List, [], ◌∷◌, ◌++◌, length, map, codes, bytes_eq}
 use Rattle.std.specs.List.{list_any, list_all, flat_map}
 use Rattle.std.specs.Ordering.{int_eq}
@@ -28,7 +28,7 @@ abbrev pub coefficient_in : List ℕ → Term → ℤ
 coefficient_in name (term.Number n) = pos 0
 coefficient_in name (term.Column coefficient column) = if bytes_eq column name then coefficient else pos 0
 
--- what stands on the right of a condition: BETWEEN has its two numbers there, and no sum
+-- the terms on the right of a condition: BETWEEN has its two numbers there, and no sum
 abbrev pub right_of : Test → List Term
 right_of (Compare comparison sum) = sum
 right_of (Between low high) = []
@@ -65,13 +65,13 @@ span_of Above n = record { lo = Some (n +ℤ pos 1); hi = None }
 span_of AtLeast n = record { lo = Some n; hi = None }
 span_of Equal n = record { lo = Some n; hi = Some n }
 
--- the limits that a test sets, in units of a scale, where the numbers on its left add up to so many millionths:
--- each less that much
+-- the limits that a test sets, in units of a scale. The numbers on its left add up to `left` millionths, which are
+-- subtracted from each limit
 abbrev pub limits_of : ℕ → Test → ℤ → Span
 limits_of scale (Compare comparison sum) left = span_of comparison (units_in scale (total number_in sum -ℤ left))
 limits_of scale (Between low high) left = record { lo = Some (units_in scale (low -ℤ left)); hi = Some (units_in scale (high -ℤ left)) }
 
--- these are whole numbers of units: none is rounded
+-- the limits are whole numbers of units: none is rounded
 abbrev pub has_whole_limits : ℕ → Test → ℤ → Bool
 has_whole_limits scale (Compare comparison sum) left = is_whole scale (total number_in sum -ℤ left)
 has_whole_limits scale (Between low high) left = is_whole scale (low -ℤ left) && is_whole scale (high -ℤ left)
@@ -82,7 +82,7 @@ condition_limits scale condition = limits_of scale condition.test (total number_
 
 -- RULES
 
--- the column that a term names
+-- the column that a term names, if it names one
 abbrev pub columns_in : Term → List (List ℕ)
 columns_in (term.Number n) = []
 columns_in (term.Column coefficient column) = column ∷ []
@@ -100,7 +100,7 @@ is_coefficient c = int_le (neg_ℤ MAX_COEFFICIENT) c && int_le c MAX_COEFFICIEN
 abbrev pub are_good_coefficients : List ℤ → Bool
 are_good_coefficients coeffs = list_all is_coefficient coeffs && list_any (λ c. not (int_eq c (pos 0))) coeffs
 
--- a limit, in units, is an amount, also after it was moved; one that isn't there is good
+-- a limit, in units, is an amount, even after it was moved; a missing limit passes
 abbrev pub is_limit : Option ℤ → Bool
 is_limit None = true
 is_limit (Some z) = is_amount z
@@ -122,17 +122,17 @@ has_good_limits scale condition =
 
 -- NAMES
 
--- a CHECK's k-th condition, the n-th of the table's, is called as the CHECK is, from the second on
--- with _ and k behind it; where the CHECK has no name, it is called CHECK_ and n
+-- the name of a CHECK's k-th condition, the n-th of the table's: the CHECK's name, from the second on with _ and k
+-- after it; if the CHECK has no name, CHECK_ and n
 abbrev pub check_name : Option (List ℕ) → ℕ → ℕ → List ℕ
 check_name None k n = codes "CHECK_" ++ decimal n
 check_name (Some name) k n = if k == 1 then name else name ++ codes "_" ++ decimal k
 
 -- CHECKS
 
--- the check of a condition under a name, where the condition names RESERVABLE columns alone, its
--- coefficients and its limits are good, and a statement can write the name. It is in units of the scale of
--- its coefficients, which are scaled
+-- the check of a condition, with this name. The condition must name RESERVABLE columns alone, with good coefficients
+-- and limits, and a statement must be able to write the name. The check is in units of the scale of its coefficients,
+-- which are scaled
 abbrev pub check_of : List (List ℕ) → List ℕ → List ℕ → Condition → Option Check
 check_of columns scales name condition =
     let written = map (coefficient_of condition) columns in
@@ -141,27 +141,27 @@ check_of columns scales name condition =
     then Some (record { name = name; coeffs = scaled_coeffs scale written scales; scale = scale; span = condition_limits scale condition })
     else None
 
--- the checks of a CHECK's conditions, of which the first is its k-th and the n-th of the table's, or
--- nothing where one of them breaks a rule
+-- the checks of a CHECK's conditions, or nothing if one of them breaks a rule. The first condition is the k-th of the
+-- CHECK and the n-th of the table's
 abbrev pub checks_of_conditions : List (List ℕ) → List ℕ → Option (List ℕ) → ℕ → ℕ → List Condition → Option (List Check)
 checks_of_conditions columns scales name k n [] = Some []
 checks_of_conditions columns scales name k n (condition ∷ conditions) =
     option_and_then (λ check. option_map (λ checks. check ∷ checks) (checks_of_conditions columns scales name (k + 1) (n + 1) conditions))
     (check_of columns scales (check_name name k n) condition)
 
--- the checks of CHECKs, of which the first condition is the n-th of the table's
+-- the checks of CHECKs, whose first condition is the n-th of the table's
 abbrev pub checks_from : List (List ℕ) → List ℕ → List CheckText → ℕ → Option (List Check)
 checks_from columns scales [] n = Some []
 checks_from columns scales (text ∷ texts) n =
     option_and_then (λ first. option_map (λ others. first ++ others) (checks_from columns scales texts (n + length text.conditions)))
     (checks_of_conditions columns scales text.name 1 n text.conditions)
 
--- declared checks of a table, and behind them those that CHECKs declare, in order: at most 32 in all
+-- declared checks of a table, and after them those that CHECKs declare, in order: at most 32 in all
 abbrev pub checks_behind : List (List ℕ) → List ℕ → List Check → List CheckText → Option (List Check)
 checks_behind columns scales declared texts =
     option_and_then (λ more. let checks = declared ++ more in if nat_le (length checks) MAX_CHECKS then Some checks else None)
     (checks_from columns scales texts (length declared + 1))
 
--- the checks that the CHECKs of a table declare, in order: those behind none
+-- the checks that the CHECKs of a table declare, in order: those after no declared checks
 abbrev pub checks_of : List (List ℕ) → List ℕ → List CheckText → Option (List Check)
 checks_of columns scales texts = checks_behind columns scales [] texts

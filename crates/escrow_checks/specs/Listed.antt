@@ -1,10 +1,10 @@
--- Helps: which amounts are listed, by their columns, as those that aren't zero.
+-- Helps: the amounts that aren't zero, listed by their columns.
 use Rattle.std.specs.Prelude.{◌≡◌, ℕ, ℤ, pos, ◌+ℤ◌, ◌*ℤ◌, ◌≤◌, List, length, slice_index_or}
 use Rattle.std.specs.List.{fold}
 use Rattle.escrow_checks.specs.Form.{form}
 use Rattle.escrow_checks.specs.declared.coefficients.TheConstants.Coefficients.{MAX_LEN}
 
--- a sum with the product of one column's coefficient and amount
+-- a sum plus the product of one column's coefficient and amount
 abbrev pub with_column : List ℤ → List ℤ → ℤ → ℕ → ℤ
 with_column coeffs amounts sum column = sum +ℤ (slice_index_or coeffs column (pos 0) *ℤ slice_index_or amounts column (pos 0))
 

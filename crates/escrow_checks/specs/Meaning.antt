@@ -7,8 +7,8 @@ use Rattle.escrow_checks.specs.Condition.{MeetsText}
 use Rattle.escrow_checks.specs.Grant.{Meets}
 use Rattle.escrow_checks.specs.Scales.{AreScales, in_millionths}
 
--- of columns with names of their own, a row's amounts, in units of the columns' scales, meet all the
--- checks exactly where, in millionths, they meet all the CHECKs as these are written
+-- if the columns' names differ, a row's amounts, in units of the columns' scales, meet all checks exactly if, in
+-- millionths, they meet all CHECKs as written
 abbrev pub MeanTheSame : List (List ℕ) → List ℕ → List CheckText → List Check → Type 0
 MeanTheSame columns scales texts checks = IsDistinct bytes_eq columns → AreScales columns scales → (amounts : List ℤ) → length amounts ≡ length columns
     → (All (λ check. Meets check amounts) checks ↔ All (MeetsText columns (in_millionths scales amounts)) texts)

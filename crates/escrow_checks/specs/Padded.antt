@@ -1,10 +1,10 @@
--- Helps: how coefficients lie in their place. Nothing that callers see rests on it.
+-- Helps: how coefficients lie in their place. No contract of a public call uses it.
 use Rattle.std.specs.Prelude.{◌≡◌, ℕ, ℤ, pos, ◌-◌, ◌≤◌, List, ◌++◌, length, take, replicate}
 use Rattle.std.proofs.Common.{arith, ap, ◌∙◌, length-append}
 use Rattle.std.proofs.lemmas.List.{length-replicate, length-take}
 use Rattle.escrow_checks.specs.declared.coefficients.TheConstants.Coefficients.{MAX_LEN}
 
--- coefficients in their place: zeros fill what they leave of it
+-- coefficients in their place: zeros fill the rest of it
 abbrev pub padded : List ℤ → List ℤ
 padded coeffs = coeffs ++ replicate (MAX_LEN - length coeffs) (pos 0)
 

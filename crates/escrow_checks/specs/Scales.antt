@@ -13,18 +13,18 @@ form_scale [] scales = 0
 form_scale (k ∷ coeffs) [] = 0
 form_scale (k ∷ coeffs) (s ∷ scales) = if int_eq k (pos 0) then form_scale coeffs scales else max s (form_scale coeffs scales)
 
--- how many units of scale c a unit of scale s is, where s is at most c; else 1
+-- how many units of scale c are in one unit of scale s, if s is at most c; else 1
 unfoldable pub factor : ℕ → ℕ → ℕ
 factor c s = 10 ^ (c - s)
 
--- the coefficients that a check at scale c has, from those that are written: each times the factor of its column's
--- scale; one without a scale stays
+-- the coefficients that a check at scale c keeps, from the written ones: each is multiplied by the factor of its
+-- column's scale; one without a scale stays as it is
 abbrev pub scaled_coeffs : ℕ → List ℤ → List ℕ → List ℤ
 scaled_coeffs c [] scales = []
 scaled_coeffs c (k ∷ coeffs) [] = k ∷ coeffs
 scaled_coeffs c (k ∷ coeffs) (s ∷ scales) = (k *ℤ pos (factor c s)) ∷ scaled_coeffs c coeffs scales
 
--- the written coefficient, from that which a check at scale c has of a column at scale s
+-- the written coefficient, from the one that a check at scale c has for a column at scale s
 abbrev pub written_coefficient : ℕ → ℕ → ℤ → ℤ
 written_coefficient c s k = int_div k (pos (factor c s))
 

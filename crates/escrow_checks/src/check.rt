@@ -9,15 +9,15 @@ use escrow_num::{Amount, Copied, Name, Scale, Seq, Span, Violation, Wide, are_sa
 use std::alloc::{AllocError, Global};
 
 /// A check of a table: the sum of coefficient times amount, over the RESERVABLE columns of a row,
-/// has to be within the span. An amount is a number of units of its column's scale, and the sum and
-/// the limits are numbers of units of the check's.
+/// must be within the span. An amount is in units of its column's scale. The sum and the limits are
+/// in units of the check's scale.
 #[derive(Clone, Copy, Debug)]
 pub struct Check {
     /// The check's name.
     pub name: Name,
-    /// One coefficient for each RESERVABLE column of the table, in column order: the written one times
-    /// the number of units of the check's scale that a unit of the column's is, of magnitude at most
-    /// 10^12.
+    /// One coefficient for each RESERVABLE column of the table, in column order. It is the written
+    /// one times the number of units of the check's scale in one unit of the column's, and its
+    /// magnitude is at most 10^12.
     pub coeffs: Coefficients,
     /// The check's scale: the form and the limits are in units of 10^-scale.
     pub scale: Scale,
@@ -37,14 +37,14 @@ impl Check {
         ensures ok { OnOk result (checks.new ≡ checks.old ++ self ∷ []) }
         ensures err { OnErr result (checks.new ≡ checks.old) }
     {
-        // The prover has to see what is in the span where a check goes into a list.
+        // The prover needs to see the fields of the span when a check is added to a list.
         let Span { lo, hi } = self.span;
         let span = Span { lo, hi };
         checks.push(Check { span, ..self })?;
         Ok(())
     }
 
-    /// The form at a row's amounts: the sum of coefficient times amount, column by column.
+    /// Returns the form at a row's amounts: the sum of coefficient times amount, column by column.
     pub fn form(&self, amounts: &[Amount]) -> Wide
         ensures value { result ≡ form self.now.coeffs amounts.now }
         ensures within { IsContribution result }
@@ -52,7 +52,7 @@ impl Check {
         self.form_of(&Sparse::of(amounts))
     }
 
-    /// The same, summed over those amounts alone that aren't zero.
+    /// [`Check::form`], summed over only those amounts that aren't zero.
     pub fn form_of(&self, amounts: &Sparse<'_>) -> Wide
         ensures value { result ≡ form self.now.coeffs amounts.now }
         ensures within { IsContribution result }
@@ -67,8 +67,8 @@ impl Check {
         Wide::new(sum).unwrap()
     }
 
-    /// What a reservation's changes add to the form: the same sum over the changes. Of a row's
-    /// reservations those of other rows contribute nothing: theirs is the sum over no changes.
+    /// Returns what a reservation's changes add to the form: the same sum over the changes. A
+    /// reservation of another row has no changes here, and adds nothing.
     pub fn contribution(&self, changes: &[Amount]) -> Wide
         ensures value { result ≡ form self.now.coeffs changes.now }
         ensures within { IsContribution result }
@@ -76,9 +76,9 @@ impl Check {
         self.form(changes)
     }
 
-    /// The least and the greatest value of the form at a row, over every choice of the open
-    /// reservations whose spread this is. No choice is formed: O'Neil's `inf` and `sup` (1986) are
-    /// the form with the falls, and with the rises.
+    /// Returns the least and the greatest value of the form at a row, over every choice of the open
+    /// reservations that have this spread. No choice is formed. O'Neil's `inf` and `sup` (1986) are
+    /// the form plus the falls, and the form plus the rises.
     pub fn extremes(&self, amounts: &[Amount], spread: &Spread) -> (Wide, Wide)
         ensures least { (reservations : List (List ℤ)) → IsCovered self.now.coeffs amounts.now
             → IsSpread self.now.coeffs reservations spread.now
@@ -91,9 +91,9 @@ impl Check {
         spread.around(self.form(amounts))
     }
 
-    /// What a new reservation breaks of this check: the first limit, the low one first, beyond which
-    /// an extreme lies, over every choice of the open reservations that holds the new one. `None`
-    /// where it breaks nothing, which is how it is granted.
+    /// Returns what a new reservation breaks of this check: the first limit that an extreme passes,
+    /// the low one first. The extremes are over every choice of the open reservations that contains
+    /// the new one. Returns `None` if it breaks nothing; then this check allows it.
     pub fn violation(
         &self,
         amounts: &[Amount],
@@ -107,7 +107,7 @@ impl Check {
         self.violation_from(self.form(amounts), &Sparse::of(changes), spread)
     }
 
-    /// The same, from the value that the form has at the row's amounts.
+    /// [`Check::violation`], from the value that the form has at the row's amounts.
     pub fn violation_from(
         &self,
         value: Wide,
@@ -131,8 +131,8 @@ impl Check {
         })
     }
 
-    /// The coefficients as they are written, of columns of these scales: each that is kept, over the
-    /// number of units of the check's scale that a unit of its column's is.
+    /// Returns the coefficients as written, of columns of these scales. Each is the check's
+    /// coefficient divided by the number of units of the check's scale in one unit of the column's.
     pub fn written(&self, scales: &[Scale]) -> Coefficients
         ensures { result ≡ written_of self.now scales.now }
     {
@@ -153,7 +153,7 @@ impl Copied for Check {
     }
 }
 
-/// The coefficient of the column at an index, which is zero where there is none.
+/// Returns the coefficient of the column at an index, or zero if there is none.
 fn coefficient_at(coeffs: &[Amount], column: u8) -> Amount
     requires { AreCoefficients coeffs.now }
     ensures value { result ≡ slice_index_or coeffs.now column (pos 0) }
@@ -162,7 +162,7 @@ fn coefficient_at(coeffs: &[Amount], column: u8) -> Amount
     amount_at(coeffs, column)
 }
 
-/// The amount of the column at an index, which is zero where there is none.
+/// Returns the amount of the column at an index, or zero if there is none.
 fn amount_at(amounts: &[Amount], column: u8) -> Amount
     ensures { result ≡ slice_index_or amounts.now column (pos 0) }
 {
@@ -172,7 +172,7 @@ fn amount_at(amounts: &[Amount], column: u8) -> Amount
         .unwrap_or(Amount::ZERO)
 }
 
-/// A coefficient times an amount.
+/// Returns a coefficient times an amount.
 fn product(coefficient: Amount, amount: Amount) -> i128
     requires { IsCoefficient coefficient }
     ensures value { result ≡ coefficient *ℤ amount }

@@ -12,7 +12,7 @@ use std::fmt::{Debug, Error, Formatter, Write};
 use std::marker::Model;
 
 /// Coefficients of a check: one for each RESERVABLE column of its table, in column order. They are
-/// held in place, so that a copy takes no memory.
+/// held in place, so a copy takes no memory.
 #[derive(Clone, Copy)]
 pub struct Coefficients {
     values: [Amount; Coefficients::MAX_LEN],
@@ -42,15 +42,15 @@ impl Coefficients {
     ghost use Rattle.escrow_checks.specs.Checks.{unit_of, coefficient_of, is_coefficient, are_good_coefficients};
     ghost use Rattle.escrow_checks.specs.Scales.{form_scale, scaled_coeffs, written_coeffs};
 
-    /// The most coefficients that a check has: a table has at most 10 RESERVABLE columns.
+    /// The most coefficients of a check. A table has at most 10 RESERVABLE columns.
     pub const MAX_LEN: usize = 10;
 
-    /// The greatest magnitude that a coefficient can have, which bounds the sums: the greatest that a
-    /// CHECK may declare, [`MAX_COEFFICIENT`](crate::MAX_COEFFICIENT), times the most units of a scale
-    /// that a unit of another is, 10^6.
+    /// The greatest magnitude of a coefficient, which bounds the sums. It is the greatest that a
+    /// CHECK may declare, [`MAX_COEFFICIENT`](crate::MAX_COEFFICIENT), times 10^6, the most units
+    /// of one scale in one unit of another.
     pub const MAX: i64 = 1_000_000_000_000;
 
-    /// The coefficients of one column among `len`: 1 at its place, 0 elsewhere.
+    /// Returns the coefficients of one column among `len`: 1 at its place, 0 elsewhere.
     pub fn unit(len: usize, place: usize) -> Self
         requires within { place < len }
         requires few { len ≤ Coefficients.MAX_LEN }
@@ -63,7 +63,8 @@ impl Coefficients {
         Coefficients { values, len }
     }
 
-    /// The coefficients of the column of this name: 1 at each column that has it, 0 elsewhere.
+    /// Returns the coefficients of the column with this name: 1 at each column with the name, 0
+    /// elsewhere.
     pub fn of_column(columns: &[Name], name: Name) -> Self
         requires { length columns.now ≤ Coefficients.MAX_LEN }
         ensures { result ≡ unit_of columns.now name }
@@ -78,8 +79,8 @@ impl Coefficients {
         }
     }
 
-    /// The coefficients of a condition, as they are written, or `None` where one is past
-    /// [`MAX_COEFFICIENT`], or all are zero.
+    /// Returns the coefficients of a condition, as written. Returns `None` if one is past
+    /// [`MAX_COEFFICIENT`], or if all are zero.
     ///
     /// [`MAX_COEFFICIENT`]: crate::MAX_COEFFICIENT
     pub(crate) fn of_condition(columns: &[Name], condition: &Condition) -> Option<Self>
@@ -95,7 +96,7 @@ impl Coefficients {
         }
     }
 
-    /// The coefficients of a condition, or `None` where one is past the greatest magnitude.
+    /// Returns the coefficients of a condition, or `None` if one is past the greatest magnitude.
     fn summed(columns: &[Name], condition: &Condition) -> Option<Self>
         requires { length columns.now ≤ Coefficients.MAX_LEN }
         ensures { let coeffs = map (coefficient_of condition.now) columns.now in
@@ -111,8 +112,8 @@ impl Coefficients {
         })
     }
 
-    /// The scale of a form of these coefficients: the largest of the columns whose coefficient isn't
-    /// zero.
+    /// Returns the scale of a form of these coefficients: the largest of the columns whose
+    /// coefficient isn't zero.
     pub(crate) fn scale(&self, scales: &[Scale]) -> Scale
         requires { length scales.now ≡ length self.now }
         ensures { result ≡ form_scale self.now scales.now }
@@ -124,8 +125,8 @@ impl Coefficients {
         most
     }
 
-    /// The coefficients of a check at a scale, where these are the written ones: each times the number
-    /// of units of that scale that a unit of its column's is.
+    /// Returns the coefficients of a check at a scale, from these written ones. Each is multiplied
+    /// by the number of units of that scale in one unit of its column's.
     pub(crate) fn scaled(&self, scale: Scale, scales: &[Scale]) -> Self
         requires scales { length scales.now ≡ length self.now }
         requires written { are_good_coefficients self.now ≡ true }
@@ -142,8 +143,8 @@ impl Coefficients {
         }
     }
 
-    /// The written coefficients, where these are those of a check at a scale; one for which no scale is
-    /// given stays.
+    /// Returns the written coefficients, from these of a check at a scale. A coefficient for which
+    /// no scale is given stays as it is.
     pub(crate) fn written(&self, scale: Scale, scales: &[Scale]) -> Self
         ensures { result ≡ written_coeffs scale self.now scales.now }
     {
@@ -161,7 +162,7 @@ impl Coefficients {
         }
     }
 
-    /// The coefficients, in column order.
+    /// Returns the coefficients, in column order.
     pub fn as_slice(&self) -> &[Amount]
         ensures value { result.now ≡ self.now }
         ensures within { AreCoefficients result.now }
@@ -170,7 +171,7 @@ impl Coefficients {
     }
 }
 
-/// A scale, or that of a column where this is larger and its coefficient isn't zero.
+/// Returns the larger of two scales if the coefficient isn't zero, else the first.
 fn greater(most: Scale, coefficient: Amount, scale: Scale) -> Scale
     ensures { result ≡ (if int_eq coefficient (pos 0) then most else max most scale) }
 {
@@ -181,7 +182,8 @@ fn greater(most: Scale, coefficient: Amount, scale: Scale) -> Scale
     }
 }
 
-/// The coefficient that a check at a scale has of a column of its own scale, from the written one.
+/// Returns the coefficient that a check at a scale has for a column of scale `own`, from the
+/// written one.
 fn scaled(coefficient: Amount, scale: Scale, own: Scale) -> Amount
     requires { is_coefficient coefficient ≡ true }
     ensures value { result ≡ coefficient *ℤ pos (factor scale own) }
@@ -190,7 +192,8 @@ fn scaled(coefficient: Amount, scale: Scale, own: Scale) -> Amount
     Amount::new(coefficient.get() * factor(scale, own)).unwrap()
 }
 
-/// The written coefficient, from that which a check at a scale has of a column of its own scale.
+/// Returns the written coefficient, from the one that a check at a scale has for a column of scale
+/// `own`.
 fn written(coefficient: Amount, scale: Scale, own: Scale) -> Amount
     requires { IsCoefficient coefficient }
     ensures value { result ≡ written_coefficient scale own coefficient }
@@ -199,7 +202,8 @@ fn written(coefficient: Amount, scale: Scale, own: Scale) -> Amount
     Amount::new(coefficient.get() / factor(scale, own)).unwrap()
 }
 
-/// How many units of a check's scale a unit of a column's own is, where that isn't larger; else 1.
+/// Returns how many units of a check's scale are in one unit of a column's, if the column's scale
+/// isn't larger; else 1.
 #[tactic(auto, unfolding(crate::specs::Scales::factor))]
 fn factor(scale: Scale, own: Scale) -> i64
     ensures value { result ≡ pos (factor scale own) }
@@ -216,14 +220,14 @@ fn factor(scale: Scale, own: Scale) -> i64
     }
 }
 
-/// Whether a coefficient isn't zero.
+/// Returns whether a coefficient isn't zero.
 fn has_nonzero(coeffs: &[Amount]) -> bool
     ensures { result ≡ list_any (λ c. not (int_eq c (pos 0))) coeffs.now }
 {
     coeffs.iter().any(|c| c.get() != 0)
 }
 
-/// 1 for the column of this name, 0 for another.
+/// Returns 1 for the column of this name, and 0 for another.
 fn one_or_zero(column: &Name, name: Name) -> Amount
     ensures { result ≡ (if bytes_eq column.now name then pos 1 else pos 0) }
 {

@@ -24,18 +24,26 @@ use sums::right_of;
 /// The most checks that a table declares.
 pub const MAX_CHECKS: usize = 32;
 
-/// The greatest magnitude of a coefficient of a declared check, as it is written.
+/// The greatest magnitude of a coefficient of a declared check, as written.
 pub const MAX_COEFFICIENT: i64 = 1_000_000;
 
-/// The checks of a table's CHECKs over its RESERVABLE columns, of these names and beside them of
-/// these scales: one check for each condition, in order. It is in units of its scale, the largest
-/// among the columns that have a coefficient other than zero in it, and `<` and `>` move its limit by
-/// one such unit. The first of a CHECK is named as that is written, its k-th has `_k` behind the name;
-/// those of a CHECK without a name are `CHECK_` and their place in the table.
-/// [`CheckFault::Definition`] where there are more than [`MAX_CHECKS`], or a condition names another
-/// column, has a coefficient past [`MAX_COEFFICIENT`] or none but zeros, has a limit that isn't a whole
-/// number of units (none is rounded) or that has more than 15 digits (after it was moved), has a low
-/// limit greater than the high one, or a name that no statement can write.
+/// Returns the checks of a table's CHECKs, in order: one for each condition. The RESERVABLE columns
+/// have these names, and beside them these scales.
+///
+/// A check is in units of its scale, the largest among the columns that have a coefficient other
+/// than zero in it. `<` and `>` move its limit by one such unit. The first check of a CHECK with a
+/// name has this name, and the k-th has the name and `_k`. A check of a CHECK without a name is
+/// called `CHECK_` and its place in the table.
+///
+/// Fails with [`CheckFault::Definition`] if there are more than [`MAX_CHECKS`], or if a condition
+/// breaks a rule:
+///
+/// - It names a column that isn't one of these.
+/// - A coefficient is past [`MAX_COEFFICIENT`], or all are zero.
+/// - A limit isn't a whole number of units (none is rounded), or has more than 15 digits, after it
+///   was moved.
+/// - The low limit is greater than the high one.
+/// - No statement can write its name.
 pub fn normalise(
     alloc: Global,
     texts: &[&CheckText],
@@ -52,10 +60,10 @@ pub fn normalise(
     normalise_behind(alloc, &[], texts, columns, scales)
 }
 
-/// Declared checks of a table, and behind them those of further CHECKs, as [`normalise`] gives them:
-/// the place of a condition is that among all these checks, of which there are at most
-/// [`MAX_CHECKS`]. The declared ones stay as they are. [`CheckFault::Definition`] where there would be
-/// more, or a condition breaks a rule.
+/// Returns the declared checks of a table, and after them those of further CHECKs by the rules of
+/// [`normalise`]. The declared ones stay as they are. The place of a condition counts from the
+/// first declared check. Fails with [`CheckFault::Definition`] if there would be more than
+/// [`MAX_CHECKS`] in all, or if a condition breaks a rule.
 pub fn normalise_behind(
     alloc: Global,
     declared: &[Check],
@@ -109,7 +117,8 @@ fn add_checks(
     Ok(())
 }
 
-/// The check of a condition, the `k`-th of a CHECK of this name and the `n`-th of the table.
+/// Returns the check of a condition, the `k`-th of a CHECK of this name and the `n`-th of the
+/// table.
 fn check_of(
     columns: &[Name],
     scales: &[Scale],
@@ -139,7 +148,7 @@ fn check_of(
     })
 }
 
-/// Whether each column that a condition names, whatever its coefficient, is one of these.
+/// Returns whether each column that a condition names, whatever its coefficient, is one of these.
 #[tactic(auto, using(crate::proofs::TermLemmas::all_columns))]
 fn names_columns(columns: &[Name], condition: &Condition) -> bool
     ensures { result ≡ names_columns columns.now condition.now }
@@ -148,14 +157,14 @@ fn names_columns(columns: &[Name], condition: &Condition) -> bool
         && are_columns(columns, right_of(&condition.test))
 }
 
-/// Whether each column that a term names is one of these.
+/// Returns whether each column that a term names is one of these.
 fn are_columns(columns: &[Name], terms: &[Term]) -> bool
     ensures { result ≡ list_all (λ term. list_all (λ name. list_any (λ column. bytes_eq column name) columns.now) (columns_in term)) terms.now }
 {
     terms.iter().all(|term| is_column(columns, term))
 }
 
-/// Whether the column that a term names, if it does, is one of these.
+/// Returns whether the column that a term names, if it names one, is one of these.
 fn is_column(columns: &[Name], term: &Term) -> bool
     ensures { result ≡ list_all (λ name. list_any (λ column. bytes_eq column name) columns.now) (columns_in term.now) }
 {

@@ -1,6 +1,6 @@
 use std::alloc::AllocError;
 
-/// Why conditions give no checks.
+/// Why conditions have no checks.
 #[derive(Clone, Copy, Debug, PartialEq, Eq)]
 pub enum CheckFault {
     /// A condition breaks a rule of definitions.
@@ -9,7 +9,7 @@ pub enum CheckFault {
     Memory,
 }
 
-/// Want of memory.
+/// A refused allocation is the fault `Memory`.
 impl From<AllocError> for CheckFault {
     ghost use Rattle.std.specs.Prelude.{◌≡◌};
     ghost use Rattle.escrow_checks.specs.declared.fault.CheckFault.TheVariants.{Memory};

@@ -1,8 +1,11 @@
-//! Linear checks: what a condition asks of a row's amounts, the least and the greatest that a
-//! check's form can come to whichever open reservations are applied, and the grant rule.
+//! Linear checks: what a condition demands of a row's amounts, the least and the greatest value of
+//! a check's form over every choice of open reservations, and the grant rule.
 //!
-//! Its one contract: a row meets the checks of [`normalise`] exactly where its amounts, in millionths,
-//! meet the conditions as they are written.
+//! Its main contract is that of [`normalise`], with the law [`laws::checks_mean_their_texts`]: a
+//! row meets the checks exactly if its amounts, in millionths, meet the conditions as they are
+//! written.
+//!
+//! Begin with [`Check`] and its [`Check::violation`], then read [`laws`].
 #![tactic(auto)]
 
 mod check;

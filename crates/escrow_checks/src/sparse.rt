@@ -1,4 +1,4 @@
-//! Amounts of a row, or changes of them, by those that aren't zero.
+//! Amounts of a row, or changes of them, with the columns of those that aren't zero.
 ghost use Rattle.std.specs.Prelude.{◌≡◌, ◌≤◌, length};
 ghost use Rattle.escrow_checks.specs.Listed.{AreListed};
 ghost use Rattle.escrow_checks.specs.declared.coefficients.TheConstants.Coefficients.{MAX_LEN};
@@ -7,8 +7,9 @@ use crate::coefficients::Coefficients;
 use escrow_num::Amount;
 use std::marker::Model;
 
-/// Amounts of a row, or changes of them, with the columns of those that aren't zero, in place. These
-/// are found once, and the form of each check is summed over them. Contracts see the amounts.
+/// Amounts of a row, or changes of them, with the columns of those that aren't zero, held in place.
+/// The columns are found once, and the form of each check is summed over them. Contracts see the
+/// amounts.
 #[derive(Drop)]
 pub struct Sparse<'a> {
     amounts: &'a [Amount],
@@ -29,7 +30,7 @@ impl<'a> Model for Sparse<'a> {
 }
 
 impl<'a> Sparse<'a> {
-    /// The amounts with these columns.
+    /// Returns these amounts, with the columns of those that aren't zero.
     pub fn of(amounts: &'a [Amount]) -> Self
         ensures { result ≡ amounts.now }
     {
@@ -49,14 +50,15 @@ impl<'a> Sparse<'a> {
         }
     }
 
-    /// All amounts.
+    /// Returns all amounts.
     pub(crate) fn amounts(&self) -> &[Amount]
         ensures { result.now ≡ self.now }
     {
         self.amounts
     }
 
-    /// The columns whose amounts aren't zero, among those for which a check can have a coefficient.
+    /// Returns the columns whose amounts aren't zero, among those that can have a coefficient in a
+    /// check.
     pub(crate) fn columns(&self) -> &[u8]
         ensures few { length result.now ≤ MAX_LEN }
         ensures listed { AreListed self.now result.now }

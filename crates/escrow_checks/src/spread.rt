@@ -6,9 +6,9 @@ ghost use Rattle.escrow_checks.specs.declared.spread.TheConstants.Spread.{MAX_OP
 
 use escrow_num::Wide;
 
-/// How far open reservations can move a check's form, whichever of them are applied: the sum of
-/// what they add, negative and positive contributions apart. With the form of the committed
-/// amounts these are O'Neil's `inf` and `sup` (1986).
+/// How far open reservations can move a check's form, whichever of them are applied: the sums of
+/// the negative and of the positive contributions. With the form of the committed amounts these are
+/// O'Neil's `inf` and `sup` (1986).
 #[derive(Clone, Copy, Debug)]
 pub struct Spread {
     /// The sum of the negative contributions.
@@ -22,10 +22,10 @@ pub struct Spread {
 impl Spread {
     ghost use Rattle.escrow_checks.specs.Spread.{IsSpread};
 
-    /// The most reservations that are open at a time: 64 sessions, each with at most 256.
+    /// The most reservations that are open at a time: 64 sessions with 256 each.
     pub const MAX_OPEN: usize = 16_384;
 
-    /// The spread of no reservation.
+    /// Returns the spread of no reservations.
     pub fn new() -> Self
         ensures { (coeffs : List ℤ) → IsSpread coeffs [] result }
     {
@@ -35,8 +35,8 @@ impl Spread {
         }
     }
 
-    /// The spread with one more reservation, which contributes so much to the form, wherever it
-    /// stands among the others.
+    /// Returns the spread with one more reservation, which contributes this much to the form. Its
+    /// place among the others doesn't matter.
     pub fn with(self, contribution: Wide) -> Self
         requires within { IsContribution contribution }
         requires room { (coeffs : List ℤ) × (reservations : List (List ℤ))
@@ -52,8 +52,8 @@ impl Spread {
         }
     }
 
-    /// The spread without one of its reservations, which contributes so much to the form, wherever
-    /// it stands among the others.
+    /// Returns the spread without one of its reservations, which contributes this much to the form.
+    /// Its place among the others doesn't matter.
     pub fn without(self, contribution: Wide) -> Self
         requires contained { (coeffs : List ℤ) × (before : List (List ℤ)) × (changes : List ℤ) × (after : List (List ℤ))
             × IsSpread coeffs (before ++ changes ∷ after) self × (contribution ≡ form coeffs changes) }
@@ -68,7 +68,7 @@ impl Spread {
         }
     }
 
-    /// The least and the greatest value, from one value of the form on.
+    /// Returns the least and the greatest value that the spread allows around a value of the form.
     pub(crate) fn around(&self, value: Wide) -> (Wide, Wide)
         requires { IsFormWithNew value }
         ensures least { result.0 ≡ value +ℤ self.now.falls }
@@ -79,7 +79,7 @@ impl Spread {
     }
 }
 
-/// How far a contribution lowers a form, and how far it raises it: one of the two is zero.
+/// Returns how far a contribution lowers a form, and how far it raises it. One of the two is zero.
 fn by_sign(contribution: Wide) -> (Wide, Wide)
     ensures fall { result.0 ≡ int_min (pos 0) contribution }
     ensures rise { result.1 ≡ int_max (pos 0) contribution }

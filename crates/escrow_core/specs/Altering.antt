@@ -1,4 +1,4 @@
--- Helps: words of ALTER TABLE.
+-- Helps: definitions for ALTER TABLE.
 use Rattle.std.specs.Prelude.{◌≡◌, ℕ, ℤ, ◌≤◌, ◌+◌, is_none, Option, Some, option_map, unwrap_or, List, [], ◌∷◌, ◌++◌, length, take, drop}
 use Rattle.escrow_num.specs.declared.refusal.Violation.{Violation}
 use Rattle.escrow_num.specs.declared.refusal.Refusal.{Refusal}
@@ -25,51 +25,51 @@ use Rattle.escrow_machine.specs.State.{State, is_open}
 use Rattle.escrow_core.specs.declared.database.added.AddedChecks.{AddedChecks}
 use Rattle.escrow_reserved.specs.Reserved.{Reserved, ArePlaced}
 
--- why an ALTER TABLE of a session is refused whatever it asks of the table of a name
+-- why a session's ALTER TABLE of the table of a name is refused, whatever it changes
 abbrev pub alter_refusal : ℕ → List ℕ → State → Option Refusal
 alter_refusal session table s = first_refusal (
     refuse_if (is_open session s) refusal.TransactionOpen
     ∷ refuse_if (is_none (table_named s.catalog table)) refusal.NoSuchTable
     ∷ [])
 
--- a CHECK is added to the table of a name
+-- the statement that adds a CHECK to the table of a name
 abbrev pub adds : List ℕ → CheckText → Statement
 adds table text = statement.Alter (record { table = table; change = change.Add text })
 
--- the constraint of a name is dropped from the table of another
+-- the statement that drops the constraint of a name from the table of another
 abbrev pub drops : List ℕ → List ℕ → Statement
 drops table name = statement.Alter (record { table = table; change = change.Drop name })
 
--- the checks that are added
+-- the added checks
 abbrev pub new_ones : AddedChecks → List Check
 new_ones added = take added.count (drop added.first added.table.checks)
 
--- the table without them
+-- the table without the added checks
 abbrev pub table_without : AddedChecks → TableDef
 table_without added = record added.table { checks = take added.first added.table.checks ++ drop (added.first + added.count) added.table.checks }
 
--- a table with the checks that a CHECK adds to an old one, behind its declared ones
+-- a table with the checks that a CHECK adds to an old one, after the declared ones
 pub record Adds (old : TableDef) (text : CheckText) (added : AddedChecks) : Type 0 where
   pub made : with_check old text ≡ Some added.table
   pub table : IsTable added.table
   pub first : added.first ≡ length (declared_checks old)
   pub count : length old.checks + added.count ≡ length added.table.checks
 
--- the checks that are added, the open reservations, and the places that count them over all checks of the table
+-- the added checks, the open reservations, and the places that count them over all checks of the table
 pub record Judge : Type 0 where
   pub added : AddedChecks
   pub reservations : List Reservation
   pub addition : Places
 
--- the amounts of a row: those of its place, where it has one
+-- the amounts of a row: those of its place, if it has one
 abbrev pub amounts_by : Judge → Row → List ℤ
 amounts_by judge row = unwrap_or (option_map (λ (place : Kept). place.amounts) (place_at judge.addition row.name)) row.amounts
 
--- what the open reservations of a row, some of them or none, could break of the checks that are added
+-- what the open reservations of a row, some of them or none, could break of the added checks
 abbrev pub violation_by : Judge → Row → Option Violation
 violation_by judge row = broken (new_ones judge.added) (amounts_by judge row) [] (of_row row.name judge.reservations)
 
--- the added checks are some of a table's, and an addition was prepared for the rows of it that are reserved
+-- the added checks are some of a table's, and an addition was prepared for the reserved rows of the table
 pub record CanJudge (added : AddedChecks) (reserved : Reserved) (addition : Places) : Type 0 where
   pub table : IsTable added.table
   pub within : added.first + added.count ≤ length added.table.checks

@@ -1,4 +1,4 @@
--- Helps: words of transactions that end together.
+-- Helps: definitions for transactions that end together.
 use Rattle.std.specs.Prelude.{◌≡◌, ℕ, ◌<◌, ◌==◌, false, IsTrue, Some, Result, IfOk, IfErr, OnOk, List, [], ◌∷◌, length, slice_get}
 use Rattle.std.specs.List.{list_any}
 use Rattle.sqlite.specs.Held.{state}
@@ -25,13 +25,13 @@ pub record IsGroup (reservations : List Reservation) (plan : List (ℕ × End)) 
   pub commits : AreCommits plan
   pub holds : (entry : ℕ × End) → slice_get plan 0 ≡ Some entry → 0 < length (own entry.0 reservations)
 
--- the reservations that are left when the transactions of a plan have ended
+-- the reservations that remain after the transactions of a plan have ended
 abbrev pub left_after : List (ℕ × End) → List Reservation → List Reservation
 left_after [] reservations = reservations
 left_after (entry ∷ plan) reservations = left_after plan (others entry.0 reservations)
 
--- A plan was settled, or stopped at a COMMIT that failed. A store that a fault has shut stays shut. A crash leaves what
--- it might have left before, or, where the store was open, what some first entries of the plan make.
+-- A plan was settled, or stopped at a COMMIT that failed. A store that a fault has shut stays shut. After a crash the
+-- disk has what it might have had before, or what some first entries of the plan make, if the store was open.
 pub record Settles {S : Type 0} (g : Ghosts S) (plan : List (ℕ × End)) (old : Seen S) (result : Result Settled Stop) (new : Seen S) : Type 0 where
   pub ok : HasCleanDisk (state g new.store) → OnOk result (new.state ≡ after_ends old.state plan)
   pub counts : IfOk result (λ done. AreCounts plan old.state.reservations done)

@@ -1,4 +1,4 @@
--- Helps: what the fields of a database hold, and keep.
+-- Helps: what the fields of a database hold, and what they keep.
 use Rattle.sqlite.specs.Held.{state}
 use Rattle.sqlite.specs.State.{HasCleanDisk}
 use Rattle.sqlite_trees.specs.declared.store.Store.{Ghosts}
@@ -23,16 +23,16 @@ seen_of tables open_ones = record {
   };
 }
 
--- What a database keeps: its state, as far as the disk allows; and places, just of the rows that have an open
--- reservation, each with the checks of its table and, while the disk has returned what was written, the committed
--- amounts of its row.
+-- What a database keeps: its state, as far as the disk allows, and places. Exactly the rows that have an open
+-- reservation have a place. Each place has the checks of its table and, if the disk has returned what was written, the
+-- committed amounts of its row.
 pub record Keeps {S : Type 0} (g : Ghosts S) (d : Seen S) (places : Places) : Type 0 where
   pub kept : IsKept g d
   pub placed : ArePlaced d.state.reservations places
   pub of_tables : AreOfTables d.state.catalog places
   pub amounts : HasCleanDisk (state g d.store) → HaveAmounts d.state.rows places
 
--- and beside it the amounts of rows that were read, which they still have while the disk has returned what was written
+-- it also keeps the amounts of rows that were read, which are still theirs if the disk has returned what was written
 pub record Holds {S : Type 0} (g : Ghosts S) (d : Seen S) (places : Places) (recent : ReadRows) : Type 0 where
   pub keeps : Keeps g d places
   pub known : AreKnown d.state.catalog recent

@@ -16,7 +16,7 @@ pub record Seen (S : Type 0) : Type 0 where
 abbrev pub seen_code : {S : Type 0} → Coded S → Coded (Seen S)
 seen_code {S} store = code_by (Held S × State) (coded× (held_code store) state_code) (λ d. (d.store, d.state)) (λ p. record { store = p.0; state = p.1 }) (λ _. refl)
 
--- what a database keeps: its state is orderly always, and valid while the disk has returned what was written
+-- what a database keeps: its state is always orderly, and valid if the disk has returned what was written
 pub record IsKept {S : Type 0} (g : Ghosts S) (d : Seen S) : Type 0 where
   pub orderly : IsOrderly d.state.catalog d.state.reservations d.state.savepoints d.state.next_id
   pub safe_rows : HasCleanDisk (state g d.store) → AreSafeRows d.state.catalog d.state.rows d.state.reservations

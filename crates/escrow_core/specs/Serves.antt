@@ -1,4 +1,4 @@
--- Believed: what serving a statement makes of a database and its store.
+-- Believed: how serving a statement changes a database and its store.
 use Rattle.std.specs.Prelude.{◌≡◌, ℕ, false, IsTrue, Some, List, take}
 use Rattle.sqlite.specs.Held.{state}
 use Rattle.sqlite.specs.State.{HasCleanDisk, Survives}
@@ -21,24 +21,24 @@ use Rattle.escrow_machine.specs.State.{State}
 use Rattle.escrow_machine.specs.Step.{step, StepOrRefusal}
 use Rattle.escrow_machine.specs.Transition.{transition_of}
 
--- what a disk has is a database that holds the tables and the rows of a state
+-- the disk has a database that holds the tables and the rows of a state
 abbrev pub AreHeldOf : State → Trees → Type 0
 AreHeldOf s trees = AreHeld s.catalog s.rows trees
 
--- what a disk has is a database that holds the tables and the rows after a step
+-- the disk has a database that holds the tables and the rows after a step
 abbrev pub AreAfter : State → ℕ → Statement → Trees → Type 0
 AreAfter s session asked trees = AreHeldOf (step s session asked).1 trees
 
--- what a disk has is a database that holds those after some first entries of a plan of ends
+-- the disk has a database that holds the tables and the rows after some first entries of a plan of ends
 abbrev pub AreAfterEnds : List (ℕ × End) → State → Trees → Type 0
 AreAfterEnds plan s trees = (n : ℕ) × AreHeldOf (settled (take n plan) s) trees
 
--- A statement of a session was served. While the disk has returned what was written, the reply and the
--- state are the step's, or it failed as it may; what is refused early, and what goes by no row, is answered so
--- whatever the disk did; what asks nothing of the store leaves it, and isn't refused by it; and whatever
--- the disk did, a refusal changes nothing. A store that a fault has shut stays shut. A crash leaves what it might have
--- left before, or, where the store was open, what the step makes; after a reply that tells of a write, it leaves the
--- tables and rows that there then are.
+-- A statement of a session was served. If the disk has returned what was written, the reply and the state are the
+-- step's, or the statement failed as it may. If the statement is refused early, or isn't answered from rows, this holds
+-- whatever the disk did. One that doesn't ask the store leaves it as it is, and isn't refused by it. A refusal changes
+-- nothing, whatever the disk did. A store that a fault has shut stays shut. After a crash the disk has what it might
+-- have had before, or what the step makes, if the store was open. After a reply that says that the store was written,
+-- it has the tables and rows of the new state.
 pub record Serves {S : Type 0} (g : Ghosts S) (session : ℕ) (asked : Statement) (old : Seen S) (answer : Reply) (new : Seen S) : Type 0 where
   pub event : HasCleanDisk (state g new.store) → StepOrRefusal old.state session asked answer new.state
   pub early : (r : Refusal) → first_refusal (transition_of old.state session asked).early ≡ Some r → (answer ≡ reply.Refused r) × (new ≡ old)

@@ -1,4 +1,4 @@
--- Helps: words of private contracts.
+-- Helps: definitions for private contracts.
 use Rattle.std.specs.Prelude.{◌≡◌, ℕ, Bool, true, Option, Some, None, Result, Ok, Err, is_none, is_some, List, [], ◌∷◌}
 use Rattle.std.specs.Result.{result_err}
 use Rattle.escrow_schema.specs.Catalog.{table_named}
@@ -24,31 +24,31 @@ use Rattle.escrow_machine.specs.Settle.{after_end}
 use Rattle.escrow_machine.specs.State.{State}
 use Rattle.escrow_machine.specs.Transition.{transition_of}
 
--- A call looked at the store: the state stays, and a store that a fault has shut stays shut.
+-- A call read the store: the state stays as it is, and a store that a fault has shut stays shut.
 pub record OnlyReads {S : Type 0} (g : Ghosts S) (old new : Seen S) : Type 0 where
   pub same : new.state ≡ old.state
   pub usable : IsUsable (state g new.store) → IsUsable (state g old.store)
   pub survives : Survives (state g old.store) (state g new.store) (λ _. ⊥)
 
--- the table that a SHOW JOURNAL names is there, if it names one
+-- whether the table that a SHOW JOURNAL names exists, if it names one
 abbrev pub is_known : State → Option (List ℕ) → Bool
 is_known s None = true
 is_known s (Some name) = is_some (table_named s.catalog name)
 
--- what a disk has is a database that holds the tables and the rows after the end of a session's transaction
+-- the disk has a database that holds the tables and the rows after the end of a session's transaction
 abbrev pub AreAfterEnd : State → ℕ → End → Trees → Type 0
 AreAfterEnd s session end trees = AreHeldOf (after_end s session end) trees
 
--- the reply that answers a statement: what it was granted, or the refusal
+-- the reply to a statement: the one that was granted, or the refusal
 abbrev pub answer_of : Result Reply Refusal → Reply
 answer_of (Ok answer) = answer
 answer_of (Err refusal) = reply.Refused refusal
 
--- a statement of a session is served, and a call's result is the answer
+-- a statement of a session is served, and the result of a call is its answer
 abbrev pub Answers : {S : Type 0} → Ghosts S → ℕ → Statement → Seen S → Result Reply Refusal → Seen S → Type 0
 Answers g session asked old result new = Serves g session asked old (answer_of result) new
 
--- a call fails just where a statement is refused early, for its first early refusal
+-- a call fails exactly if a statement is refused early, with its first early refusal
 abbrev pub IsEarly : {T : Type 0} → State → ℕ → Statement → Result T Refusal → Type 0
 IsEarly s session asked result = result_err result ≡ first_refusal (transition_of s session asked).early
 
@@ -56,11 +56,11 @@ IsEarly s session asked result = result_err result ≡ first_refusal (transition
 abbrev pub row_refusal : State → RowText → Option Refusal
 row_refusal s text = first_refusal (refuse_if (is_none (table_named s.catalog text.table)) refusal.NoSuchTable ∷ key_refusal_of s text.table text.row ∷ [])
 
--- a refusal tells of a failure
+-- a refusal is a failure
 abbrev pub IsFailure : Refusal → Type 0
 IsFailure r = (f : Failure) × (r ≡ refusal_for f)
 
--- why a new row isn't put: a row of its name stands, or else for another reason
+-- why a new row isn't added: a row of its name exists, or else another reason
 abbrev pub unless_stands : Option Row → Refusal → Refusal
 unless_stands None other = other
 unless_stands (Some row) other = refusal.RowExists

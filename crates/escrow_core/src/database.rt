@@ -34,17 +34,19 @@ use std::marker::Model;
 /// What answers a statement: its reply, or why it is refused.
 pub(crate) type Answer = Result<Reply, Refusal>;
 
-/// A database: its tables and their committed rows, in a store that SQLite writes to; the open
-/// reservations and savepoints of all sessions, and the id that the next reservation takes. A fault that
-/// shuts the store takes nothing from these. Beside the reservations it keeps what they can do to each row
-/// that they reserve, so that no grant walks them; and the amounts of rows that were read.
+/// A database. Its tables and their committed rows are in a store that SQLite writes to. In memory
+/// are the open reservations and savepoints of all sessions, and the id that the next reservation
+/// takes. If a fault shuts the store, these are unchanged.
+///
+/// The database also keeps what the open reservations can do to each row that they reserve, so a
+/// grant needs no walk over them. And it keeps the amounts of rows that were read.
 pub struct Database<S: Alter> {
     tables: Tables<S>,
     reserved: Reserved,
     recent: Recent,
 }
 
-// It is written out, so that no crate above proves again how each part is dropped.
+// Written out, so that crates above need not prove again how its parts are dropped.
 impl<S: Alter + Drop> Drop for Database<S> {
     fn drop(self) {
         let Database {
@@ -88,12 +90,12 @@ impl<S: Alter> Database<S> {
     ghost use Rattle.escrow_schema.specs.Stored.{catalog_of};
     ghost use Rattle.escrow_recover.specs.Opened.{IsOpened, Stores};
 
-    /// Opens the database of a store that is opened: nothing is open in it, and the next id is 1. Makes no
+    /// Opens the database of an opened store: nothing is open in it, and the next id is 1. Makes no
     /// store call.
     ///
     /// # Errors
     ///
-    /// [`Refusal::Memory`], with what was opened.
+    /// Fails with [`Refusal::Memory`], and returns what was opened.
     pub fn open(alloc: Global, found: Opened<S>) -> Result<Self, (Opened<S>, Refusal)>
         requires { HasCleanDisk (state S.Store found.store) → IsOpened (state S.Store found.store) found.catalog }
         ensures store { IfOk result (λ d. d.store ≡ found.store) }
@@ -104,7 +106,7 @@ impl<S: Alter> Database<S> {
         match Reserved::new(alloc) {
             Ok(reserved) => {
                 let tables = Tables::over(found);
-                // What its type knows of the tables is told where they are counted.
+                // Gives the proof what always holds of the tables.
                 let _ = tables.len();
                 Ok(Database {
                     tables,
@@ -116,7 +118,7 @@ impl<S: Alter> Database<S> {
         }
     }
 
-    /// The connection to the store; what is open is dropped. Makes no store call.
+    /// Returns the connection to the store, and drops what is open. Makes no store call.
     pub fn into_connection(self) -> Connection<S>
         ensures same { result ≡ self.store }
         ensures outside { result.in_transaction ≡ false }
@@ -129,37 +131,38 @@ impl<S: Alter> Database<S> {
         tables.into_connection()
     }
 
-    /// The id that the next reservation takes, or `None` where there are no more ids. While the disk has
-    /// returned what was written the state is valid at any time: whichever of the open reservations are
-    /// applied, each row meets each check of its table. Where the store can be used, a crash leaves just
-    /// its tables and rows.
+    /// Returns the id that the next reservation takes, or `None` if there are no more ids.
+    ///
+    /// If the disk has returned what was written, the state is valid: whichever of the open
+    /// reservations are applied, each row meets each check of its table. If the store can be used,
+    /// a crash leaves exactly the tables and rows of the state.
     pub fn next_id(&self) -> Option<u64>
         ensures value { result ≡ id_left self.now.state.next_id }
         ensures kept { IsKept S.Store self.now }
         ensures valid { HasCleanDisk (state S.Store self.now.store) → IsValid self.now.state }
         ensures left { IsUsable (state S.Store self.now.store) → (trees : Trees) → (state S.Store self.now.store).may_leave trees → AreHeldOf self.now.state trees }
     {
-        // What a crash leaves is told where the tables are counted.
+        // Gives the proof what a crash leaves.
         let _ = self.tables.len();
         self.reserved.txns().next_id()
     }
 
-    /// Whether a session's transaction is open: it holds a reservation or a savepoint.
+    /// Returns whether a session's transaction is open: it holds a reservation or a savepoint.
     pub fn is_open(&self, session: Session) -> bool
         ensures { result ≡ is_open session self.now.state }
     {
         self.reserved.txns().is_open(session)
     }
 
-    /// Whether something is open: a reservation or a savepoint of any session.
+    /// Returns whether anything is open: a reservation or a savepoint of any session.
     pub fn has_open(&self) -> bool
         ensures { result ≡ has_open self.now.state }
     {
         self.reserved.txns().has_open()
     }
 
-    /// Limits the steps that a statement of the store may take; with `None` there is no limit, as at
-    /// first. A statement that would take more is refused with 60, and changes nothing.
+    /// Limits the steps that a statement of the store may take. With `None` there is no limit, as
+    /// in a new database. A statement that would take more is refused with 60, and changes nothing.
     pub fn set_step_limit(&mut self, limit: Option<u64>)
         ensures store { self.new.store ≡ record self.old.store { step_limit = limit } }
         ensures state { self.new.state ≡ self.old.state }
@@ -167,24 +170,29 @@ impl<S: Alter> Database<S> {
         self.tables.set_step_limit(limit);
     }
 
-    /// Serves one statement of a session, whole: while the disk has returned what was written, the reply
-    /// and the new state are those of the machine, which tries every choice of the open reservations; or
-    /// the statement fails for what it may fail for, and the state is equal. So it is also where a fault
-    /// shuts the store, or has shut it before. What needs neither memory nor the store never fails, and
-    /// what asks nothing of the store leaves it, and is never refused by it: an UPDATE of RESERVABLE columns of a
-    /// row that has an open reservation is one of these. What goes by no row is answered so whatever the disk did.
+    /// Serves one whole statement of a session.
+    ///
+    /// If the disk has returned what was written, the reply and the new state are those of the
+    /// machine, which tries every choice of the open reservations. Or the statement fails as it
+    /// may, and the state is equal. This holds even if a fault shuts the store, or has shut it
+    /// before. For a statement that isn't answered from rows, it holds whatever the disk did.
+    ///
+    /// A statement that needs neither memory nor the store never fails. One that doesn't ask the
+    /// store leaves it as it is, and is never refused by it. An UPDATE of RESERVABLE columns of a
+    /// row that has an open reservation is one of these.
     pub fn step(&mut self, alloc: Global, session: Session, statement: &Statement) -> Reply
         ensures event { HasCleanDisk (state S.Store self.new.store) → StepOrRefusal self.old.state session statement.now result self.new.state }
         ensures succeeds { IsTrue (is_promised self.old.state session statement.now) → (self.new.store ≡ self.old.store) × IsStep self.old.state session statement.now result self.new.state }
         ensures apart { asks_store self.old.state session statement.now ≡ false → (self.new.store ≡ self.old.store) × ¬ (failure_of result ≡ Some Store) }
         ensures unread { reads_rows self.old.state session statement.now ≡ false → StepOrRefusal self.old.state session statement.now result self.new.state }
 
-        // What is refused changes nothing, whatever the store is like.
+        // A refusal changes nothing, whatever the store is like.
         ensures refused { IsTrue (is_refused result) → self.new.state ≡ self.old.state }
 
-        // A crash leaves what it might have left before, or, where the store was open, what the step makes; once
-        // a write was answered, the tables and rows that there then are. A store that a fault has shut stays shut,
-        // and is written no more.
+        // After a crash the disk has what it might have had before, or what the step makes, if the
+        // store was open. After a reply that says that the store was written, it has the tables and
+        // rows of the new state. A store that a fault has shut stays shut, and is not written
+        // again.
         ensures usable { IsUsable (state S.Store self.new.store) → IsUsable (state S.Store self.old.store) }
         ensures crash { Survives (state S.Store self.old.store) (state S.Store self.new.store) (λ trees. IsTrue (state S.Store self.old.store).is_open × AreAfter self.old.state session statement.now trees) }
         ensures durable { IsTrue (tells_write result) → HasCleanDisk (state S.Store self.new.store) → (trees : Trees) → (state S.Store self.new.store).may_leave trees → AreHeldOf self.new.state trees }
@@ -195,7 +203,7 @@ impl<S: Alter> Database<S> {
         }
     }
 
-    /// Serves one statement of a session, by what it asks: the reply, or the refusal.
+    /// Serves one statement of a session, by its kind. Returns the reply or the refusal.
     fn serve_statement(&mut self, alloc: Global, session: Session, statement: &Statement) -> Answer
         ensures { Answers S.Store session statement.now self.old result self.new }
     {

@@ -1,9 +1,11 @@
 //! The database: tables, committed rows and open reservations, and the step from one statement to
 //! its reply and the next state.
 //!
-//! Its one contract: [`Database::step`] is the machine's step, that of a machine that keeps
-//! committed rows and a list of open reservations and tries every choice of that list; or it fails
-//! where the statement may fail, and the state is equal.
+//! Its main contract is that of [`Database::step`]: the reply and the new state are those of the
+//! machine's step. Or the statement fails, if it may fail, and the state is equal. The machine
+//! keeps committed rows and a list of open reservations, and tries every choice of that list.
+//!
+//! Begin with [`Database`]. What contracts see of it is in specs/Seen.antt.
 #![tactic(auto)]
 
 mod database;

@@ -1,7 +1,9 @@
-//! The files of stores: a store in memory or in a file is opened, and one in a file is closed.
+//! The files of stores: opens a store in memory or in a file, and closes one in a file.
 //!
-//! Its one contract: [`OpenStore::open`] returns the connection of a database's store. Where a store in a file isn't opened,
-//! what stood at its path is put back.
+//! Its main contract is that of [`OpenStore::open`]: it returns the connection of a database's
+//! store. If a store in a file can't be opened, the files at its path are restored.
+//!
+//! Begin with [`OpenStore`] and its two impls, [`InMemory`] and [`InFiles`].
 #![tactic(auto)]
 
 mod site;

@@ -8,14 +8,14 @@ use std::io::{self, ErrorKind, Read};
 use std::os::unix::fs::MetadataExt;
 use std::path::Path;
 
-/// Where a path leads, and what stood there before anything was locked.
+/// Where a path leads, and what was there before anything was locked.
 #[derive(Drop)]
 pub struct Outlook {
     database: String,
     log: String,
     makes_database: bool,
     makes_log: bool,
-    // How long the log was.
+    // The length of the log.
     log_len: u64,
 }
 
@@ -23,15 +23,15 @@ pub struct Outlook {
 #[derive(Drop)]
 pub struct Site {
     outlook: Outlook,
-    // Which files they are, and how long the log was when both were locked.
+    // Which files they are, and the length of the log when both were locked.
     database: Option<Identity>,
     log: Option<Identity>,
     log_len: u64,
-    // Whether the store had the format before when it was opened.
+    // Whether the store had the previous format when it was opened.
     migrated: bool,
 }
 
-/// Which file of the system's a file is, whatever it is called: its device, and its number there.
+/// Which file of the system a file is, whatever its name: its device, and its number there.
 #[derive(Clone, Copy, PartialEq, Eq)]
 struct Identity {
     device: u64,
@@ -39,12 +39,12 @@ struct Identity {
 }
 
 impl Outlook {
-    /// Looks where a path leads, and what stands there. Where nothing does, both files are made, and a path
-    /// that is no link names them.
+    /// Looks where a path leads, and what is there. If nothing is there, both files are to be made.
+    /// The path names them, if it is no link.
     ///
     /// # Errors
     ///
-    /// What the system says, and that memory is short.
+    /// Fails with the system's error, or if memory is refused.
     pub fn look(rt: &HostRuntime, path: &str) -> io::Result<Outlook> {
         match fs::canonicalize(rt, path) {
             Ok(real) => Outlook::beside(rt, real.as_str(), false),
@@ -53,7 +53,7 @@ impl Outlook {
         }
     }
 
-    /// The files of a database, with the log beside it.
+    /// Returns the files of a database, with the log beside it.
     fn beside(rt: &HostRuntime, database: &str, makes_database: bool) -> io::Result<Outlook> {
         let log = with_suffix(rt.alloc(), database, "-wal")?;
         let found = found(rt, log.as_str())?;
@@ -66,7 +66,7 @@ impl Outlook {
         })
     }
 
-    /// Whether a file stands there that can't become a store, and that is to be left as it is: one of a
+    /// Returns whether the file there can't become a store and must be left as it is: a file of a
     /// single byte, which SQLite would take for an empty one.
     pub(crate) fn is_one_byte(&self, rt: &HostRuntime) -> io::Result<bool> {
         Ok(
@@ -76,7 +76,7 @@ impl Outlook {
         )
     }
 
-    /// Whether the path is a link that leads nowhere.
+    /// Returns whether the path is a link that leads nowhere.
     pub(crate) fn is_dangling(&self, rt: &HostRuntime) -> io::Result<bool> {
         if !self.makes_database {
             return Ok(false);
@@ -87,8 +87,8 @@ impl Outlook {
         }
     }
 
-    /// Whether no database can be made there, since something stands where its log would: a folder, a
-    /// device, a link, or a file of several names.
+    /// Returns whether no database can be made there, because something is in the place of its log:
+    /// a folder, a device, a link, or a file with several names.
     pub(crate) fn is_blocked(&self, rt: &HostRuntime) -> io::Result<bool> {
         if !self.makes_database {
             return Ok(false);
@@ -99,8 +99,8 @@ impl Outlook {
         }
     }
 
-    /// Whether a rollback journal of SQLite's stands there, and no database: one that isn't empty and doesn't
-    /// begin with a zero, or anything but a file.
+    /// Returns whether a rollback journal of SQLite's is there, without a database. It counts if it
+    /// isn't empty and doesn't begin with a zero, or if it is anything but a file.
     pub(crate) fn has_journal_alone(&self, rt: &HostRuntime) -> io::Result<bool> {
         if !self.makes_database {
             return Ok(false);
@@ -113,11 +113,11 @@ impl Outlook {
         }
     }
 
-    /// Reads the folder of the files, which has to be synced once they are made.
+    /// Reads the folder of the files, which must be synced after they are made.
     ///
     /// # Errors
     ///
-    /// What the system says.
+    /// Fails with the system's error.
     pub(crate) fn read_folder(&self, rt: &HostRuntime) -> io::Result<()> {
         let folder = match Path::new(self.database.as_str()).parent() {
             Some(folder) if !folder.as_str().is_empty() => folder.as_str(),
@@ -127,13 +127,13 @@ impl Outlook {
         Ok(())
     }
 
-    /// Locks a log that stands there without its database, and lets it go: another program has it open where
-    /// the database was moved meanwhile. A log is locked as the file of a database is, so it is opened as one,
-    /// and what that makes beside it is taken away.
+    /// Locks a log that is there without its database, and releases it. If another program has it
+    /// open, the database was moved meanwhile. A log is locked as the file of a database is, so it
+    /// is opened as one, and the files that this makes beside it are removed.
     ///
     /// # Errors
     ///
-    /// That it is in use, what the system says, and that memory is short.
+    /// Fails if it is in use, with the system's error, or if memory is refused.
     pub(crate) fn try_lone_log(&self, rt: &HostRuntime) -> Result<(), OpenError> {
         if !self.makes_database || self.makes_log {
             return Ok(());
@@ -148,8 +148,8 @@ impl Outlook {
         Ok(())
     }
 
-    /// Looks again, with both files locked: what isn't empty was made by somebody else, and so was a database
-    /// whose log has grown, since a new one is all in its log.
+    /// Looks again, with both files locked. A file that isn't empty was made by somebody else. So
+    /// was a database whose log has grown, since a new database is entirely in its log.
     pub fn look_again(mut self, rt: &HostRuntime) -> Site {
         let log_len = len(rt, self.log.as_str()).unwrap_or(0);
         self.makes_database &= len(rt, self.database.as_str()) == Some(0)
@@ -166,18 +166,19 @@ impl Outlook {
 }
 
 impl Site {
-    /// Notes whether the store had the format before when it was opened, and has the known one since.
+    /// Notes whether the store had the previous format when it was opened, and so has the known one
+    /// since.
     pub fn note_migrated(&mut self, migrated: bool) {
         self.migrated = migrated;
     }
 
-    /// Whether the store had the format before when it was opened.
+    /// Returns whether the store had the previous format when it was opened.
     pub fn is_migrated(&self) -> bool {
         self.migrated
     }
 
-    /// Puts back what stood there: takes away what the program has made, and cuts off what opening a log
-    /// writes behind it. Both files have to be locked; what can't be put back stays.
+    /// Restores what was there: removes what the program has made, and cuts off what opening a log
+    /// appended to it. Both files must be locked. What can't be restored stays as it is.
     pub(crate) fn put_back(&self, rt: &HostRuntime) {
         if self.outlook.makes_log {
             self.remove_log(rt);
@@ -189,19 +190,19 @@ impl Site {
         }
     }
 
-    /// Takes away a log that was copied into its database. Both files have to be locked; a log that can't be
-    /// taken away stays, and holds nothing.
+    /// Removes a log that was copied into its database. Both files must be locked. A log that can't
+    /// be removed stays, and holds nothing.
     pub(crate) fn remove_log(&self, rt: &HostRuntime) {
         remove(rt, self.outlook.log.as_str(), self.log);
     }
 }
 
-/// A path with something behind it.
+/// Returns a path with a suffix.
 fn with_suffix(alloc: Global, path: &str, suffix: &str) -> Result<String, AllocError> {
     format!(in alloc; "{path}{suffix}")
 }
 
-/// What stands at a path, if anything does. A link isn't followed.
+/// Returns what is at a path, if anything is. Doesn't follow a link.
 fn found(rt: &HostRuntime, path: &str) -> io::Result<Option<fs::Metadata>> {
     match fs::symlink_metadata(rt, path) {
         Ok(found) => Ok(Some(found)),
@@ -210,7 +211,7 @@ fn found(rt: &HostRuntime, path: &str) -> io::Result<Option<fs::Metadata>> {
     }
 }
 
-/// How many bytes the file at a path has, if one stands there.
+/// Returns how many bytes the file at a path has, if there is one.
 fn len(rt: &HostRuntime, path: &str) -> Option<u64> {
     match fs::symlink_metadata(rt, path) {
         Ok(found) if found.is_file() => Some(found.len()),
@@ -218,7 +219,7 @@ fn len(rt: &HostRuntime, path: &str) -> Option<u64> {
     }
 }
 
-/// Which file stands at a path, if one does.
+/// Returns which file is at a path, if there is one.
 fn file_at(rt: &HostRuntime, path: &str) -> Option<Identity> {
     match fs::symlink_metadata(rt, path) {
         Ok(found) if found.is_file() => Some(Identity {
@@ -229,14 +230,14 @@ fn file_at(rt: &HostRuntime, path: &str) -> Option<Identity> {
     }
 }
 
-/// Takes a file away, if it still stands at its path: another one that came there since is left.
+/// Removes a file, if it is still at its path. Another file that came there since is left.
 fn remove(rt: &HostRuntime, path: &str, file: Option<Identity>) {
     if file.is_some() && file_at(rt, path) == file {
         let _ = fs::remove_file(rt, path);
     }
 }
 
-/// Cuts a file off, if it still stands at its path and is longer.
+/// Cuts a file off, if it is still at its path and is longer.
 fn cut(rt: &HostRuntime, path: &str, file: Option<Identity>, most: u64) -> io::Result<()> {
     if file.is_some() && file_at(rt, path) == file {
         let file = OpenOptions::new().write(true).open(rt, path)?;
@@ -247,7 +248,7 @@ fn cut(rt: &HostRuntime, path: &str, file: Option<Identity>, most: u64) -> io::R
     Ok(())
 }
 
-/// Whether a file begins with a byte that isn't zero.
+/// Returns whether a file begins with a byte that isn't zero.
 fn begins(rt: &HostRuntime, path: &str) -> io::Result<bool> {
     let mut first = [0];
     let count = fs::open(rt, path)?.read(&mut first)?;

@@ -16,37 +16,38 @@ use std::hash::{BuildHasher, RandomState};
 use std::io::{self, ErrorKind};
 use thiserror::Error as FaultError;
 
-/// Why a store isn't opened.
+/// Why a store can't be opened.
 #[derive(Clone, Copy, Debug, FaultError)]
 pub enum OpenFault {
     /// Memory was refused.
     #[error("out of memory")]
     Memory,
-    /// The path is none that a store may have.
+    /// A store may not have this path.
     #[error("a path may not be empty, nor be `:memory:`, nor begin with `file:`")]
     Path,
-    /// A folder or a device stands there, or the file has several names.
+    /// The path is that of a folder or a device, or of a file with several names.
     #[error("it is no plain file, or it has several names")]
     NoFile,
     /// The path is a link that leads nowhere.
     #[error("it is a link to a file that doesn't exist")]
     Dangling,
-    /// The path has a folder that doesn't exist.
+    /// A folder of the path doesn't exist.
     #[error("its folder doesn't exist")]
     NoFolder,
-    /// The system gives no permission.
+    /// The system denies permission.
     #[error("permission denied: the file has to be readable and writable, and its folder too, where a log is made beside it")]
     Denied,
-    /// The system doesn't open it.
+    /// The system can't open it.
     #[error("{0}")]
     System(io::Error),
     /// Another program has it open.
     #[error("another program has it open")]
     InUse,
-    /// SQLite stopped in the middle of a write, and left a rollback journal, which only it can play back.
+    /// SQLite stopped in the middle of a write, and left a rollback journal, which only SQLite can
+    /// play back.
     #[error("SQLite was stopped while it wrote there: open it with sqlite3 once, then here")]
     Journal,
-    /// Something else is in it, or it was damaged.
+    /// It holds something else, or it was damaged.
     #[error("it is no store of escrowd's: something else is in it, or it was damaged")]
     Foreign,
     /// It is a store of another format.
@@ -113,7 +114,7 @@ impl From<Refusal> for OpenFault {
     }
 }
 
-/// Why a store isn't closed. What was committed stands, in its two files together.
+/// Why a store can't be closed. What was committed is in its two files together.
 #[derive(Clone, Copy, Debug, FaultError)]
 pub enum CloseFault {
     /// Memory was refused.
@@ -137,7 +138,7 @@ impl From<Error> for CloseFault {
     }
 }
 
-/// What was opened, and where its files are, if it has any.
+/// A store that was opened, and its files, if it has any.
 #[derive(Drop)]
 pub struct Opened<C> {
     /// The connection to the store.
@@ -146,16 +147,17 @@ pub struct Opened<C> {
     pub site: Option<Site>,
 }
 
-/// What opens the stores of databases.
+/// Opens the stores of databases.
 pub trait OpenStore<S: Alter> {
-    // What the store of the database at a place may hold as it is opened.
+    // What the store of the database at a place may hold when it is opened.
     ghost may_hold: { Self → ℕ → Database → Type 0 };
 
     /// Opens the store of the database at a place, counted from 0.
     fn open(&self, alloc: Global, place: u8) -> Result<Opened<Connection<S>>, OpenFault>
         ensures { IfOk result (λ o. IsUsable (state S.Store o.connection) → may_hold self.now place (state S.Store o.connection).now) };
 
-    /// Leaves the files of a store that is refused as they were before it was opened. They have to be open still.
+    /// Restores the files of a store that is refused to what they were before it was opened. They
+    /// must still be open.
     fn put_back(&self, site: &Site);
 }
 
@@ -180,10 +182,10 @@ impl OpenStore<BlockStore> for InMemory {
     fn put_back(&self, _site: &Site) {}
 }
 
-/// Stores in files, of which no contract knows what they hold.
+/// Stores in files. No contract says what they hold.
 #[derive(Clone, Copy)]
 pub struct InFiles<'a> {
-    /// What opens them.
+    /// The runtime that opens them.
     pub rt: &'a HostRuntime,
     /// The file of the first database.
     pub path: &'a str,
@@ -212,14 +214,14 @@ impl OpenStore<FileStore<File>> for InFiles<'_> {
     }
 }
 
-/// Whether a path may be that of a store. The words that SQLite takes for something else than a file are
-/// none.
+/// Returns whether a path may be that of a store. The words that SQLite takes for something other
+/// than a file may not.
 fn is_path(path: &str) -> bool {
     !path.is_empty() && path != ":memory:" && !path.starts_with("file:")
 }
 
-/// The file of the database at a place, counted from 0: the path itself, or the path with a point and the
-/// database's number behind it.
+/// Returns the file of the database at a place, counted from 0: the path itself, or the path, a
+/// point and the database's number.
 pub fn file_of(alloc: Global, path: &str, place: u8) -> Result<String, AllocError>
     ensures { IfOk result (λ file. string_bytes file ≡ file_of path.now place) }
 {
@@ -231,9 +233,9 @@ pub fn file_of(alloc: Global, path: &str, place: u8) -> Result<String, AllocErro
     }
 }
 
-/// Opens a file, or makes it. It is supposed of the disk that a write which a crash stops leaves each byte as it
-/// was or as it was to be. Where it is refused, its folder stays as it was, but where the system itself fails
-/// between the making of the two files.
+/// Opens a file, or makes it. The disk is assumed to leave each byte of a write that a crash stops
+/// either as it was or as it was to be. If the store is refused, its folder stays as it was, unless
+/// the system itself fails between the making of the two files.
 fn open_file(
     rt: &HostRuntime,
     path: &str,
@@ -252,7 +254,7 @@ fn open_file(
             site: Some(site),
         }),
         Err((error, left)) => {
-            // While the files are open nobody else uses them.
+            // While the files are open, nobody else uses them.
             let files = left.into_files();
             site.put_back(rt);
             drop(files);
@@ -261,8 +263,8 @@ fn open_file(
     }
 }
 
-/// Refuses what would be refused anyway, before a file is made beside it, and a file of a single byte, which
-/// would be made a store.
+/// Refuses what would be refused anyway, before a file is made beside it. Also refuses a file of a
+/// single byte, which would be made a store.
 fn test_outlook(rt: &HostRuntime, outlook: &Outlook) -> Result<(), OpenFault> {
     if outlook.is_dangling(rt)? {
         return Err(OpenFault::Dangling);
@@ -286,7 +288,7 @@ fn test_outlook(rt: &HostRuntime, outlook: &Outlook) -> Result<(), OpenFault> {
     Ok(())
 }
 
-/// Closes a store: copies its log into its database, and takes it away.
+/// Closes a store: copies its log into its database, and removes it.
 pub fn close(
     rt: &HostRuntime,
     connection: Connection<FileStore<File>>,
@@ -294,7 +296,7 @@ pub fn close(
 ) -> Result<(), CloseFault> {
     match connection.close_files() {
         Ok(files) => {
-            // While the files are open nobody else uses them.
+            // While the files are open, nobody else uses them.
             if let Some(site) = site {
                 site.remove_log(rt);
             }

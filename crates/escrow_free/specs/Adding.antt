@@ -13,7 +13,7 @@ pub record AddsText (place session : ℕ) (text : List ℕ) (old new : Plan) : T
   pub lines : new.lines.items ≡ old.lines.items ++ more_lines
   pub items : new.items.items ≡ old.items.items ++ more_items
 
--- it grew by what a line adds
+-- a plan grew by what a line adds
 pub record Adds (databases : ℕ) (bytes : List ℕ) (old new : Plan) : Type 0 where
   pub more_lines : List Planned
   pub more_items : List (ℕ × Request)

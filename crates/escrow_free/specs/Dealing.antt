@@ -9,11 +9,11 @@ use Rattle.escrow_sessions.specs.declared.feed.Feed.{Feed}
 abbrev pub IsNewFeed : Seat → Feed → Type 0
 IsNewFeed seat feed = (feed.pass ≡ seat) × (feed.requests.items ≡ [])
 
--- a feed has one request more
+-- a feed has one more request
 abbrev pub IsAdded : Feed → Request → Feed → Type 0
 IsAdded old r new = (new.pass ≡ old.pass) × (new.requests.items ≡ old.requests.items ++ r ∷ [])
 
--- each pass has a feed, with the requests of the items that name its place
+-- each pass has a feed, with the requests of the items that name its place, in order
 pub record AreDealt (seats : List Seat) (items : List (ℕ × Request)) (feeds : List Feed) : Type 0 where
   pub count : length feeds ≡ length seats
   pub each : (place : ℕ) (seat : Seat) (feed : Feed) → slice_get seats place ≡ Some seat → slice_get feeds place ≡ Some feed

@@ -19,11 +19,11 @@ use Rattle.escrow_sessions.specs.declared.done.Given.TheVariants as given
 use Rattle.escrow_free.specs.FreeOutput.{Taken, taken_by, replies_by}
 use Rattle.escrow_free.specs.declared.desk.Desk.{Desk}
 
--- where the desk of a session of a database stands
+-- the place of a session's desk among the desks of all databases
 abbrev pub desk_of : ℕ → ℕ → ℕ
 desk_of place session = place * MAX + (session - 1)
 
--- the pass of a desk, and the answers that it is still to give
+-- the pass of a desk, and its answers that aren't printed yet
 abbrev pub pass_of : Desk → Seat
 pass_of desk = desk.pass
 
@@ -56,30 +56,30 @@ pub record HaveSeats {S : Type 0} (sharing : Sharing S) (desks : List Desk) : Ty
   pub sessions : sharing.sessions ≡ MAX
   pub count : length desks ≡ length sharing.openings * MAX
 
--- passes were served: each has a desk, whose answers are given to the requests of the items that name its place
+-- passes were served: each has a desk, whose answers are those to the requests of the items that name its place
 pub record ArePassesServed (seats : List Seat) (items : List (ℕ × Request)) (served : List Desk) : Type 0 where
   pub count : length served ≡ length seats
   pub each : (place : ℕ) (seat : Seat) (desk : Desk) → slice_get seats place ≡ Some seat → slice_get served place ≡ Some desk
       → Serves seat (of place items) (answers_of desk) desk.pass
 
--- desks were served: where one had no answers left, its answers are given to the requests of the items that name it
+-- desks were served: if a desk had no answers left, its answers are those to the requests of the items that name it
 pub record AreServed (old : List Desk) (items : List (ℕ × Request)) (new : List Desk) : Type 0 where
   pub count : length new ≡ length old
   pub each : (place : ℕ) (before after : Desk) → slice_get old place ≡ Some before → slice_get new place ≡ Some after
       → answers_of before ≡ [] → Serves before.pass (of place items) (answers_of after) after.pass
 
--- the totals of a session count what it was given, where it has so many receipts
+-- the totals of a session count what it was given, as long as it has more receipts than were counted before
 abbrev pub IsCounted : Option Given → Seat → Tally → Tally → Type 0
 IsCounted (Some (given.Reply (answer.Served reply))) seat old new =
     (replies : List Reply) → length replies < length seat.receipts → old ≡ tally_of replies → new ≡ tally_of (replies ++ reply ∷ [])
 IsCounted _ seat old new = new ≡ old
 
--- the pass of a session whose lines took this
+-- the pass of a session whose lines took these receipts
 abbrev pub seat_after : ℕ → ℕ → List Taken → Seat
 seat_after place session taken = record { database = place; session = session; receipts = taken_by place session taken }
 
--- THE DESKS FIT what lines took: each pass went from what its session's lines took so far, over the answers that are
--- still to be given, to the requests that are still to be answered.
+-- THE DESKS FIT what lines took. From a pass with the receipts that a session's lines took so far, the desk's remaining
+-- answers to the remaining requests lead to the desk's pass
 abbrev pub Fits : List (ℕ × Request) → List Taken → List Desk → Type 0
 Fits items taken desks =
     (place session : ℕ) (desk : Desk) → IsSession session → slice_get desks (desk_of place session) ≡ Some desk

@@ -23,8 +23,8 @@ use Rattle.escrow_script.specs.Written.{fault_refusal, no_line_text}
 
 -- WHAT LINES TAKE
 
--- What a line took: an entry of the history of its session, which is one of the database at a place; of the entry
--- its number, its statement and its reply.
+-- What a line took: an entry of the history of its session, which is a session of the database at a place. Of the entry
+-- it has the number, the statement and the reply.
 pub record Taken : Type 0 where
   pub place : ℕ
   pub session : ℕ
@@ -35,11 +35,11 @@ abbrev pub taken_by : ℕ → ℕ → List Taken → List Receipt
 taken_by place session [] = []
 taken_by place session (t ∷ taken) = if (t.place == place) && (t.session == session) then t.receipt ∷ taken_by place session taken else taken_by place session taken
 
--- the replies of these
+-- the replies in these
 abbrev pub replies_by : ℕ → ℕ → List Taken → List Reply
 replies_by place session taken = map (λ r. r.reply) (taken_by place session taken)
 
--- WHAT A LINE DOES: what it writes, and what was taken before it and is taken after it
+-- WHAT A LINE DOES: what it writes, and what was taken before it and after it
 
 -- a refusal, as it is written to a session
 abbrev pub refused : ℕ → ℕ → Refusal → List ℕ
@@ -65,14 +65,14 @@ abbrev pub Does : List Taken → ℕ → ℕ → Request → List ℕ → List T
 Does taken place session (request.Statement asked) out new = TakesNext taken place session asked out new ⊎ TakesNone taken place session out new
 Does taken place session request.Statistics out new = ShowsTotals taken place session out new
 
--- A text does what it asks. Or it asks nothing, and is refused with the column of its first fault; or it is refused
--- for memory, as any text may be, since reading it takes memory.
+-- A text does what it asks. Or it asks nothing, and is refused with the column of its first fault. Or it is refused for
+-- memory, as any text may be, since reading it takes memory.
 abbrev pub DoesText : List Taken → ℕ → ℕ → List ℕ → List ℕ → List Taken → Type 0
 DoesText taken place session text out new =
     ((r : Request) × Asks text r × Does taken place session r out new)
     ⊎ ((f : ParseFault) × IsFaultIn text f × (out ≡ refused place session (fault_refusal f)) × (new ≡ taken))
 
--- a line does what it reads as; a restart is refused here, as what is no line
+-- a line does what it reads as; a restart is refused here as no line
 abbrev pub DoesLine : List Taken → Reading → List ℕ → List Taken → Type 0
 DoesLine taken nothing out new = (out ≡ []) × (new ≡ taken)
 DoesLine taken join out new = (out ≡ []) × (new ≡ taken)
@@ -80,7 +80,7 @@ DoesLine taken no_line out new = (out ≡ no_line_text) × (new ≡ taken)
 DoesLine taken (restart place) out new = (out ≡ no_line_text) × (new ≡ taken)
 DoesLine taken (statement place session text) out new = DoesText taken place session text out new
 
--- the bytes of a line, for so many databases
+-- the bytes of a line, with this many databases
 abbrev pub DoesBytes : ℕ → List Taken → List ℕ → List ℕ → List Taken → Type 0
 DoesBytes databases taken bytes out new = (reading : Reading) × Reads databases bytes reading × DoesLine taken reading out new
 
@@ -90,15 +90,15 @@ DoLines databases taken [] out new = (out ≡ []) × (new ≡ taken)
 DoLines databases taken (line ∷ lines) out new =
     (first rest : List ℕ) × (mid : List Taken) × DoesBytes databases taken line first mid × DoLines databases mid lines rest new × (out ≡ first ++ rest)
 
--- THE OUTPUT OF A SCRIPT, whose databases have these histories: its lines wrote it one after another, and at the end
--- the lines of each session took all its entries, each once, in their order.
+-- THE OUTPUT OF A SCRIPT whose databases have these histories. Its lines wrote it one after another. At the end, the
+-- lines of each session have taken all its entries, each once, in their order.
 pub record FreeOutput (script : List ℕ) (histories : List (List Entry)) (out : List ℕ) : Type 0 where
   pub taken : List Taken
   pub lines : DoLines (length histories) [] (lines_of script) out taken
   pub all : (place session : ℕ) (entries : List Entry) → slice_get histories place ≡ Some entries → IsSession session
       → taken_by place session taken ≡ receipts_of session entries
 
--- the script was served whole: it is no longer than a script may be, and its output was written
+-- the whole script was served: it is no longer than a script may be, and its output was written
 pub record ServesFree (script : List ℕ) (histories : List (List Entry)) (old_bytes new_bytes : Option (List ℕ)) : Type 0 where
   pub limit : length script ≤ MAX_SCRIPT
   pub out : List ℕ

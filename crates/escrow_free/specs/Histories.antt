@@ -7,7 +7,7 @@ use Rattle.escrow_shards.specs.Closing.{Closing, IsWhole, all_entries}
 use Rattle.escrow_shards.specs.Opened.{IsRead, seen_at}
 use Rattle.escrow_shards.specs.Piece.{Piece}
 
--- the histories of databases, from a place on: each is the entries of its parts, and then those of its last
+-- the histories of databases, from a place on: each is the entries of its parts, followed by those of its last
 -- transcript
 abbrev pub histories_from : {S : Type 0} → ℕ → List (Piece S) → List (Closing S) → List (List Entry)
 histories_from place parts [] = []
@@ -17,8 +17,8 @@ histories_from place parts (c ∷ closed) = all_entries place parts c ∷ histor
 abbrev pub histories : {S : Type 0} → List (Piece S) → List (Closing S) → List (List Entry)
 histories parts closed = histories_from 0 parts closed
 
--- The history of a database began as the database was handed in, and is whole: as long as its disk had returned what
--- was written, it is one legal run of the machine from there to the state in which the database is handed back.
+-- The history of a database began as the database was handed in, and is whole. If the disk returned what was written,
+-- the history is one legal run of the machine, from the state that was handed in to the state that is handed back.
 pub record IsHistory {S : Type 0} (g : Ghosts S) (place : ℕ) (parts : List (Piece S)) (database : Seen S) (c : Closing S) : Type 0 where
   pub began : IsRead g database (seen_at c.opening)
   pub whole : IsWhole g place parts c

@@ -1,4 +1,4 @@
--- Helps: phases that are read and served, one after another.
+-- Helps: phases that are read and served one after another.
 use Rattle.std.specs.Prelude.{◌≡◌, ℕ, ◌≤◌, Option, Some, None, List, [], ◌*◌, ◌++◌, length, ⊤}
 use Rattle.std.specs.Io.KnownBytes.{Appends}
 use Rattle.escrow_num.specs.declared.session.TheConstants.Session.{MAX}
@@ -10,19 +10,19 @@ use Rattle.escrow_free.specs.Planning.{Plans}
 use Rattle.escrow_free.specs.declared.desk.Desk.{Desk}
 use Rattle.escrow_free.specs.declared.plan.Plan.{Plan}
 
--- these lines, and those that are left, are the lines of the bytes, where these are known
+-- these lines and the remaining ones are the lines of the bytes, if these are known
 abbrev pub TakesLines : List (List ℕ) → Option (List ℕ) → Option (List ℕ) → Type 0
 TakesLines lines None rest = ⊤
 TakesLines lines (Some bytes) None = ⊥
 TakesLines lines (Some bytes) (Some rest) = lines_of bytes ≡ lines ++ lines_of rest
 
--- some lines were read, where the bytes are known, and that is their plan
+-- some lines were read, if the bytes are known, and this is their plan
 pub record IsRead (databases : ℕ) (bytes rest : Option (List ℕ)) (plan : Plan) : Type 0 where
   pub lines : List (List ℕ)
   pub read : TakesLines lines bytes rest
   pub plans : Plans databases lines plan.lines.items plan.items.items
 
--- all bytes were read, where they are known
+-- all bytes were read, if they are known
 abbrev pub IsOver : Option (List ℕ) → Option (List ℕ) → Type 0
 IsOver None rest = ⊤
 IsOver (Some bytes) None = ⊥

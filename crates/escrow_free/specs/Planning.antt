@@ -10,8 +10,8 @@ use Rattle.escrow_free.specs.Desks.{desk_of}
 use Rattle.escrow_free.specs.declared.plan.Planned.{Planned}
 use Rattle.escrow_free.specs.declared.plan.Planned.TheVariants as planned
 
--- what a text adds to a plan: a statement for the desk of its session, and a line that asks for its answer; or a
--- line that asks totals; or a line that refuses it
+-- what a text adds to a plan: a statement for the desk of its session, and a line that asks for its answer; or a line
+-- that asks for totals; or a line that refuses the text
 abbrev pub PlansText : ℕ → ℕ → List ℕ → List Planned → List (ℕ × Request) → Type 0
 PlansText place session text lines items =
     ((asked : Statement) × Asks text (request.Statement asked) × (lines ≡ planned.Asked place session ∷ []) × (items ≡ (desk_of place session, request.Statement asked) ∷ []))
@@ -26,7 +26,7 @@ PlansReading no_line lines items = (lines ≡ planned.NoLine ∷ []) × (items �
 PlansReading (restart place) lines items = (lines ≡ planned.NoLine ∷ []) × (items ≡ [])
 PlansReading (statement place session text) lines items = PlansText place session text lines items
 
--- what the bytes of a line add, for so many databases
+-- what the bytes of a line add, with this many databases
 abbrev pub PlansBytes : ℕ → List ℕ → List Planned → List (ℕ × Request) → Type 0
 PlansBytes databases bytes lines items = (reading : Reading) × Reads databases bytes reading × PlansReading reading lines items
 

@@ -22,14 +22,14 @@ use Rattle.escrow_free.specs.declared.desk.Desk.{Desk}
 use Rattle.escrow_free.specs.declared.plan.Planned.{Planned}
 use Rattle.escrow_free.specs.declared.plan.Planned.TheVariants as planned
 
--- what is printed of an answer, or where there is none
+-- what is printed for an answer, or if there is none
 abbrev pub given_text : List ℕ → ℕ → Option Given → List ℕ
 given_text name session (Some (given.Reply (answer.Served r))) = rendered name session r
 given_text name session (Some (given.Reply (answer.Unserved cause))) = rendered name session (reply.Refused cause)
 given_text name session (Some (given.Totals totals)) = rendered_totals name session totals
 given_text name session None = rendered name session (reply.Refused refusal.Memory)
 
--- a planned line names a database, and a desk that is there
+-- a planned line names a database, and a desk that exists
 abbrev pub HasItsDesk : ℕ → Planned → Type 0
 HasItsDesk desks planned.NoLine = Unit {0}
 HasItsDesk desks (planned.Refused place session f) = place < MAX_DATABASES
@@ -58,8 +58,8 @@ Prints taken (planned.Asked place session ∷ plan) [] out end = ⊥
 Prints taken (planned.Asked place session ∷ plan) (item ∷ items) out end =
     (first rest : List ℕ) × (mid : List Taken) × Does taken place session item.1 first mid × Prints mid plan items rest end × (out ≡ first ++ rest)
 
--- Some planned lines were printed: some requests are left for the others, and some entries were taken; the desks fit
--- that, and the totals are of that; and whatever the others print, it follows what was printed.
+-- Some planned lines were printed. Some requests remain for the other lines, and some entries were taken. The desks fit
+-- these, and the totals count these. Whatever the other lines print follows what was printed.
 pub record GoesOn (taken : List Taken) (plan : List Planned) (items : List (ℕ × Request)) (out : List ℕ) (rest : List Planned) (desks : List Desk) (totals : List Tally) : Type 0 where
   pub left : List (ℕ × Request)
   pub took : List Taken
@@ -68,11 +68,11 @@ pub record GoesOn (taken : List Taken) (plan : List Planned) (items : List (ℕ 
   pub counts : AreTotals took totals
   pub prints : (back : List ℕ) (end : List Taken) → Prints took rest left back end → Prints taken plan items (out ++ back) end
 
--- so it is whatever was asked and taken, as long as it fits the desks and the totals are of it
+-- this holds whatever was asked and taken, as long as it fits the desks, and the totals count it
 abbrev pub PrintsTo : List Planned → List Desk → List Tally → List ℕ → List Planned → List Desk → List Tally → Type 0
 PrintsTo plan old counted out rest new totals =
     (items : List (ℕ × Request)) (taken : List Taken) → Matches plan items → Fits items taken old → AreTotals taken counted → GoesOn taken plan items out rest new totals
 
--- some of all that is to be written was written, and the rest of it is left
+-- some of what is to be written was written, and the rest is left
 abbrev pub PassesOn : Option (List ℕ) → Option (List ℕ) → List ℕ → List ℕ → Type 0
 PassesOn old_bytes new_bytes all left = (written : List ℕ) × Appends old_bytes new_bytes written × (all ≡ written ++ left)

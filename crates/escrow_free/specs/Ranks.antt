@@ -1,4 +1,4 @@
--- Helps: the desks that a phase asks, by their ranks among these.
+-- Helps: the desks that a phase uses, by their ranks among these.
 use Rattle.std.specs.Prelude.{ℕ, zero, suc, ◌+◌, Bool, true, false, if◌then◌else◌, List, [], ◌∷◌, slice_set, slice_index}
 use Rattle.escrow_statement.specs.declared.statement.Request.{Request}
 use Rattle.escrow_shards.specs.Seat.{Seat}
@@ -9,19 +9,19 @@ abbrev pub marked_by : List (ℕ × Request) → List Bool → List Bool
 marked_by [] marks = marks
 marked_by (item ∷ items) marks = marked_by items (slice_set marks item.0 true)
 
--- how many marked desks stand before each, and so many more
+-- for each desk, n more than the number of marked desks before it
 abbrev pub ranks_from : ℕ → List Bool → List ℕ
 ranks_from n [] = []
 ranks_from n (mark ∷ marks) = n ∷ ranks_from (if mark then n + 1 else n) marks
 
--- how many marked desks stand before one
+-- how many marked desks are before one
 abbrev pub rank : List Bool → ℕ → ℕ
 rank [] k = 0
 rank (mark ∷ marks) zero = 0
 rank (true ∷ marks) (suc k) = suc (rank marks k)
 rank (false ∷ marks) (suc k) = rank marks k
 
--- an item that names its desk by rank
+-- an item, which now names its desk by rank
 abbrev pub renamed : List ℕ → ℕ × Request → ℕ × Request
 renamed ranks item = (slice_index ranks item.0, item.1)
 
@@ -32,7 +32,7 @@ parted (mark ∷ marks) [] = parted marks []
 parted (true ∷ marks) (desk ∷ desks) = desk.pass ∷ parted marks desks
 parted (false ∷ marks) (desk ∷ desks) = parted marks desks
 
--- the desks that aren't
+-- the desks that aren't marked
 abbrev pub rested : List Bool → List Desk → List Desk
 rested [] desks = []
 rested (mark ∷ marks) [] = rested marks []

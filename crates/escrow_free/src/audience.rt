@@ -1,19 +1,20 @@
 use std::alloc::Global;
 
-/// Who is shown how far a phase is while it is served. What it looks by are watchers, as
-/// [`Watcher`](escrow_stats::Watcher).
+/// Someone who is shown the progress of a phase while it is served. `X` is the type of the
+/// watchers, such as [`Watcher`](escrow_stats::Watcher).
 pub trait Audience<X> {
-    /// Is given a watcher for each database, in their order, before the first phase.
+    /// Takes a watcher for each database, in order of the databases, before the first phase.
     fn watch(&mut self, alloc: Global, watchers: Vec<X>);
 
-    /// Begins to look: the sessions of a phase are served from now on, which have so many statements.
+    /// Begins to watch: from now on, the sessions of a phase are served. They have this many
+    /// statements.
     fn begin(&mut self, statements: usize);
 
-    /// Looks no more: the phase is served, or ended in a fault, and its replies are written next.
+    /// Stops watching: the phase was served, or ended in a fault. Its replies are written next.
     fn end(&mut self);
 }
 
-/// An audience that doesn't look.
+/// An audience that doesn't watch.
 #[derive(Drop)]
 pub(crate) struct Nobody;
 

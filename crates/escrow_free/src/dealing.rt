@@ -1,4 +1,4 @@
-//! The items of a phase, dealt out to those who serve them.
+//! Deals the items of a phase out to the workers that serve them.
 ghost use Rattle.std.specs.Prelude.{◌≡◌, ◌<◌, [], length, All, IfOk, OnOk};
 ghost use Rattle.escrow_free.specs.Dealing.{AreDealt, IsAdded, IsNewFeed};
 
@@ -8,8 +8,8 @@ use escrow_shards::Pass;
 use escrow_statement::Request;
 use std::alloc::{AllocError, Global};
 
-/// A feed for each pass, with the requests of the items that name its place, in order. Want of memory is the only
-/// error.
+/// Returns a feed for each pass, with the requests of the items that name its place, in order.
+/// Fails only if memory is refused.
 pub(crate) fn deal(
     alloc: Global,
     passes: Vec<Pass>,
@@ -25,14 +25,14 @@ pub(crate) fn deal(
     Ok(feeds)
 }
 
-/// Feeds of passes, without requests. Want of memory is the only error.
+/// Returns the feeds of passes, without requests. Fails only if memory is refused.
 fn new_feeds(alloc: Global, passes: Vec<Pass>) -> Result<Vec<Feed>, AllocError>
     ensures { IfOk result (λ feeds. AreDealt passes.items [] feeds.items) }
 {
     each_of(alloc, passes, |pass| new_feed(alloc, pass))
 }
 
-/// A feed without requests, which takes no memory.
+/// Returns a feed without requests. Takes no memory.
 fn new_feed(alloc: Global, pass: Pass) -> Feed
     ensures { IsNewFeed pass result }
 {
@@ -42,7 +42,7 @@ fn new_feed(alloc: Global, pass: Pass) -> Feed
     }
 }
 
-/// Adds a request to a feed. Want of memory is the only error.
+/// Adds a request to a feed. Fails only if memory is refused.
 fn add(feed: &mut Feed, request: Request) -> Result<(), AllocError>
     ensures { OnOk result (IsAdded feed.old request feed.new) }
 {

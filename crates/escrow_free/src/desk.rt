@@ -1,4 +1,4 @@
-//! The desk of a session: its pass, and the answers that it is still to give.
+//! The desk of a session: its pass, and its answers that aren't printed yet.
 ghost use Rattle.std.specs.Prelude.{◌≡◌, ◌<◌, map, IfOk};
 ghost use Rattle.std.specs.List.{AllZip};
 ghost use Rattle.escrow_num.specs.Session.{IsSession};
@@ -23,7 +23,7 @@ impl Desk {
     ghost use Rattle.std.specs.Prelude.{◌≡◌};
     ghost use Rattle.escrow_free.specs.Desks.{answers_of, IsNewDesk, IsDoneDesk, IsNext, IsCounted};
 
-    /// A desk without answers, which takes no memory.
+    /// Returns a desk without answers. Takes no memory.
     pub(crate) fn new(alloc: Global, pass: Pass) -> Self
         ensures { IsNewDesk pass result }
     {
@@ -33,7 +33,7 @@ impl Desk {
         }
     }
 
-    /// The desk of a worker, with the answers that it gave.
+    /// Returns the desk of a worker, with the worker's answers.
     fn of_done(done: Done) -> Self
         ensures { IsDoneDesk done result }
     {
@@ -42,13 +42,13 @@ impl Desk {
         Desk { pass, answers }
     }
 
-    /// Its next answer, if it has one, which is counted in its session's totals.
+    /// Returns the next answer, if there is one, and counts its reply in the session's totals.
     pub(crate) fn next_answer(&mut self, totals: &mut Tally) -> Option<Given>
         ensures next { IsNext (answers_of self.old) result (answers_of self.new) }
         ensures pass { self.new.pass ≡ self.old.pass }
         ensures counted { IsCounted result self.old.pass totals.old totals.new }
     {
-        // That there are no more receipts than a total can count is told where they are counted.
+        // Gives the proof that there are no more receipts than a total can count.
         let _ = self.pass.receipts().len();
         let given = self.answers.next();
         if let Some(Given::Reply(Answer::Served(reply))) = &given {
@@ -58,7 +58,7 @@ impl Desk {
     }
 }
 
-/// Where the desk of a session of a database stands among all.
+/// Returns the place of a session's desk among the desks of all databases.
 pub(crate) fn desk_of(database: usize, session: Session) -> usize
     requires { database < MAX_DATABASES }
     ensures place { result ≡ desk_of database session }
@@ -68,35 +68,36 @@ pub(crate) fn desk_of(database: usize, session: Session) -> usize
     first + usize::from(session.get()) - 1
 }
 
-/// The desks of passes, without answers. Want of memory is the only error.
+/// Returns the desks of passes, without answers. Fails only if memory is refused.
 pub(crate) fn desks_of(alloc: Global, passes: Vec<Pass>) -> Result<Vec<Desk>, AllocError>
     ensures { IfOk result (λ desks. AllZip IsNewDesk passes.items desks.items) }
 {
     each_of(alloc, passes, |pass| Desk::new(alloc, pass))
 }
 
-/// The desks of workers, with the answers that these gave. Want of memory is the only error.
+/// Returns the desks of workers, with the workers' answers. Fails only if memory is refused.
 pub(crate) fn served_desks(alloc: Global, workers: Vec<Done>) -> Result<Vec<Desk>, AllocError>
     ensures { IfOk result (λ desks. AllZip IsDoneDesk workers.items desks.items) }
 {
     each_of(alloc, workers, |done| Desk::of_done(done))
 }
 
-/// The desks of feeds that weren't served, without answers. Want of memory is the only error.
+/// Returns the desks of feeds that weren't served, without answers. Fails only if memory is
+/// refused.
 pub(crate) fn unserved_desks(alloc: Global, feeds: Vec<Feed>) -> Result<Vec<Desk>, AllocError>
     ensures { IfOk result (λ desks. AllZip IsUnservedDesk feeds.items desks.items) }
 {
     each_of(alloc, feeds, |feed| Desk::new(alloc, feed.pass))
 }
 
-/// The passes of desks. Want of memory is the only error.
+/// Returns the passes of desks. Fails only if memory is refused.
 pub(crate) fn passes_of(alloc: Global, desks: Vec<Desk>) -> Result<Vec<Pass>, AllocError>
     ensures { IfOk result (λ passes. passes.items ≡ map pass_of desks.items) }
 {
     each_of(alloc, desks, |desk| desk.pass)
 }
 
-/// What a function makes of each value. Want of memory is the only error.
+/// Applies a function to each value, and returns the results. Fails only if memory is refused.
 pub(crate) fn each_of<X: Drop, Y: Drop, F: Fn(X) -> Y>(
     alloc: Global,
     xs: Vec<X>,

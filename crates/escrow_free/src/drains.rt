@@ -1,4 +1,4 @@
-//! Long histories are handed out in parts.
+//! Hands out long histories in parts.
 use crate::desk::Desk;
 use escrow_num::Session;
 use escrow_shards::{Part, Shared, UnderLock};
@@ -6,10 +6,11 @@ use sqlite::Alter;
 use std::alloc::{AllocError, Global};
 use std::sync::Wait;
 
-/// From how many entries on a transcript is drained.
+/// The number of entries from which on a transcript is drained.
 const LONG: u64 = 32_768;
 
-/// The parts of histories that were handed out, and the number of the last entry in those of each database.
+/// The parts of histories that were handed out, and for each database the number of the last entry
+/// in its parts.
 #[derive(Drop)]
 pub(crate) struct Drains<S: Alter> {
     pub(crate) parts: Vec<Part<S>>,
@@ -19,7 +20,7 @@ pub(crate) struct Drains<S: Alter> {
 impl<S: Alter + Drop> Drains<S> {
     ghost use Rattle.std.specs.Prelude.{◌≡◌, ◌<◌, length, vec_len, IfOk};
 
-    /// No parts, of so many databases. Want of memory is the only error.
+    /// Returns a list without parts, for this many databases. Fails only if memory is refused.
     pub(crate) fn new(alloc: Global, databases: usize) -> Result<Self, AllocError>
         ensures { IfOk result (λ drains. vec_len drains.last_drained ≡ databases) }
     {
@@ -30,8 +31,8 @@ impl<S: Alter + Drop> Drains<S> {
         })
     }
 
-    /// Drains each database whose transcript is long, as the receipts at desks tell, after a phase that had
-    /// statements or none. Without any no transcript has grown, so no desk is looked at.
+    /// Drains each database whose transcript is long, by the receipts at the desks. Called after a
+    /// phase. If the phase had no statements, no transcript has grown, so no desk is looked at.
     pub(crate) fn drain_long<L: UnderLock<S>, R: Wait>(
         &mut self,
         rt: &R,
@@ -54,7 +55,8 @@ impl<S: Alter + Drop> Drains<S> {
         }
     }
 
-    /// Drains a database whose last entry has a number. Where that is refused it is left as it is.
+    /// Drains a database whose last entry has this number. If that is refused, the database stays
+    /// as it is.
     fn drain<L: UnderLock<S>, R: Wait>(
         &mut self,
         rt: &R,
@@ -77,8 +79,8 @@ impl<S: Alter + Drop> Drains<S> {
     }
 }
 
-/// The number of the last entry of a database, as the receipts at its desks tell; 0 where it has none. The desks of
-/// a database are one behind another.
+/// Returns the number of the last entry of a database, by the receipts at its desks, or 0 if there
+/// is none. The desks of a database are consecutive.
 fn last_number(database: usize, desks: &[Desk]) -> u64 {
     let sessions = usize::from(Session::MAX);
     let Some(its_desks) = desks.chunks(sessions).nth(database) else {

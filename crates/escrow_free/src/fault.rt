@@ -6,16 +6,17 @@ use escrow_shards::{Cause, Unshared};
 use std::alloc::AllocError;
 use thiserror::Error;
 
-/// Why a script whose sessions run at the same time isn't served to its end. Nothing is handed back.
+/// Why a script whose sessions run at the same time isn't served to its end. Nothing is handed
+/// back.
 #[derive(Clone, Copy, Debug, Error)]
 pub enum FreeFault {
-    /// The reader answered an error, or gave more than a script may have.
+    /// The reader returned an error, or returned more than a script may have.
     #[error("the script can't be read: {0}")]
     Read(ReadFault),
-    /// The writer answered an error, or took nothing of what was left to write.
+    /// The writer returned an error, or accepted none of the bytes that were left.
     #[error("a reply can't be written: {0}")]
     Write(WriteFault),
-    /// Memory was refused outside a statement, or a place at which totals are read.
+    /// Memory was refused outside a statement, or a watcher has no place to read at.
     #[error("out of memory")]
     Memory,
     /// A store failed when it was read at the beginning.
@@ -24,16 +25,16 @@ pub enum FreeFault {
     /// A transaction is open in a database that was handed in.
     #[error("a transaction is open")]
     Open,
-    /// A phase asks more sessions than may run at the same time.
+    /// A phase has statements of more sessions than may run at the same time.
     #[error("too many sessions in a phase")]
     Sessions,
-    /// The histories of the databases don't fit what their sessions were answered.
+    /// The histories of the databases don't match the replies to their sessions.
     #[error("the histories don't fit the replies")]
     Mismatch,
 }
 
 impl FreeFault {
-    /// Why databases aren't shared.
+    /// Returns the fault if databases can't be shared for this cause.
     pub(crate) fn of_sharing(cause: Unshared) -> Self
         ensures { (result ≡ FreeFault.Open) ↔ (cause ≡ Unshared.Refused Refusal.TransactionOpen) }
     {
@@ -45,7 +46,7 @@ impl FreeFault {
         }
     }
 
-    /// Why their histories aren't handed back.
+    /// Returns the fault if a close returns this cause, and no histories.
     pub(crate) fn of_close(cause: Cause) -> Self
         ensures { result ≢ FreeFault.Open }
     {

@@ -1,8 +1,10 @@
-//! Scripts whose sessions run at the same time, phase by phase.
+//! Serves scripts phase by phase. The sessions of a phase run at the same time.
 //!
-//! Its one contract: what [`serve_free`] writes is what the lines of the script write of the histories
-//! that it hands back, each of them one legal run of the machine. That of
-//! [`serve_free_watched`] is the same.
+//! Its main contract is that of [`serve_free`]: the output is what the script's lines write
+//! according to the histories that are handed back. Each history is one legal run of the machine.
+//! [`serve_free_watched`] has the same contract.
+//!
+//! Begin with [`serve_free`]. The meaning of its output is in specs/FreeOutput.antt.
 #![tactic(auto)]
 
 mod audience;

@@ -1,12 +1,12 @@
-//! The desks that items name, and their ranks among these.
+//! The desks that items name, and the rank of each among these.
 ghost use Rattle.std.specs.Prelude.{◌≡◌, ◌<◌, false, length, map, replicate, All, IfOk};
 ghost use Rattle.escrow_free.specs.Ranks.{marked_by, ranks_from, renamed};
 
 use escrow_statement::Request;
 use std::alloc::{AllocError, Global};
 
-/// Marks the desks that items name, of so many, and has each item name its desk by its rank among these. Want of
-/// memory is the only error.
+/// Marks the desks that items name, among this many, and makes each item name its desk by its rank
+/// among the marked ones. Returns the marks. Fails only if memory is refused.
 pub(crate) fn rank_desks(
     alloc: Global,
     desks: usize,
@@ -22,7 +22,8 @@ pub(crate) fn rank_desks(
     Ok(marks)
 }
 
-/// Marks the desks that items name, of so many. Want of memory is the only error.
+/// Returns a mark for each of this many desks: whether an item names it. Fails only if memory is
+/// refused.
 fn marks_of(
     alloc: Global,
     desks: usize,
@@ -38,7 +39,7 @@ fn marks_of(
     Ok(marks)
 }
 
-/// How many marked desks stand before each desk. Want of memory is the only error.
+/// Returns for each desk how many marked desks are before it. Fails only if memory is refused.
 fn ranks_of(alloc: Global, marks: &[bool]) -> Result<Vec<usize>, AllocError>
     ensures { IfOk result (λ ranks. ranks.items ≡ ranks_from 0 marks.now) }
 {
@@ -53,7 +54,7 @@ fn ranks_of(alloc: Global, marks: &[bool]) -> Result<Vec<usize>, AllocError>
     Ok(ranks)
 }
 
-/// Has each item name its desk by rank.
+/// Makes each item name its desk by rank.
 fn rename(ranks: &[usize], items: &mut [(usize, Request)])
     requires { All (λ x. x.0 < length ranks.now) items.old }
     ensures { items.new ≡ map (renamed ranks.now) items.old }

@@ -1,4 +1,4 @@
-//! Desks are parted into those that are marked and the others, and put together again.
+//! Separates the marked desks from the others, and puts all together again.
 ghost use Rattle.std.specs.Prelude.{◌≡◌, IfOk};
 ghost use Rattle.escrow_free.specs.Ranks.{parted, rested, merged};
 
@@ -6,7 +6,7 @@ use crate::desk::Desk;
 use escrow_shards::Pass;
 use std::alloc::{AllocError, Global};
 
-/// The passes of the desks that are marked, and the desks that aren't. Want of memory is the only error.
+/// Returns the passes of the marked desks, and the other desks. Fails only if memory is refused.
 pub(crate) fn part(
     alloc: Global,
     marks: &[bool],
@@ -30,7 +30,8 @@ pub(crate) fn part(
     Ok((passes, idle))
 }
 
-/// All desks, in order: those that are marked, and the others. Want of memory is the only error.
+/// Returns all desks, in order, from the marked ones and the others. Fails only if memory is
+/// refused.
 pub(crate) fn merge(
     alloc: Global,
     marks: &[bool],

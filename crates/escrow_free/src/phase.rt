@@ -19,13 +19,13 @@ use std::alloc::Global;
 use std::sync::Wait;
 use std::thread::Threads;
 
-/// Serves the requests of a phase: each by its session, those of one session in order, and the sessions at the same
-/// time. While they are served an audience looks. It may wait.
+/// Serves the requests of a phase: each in its session, those of one session in order, and the
+/// sessions at the same time. An audience watches meanwhile. May wait.
 ///
 /// # Errors
 ///
-/// [`FreeFault::Sessions`] where more sessions are asked than workers may be started, and
-/// [`FreeFault::Memory`].
+/// Fails with [`FreeFault::Sessions`] if there are requests of more sessions than workers may be
+/// started, and with [`FreeFault::Memory`].
 pub(crate) fn run_phase<
     S: Alter + Send,
     L: UnderLock<S> + Send,
@@ -51,7 +51,7 @@ pub(crate) fn run_phase<
     served
 }
 
-/// The same, without a word to an audience.
+/// As [`run_phase`], without an audience.
 fn serve_requests<
     S: Alter + Send,
     L: UnderLock<S> + Send,
@@ -79,8 +79,8 @@ fn serve_requests<
     Ok(desks)
 }
 
-/// Serves items by the workers of the passes that they name by place. Where memory is refused before a worker is
-/// started, nothing is served.
+/// Serves items by the workers of the passes that they name by place. If memory is refused before a
+/// worker is started, nothing is served.
 fn serve_passes<S: Alter + Send, L: UnderLock<S> + Send, R: Threads + Wait + Sync, G: Gate + Sync>(
     rt: &R,
     alloc: Global,

@@ -1,4 +1,4 @@
-//! What is to be done for the lines of a phase.
+//! What the lines of a phase print, and what they ask.
 ghost use Rattle.std.specs.Prelude.{◌≡◌, ◌≤◌, ◌<◌, OnOk};
 
 use crate::desk::desk_of;
@@ -10,15 +10,15 @@ use std::alloc::{AllocError, Global};
 /// What is printed for a line.
 #[derive(Clone, Copy, Debug)]
 pub(crate) enum Planned {
-    /// That it is no line.
+    /// The refusal of what is no line.
     NoLine,
-    /// Why its text isn't served.
+    /// The refusal of its text.
     Refused {
         /// The place of the database, from 0.
         database: usize,
         /// The session that asks.
         session: Session,
-        /// What its text lacks.
+        /// The fault in the text.
         fault: ParseFault,
     },
     /// The next answer of its session.
@@ -37,8 +37,8 @@ pub(crate) enum Planned {
     },
 }
 
-/// What is to be done for lines: what is printed, for each that prints something, and the statements that are
-/// served, each with the place of its session's desk. Both stand in the order of the lines.
+/// The plan of lines: what is printed, for each line that prints something; and the statements to
+/// serve, each with the place of its session's desk. Both are in the order of the lines.
 #[derive(Drop)]
 pub(crate) struct Plan {
     pub(crate) lines: Vec<Planned>,
@@ -49,7 +49,7 @@ impl Plan {
     ghost use Rattle.std.specs.Prelude.{◌≡◌, ◌≤◌, ◌<◌, [], OnOk};
     ghost use Rattle.escrow_free.specs.Adding.{Adds, AddsText};
 
-    /// The plan of no lines.
+    /// Returns the plan of no lines.
     pub(crate) fn new(alloc: Global) -> Self
         ensures lines { result.lines.items ≡ [] }
         ensures items { result.items.items ≡ [] }
@@ -60,8 +60,8 @@ impl Plan {
         }
     }
 
-    /// Adds a line of a script for so many databases, and answers whether it ends the phase. Want of memory is the
-    /// only error.
+    /// Adds a line of a script, with this many databases, and returns whether it ends the phase.
+    /// Fails only if memory is refused.
     pub(crate) fn add(
         &mut self,
         alloc: Global,
@@ -89,7 +89,7 @@ impl Plan {
         }
     }
 
-    /// Adds the text of a session. Want of memory is the only error.
+    /// Adds the text of a session. Fails only if memory is refused.
     fn add_text(
         &mut self,
         alloc: Global,

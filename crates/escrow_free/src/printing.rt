@@ -19,9 +19,9 @@ use escrow_stats::Tally;
 use std::alloc::{AllocError, Global};
 use std::io::Write;
 
-/// Prints what is planned for the lines of a phase, in order: where a line asks, its session's next answer, which
-/// counts in the session's totals; where it asks these, so far. Where memory is refused, what is gathered is written
-/// first.
+/// Prints what is planned for the lines of a phase, in order. If a line asks for a reply, this is
+/// its session's next answer, which is counted in the session's totals. If a line asks for totals,
+/// these are the totals so far. If memory is refused, what is gathered is written first.
 pub(crate) fn print_phase<W: Write>(
     alloc: Global,
     desks: &mut Vec<Desk>,
@@ -46,7 +46,7 @@ pub(crate) fn print_phase<W: Write>(
     write_gathered(writer, &mut replies)
 }
 
-/// Gathers a reply, and writes what is gathered once it is much.
+/// Adds a reply to those that are gathered, and writes them if they are long.
 fn pass_on<W: Write>(
     writer: &mut W,
     replies: &mut Vec<u8>,
@@ -63,7 +63,7 @@ fn pass_on<W: Write>(
     Ok(())
 }
 
-/// What is printed for a line. Want of memory is the only error.
+/// Returns what is printed for a line. Fails only if memory is refused.
 fn print_line(
     alloc: Global,
     desks: &mut Vec<Desk>,
@@ -98,8 +98,8 @@ fn print_line(
     }
 }
 
-/// What is printed of an answer; where there is none, that its statement wasn't served for want of memory. Want of
-/// memory is the only error.
+/// Returns what is printed for an answer. If there is none, the statement wasn't served, and is
+/// refused for memory. Fails only if memory is refused.
 fn print_given(
     alloc: Global,
     name: &str,

@@ -12,7 +12,7 @@ use std::io::Read;
 #[derive(Drop)]
 pub(crate) struct Phase {
     pub(crate) plan: Plan,
-    // It was ended by a line; otherwise the script has no more.
+    // Whether a line ended the phase. If not, the script has no more lines.
     pub(crate) has_more: bool,
 }
 

@@ -29,21 +29,26 @@ use std::io::{Read, Write};
 use std::sync::Wait;
 use std::thread::Threads;
 
-/// Serves a script phase by phase. A phase is the lines up to `@join`, or up to the script's end; its sessions run
-/// at the same time, each by a worker on a thread of its own, and after it the replies to its lines are written in
-/// the order of the lines. At the end all that was served is put together, and the histories of the databases are
-/// handed back. There are 1 to 16 databases. `@restart` is refused, as what is no line. It may wait.
+/// Serves a script phase by phase. A phase is the lines up to `@join`, or up to the script's end.
+/// Its sessions run at the same time, each on a thread of its own; a session alone in its phase
+/// runs on the calling thread. After the phase, the replies to its lines are written, in the order
+/// of the lines. At the end everything that was served is put together, and the histories of the
+/// databases are handed back. There must be 1 to 16 databases. `@restart` is refused as no line.
+/// May wait.
 ///
-/// A statement whose worker isn't had, or lacks room for its answer, is refused for want of memory. SHOW STATISTICS
-/// shows what its session had served in this call, and asks no worker. Long histories are handed out in parts after a
-/// phase, which are handed back with the others.
+/// If a session's worker can't be started, or memory for an answer is refused, the statement is
+/// refused for memory. SHOW STATISTICS shows the totals of its session in this call, and needs no
+/// worker. After a phase, long histories are handed out in parts, which are handed back with the
+/// others at the end.
 ///
 /// # Errors
 ///
-/// [`FreeFault::Open`] just where a transaction is open in a database, and [`FreeFault::Store`] where its store fails
-/// when it is read at the beginning; [`FreeFault::Sessions`] where a phase has statements of more than 64 sessions
-/// over all databases; [`FreeFault::Read`], [`FreeFault::Write`] and [`FreeFault::Memory`]; [`FreeFault::Mismatch`]
-/// where the histories don't fit what the sessions were answered. Nothing is handed back then.
+/// Fails with [`FreeFault::Open`] exactly if a transaction is open in a database, and with
+/// [`FreeFault::Store`] if a store fails when it is read at the beginning. Fails with
+/// [`FreeFault::Sessions`] if a phase has statements of more than 64 sessions over all databases,
+/// and with [`FreeFault::Mismatch`] if the histories don't match the replies to the sessions. May
+/// also fail with [`FreeFault::Read`], [`FreeFault::Write`] and [`FreeFault::Memory`]. After an
+/// error nothing is handed back.
 pub fn serve_free<
     S: Alter + Drop + Send,
     T: Threads + Wait + Sync,
@@ -61,16 +66,18 @@ pub fn serve_free<
     requires some { 1 ≤ vec_len databases }
     requires few { vec_len databases ≤ MAX_DATABASES }
 
-    // The history of each database is one legal run of the machine from the state in which it was handed in to that
-    // in which it is handed back, as long as its disk had returned what was written.
+    // The history of each database is one legal run of the machine, from the state that was handed
+    // in to the state that is handed back. This holds as long as the disk returned what was
+    // written.
     ensures legal { IfOk result (λ audit. AreHistories S.Store databases.items audit.parts.items audit.closed.items) }
 
-    // What was written is what the script's lines write of the histories; all of the script was read.
+    // The output is what the script's lines write according to the histories. All of the script was
+    // read.
     ensures output { IfOk result (λ audit. IfSome (R.remaining reader.old) (λ script.
         ServesFree script (histories audit.parts.items audit.closed.items) (W.contents writer.old) (W.contents writer.new))) }
     ensures end { OnOk result (IfSome (R.remaining reader.old) (λ script. IsAtEnd (R.remaining reader.new))) }
 
-    // That a transaction is open is told just where one is.
+    // The fault says that a transaction is open exactly if one is.
     ensures open { IsErrOf result FreeFault.Open ↔ (any_open databases.items ≡ true) }
 {
     let stage = share(alloc, databases)?;
@@ -78,15 +85,15 @@ pub fn serve_free<
     Ok(audit)
 }
 
-/// The same as [`serve_free`], before an audience: it is given a watcher of each database before
-/// the first phase, and looks while the sessions of a phase are served, and not while lines are read
-/// or replies are written. Watchers read totals of what was served so far, and wait for nobody
+/// As [`serve_free`], with an audience. The audience gets a watcher of each database before the
+/// first phase. It watches while the sessions of a phase are served, and not while lines are read
+/// or replies are written. Watchers read totals of what was served so far, and never wait
 /// ([`Watcher::read`]). A statement may wait for a watcher that is reading.
 ///
 /// # Errors
 ///
-/// Those of [`serve_free`]; [`FreeFault::Memory`] also where a watcher has no place to read at.
-/// Where databases aren't shared the audience doesn't begin to look.
+/// Fails as [`serve_free`] does; also fails with [`FreeFault::Memory`] if a watcher has no place to
+/// read at. If the databases can't be shared, the audience doesn't begin to watch.
 pub fn serve_free_watched<
     S: Alter + Drop + Send,
     T: Threads + Wait + Sync,
@@ -116,7 +123,7 @@ pub fn serve_free_watched<
     Ok(audit)
 }
 
-/// Serves a script by databases that are shared, from their passes on, before an audience.
+/// Serves a script with databases that are shared, and their passes, before an audience.
 fn serve_stage<
     S: Alter + Drop + Send,
     L: UnderLock<S> + Drop + Send,
@@ -138,7 +145,7 @@ fn serve_stage<
     requires sessions { stage.shared.sessions ≡ MAX }
     requires passes { stage.passes.items ≡ new_seats (length stage.shared.openings) MAX }
 
-    // So it is whichever databases were read where the sharing began.
+    // This holds for whichever databases were read when the sharing began.
     ensures legal { IfOk result (λ audit. (databases : List (Seen S)) → AreRead S.Store databases (map seen_at stage.shared.openings)
         → AreHistories S.Store databases audit.parts.items audit.closed.items) }
     ensures output { IfOk result (λ audit. IfSome (R.remaining reader.old) (λ script.
@@ -159,7 +166,7 @@ fn serve_stage<
     Ok(audit)
 }
 
-/// What is left once all phases are served.
+/// What remains after all phases are served.
 #[derive(Drop)]
 struct Served<S: Alter> {
     desks: Vec<Desk>,
@@ -167,7 +174,7 @@ struct Served<S: Alter> {
     parts: Vec<Part<S>>,
 }
 
-/// Serves all phases of a script, before an audience. It may wait.
+/// Serves all phases of a script, before an audience. May wait.
 fn serve_phases<
     S: Alter + Drop + Send,
     L: UnderLock<S> + Send,
@@ -212,7 +219,8 @@ fn serve_phases<
     }
 }
 
-/// The totals of so many sessions, to which nothing was printed. Want of memory is the only error.
+/// Returns the totals of this many sessions, to which nothing was printed yet. Fails only if memory
+/// is refused.
 fn new_totals(alloc: Global, sessions: usize) -> Result<Vec<Tally>, AllocError>
     ensures { IfOk result (λ totals. totals.items ≡ replicate sessions (tally_of [])) }
 {

@@ -1,4 +1,4 @@
-//! Databases that are shared for a script, and what is found when they no longer are.
+//! Databases that are shared for a script, and what is found when the sharing ends.
 ghost use Rattle.std.specs.Prelude.{◌≡◌, ◌≢◌, ◌↔◌, ◌≤◌, true, false, length, map, vec_len, IfOk, IfErr, MatchResult, OnOk};
 ghost use Rattle.escrow_num.specs.declared.session.TheConstants.Session.{MAX};
 ghost use Rattle.escrow_shards.specs.Opened.{any_open, AreRead, seen_at};
@@ -46,7 +46,7 @@ pub(crate) fn share<S: Alter + Drop>(
     }
 }
 
-/// The same, with a watcher for each database.
+/// As [`share`], with a watcher for each database.
 pub(crate) fn share_watched<'r, S: Alter + Drop, T: Wait>(
     rt: &'r T,
     alloc: Global,

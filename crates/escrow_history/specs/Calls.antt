@@ -1,4 +1,4 @@
--- Believed: what a call makes of a database and its transcript.
+-- Believed: how a call changes a database and its transcript.
 use Rattle.std.specs.Prelude.{◌≡◌, ◌⊎◌, ℕ, ◌+◌, false, IsTrue, None, [], ◌∷◌, ◌++◌, length}
 use Rattle.sqlite.specs.Held.{state}
 use Rattle.sqlite.specs.State.{HasCleanDisk}
@@ -18,14 +18,14 @@ use Rattle.escrow_history.specs.declared.served.Unserved.{Unserved}
 use Rattle.escrow_history.specs.declared.served.Unserved.TheVariants.{Full, Failed}
 use Rattle.escrow_history.specs.History.{History}
 
--- a reply is an answer: it doesn't tell that a statement wasn't served, as 51, 52 and 60 do
+-- whether a reply is an answer: it doesn't say that the statement wasn't served, as 51, 52 and 60 do
 pub record IsAnswer (answer : Reply) : Type 0 where
   pub of_memory : ¬ (answer ≡ reply.Refused refusal.Memory)
   pub of_room : ¬ (answer ≡ reply.Refused refusal.TranscriptFull)
   pub of_store : ¬ (answer ≡ reply.Refused refusal.Store)
 
--- A statement of a session was served: while the disk has returned what was written that was a step of the machine, and
--- it is the one entry more, with the next number. The reply is an answer, whatever the disk did.
+-- A statement of a session was served. If the disk returned what was written, this was a step of the machine. The
+-- statement is the one new entry, with the next number. The reply is an answer, whatever the disk did.
 pub record Appends {S : Type 0} (g : Ghosts S) (old : History S) (session : ℕ) (asked : Statement) (number : ℕ) (answer : Reply) (new : History S) : Type 0 where
   pub step : HasCleanDisk (state g new.store) → IsStep old.state session asked answer new.state
   pub succeeds : failure_of answer ≡ None
@@ -34,18 +34,18 @@ pub record Appends {S : Type 0} (g : Ghosts S) (old : History S) (session : ℕ)
   pub base : new.base ≡ old.base
   pub entries : new.entries ≡ old.entries ++ (record { number = number; session = session; statement = asked; reply = answer }) ∷ []
 
--- Nothing changed: base and entries, and the state while the disk has returned what was written.
+-- Nothing changed: neither the base and the entries, nor, if the disk returned what was written, the state.
 pub record Stays {S : Type 0} (g : Ghosts S) (old new : History S) : Type 0 where
   pub base : new.base ≡ old.base
   pub entries : new.entries ≡ old.entries
   pub unchanged : HasCleanDisk (state g new.store) → new.state ≡ old.state
 
--- Nothing is asked of a statement but an entry: it is served whatever memory there is and whatever the store does, and
--- a copy of it takes no memory. ROLLBACK, ROLLBACK TO, and COMMIT of a session that holds no reservation are such.
+-- A statement needs nothing but an entry: it is served however little memory there is and whatever the store does, and
+-- a copy of it takes no memory. These are ROLLBACK, ROLLBACK TO, and COMMIT of a session that holds no reservation.
 abbrev pub NeedsAnEntry : State → ℕ → Statement → Type 0
 NeedsAnEntry s session asked = IsTrue (is_promised s session asked) × (holds_memory asked ≡ false)
 
--- the refusals that tell of a failure: 51 and 60
+-- the refusals that report a failure: 51 and 60
 abbrev pub IsFailed : Refusal → Type 0
 IsFailed r = (r ≡ refusal.Memory) ⊎ (r ≡ refusal.Store)
 
@@ -57,11 +57,11 @@ IsNotBegun r = (r ≡ refusal.TransactionOpen) ⊎ IsFailed r
 abbrev pub IsNotDrained : Refusal → Type 0
 IsNotDrained r = (r ≡ refusal.TransactionOpen) ⊎ ((r ≡ refusal.TranscriptFull) ⊎ IsFailed r)
 
--- why no room is taken for entries: a transcript may not have so many (52), or memory is short (51)
+-- why no room is taken for entries: a transcript may not have so many (52), or memory is refused (51)
 abbrev pub IsNoRoom : Refusal → Type 0
 IsNoRoom r = (r ≡ refusal.TranscriptFull) ⊎ (r ≡ refusal.Memory)
 
--- the refusal that tells why a statement wasn't served
+-- the refusal that says why a statement wasn't served
 abbrev pub unserved_as : Unserved → Refusal
 unserved_as Full = refusal.TranscriptFull
 unserved_as (Failed failure) = refusal_for failure

@@ -1,4 +1,4 @@
--- Believed: what COMMITs that share a write make of a database and its transcript.
+-- Believed: how COMMITs that share a write change a database and its transcript.
 use Rattle.std.specs.Prelude.{◌≡◌, ℕ, ◌+◌, Result, Ok, Err, List, [], ◌∷◌, ◌++◌, length}
 use Rattle.sqlite.specs.Held.{state}
 use Rattle.sqlite.specs.State.{HasCleanDisk}
@@ -22,9 +22,9 @@ commits_of (session ∷ sessions) (Err f ∷ outcomes) = commits_of sessions out
 commits_of (session ∷ sessions) [] = []
 commits_of [] outcomes = []
 
--- COMMITs of sessions were asked, one after another, and each has its outcome: while the disk has returned what was
--- written, those that were served are the machine's steps from the state before to the state behind; they are the
--- entries more, with the next numbers.
+-- Sessions asked for COMMITs, one after another, and each has its outcome. If the disk returned what was written, those
+-- that were served are steps of the machine, from the state before to the state after. They are the new entries, with
+-- the next numbers.
 pub record Commits {S : Type 0} (g : Ghosts S) (old : History S) (sessions : List ℕ) (outcomes : List (Result Committed Failure)) (new : History S) : Type 0 where
   pub each : length outcomes ≡ length sessions
   pub steps : HasCleanDisk (state g new.store) → AreSteps old.state (commits_of sessions outcomes) new.state

@@ -1,4 +1,4 @@
--- Helps: how the replies to COMMITs are entered.
+-- Helps: how the replies to COMMITs become entries.
 use Rattle.std.specs.Prelude.{◌≡◌, ℕ, ◌+◌, Result, Ok, Err, List, [], ◌∷◌, map}
 use Rattle.escrow_num.specs.declared.failure.Failure.{Failure}
 use Rattle.escrow_statement.specs.declared.statement.Statement.TheVariants as statement
@@ -16,11 +16,11 @@ commit_asked_by session = event.Statement session statement.Commit
 abbrev pub asked_by : List ℕ → List Event
 asked_by sessions = map commit_asked_by sessions
 
--- no COMMIT that was served is replied so
+-- no COMMIT that was served has this reply
 abbrev pub IsNoCommit : Reply → Type 0
 IsNoCommit answer = (count : ℕ) → ¬ (answer ≡ reply.Committed count)
 
--- replies tell of each COMMIT whether it was served; one that was has the next number
+-- each reply says whether its COMMIT was served; one that was has the next number
 abbrev pub AreEntered : ℕ → List Reply → List (Result Committed Failure) → Type 0
 AreEntered before [] [] = Unit {0}
 AreEntered before (answer ∷ answers) (Ok c ∷ outcomes) =

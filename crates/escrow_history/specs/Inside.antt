@@ -11,15 +11,15 @@ use Rattle.escrow_transcript.specs.declared.entry.Entry.{Entry}
 use Rattle.escrow_transcript.specs.declared.transcript.TheConstants.Transcript.{MAX_ENTRIES}
 use Rattle.escrow_history.specs.History.{History}
 
--- for how many entries more a list has room: for as many as it can take without growing, and a transcript may have
+-- for how many more entries a list has room: as many as it can take without growing, and a transcript may have
 abbrev pub room_of : {Z : Type 0} → Vec Entry Z → ℕ
 room_of entries = min (vec_capacity entries) MAX_ENTRIES - vec_len entries
 
--- the history that a database, a base and entries are
+-- the history of a database, a base and entries
 abbrev pub history_of : {S Z : Type 0} → Seen S → Base → Vec Entry Z → History S
 history_of d base entries = record { store = d.store; state = d.state; base = base; entries = entries.items; room = room_of entries }
 
--- a reply is no answer: a failure, or one that only a transcript gives
+-- whether a reply is no answer: it reports a failure, or only a transcript gives it
 abbrev pub IsNoAnswer : Reply → Failure → Type 0
 IsNoAnswer answer failure = (failure_of answer ≡ Some failure) ⊎ (answer ≡ reply.Refused refusal.TranscriptFull)
 

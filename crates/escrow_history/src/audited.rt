@@ -16,16 +16,16 @@ use std::alloc::{AllocError, Global};
 use std::marker::Model;
 use std::mem::replace;
 
-/// A database with its transcript: where it began, and an entry for each statement that was served since.
-/// While the disk has returned what was written the transcript is legal, from its base to the state of the
-/// database.
+/// A database with its transcript: where it began, and an entry for each statement that was served
+/// since. As long as the disk has returned what was written, the transcript is legal, from its base
+/// to the state of the database.
 pub struct Audited<S: Alter> {
     database: Database<S>,
     base: Base,
     entries: Vec<Entry>,
 }
 
-// It is written out, so that no crate above proves again how each part is dropped.
+// Written out, so that crates above need not prove again how its parts are dropped.
 impl<S: Alter + Drop> Drop for Audited<S> {
     fn drop(self) {
         let Audited {
@@ -62,12 +62,13 @@ impl<S: Alter> Audited<S> {
     ghost use Rattle.escrow_history.specs.Commits.{Commits};
     ghost use Rattle.escrow_history.specs.History.{IsKept};
 
-    /// A database with a transcript that begins at what it holds. It begins at the first number.
+    /// Makes a transcript for a database. It begins at what the database holds, and at the first
+    /// number.
     ///
     /// # Errors
     ///
-    /// [`Refusal::TransactionOpen`] just where something is open; [`Refusal::Memory`] and
-    /// [`Refusal::Store`]. The database is handed back.
+    /// Fails with [`Refusal::TransactionOpen`] exactly if something is open. Otherwise fails with
+    /// [`Refusal::Memory`] or [`Refusal::Store`]. The database is returned with the error.
     pub fn make(alloc: Global, mut database: Database<S>) -> Result<Self, (Database<S>, Refusal)>
         ensures state { IfOk result (λ a. a.state ≡ database.state) }
         ensures begins { IfOk result (λ a. (a.entries ≡ []) × (a.base.before ≡ 0)) }
@@ -87,8 +88,8 @@ impl<S: Alter> Audited<S> {
         }
     }
 
-    /// A database with a transcript that begins at a base, which is what it holds. Takes no memory, and
-    /// makes no store call.
+    /// Makes a transcript for a database that begins at a base. The base must be what the database
+    /// holds. Takes no memory, and makes no store call.
     pub fn begin(alloc: Global, database: Database<S>, base: Base) -> Self
         requires started { HasCleanDisk (state S.Store database.store) → database.state ≡ started base.image }
         requires numbers { base.before + MAX_ENTRIES ≤ MAX_NUMBER }
@@ -104,18 +105,19 @@ impl<S: Alter> Audited<S> {
         }
     }
 
-    /// Where the transcript began, and what the type keeps.
+    /// Returns the base where the transcript began. Its contract also states what always holds of a
+    /// database and its transcript.
     pub fn base(&self) -> &Base
         ensures base { result.now ≡ self.now.base }
         ensures kept { IsKept S.Store self.now }
         ensures valid { HasCleanDisk (state S.Store self.now.store) → IsValid self.now.state }
     {
-        // That the state is valid is told where the next id is asked.
+        // The contract of `next_id` says that the state is valid.
         let _ = self.database.next_id();
         &self.base
     }
 
-    /// The entries of the transcript, in order.
+    /// Returns the entries of the transcript, in order.
     pub fn entries(&self) -> &[Entry]
         ensures entries { result.now ≡ self.now.entries }
         ensures kept { IsKept S.Store self.now }
@@ -123,7 +125,7 @@ impl<S: Alter> Audited<S> {
         &self.entries
     }
 
-    /// The database and its transcript. Takes no memory, and makes no store call.
+    /// Returns the database and its transcript. Takes no memory, and makes no store call.
     pub fn into_parts(self) -> (Database<S>, Transcript)
         ensures store { result.0.store ≡ self.store }
         ensures state { result.0.state ≡ self.state }
@@ -132,7 +134,7 @@ impl<S: Alter> Audited<S> {
         ensures kept { IsKept S.Store self }
         ensures valid { HasCleanDisk (state S.Store self.store) → IsValid self.state }
     {
-        // That the state is valid is told where the next id is asked.
+        // The contract of `next_id` says that the state is valid.
         let _ = self.database.next_id();
         let Audited {
             database,
@@ -146,9 +148,9 @@ impl<S: Alter> Audited<S> {
         (database, transcript)
     }
 
-    /// For how many entries more room was taken: 0 to 65,536. As many statements that need nothing but
-    /// room for an entry are served: ROLLBACK, ROLLBACK TO, and COMMIT of a session that holds no
-    /// reservation. Others may fail for what they take besides.
+    /// Returns for how many more entries room was taken: 0 to 65,536. This many statements are
+    /// served if they need nothing but room for an entry: ROLLBACK, ROLLBACK TO, and COMMIT of a
+    /// session that holds no reservation. Others may fail, since they need more.
     pub fn room(&self) -> u32
         ensures { result ≡ self.now.room }
     {
@@ -156,13 +158,13 @@ impl<S: Alter> Audited<S> {
         (most - self.entries.len()) as u32
     }
 
-    /// Takes room for so many entries more, besides those that the transcript has. Each entry uses up
-    /// at most one of them; where the transcript is handed out, what is left may go with it.
+    /// Takes room for this many entries, besides those that the transcript has. Each new entry uses
+    /// at most one of them. When the transcript is handed out, the rest of the room may go with it.
     ///
     /// # Errors
     ///
-    /// [`Refusal::TranscriptFull`] just where the transcript may not have so many;
-    /// [`Refusal::Memory`]. Nothing has changed then.
+    /// Fails with [`Refusal::TranscriptFull`] exactly if the transcript may not have so many more.
+    /// Fails with [`Refusal::Memory`] if memory is refused. After an error nothing has changed.
     pub fn make_room(&mut self, count: u32) -> Result<(), Refusal>
         ensures store { self.new.store ≡ self.old.store }
         ensures state { self.new.state ≡ self.old.state }
@@ -181,15 +183,15 @@ impl<S: Alter> Audited<S> {
         Ok(())
     }
 
-    /// Serves one statement of a session, and adds its entry to the transcript. Room for the entry, and
-    /// what it keeps of the statement, are taken before the database is asked.
+    /// Serves one statement of a session, and adds its entry to the transcript. Takes room for the
+    /// entry and copies the statement before it asks the database.
     ///
     /// # Errors
     ///
-    /// [`Unserved::Full`] just where the transcript has as many entries as it may have, before anything
-    /// else; [`Unserved::Failed`] for want of memory or by the store. Nothing has changed then. Where
-    /// room was taken ([`Audited::make_room`]), ROLLBACK, ROLLBACK TO, and COMMIT of a session that
-    /// holds no reservation are served.
+    /// Fails with [`Unserved::Full`] exactly if the transcript has as many entries as it may have;
+    /// this is tested first. Fails with [`Unserved::Failed`] if memory is refused, or by the store.
+    /// After an error nothing has changed. If room was taken ([`Audited::make_room`]), ROLLBACK,
+    /// ROLLBACK TO, and COMMIT of a session that holds no reservation are always served.
     pub fn serve(
         &mut self,
         alloc: Global,
@@ -231,14 +233,16 @@ impl<S: Alter> Audited<S> {
         })
     }
 
-    /// Serves COMMITs of sessions, one after another, as one write of the store where it can. Each that is served adds
-    /// its entry to the transcript. Answers of each session whether its COMMIT was served; one that wasn't left the
-    /// state as it was. Room for the entries is taken before the database is asked.
+    /// Serves COMMITs of sessions, one after another, as one write of the store if it can. Each
+    /// that is served adds its entry to the transcript. Returns for each session whether its COMMIT
+    /// was served; one that wasn't left the state as it was. Takes room for the entries before it
+    /// asks the database.
     ///
     /// # Errors
     ///
-    /// [`Unserved::Full`] just where the transcript may not have so many entries more, before anything else;
-    /// [`Unserved::Failed`] for want of memory. No COMMIT was served then.
+    /// Fails with [`Unserved::Full`] exactly if the transcript may not have so many more entries;
+    /// this is tested first. Fails with [`Unserved::Failed`] if memory is refused. After an error
+    /// no COMMIT was served.
     pub fn commit_all(
         &mut self,
         alloc: Global,
@@ -267,13 +271,13 @@ impl<S: Alter> Audited<S> {
         Ok(outcomes)
     }
 
-    /// Hands out the transcript, and the base where it ends; there a new one begins.
+    /// Hands out the transcript, with the base where it ends. A new transcript begins there.
     ///
     /// # Errors
     ///
-    /// [`Refusal::TransactionOpen`] just where something is open; then
-    /// [`Refusal::TranscriptFull`], where a further transcript could have a number past the greatest;
-    /// [`Refusal::Memory`] and [`Refusal::Store`]. Nothing has changed then.
+    /// Fails with [`Refusal::TransactionOpen`] exactly if something is open. Otherwise fails with
+    /// [`Refusal::TranscriptFull`] if a further transcript could have a number past the greatest,
+    /// then with [`Refusal::Memory`] or [`Refusal::Store`]. After an error nothing has changed.
     pub fn drain(&mut self, alloc: Global) -> Result<(Transcript, Base), Refusal>
         ensures whole { IfOk result (λ r. (r.0.base ≡ self.old.base) × (r.0.entries ≡ self.old.entries)) }
         ensures end { IfOk result (λ r. r.1.before ≡ self.old.base.before + length self.old.entries) }
@@ -307,7 +311,7 @@ impl<S: Alter> Audited<S> {
     }
 }
 
-/// What was asked and answered, and two copies of the answer.
+/// A statement and its reply, with two copies of the reply.
 struct Answered {
     asked: Statement,
     reply: Reply,
@@ -315,8 +319,8 @@ struct Answered {
     kept: Reply,
 }
 
-/// What was asked and answered, with two copies of the answer. A reply that is no answer is why, and want of memory
-/// comes only where the reply holds memory.
+/// Returns a statement and its reply, with two copies of the reply. If the reply is no answer,
+/// fails with the failure that it reports. Memory can be refused only if the reply holds memory.
 fn with_copies(alloc: Global, asked: Statement, reply: Reply) -> Result<Answered, Failure>
     ensures same { IfOk result (λ a. (a.asked ≡ asked) × (a.reply ≡ reply)) }
     ensures copies { IfOk result (λ a. (a.told ≡ reply) × (a.kept ≡ reply)) }
@@ -336,8 +340,9 @@ fn with_copies(alloc: Global, asked: Statement, reply: Reply) -> Result<Answered
     })
 }
 
-/// Why a reply of a database is no answer. That a transcript is full no statement is answered: only a store that
-/// lies could bring it about, and it is told as the store's failure.
+/// Returns why a reply of a database is no answer, or `None` if it is one. The machine replies to
+/// no statement that a transcript is full. Only a store that lies could cause this reply, and it
+/// counts as the store's failure.
 fn failure_in(reply: &Reply) -> Option<Failure>
     ensures succeeds { IfNone result (failure_of reply.now ≡ None) }
     ensures answers { IfNone result (IsAnswer reply.now) }
@@ -349,7 +354,7 @@ fn failure_in(reply: &Reply) -> Option<Failure>
     reply.failure()
 }
 
-/// Two copies of a reply. Only that to a query takes memory.
+/// Returns two copies of a reply. Only the reply to a query takes memory.
 fn two_copies(alloc: Global, reply: &Reply) -> Result<(Reply, Reply), AllocError>
     ensures copies { IfOk result (λ r. (r.0 ≡ reply.now) × (r.1 ≡ reply.now)) }
     ensures holds { OnErr result (holds_memory reply.now ≡ true) }
@@ -357,7 +362,7 @@ fn two_copies(alloc: Global, reply: &Reply) -> Result<(Reply, Reply), AllocError
     Ok((reply.copy(alloc)?, reply.copy(alloc)?))
 }
 
-/// Adds an entry, for which there is room.
+/// Adds an entry, for which there must be room.
 pub(crate) fn keep(entries: &mut Vec<Entry>, entry: Entry)
     requires { vec_len entries.old < vec_capacity entries.old }
     ensures items { entries.new.items ≡ entries.old.items ++ entry ∷ [] }

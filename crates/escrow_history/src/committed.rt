@@ -21,7 +21,7 @@ pub struct Committed {
     pub count: u32,
 }
 
-/// COMMITs of sessions, as events.
+/// Returns COMMITs of sessions, as events.
 pub(crate) fn ask_commits(alloc: Global, sessions: &[Session]) -> Result<Vec<Event>, AllocError>
     ensures { IfOk result (λ events. events.items ≡ asked_by sessions.now) }
 {
@@ -31,7 +31,7 @@ pub(crate) fn ask_commits(alloc: Global, sessions: &[Session]) -> Result<Vec<Eve
         .collect(alloc)
 }
 
-/// A COMMIT of a session, as an event.
+/// Returns a COMMIT of a session, as an event.
 fn ask_commit(session: &Session) -> Event
     ensures { result ≡ commit_asked_by session.now }
 {
@@ -41,8 +41,8 @@ fn ask_commit(session: &Session) -> Event
     }
 }
 
-/// Adds an entry for each COMMIT that was served, into room that was taken. Answers of each session whether its COMMIT
-/// was.
+/// Adds an entry for each COMMIT that was served, into room that was taken. Adds to `outcomes`, for
+/// each session, whether its COMMIT was served.
 pub(crate) fn enter_all(
     entries: &mut Vec<Entry>,
     before: u64,
@@ -67,8 +67,8 @@ pub(crate) fn enter_all(
     }
 }
 
-/// Whether a COMMIT was served, as it was replied, with the number that its entry has. No other reply than a failure
-/// says that it wasn't.
+/// Returns the number and the count of a COMMIT that was served, as its reply says, or why it
+/// wasn't served. Only a reply that reports a failure says that it wasn't.
 fn outcome_of(number: u64, answer: &Reply) -> Result<Committed, Failure>
     ensures served { IfOk result (λ c. (c.number ≡ number) × (answer.now ≡ Reply.Committed c.count)) }
     ensures failed { IfErr result (λ f. IsNoCommit answer.now × (f ≡ unwrap_or (failure_of answer.now) Failure.Store)) }
@@ -82,7 +82,7 @@ fn outcome_of(number: u64, answer: &Reply) -> Result<Committed, Failure>
     }
 }
 
-/// The entry of a COMMIT that was served.
+/// Returns the entry of a COMMIT that was served.
 fn entry_of(session: Session, committed: &Committed) -> Entry
     ensures { result ≡ commit_of session committed.now }
 {

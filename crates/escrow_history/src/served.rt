@@ -7,9 +7,9 @@ use std::alloc::AllocError;
 pub struct Served {
     /// The number of the entry.
     pub number: u64,
-    /// What the statement was answered, for whoever asked.
+    /// The reply to the statement, for the client.
     pub reply: Reply,
-    /// A copy of the reply, for who keeps a receipt.
+    /// A copy of the reply, for a receipt.
     pub kept: Reply,
 }
 
@@ -26,7 +26,7 @@ impl Unserved {
     ghost use Rattle.std.specs.Prelude.{◌≡◌};
     ghost use Rattle.escrow_history.specs.Calls.{unserved_as};
 
-    /// The refusal that tells of it.
+    /// Returns the refusal that the client gets.
     pub fn refusal(&self) -> Refusal
         ensures { result ≡ unserved_as self.now }
     {

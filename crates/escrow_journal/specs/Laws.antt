@@ -11,7 +11,7 @@ use Rattle.escrow_journal.specs.Savepoints.{is_named, savepoint_of}
 abbrev pub CameBefore : ℕ → Log → Type 0
 CameBefore id log = AllByRecursion (λ r. r.id < id) log.reservations
 
--- reservations are of the journal's session, and came with an id or after it
+-- reservations are of the journal's session, and have this id or a later one
 abbrev pub CameSince : ℕ → Log → List Reservation → Type 0
 CameSince id log reservations = AllByRecursion (λ r. (r.session ≡ log.session) × (id ≤ r.id)) reservations
 
@@ -29,8 +29,8 @@ abbrev pub GoingBackAtOnceDropsNothing : Type 0
 GoingBackAtOnceDropsNothing = (log : Log) (name : List ℕ) (id : ℕ) → CameBefore id log
     → (later name (marked name id log) ≡ Some []) × (cut_log name (marked name id log) ≡ marked name id log)
 
--- going back drops just the reservations that were added after the savepoint was made, and leaves the
--- journal as it was then
+-- going back drops exactly the reservations that were added after the savepoint was made, and leaves the journal as it
+-- was then
 abbrev pub GoingBackUndoesWhatCame : Type 0
 GoingBackUndoesWhatCame = (log : Log) (name : List ℕ) (id : ℕ) (more : List Reservation) → CameBefore id log → CameSince id log more
     → (later name (all_pushed more (marked name id log)) ≡ Some more) × (cut_log name (all_pushed more (marked name id log)) ≡ marked name id log)
@@ -41,27 +41,28 @@ GoingBackDropsLaterSavepoints = (log : Log) (name other : List ℕ) (id later_id
     → (other ≢ name) → savepoint_of log.session other log.savepoints ≡ None
     → cut_log name (marked other later_id (all_pushed more (marked name id log))) ≡ marked name id log
 
--- a savepoint to which a journal went back stands, and nothing is after it
+-- after going back to a savepoint, the savepoint still exists, and nothing comes after it
 abbrev pub GoingBackAgainDropsNothing : Type 0
 GoingBackAgainDropsNothing = (log : Log) (name : List ℕ) (dropped : List Reservation) → later name log ≡ Some dropped
     → later name (cut_log name log) ≡ Some []
 
--- what going back leaves and what it drops are the reservations of the journal, each once and in order
+-- the reservations that going back leaves and those that it drops are together those of the journal, each once and in
+-- order
 abbrev pub NothingIsLost : Type 0
 NothingIsLost = (log : Log) (name : List ℕ) (dropped : List Reservation) → IsLog log → later name log ≡ Some dropped
     → (cut_log name log).reservations ++ dropped ≡ log.reservations
 
--- of two savepoints of one name the second alone stands, and nothing tells that there was a first
+-- of two savepoints of one name only the second exists, and nothing shows that there was a first
 abbrev pub TheLastOfANameStands : Type 0
 TheLastOfANameStands = (log : Log) (name : List ℕ) (first second : ℕ)
     → (marked name second (marked name first log) ≡ marked name second log)
     × (savepoints_named name (marked name second log) ≡ (record { session = log.session; name = name; id = second }) ∷ [])
 
--- a savepoint of a name that stands takes no further place
+-- a savepoint whose name already exists takes no further place
 abbrev pub ANameTakesOnePlace : Type 0
 ANameTakesOnePlace = (log : Log) (name : List ℕ) (id : ℕ) → IsSome (savepoint_of log.session name log.savepoints)
     → length (marked name id log).savepoints ≤ length log.savepoints
 
--- a session has 256 open reservations at most, and 64 savepoints at most
+-- a session has at most 256 open reservations and at most 64 savepoints
 abbrev pub LimitsOfASession : Type 0
 LimitsOfASession = (MAX_RESERVATIONS ≡ 256) × (MAX_SAVEPOINTS ≡ 64)

@@ -1,4 +1,4 @@
--- Believed: what a journal holds, and what its calls make of it.
+-- Believed: what a journal holds, and how its calls change it.
 use Rattle.std.specs.Prelude.{◌≡◌, ℕ, ◌≤◌, Bool, nat_le, Option, option_map, unwrap_or, List, [], ◌∷◌, ◌++◌, length}
 use Rattle.std.specs.List.{AllByRecursion}
 use Rattle.escrow_num.specs.Ascending.{IsAscending}
@@ -9,19 +9,19 @@ use Rattle.escrow_journal.specs.declared.journal.TheConstants.Journal.{MAX_RESER
 use Rattle.escrow_journal.specs.Reservations.{reservation_before}
 use Rattle.escrow_journal.specs.Savepoints.{savepoint_of, without_savepoint, through, after, not_after}
 
--- The journal of a session: its open reservations in order of grant, and its savepoints in order of
--- making.
+-- The journal of a session: its open reservations in order of grant, and its savepoints in the order in which they were
+-- made.
 pub record Log : Type 0 where
   pub session : ℕ
   pub reservations : List Reservation
   pub savepoints : List Savepoint
 
--- a journal of a session that holds nothing
+-- an empty journal of a session
 abbrev pub empty_log : ℕ → Log
 empty_log session = record { session = session; reservations = []; savepoints = [] }
 
--- what every call keeps of a journal: what it holds is its session's, ids rise in order of grant, and
--- neither list is longer than a session's may be
+-- what every call preserves: all that the journal holds is of its session, ids rise in order of grant, and neither list
+-- is longer than a session's may be
 pub record IsLog (log : Log) : Type 0 where
   pub session : IsSession log.session
   pub reservations_own : AllByRecursion (λ r. r.session ≡ log.session) log.reservations
@@ -30,19 +30,19 @@ pub record IsLog (log : Log) : Type 0 where
   pub savepoints_own : AllByRecursion (λ p. p.session ≡ log.session) log.savepoints
   pub few_savepoints : length log.savepoints ≤ MAX_SAVEPOINTS
 
--- a journal has as many reservations as it may have
+-- whether a journal has as many reservations as it may have
 abbrev pub is_full : Log → Bool
 is_full log = nat_le MAX_RESERVATIONS (length log.reservations)
 
--- a journal has as many savepoints of other names as it may have
+-- whether a journal has as many savepoints of other names as it may have
 abbrev pub is_full_beside : List ℕ → Log → Bool
 is_full_beside name log = nat_le MAX_SAVEPOINTS (length (without_savepoint log.session name log.savepoints))
 
--- the journal with one more reservation, the last
+-- the journal with one more reservation at the end
 abbrev pub pushed : Reservation → Log → Log
 pushed r log = record log { reservations = log.reservations ++ r ∷ [] }
 
--- the journal with a savepoint of a name, the last, in the place of an earlier one of that name
+-- the journal with a savepoint of a name at the end, in place of an earlier one of that name
 abbrev pub marked : List ℕ → ℕ → Log → Log
 marked name id log = record log {
   savepoints = without_savepoint log.session name log.savepoints ++ (record { session = log.session; name = name; id = id }) ∷ [];
@@ -56,6 +56,6 @@ later name log = option_map (λ p. after p log.reservations) (savepoint_of log.s
 abbrev pub cut_at : Log → Savepoint → Log
 cut_at log p = record log { reservations = not_after p log.reservations; savepoints = through log.session p.name log.savepoints }
 
--- the journal cut back to the savepoint of a name, if there is one
+-- the journal, gone back to the savepoint of a name if there is one
 abbrev pub cut_log : List ℕ → Log → Log
 cut_log name log = unwrap_or (option_map (cut_at log) (savepoint_of log.session name log.savepoints)) log

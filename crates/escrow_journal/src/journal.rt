@@ -5,8 +5,8 @@ use std::alloc::Global;
 use std::marker::Model;
 use std::mem;
 
-/// The journal of a session: its open reservations in order of grant, and its savepoints in order
-/// of making. The first four of each stand in place; only more take memory.
+/// The journal of a session: its open reservations in order of grant, and its savepoints in the
+/// order in which they were made. The first four of each are held in place; only more take memory.
 #[derive(Debug)]
 pub struct Journal {
     session: Session,
@@ -14,7 +14,7 @@ pub struct Journal {
     savepoints: SmallVec<Savepoint, 4>,
 }
 
-// It is written out, so that no crate above proves again how each part is dropped.
+// Written out, so that crates above need not prove again how its parts are dropped.
 impl Drop for Journal {
     fn drop(self) {
         let Journal {
@@ -50,7 +50,7 @@ impl Journal {
     /// The most savepoints of a session.
     pub const MAX_SAVEPOINTS: usize = 64;
 
-    /// A journal that holds nothing, of a session. Takes no memory.
+    /// Returns an empty journal of a session. Takes no memory.
     pub fn new(alloc: Global, session: Session) -> Self
         ensures { result ≡ empty_log session }
     {
@@ -61,7 +61,8 @@ impl Journal {
         }
     }
 
-    /// The session whose journal it is. What it holds is that session's, and ids rise in it.
+    /// Returns the session whose journal it is. All that it holds is of this session, and ids rise
+    /// in it.
     pub fn session(&self) -> Session
         ensures value { result ≡ self.now.session }
         ensures valid { IsLog self.now }
@@ -69,23 +70,24 @@ impl Journal {
         self.session
     }
 
-    /// The open reservations, in order of grant.
+    /// Returns the open reservations, in order of grant.
     pub fn all(&self) -> &[Reservation]
         ensures { result.now ≡ self.now.reservations }
     {
         self.reservations.as_slice()
     }
 
-    /// The savepoints, in order of making.
+    /// Returns the savepoints, in the order in which they were made.
     pub fn savepoints(&self) -> &[Savepoint]
         ensures { result.now ≡ self.now.savepoints }
     {
         self.savepoints.as_slice()
     }
 
-    /// Adds a reservation of the session, whose id is above those that the journal holds. Refused for
-    /// their number exactly where it holds [`Journal::MAX_RESERVATIONS`], however little memory there is;
-    /// otherwise want of memory is the only error. Where it is refused the journal stays.
+    /// Adds a reservation of the session. Its id must be above those that the journal holds. Fails
+    /// for their number exactly if the journal holds [`Journal::MAX_RESERVATIONS`], however little
+    /// memory there is. Otherwise it fails only if memory is refused. After an error the journal is
+    /// unchanged.
     pub fn push(&mut self, r: Reservation) -> Result<(), Refusal>
         requires own { r.session ≡ self.old.session }
         requires above { AllByRecursion (λ earlier. IsTrue (reservation_before earlier r)) self.old.reservations }
@@ -104,9 +106,9 @@ impl Journal {
     }
 
     /// Makes a savepoint of a name, with the id that the next reservation takes. An earlier one of
-    /// that name is taken out (Oracle's rule), doesn't count, and leaves its place: memory is only
-    /// taken, and wanted, where none of that name stands. Refused for their number exactly where
-    /// [`Journal::MAX_SAVEPOINTS`] of other names stand. Where it is refused the journal stays.
+    /// the same name is removed (Oracle's rule): it doesn't count, and the new one uses its place.
+    /// Takes memory only if there is none of that name. Fails for their number exactly if there are
+    /// [`Journal::MAX_SAVEPOINTS`] of other names. After an error the journal is unchanged.
     pub fn mark(&mut self, name: Name, id: u64) -> Result<(), Refusal>
         ensures marked { OnOk result (self.new ≡ marked name id self.old) }
         ensures unchanged { OnErr result (self.new ≡ self.old) }
@@ -130,8 +132,8 @@ impl Journal {
         Ok(())
     }
 
-    /// The reservations after the savepoint of a name, in order of grant: those that
-    /// [`Journal::cut`] would take out. `None` exactly where there is no such savepoint.
+    /// Returns the reservations after the savepoint of a name, in order of grant: those that
+    /// [`Journal::cut`] would remove. Returns `None` exactly if there is no such savepoint.
     pub fn after(&self, name: Name) -> Option<&[Reservation]>
         ensures { option_copied result ≡ later name self.now }
     {
@@ -139,10 +141,10 @@ impl Journal {
         Some(&self.reservations[first..])
     }
 
-    /// Goes back to the savepoint of a name: takes out just the reservations after it, and the
-    /// savepoints that were made after it. It stays itself. Answers how many reservations were taken
-    /// out, or `None`, exactly where there is no such savepoint, and then the journal stays. Takes no
-    /// memory.
+    /// Goes back to the savepoint of a name: removes exactly the reservations after it and the
+    /// savepoints that were made after it. The savepoint itself stays. Returns how many
+    /// reservations were removed. Returns `None` exactly if there is no such savepoint, and then
+    /// the journal is unchanged. Takes no memory.
     pub fn cut(&mut self, name: Name) -> Option<u32>
         ensures count { result ≡ option_map length (later name self.old) }
         ensures cut { self.new ≡ cut_log name self.old }
@@ -155,8 +157,8 @@ impl Journal {
         Some(count as u32)
     }
 
-    /// How many savepoints, and how many reservations, are left where the journal goes back to the
-    /// savepoint of a name: the first ones. `None` exactly where there is no such savepoint.
+    /// Returns how many savepoints and how many reservations remain if the journal goes back to the
+    /// savepoint of a name: the first ones. Returns `None` exactly if there is no such savepoint.
     fn left(&self, name: Name) -> Option<(usize, usize)>
         ensures { IsLeft name self.now result }
     {
@@ -165,8 +167,7 @@ impl Journal {
         Some((place + 1, first_from(&self.reservations, savepoint.id)))
     }
 
-    /// Hands out all reservations, in order of grant, and leaves neither reservation nor savepoint.
-    /// Takes no memory.
+    /// Returns all reservations, in order of grant, and empties the journal. Takes no memory.
     pub fn take_all(&mut self) -> SmallVec<Reservation, 4>
         ensures all { result.items ≡ self.old.reservations }
         ensures none { self.new ≡ empty_log self.old.session }

@@ -1,5 +1,4 @@
-//! Laws of journals: facts about their definitions, each the contract of a function that does
-//! nothing.
+//! Laws of journals. Each is the contract of a function that does nothing.
 
 ghost use Rattle.escrow_journal.specs.Laws.{GoingBackAtOnceDropsNothing, GoingBackUndoesWhatCame, GoingBackDropsLaterSavepoints, GoingBackAgainDropsNothing, NothingIsLost, TheLastOfANameStands, ANameTakesOnePlace, LimitsOfASession};
 
@@ -8,7 +7,7 @@ pub fn going_back_at_once_drops_nothing()
     ensures { GoingBackAtOnceDropsNothing }
 {}
 
-/// Going back to a savepoint drops just the reservations that were added after it was made, and
+/// Going back to a savepoint drops exactly the reservations that were added after it was made, and
 /// leaves the journal as it was then.
 pub fn going_back_undoes_what_came()
     ensures { GoingBackUndoesWhatCame }
@@ -19,28 +18,28 @@ pub fn going_back_drops_later_savepoints()
     ensures { GoingBackDropsLaterSavepoints }
 {}
 
-/// A savepoint to which a journal went back stands, and nothing is after it.
+/// After going back to a savepoint, the savepoint still exists, and nothing comes after it.
 pub fn going_back_again_drops_nothing()
     ensures { GoingBackAgainDropsNothing }
 {}
 
-/// What going back leaves and what it drops are together the reservations of the journal, each once
-/// and in order.
+/// The reservations that going back leaves and those that it drops are together the reservations of
+/// the journal, each once and in order.
 pub fn nothing_is_lost()
     ensures { NothingIsLost }
 {}
 
-/// Of two savepoints of one name the second alone stands, and nothing tells that there was a first.
+/// Of two savepoints of one name only the second exists, and nothing shows that there was a first.
 pub fn the_last_of_a_name_stands()
     ensures { TheLastOfANameStands }
 {}
 
-/// A savepoint of a name that stands takes no further place.
+/// A savepoint whose name already exists takes no further place.
 pub fn a_name_takes_one_place()
     ensures { ANameTakesOnePlace }
 {}
 
-/// A session has 256 open reservations at most, and 64 savepoints at most.
+/// A session has at most 256 open reservations and at most 64 savepoints.
 pub fn limits_of_a_session()
     ensures { LimitsOfASession }
 {}

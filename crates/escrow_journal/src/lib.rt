@@ -1,7 +1,9 @@
 //! The journal of one transaction: its open reservations in order of grant, and its savepoints.
 //!
-//! Its one contract: going back to a savepoint takes out just the reservations and the savepoints
-//! that came after it ([`Journal::cut`]).
+//! Its main contract is that of [`Journal::cut`]: going back to a savepoint removes exactly the
+//! reservations and the savepoints that came after it.
+//!
+//! Begin with [`Journal`].
 #![tactic(auto)]
 
 mod journal;

@@ -12,7 +12,7 @@ use Rattle.escrow_machine.specs.Transition.{transition_of}
 abbrev pub IsAccepted : State → ℕ → Statement → Type 0
 IsAccepted s session asked = first_refusal (refusals (transition_of s session asked)) ≡ None
 
--- a refusal is the first of a statement that applies, or a failure that it may meet
+-- a refusal is the first that applies to a statement, or a failure that the statement may meet
 abbrev pub IsRefusal : State → ℕ → Statement → Refusal → Type 0
 IsRefusal s session asked r =
     (first_refusal (refusals (transition_of s session asked)) ≡ Some r)

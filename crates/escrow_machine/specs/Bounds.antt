@@ -21,8 +21,8 @@ use Rattle.escrow_machine.specs.State.{State}
 use Rattle.escrow_num.specs.Reservation.{changes_at}
 use Rattle.escrow_schema.specs.Rows.{row_named}
 
--- what SHOW BOUNDS shows of a RESERVABLE column: its committed amount, and the least and the greatest
--- that it can come to, whichever of the open reservations are applied; all in units of its scale
+-- what SHOW BOUNDS shows of a RESERVABLE column: its committed amount, and the least and the greatest value that it can
+-- have, whichever of the open reservations are applied; all in units of its scale
 abbrev pub column_bounds : List (List ℕ) → List ℤ → List (List ℤ) → Column → ColumnBounds
 column_bounds names amounts reservations column = record {
   column = column.name;
@@ -43,14 +43,14 @@ check_bounds amounts reservations check = record {
   limits = check.span;
 }
 
--- what SHOW BOUNDS shows of a row of these amounts: each RESERVABLE column, and each declared check, over
--- every choice of these reservations
+-- what SHOW BOUNDS shows of a row with these amounts: each RESERVABLE column and each declared check, over every choice
+-- of these reservations
 abbrev pub bounds_over : List (List ℤ) → TableDef → List ℤ → Reply
 bounds_over reservations table amounts =
     let columns = reservables table.columns in
     reply.Bounds (map (column_bounds (names_of columns) amounts reservations) columns) (map (check_bounds amounts reservations) (declared_checks table))
 
--- what SHOW BOUNDS shows of the row of a name, of these amounts, over every choice of the open reservations of all
+-- what SHOW BOUNDS shows of the row of a name, with these amounts, over every choice of the open reservations of all
 -- sessions
 abbrev pub bounds_in : List Reservation → TableDef → RowName → List ℤ → Reply
 bounds_in open_ones table name amounts = bounds_over (map (changes_at name) open_ones) table amounts

@@ -1,4 +1,4 @@
--- Believed: what is served while COMMITs are held back, and what becomes of it.
+-- Believed: what is served while COMMITs are held back, and how it ends.
 use Rattle.std.specs.Prelude.{◌≡◌, ℕ, ◌||◌, ◌&&◌, Bool, true, false, if◌then◌else◌, not, nat_lt, MatchBool, Option, None, is_none, option_map, unwrap_or, List, [], ◌∷◌, ◌++◌, length}
 use Rattle.std.specs.List.{AllByRecursion}
 use Rattle.escrow_num.specs.declared.failure.Failure.{Failure}
@@ -13,11 +13,11 @@ use Rattle.escrow_machine.specs.declared.reply.Reply.TheVariants as reply
 use Rattle.escrow_machine.specs.State.{State}
 use Rattle.escrow_machine.specs.Step.{step}
 
--- a session holds a reservation
+-- whether a session holds a reservation
 abbrev pub holds : State → ℕ → Bool
 holds s session = nat_lt 0 (length (own session s.reservations))
 
--- a statement goes by what its own session has open, and by nothing else
+-- whether a statement depends only on what its own session has open
 abbrev pub is_own : State → ℕ → Statement → Bool
 is_own s session statement.Rollback = true
 is_own s session (statement.RollbackTo name) = true
@@ -25,24 +25,24 @@ is_own s session (statement.Savepoint name) = true
 is_own s session statement.Commit = not (holds s session)
 is_own s session asked = false
 
--- a reply grants a reservation
+-- whether a reply grants a reservation
 abbrev pub is_grant : Reply → Bool
 is_grant (reply.Reserved id) = true
 is_grant _ = false
 
--- a statement may be served while the COMMITs of other sessions are held back
+-- whether a statement may be served while the COMMITs of other sessions are held back
 abbrev pub passes : State → ℕ → Statement → Bool
 passes s session asked = is_own s session asked || is_grant (step s session asked).0
 
--- A statement of a session that was asked while COMMITs were held back: it was served, and answered so; or it is a
--- COMMIT that is held back itself, with the reply that it has once it is done.
+-- A statement of a session that was asked while COMMITs were held back. Either it was served with this reply, or it is
+-- a COMMIT that is held back itself, and this is its reply once it is done.
 pub record Waiting : Type 0 where
   pub session : ℕ
   pub asked : Statement
   pub answer : Reply
   pub is_held : Bool
 
--- the sessions whose COMMITs are held back, of statements of which the last one stands first
+-- the sessions whose COMMITs are held back. The last statement comes first
 abbrev pub holding : List Waiting → List ℕ
 holding [] = []
 holding (w ∷ earlier) = if w.is_held then w.session ∷ holding earlier else holding earlier
@@ -54,20 +54,20 @@ pub record IsHeldBack (session : ℕ) (asked : Statement) (answer : Reply) (befo
   pub is_answer : answer ≡ reply.Committed (length (own session before.reservations))
   pub same : after ≡ before
 
--- a statement is served beside COMMITs that are held back
+-- a statement is served while COMMITs are held back
 pub record IsServedBeside (session : ℕ) (asked : Statement) (answer : Reply) (before after : State) : Type 0 where
   pub may_pass : passes before session asked ≡ true
   pub is_step : (answer, after) ≡ step before session asked
 
--- THE STATEMENTS THAT WAIT, the last one first: each is of a session whose COMMIT isn't held back, and it was held
--- back or served
+-- THE STATEMENTS THAT WAIT, the last one first. Each is of a session whose COMMIT isn't held back, and it was held back
+-- or served
 abbrev pub IsHeldRun : State → List Waiting → State → Type 0
 IsHeldRun s [] now = now ≡ s
 IsHeldRun s (w ∷ earlier) now =
     (mid : State) × IsHeldRun s earlier mid × AllByRecursion (λ session. ¬ (session ≡ w.session)) (holding earlier)
     × MatchBool w.is_held (IsHeldBack w.session w.asked w.answer mid now) (IsServedBeside w.session w.asked w.answer mid now)
 
--- what became of each session's COMMIT in the end: it was done, or it failed
+-- how each session's COMMIT ended: it was done, or it failed
 abbrev pub Outcome : Type 0
 Outcome = ℕ → Option Failure
 
@@ -76,11 +76,11 @@ abbrev pub events_of : List Waiting → List Event
 events_of [] = []
 events_of (w ∷ earlier) = events_of earlier ++ event.Statement w.session w.asked ∷ []
 
--- why a COMMIT that was held back failed, if it is one and did
+-- why a COMMIT that was held back failed, if the statement is one and it did
 abbrev pub failure_by : Outcome → Waiting → Option Failure
 failure_by outcome w = if w.is_held then outcome w.session else None
 
--- the COMMIT of a session that was held back is done
+-- whether a statement is a COMMIT that was held back and is done
 abbrev pub is_done : Outcome → Waiting → Bool
 is_done outcome w = w.is_held && is_none (outcome w.session)
 

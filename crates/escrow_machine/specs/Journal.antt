@@ -12,7 +12,7 @@ use Rattle.escrow_machine.specs.declared.reply.Reply.TheVariants as reply
 use Rattle.escrow_machine.specs.Asked.{key_scale_of}
 use Rattle.escrow_machine.specs.State.{State}
 
--- the changes that there are, each with the name and the scale of its column
+-- the changes that aren't none, each with the name and the scale of its column
 abbrev pub named_changes : List Column → List (Option ℤ) → List ColumnChange
 named_changes [] changes = []
 named_changes (column ∷ columns) [] = []
@@ -34,7 +34,7 @@ entry_of catalog r = record {
   changes = named_changes (columns_of catalog r.row.table) r.changes;
 }
 
--- the reservations of the rows of a table, or all of them where no table is named
+-- the reservations of the rows of a table, or all of them if no table is named
 abbrev pub of_table : Option (List ℕ) → List Reservation → List Reservation
 of_table None reservations = reservations
 of_table (Some table) reservations = filter (λ r. bytes_eq r.row.table table) reservations

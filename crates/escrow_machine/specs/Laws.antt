@@ -65,11 +65,11 @@ use Rattle.escrow_machine.specs.Valid.{IsValid}
 
 -- VALIDITY
 
--- whatever a session asks, the machine takes a valid state to a valid one
+-- whatever a session asks, the machine leads from a valid state to a valid one
 abbrev pub StepKeepsValid : Type 0
 StepKeepsValid = (s : State) (session : ℕ) (asked : Statement) → IsValid s → IsSession session → IsValid (step s session asked).1
 
--- from a valid state any events of sessions, some of which fail, lead to a valid state
+-- from a valid state, any events of sessions, some of which may fail, lead to a valid state
 abbrev pub RunKeepsValid : Type 0
 RunKeepsValid = (s : State) (events : List Event) (answers : List Reply) (new : State)
     → IsValid s → AllByRecursion HasSession events → IsRun s events answers new → IsValid new
@@ -86,7 +86,7 @@ HasFittingValues catalog row = IsSomeAnd (table_named catalog row.name.table) (�
 abbrev pub CommittedValuesFit : Type 0
 CommittedValuesFit = (s : State) → IsValid s → AllByRecursion (HasFittingValues s.catalog) s.rows
 
--- after any events of sessions, from the beginning, each committed row meets each check of its table
+-- after any events of sessions, from the empty state, each committed row meets each check of its table
 abbrev pub EveryRunIsSafe : Type 0
 EveryRunIsSafe = (events : List Event) (answers : List Reply) (new : State)
     → AllByRecursion HasSession events → IsRun empty events answers new → AllByRecursion (MeetsChecks new.catalog) new.rows
@@ -98,21 +98,21 @@ abbrev pub RefusedChangesNothing : Type 0
 RefusedChangesNothing = (s : State) (session : ℕ) (asked : Statement) (r : Refusal)
     → (step s session asked).0 ≡ reply.Refused r → (step s session asked).1 ≡ s
 
--- the machine is never out of memory, nor refused by a store
+-- the machine never runs out of memory, and no store refuses it
 abbrev pub MachineNeverFails : Type 0
 MachineNeverFails = (s : State) (session : ℕ) (asked : Statement) → failure_of (step s session asked).0 ≡ None
 
--- where an early refusal applies, the first of them is the answer, whatever memory there is
+-- if an early refusal applies, the first of them is the reply, whatever memory there is
 abbrev pub EarlyRefusalsStand : Type 0
 EarlyRefusalsStand = (s : State) (session : ℕ) (asked : Statement) (answer : Reply) (new : State) (r : Refusal)
     → StepOrRefusal s session asked answer new → first_refusal (transition_of s session asked).early ≡ Some r
     → (answer ≡ reply.Refused r) × (new ≡ s)
 
--- COMMIT is answered with the number of the session's reservations, in every state
+-- the reply to COMMIT is the number of the session's reservations, in every state
 abbrev pub CommitIsNeverRefused : Type 0
 CommitIsNeverRefused = (s : State) (session : ℕ) → (step s session statement.Commit).0 ≡ reply.Committed (length (own session s.reservations))
 
--- and so is ROLLBACK
+-- the reply to ROLLBACK is too
 abbrev pub RollbackIsNeverRefused : Type 0
 RollbackIsNeverRefused = (s : State) (session : ℕ) → (step s session statement.Rollback).0 ≡ reply.RolledBack (length (own session s.reservations))
 
@@ -124,8 +124,8 @@ IsQuery (statement.Select text) = Unit {0}
 IsQuery (statement.ShowTable name) = Unit {0}
 IsQuery _ = ⊥
 
--- a state shows just these tables and rows: they are the committed ones, and every query, whoever asks
--- it, is answered as it is where there are these tables and rows and nothing is open
+-- a state shows exactly these tables and rows. They are the committed ones, and every query, whoever asks it, is
+-- answered as in a state with these tables and rows in which nothing is open
 pub record ShowsJust (s : State) (tables : List TableDef) (committed : List Row) : Type 0 where
   pub catalog : s.catalog ≡ tables
   pub rows : s.rows ≡ committed
@@ -136,12 +136,11 @@ abbrev pub ShowsPlanned : State → List ℕ → Plan → State → Type 0
 ShowsPlanned s table (plan.Reserve key changes) new = ShowsJust new s.catalog s.rows
 ShowsPlanned s table (plan.Plain key values) new = ShowsJust new s.catalog (with_plain (row_name table key) values s.rows)
 
--- what a state shows after a statement that is accepted: one table more after a CREATE TABLE, neither the
--- table nor its rows after a DROP TABLE, the altered table after an ALTER TABLE, the row of an INSERT among the
--- others, no longer that of a DELETE;
--- after a COMMIT the changes of its session's reservations, added; and after anything else, as a ROLLBACK,
--- what it showed before. ROLLBACK leaves open the reservations of the other sessions alone, so that no COMMIT
--- adds what it dropped
+-- what a state shows after a statement that is accepted: after a CREATE TABLE, one table more; after a DROP TABLE,
+-- neither the table nor its rows; after an ALTER TABLE, the altered table; after an INSERT, the row among the others;
+-- after a DELETE, the row no longer; after a COMMIT, the changes of its session's reservations, added; after anything
+-- else, as a ROLLBACK, what it showed before. ROLLBACK leaves open only the reservations of the other sessions, so no
+-- COMMIT adds what it dropped
 abbrev pub ShowsAfter : State → ℕ → Statement → State → Type 0
 ShowsAfter s session (statement.Create text) new = (table : TableDef) × (definition_of text ≡ Some table) × ShowsJust new (with_table table s.catalog) s.rows
 ShowsAfter s session (statement.Drop name) new = ShowsJust new (without_table name s.catalog) (without_rows_of name s.rows)
@@ -154,7 +153,7 @@ ShowsAfter s session statement.Commit new = ShowsJust new s.catalog (applied s.r
 ShowsAfter s session statement.Rollback new = ShowsJust new s.catalog s.rows × (new.reservations ≡ others session s.reservations)
 ShowsAfter s session asked new = ShowsJust new s.catalog s.rows
 
--- every statement of every session is answered from what is committed, and a refused one leaves it
+-- every statement of every session is answered from what is committed, and a refused one leaves it as it is
 pub record SeesCommitsAlone (s : State) (session : ℕ) (asked : Statement) (answer : Reply) (new : State) : Type 0 where
   pub before : ShowsJust s s.catalog s.rows
   pub refused : IsTrue (is_refused answer) → new ≡ s
@@ -163,7 +162,7 @@ pub record SeesCommitsAlone (s : State) (session : ℕ) (asked : Statement) (ans
 abbrev pub QueriesSeeCommitsAlone : Type 0
 QueriesSeeCommitsAlone = (s : State) (session : ℕ) (asked : Statement) → let after = step s session asked in SeesCommitsAlone s session asked after.0 after.1
 
--- a reservation takes the next id, and the next id is then one more
+-- a reservation takes the next id, and the next id rises by one
 abbrev pub ReservedTakesTheNextId : Type 0
 ReservedTakesTheNextId = (s : State) (session : ℕ) (asked : Statement) (id : ℕ)
     → (step s session asked).0 ≡ reply.Reserved id → (id ≡ s.next_id) × ((step s session asked).1.next_id ≡ s.next_id + 1)
@@ -177,16 +176,14 @@ abbrev pub IsNoRestart : Event → Type 0
 IsNoRestart (event.Statement session asked) = Unit {0}
 IsNoRestart event.Restart = ⊥
 
--- of two reservations of a run without a restart the later one has the greater id, so that no id is
--- used twice
+-- of two reservations of a run without a restart, the later one has the greater id, so no id is used twice
 abbrev pub IdsAreUsedOnce : Type 0
 IdsAreUsedOnce = (s : State) (events : List Event) (answers : List Reply) (new : State) (i k a b : ℕ)
     → AllByRecursion IsNoRestart events → IsRun s events answers new → i < k
     → slice_get answers i ≡ Some (reply.Reserved a) → slice_get answers k ≡ Some (reply.Reserved b) → a < b
 
--- ids tell the order of things: those of the open reservations rise in their order, from 1 on, and are
--- below the next id; of two savepoints of a session the one that stands in front has another name, and no
--- greater id; and no savepoint's id is above the next one
+-- ids show the order. Those of the open reservations rise in their order, from 1 on, and are below the next id. Of two
+-- savepoints of a session, the earlier one has another name, and no greater id. No savepoint's id is above the next one
 pub record AreIdsInOrder (s : State) : Type 0 where
   pub rise : (i k : ℕ) (a b : Reservation) → i < k → slice_get s.reservations i ≡ Some a → slice_get s.reservations k ≡ Some b → a.id < b.id
   pub taken : (i : ℕ) (r : Reservation) → slice_get s.reservations i ≡ Some r → (1 ≤ r.id) × (r.id < s.next_id)
@@ -194,11 +191,11 @@ pub record AreIdsInOrder (s : State) : Type 0 where
       → slice_get (own_savepoints session s.savepoints) k ≡ Some q → (p.id ≤ q.id) × (¬ (p.name ≡ q.name))
   pub made : (i : ℕ) (p : Savepoint) → slice_get s.savepoints i ≡ Some p → (1 ≤ p.id) × (p.id ≤ s.next_id)
 
--- in a valid state ids tell the order in which things were made
+-- in a valid state, ids show the order in which things were made
 abbrev pub IdsTellTheOrder : Type 0
 IdsTellTheOrder = (s : State) → IsValid s → AreIdsInOrder s
 
--- an accepted DROP TABLE takes out just the table and its rows; what else there is stays
+-- an accepted DROP TABLE removes only the table and its rows; everything else stays
 abbrev pub DropsOneTable : Type 0
 DropsOneTable = (s : State) (session : ℕ) (name : List ℕ) → let after = step s session (statement.Drop name) in after.0 ≡ reply.Dropped name
     → (after.1 ≡ record s { catalog = after.1.catalog; rows = after.1.rows })
@@ -206,7 +203,7 @@ DropsOneTable = (s : State) (session : ℕ) (name : List ℕ) → let after = st
     × ((other : List ℕ) → ¬ (other ≡ name)
     → (table_named after.1.catalog other ≡ table_named s.catalog other) × (rows_of after.1.rows other ≡ rows_of s.rows other))
 
--- an accepted ALTER TABLE changes just the checks of the table that it names; what else there is stays
+-- an accepted ALTER TABLE changes only the checks of the table that it names; everything else stays
 abbrev pub AltersOneTable : Type 0
 AltersOneTable = (s : State) (session : ℕ) (text : AlterText) → let after = step s session (statement.Alter text) in after.0 ≡ reply.Altered text.table
     → (after.1 ≡ record s { catalog = after.1.catalog })
@@ -214,7 +211,7 @@ AltersOneTable = (s : State) (session : ℕ) (text : AlterText) → let after = 
     × (new ≡ record old { checks = new.checks }))
     × ((other : List ℕ) → ¬ (other ≡ text.table) → table_named after.1.catalog other ≡ table_named s.catalog other)
 
--- an accepted DELETE takes out just the row that it names
+-- an accepted DELETE removes only the row that it names
 abbrev pub DeletesOneRow : Type 0
 DeletesOneRow = (s : State) (session : ℕ) (text : RowText) → let after = step s session (statement.Delete text) in after.0 ≡ reply.Deleted
     → (after.1 ≡ record s { rows = after.1.rows })
@@ -225,29 +222,28 @@ DeletesOneRow = (s : State) (session : ℕ) (text : RowText) → let after = ste
 abbrev pub names_and_amounts : List Row → List (RowName × List ℤ)
 names_and_amounts rows = map (λ row. (row.name, row.amounts)) rows
 
--- an accepted UPDATE of plain values changes nothing but plain values of the row that it names: no key
--- and no amount, and no reservation
+-- an accepted UPDATE of plain values changes only plain values of the row that it names: no key, no amount, and no
+-- reservation
 abbrev pub PlainUpdatesKeepAmounts : Type 0
 PlainUpdatesKeepAmounts = (s : State) (session : ℕ) (text : UpdateText) → let after = step s session (statement.Update text) in after.0 ≡ reply.Updated
     → (after.1 ≡ record s { rows = after.1.rows })
     × (names_and_amounts after.1.rows ≡ names_and_amounts s.rows)
     × ((other : RowName) → ¬ (other ≡ named_by s.catalog text.table text.row) → row_named after.1.rows other ≡ row_named s.rows other)
 
--- after a step from a valid state the row of each open reservation stands, and so does its table
+-- after a step from a valid state, the row of each open reservation exists, and so does its table
 abbrev pub ReservationsKeepRows : Type 0
 ReservationsKeepRows = (s : State) (session : ℕ) (asked : Statement) → IsValid s → IsSession session
     → let new = (step s session asked).1 in AllByRecursion (λ r. IsSome (row_named new.rows r.row) × IsSome (table_named new.catalog r.row.table)) new.reservations
 
 -- WHAT A QUERY SHOWS
 
--- a row of a table is one that a WHERE, if there is one, names by its key: the value that the literal
--- is in the key's column
+-- a row of a table is the one that a WHERE, if there is one, names by its key: the literal's value in the key's column
 abbrev pub IsKeyed : TableDef → Option WhereText → Row → Type 0
 IsKeyed table None row = Unit {0}
 IsKeyed table (Some where_text) row = key_in table where_text.literal ≡ Some row.name.key
 
--- a SELECT shows the headings of its table's columns, each one's name and scale, and, in order of key, the
--- values of just these committed rows: those of its table, and with a WHERE that of its key
+-- a SELECT shows the headings of its table's columns, each with name and scale. In order of key, it shows the values of
+-- exactly these committed rows: those of its table, and with a WHERE the one of its key
 pub record IsSelected (s : State) (text : SelectText) (headings : List Heading) (values : List (List Value)) : Type 0 where
   pub table : TableDef
   pub named : table_named s.catalog text.table ≡ Some table
@@ -257,23 +253,23 @@ pub record IsSelected (s : State) (text : SelectText) (headings : List Heading) 
   pub each : (row : Row) → Contains rows row ↔ (Contains s.rows row × (row.name.table ≡ text.table) × IsKeyed table text.row row)
   pub order : IsAscending row_before s.rows → IsAscending row_before rows
 
--- what a SELECT shows, from which nothing changes
+-- a SELECT shows this, and changes nothing
 abbrev pub SelectsShowRows : Type 0
 SelectsShowRows = (s : State) (session : ℕ) (text : SelectText) (headings : List Heading) (values : List (List Value))
     → let after = step s session (statement.Select text) in after.0 ≡ reply.Rows headings values → IsSelected s text headings values × (after.1 ≡ s)
 
--- what a SHOW TABLE shows is its table's text, and nothing changes
+-- a SHOW TABLE shows its table's text, and changes nothing
 abbrev pub ShowsTheTable : Type 0
 ShowsTheTable = (s : State) (session : ℕ) (name shown : List ℕ)
     → let after = step s session (statement.ShowTable name) in after.0 ≡ reply.Table shown
     → ((table : TableDef) × (table_named s.catalog name ≡ Some table) × (shown ≡ canonical table)) × (after.1 ≡ s)
 
--- a query is answered alike whichever reservations and savepoints are open, and whoever asks
+-- the reply to a query is the same whichever reservations and savepoints are open, and whoever asks
 abbrev pub QueriesIgnoreWhatIsOpen : Type 0
 QueriesIgnoreWhatIsOpen = (s : State) (session other : ℕ) (asked : Statement) (reservations : List Reservation) (savepoints : List Savepoint) → IsQuery asked
     → (step (record s { reservations = reservations; savepoints = savepoints }) other asked).0 ≡ (step s session asked).0
 
--- a statement that shows something
+-- whether a statement shows something
 abbrev pub Shows : Statement → Type 0
 Shows (statement.Select text) = Unit {0}
 Shows (statement.ShowTable name) = Unit {0}
@@ -281,12 +277,12 @@ Shows (statement.ShowJournal table) = Unit {0}
 Shows (statement.ShowBounds text) = Unit {0}
 Shows _ = ⊥
 
--- it changes nothing, and whoever asks is answered alike
+-- such a statement changes nothing, and its reply is the same whoever asks
 abbrev pub QueriesIgnoreWhoAsks : Type 0
 QueriesIgnoreWhoAsks = (s : State) (session other : ℕ) (asked : Statement) → Shows asked
     → ((step s session asked).1 ≡ s) × ((step s other asked).0 ≡ (step s session asked).0)
 
--- a step whose reply holds memory, as the lists and the text of what is shown do, leaves the state equal
+-- a step whose reply holds memory, as the lists and the text in the replies to queries do, leaves the state equal
 abbrev pub ShownStays : Type 0
 ShownStays = (s : State) (session : ℕ) (asked : Statement) (answer : Reply) (new : State)
     → StepOrRefusal s session asked answer new → IsTrue (holds_memory answer) → new ≡ s
@@ -296,28 +292,26 @@ abbrev pub IsOfTable : Option (List ℕ) → Reservation → Type 0
 IsOfTable None r = Unit {0}
 IsOfTable (Some table) r = r.row.table ≡ table
 
--- entries are in order of id, no two of one id
+-- entries are in order of id, and no two have the same id
 abbrev pub entry_before : JournalEntry → JournalEntry → Bool
 entry_before a b = nat_lt a.id b.id
 
--- a SHOW JOURNAL shows just the open reservations of all sessions, or those of the rows of its table,
--- and they are in order of id
+-- a SHOW JOURNAL shows exactly the open reservations of all sessions, or those of the rows of its table, in order of id
 pub record IsJournal (s : State) (table : Option (List ℕ)) (entries : List JournalEntry) : Type 0 where
   pub reservations : List Reservation
   pub shown : entries ≡ map (entry_of s.catalog) reservations
   pub each : (r : Reservation) → Contains reservations r ↔ (Contains s.reservations r × IsOfTable table r)
   pub order : IsValid s → IsAscending entry_before entries
 
--- what a SHOW JOURNAL shows, from which nothing changes
+-- a SHOW JOURNAL shows this, and changes nothing
 abbrev pub ShowsTheJournal : Type 0
 ShowsTheJournal = (s : State) (session : ℕ) (table : Option (List ℕ)) (entries : List JournalEntry)
     → let after = step s session (statement.ShowJournal table) in after.0 ≡ reply.Journal entries → IsJournal s table entries × (after.1 ≡ s)
 
 -- SAVEPOINTS
 
--- what an accepted SAVEPOINT makes is the last of its session's savepoints, in the place of an earlier one
--- of its name, and has the id that the next reservation takes; the savepoints of the other sessions stay,
--- and so does all else
+-- an accepted SAVEPOINT makes the last of its session's savepoints, in place of an earlier one of its name, with the id
+-- that the next reservation takes; the savepoints of the other sessions stay, and so does everything else
 abbrev pub SavepointsStandAsMade : Type 0
 SavepointsStandAsMade = (s : State) (session : ℕ) (name : List ℕ) → IsValid s
     → let after = step s session (statement.Savepoint name) in after.0 ≡ reply.Savepoint name
@@ -326,9 +320,9 @@ SavepointsStandAsMade = (s : State) (session : ℕ) (name : List ℕ) → IsVali
     ≡ without_savepoint session name (own_savepoints session s.savepoints) ++ (record { session = session; name = name; id = s.next_id }) ∷ [])
     × ((other : ℕ) → ¬ (other ≡ session) → own_savepoints other after.1.savepoints ≡ own_savepoints other s.savepoints)
 
--- what a ROLLBACK TO leaves: of its session's savepoints those up to the one that it names, and of the open
--- reservations all but those of its session with that one's id or a greater one, which came after it. It
--- tells how many these are; the savepoints of the other sessions stay, and so does all else
+-- what a ROLLBACK TO leaves: of its session's savepoints, those up to the one that it names; of the open reservations,
+-- all but those of its session with that one's id or a greater one, which came after it. Its reply says how many these
+-- are. The savepoints of the other sessions stay, and so does everything else
 pub record IsBack (s : State) (session : ℕ) (name : List ℕ) (count : ℕ) (new : State) : Type 0 where
   pub front : List Savepoint
   pub named : Savepoint
@@ -341,28 +335,27 @@ pub record IsBack (s : State) (session : ℕ) (name : List ℕ) (count : ℕ) (n
   pub told : length new.reservations + count ≡ length s.reservations
   pub else_stays : new ≡ record s { reservations = new.reservations; savepoints = new.savepoints }
 
--- so it does
+-- a ROLLBACK TO leaves this
 abbrev pub BackDropsWhatCameAfter : Type 0
 BackDropsWhatCameAfter = (s : State) (session : ℕ) (name : List ℕ) (count : ℕ)
     → let after = step s session (statement.RollbackTo name) in after.0 ≡ reply.RolledBackTo name count → IsBack s session name count after.1
 
--- going back to a savepoint at once, when it was made, drops nothing: the state stays as making it left
--- it, which changed savepoints alone
+-- going back to a savepoint right after it was made drops nothing: the state stays as it was then, and making the
+-- savepoint changed only savepoints
 abbrev pub BackAtOnceChangesNothing : Type 0
 BackAtOnceChangesNothing = (s : State) (session : ℕ) (name : List ℕ) → IsValid s
     → let made = step s session (statement.Savepoint name) in made.0 ≡ reply.Savepoint name
     → (made.1 ≡ record s { savepoints = made.1.savepoints })
     × (step made.1 session (statement.RollbackTo name) ≡ (reply.RolledBackTo name 0, made.1))
 
--- an event makes no savepoint of a session and a name
+-- an event makes no savepoint of this session and name
 abbrev pub MakesNone : ℕ → List ℕ → Event → Type 0
 MakesNone session name (event.Statement other asked) = other ≡ session → ¬ (asked ≡ statement.Savepoint name)
 MakesNone session name event.Restart = Unit {0}
 
--- A session makes a savepoint. Then anything happens, of any sessions: it may reserve, make other
--- savepoints, and go back to them. Where the savepoint still stands, not made anew, going back to it
--- leaves the session's reservations as they were when it was made, and those of the others, and all
--- else but savepoints, as they stand.
+-- A session makes a savepoint. Then any events of any sessions happen: it may reserve, make other savepoints, and go
+-- back to them. If the savepoint still exists and wasn't made again, going back to it leaves the session's reservations
+-- as they were when it was made. The reservations of the others, and all else but savepoints, stay as they are.
 abbrev pub BackLeavesWhatWas : Type 0
 BackLeavesWhatWas = (s : State) (session : ℕ) (name : List ℕ) (events : List Event) (answers : List Reply) (later : State)
     → IsValid s → IsSession session → AllByRecursion HasSession events → AllByRecursion (MakesNone session name) events
@@ -378,8 +371,8 @@ BackRefusesNothing = (s : State) (session other : ℕ) (name : List ℕ) (text :
     → (step s other (statement.Update text)).0 ≡ reply.Reserved id
     → (step (step s session (statement.RollbackTo name)).1 other (statement.Update text)).0 ≡ reply.Reserved id
 
--- two numbers bound what a row comes to: whichever of the open reservations are applied, it is from the
--- one to the other, and some choice brings it to each of the two
+-- two numbers are the bounds of a row's value. Whichever of the open reservations are applied, the value is from the
+-- one to the other, and some choice gives it each of the two
 pub record AreBounds (reservations : List Reservation) (row : Row) (value : List ℤ → ℤ) (low high : ℤ) : Type 0 where
   pub each : AllByRecursion (λ chosen. (low ≤ℤ value (row_after chosen row).amounts) × (value (row_after chosen row).amounts ≤ℤ high)) (sublists reservations)
   pub reaches_low : (chosen : List Reservation) × Contains (sublists reservations) chosen × (value (row_after chosen row).amounts ≡ low)
@@ -398,7 +391,7 @@ IsCheckLine reservations row check shown =
     (shown.check ≡ check.name) × (shown.scale ≡ check.scale) × (shown.limits ≡ check.span) × AreBounds reservations row (form check.coeffs) shown.least shown.greatest
     × Holds check.span shown.least × Holds check.span shown.greatest
 
--- SHOW BOUNDS shows the row that it names: a line for each RESERVABLE column and for each declared check
+-- SHOW BOUNDS shows a line for each RESERVABLE column and each declared check of the row that it names
 pub record IsShownBounds (s : State) (text : RowText) (columns : List ColumnBounds) (checks : List CheckBounds) : Type 0 where
   pub table : TableDef
   pub named : table_named s.catalog text.table ≡ Some table
@@ -407,7 +400,7 @@ pub record IsShownBounds (s : State) (text : RowText) (columns : List ColumnBoun
   pub column_lines : AllZip (IsColumnLine s.reservations row (names_of (reservables table.columns))) (reservables table.columns) columns
   pub check_lines : AllZip (IsCheckLine s.reservations row) (declared_checks table) checks
 
--- so it does in a valid state
+-- in a valid state SHOW BOUNDS shows this
 abbrev pub BoundsAreReached : Type 0
 BoundsAreReached = (s : State) (session : ℕ) (text : RowText) (columns : List ColumnBounds) (checks : List CheckBounds) → IsValid s
     → (step s session (statement.ShowBounds text)).0 ≡ reply.Bounds columns checks → IsShownBounds s text columns checks
@@ -418,39 +411,39 @@ BoundsAreReached = (s : State) (session : ℕ) (text : RowText) (columns : List 
 abbrev pub TransactionsCommute : Type 0
 TransactionsCommute = (s : State) (a b : ℕ) (x y : End) → ¬ (a ≡ b) → after_end (after_end s a x) b y ≡ after_end (after_end s b y) a x
 
--- whatever is committed or rolled back, in any order, the state is valid after each of the ends
+-- if transactions are committed or rolled back, in any order, the state is valid after each of the ends
 abbrev pub AnyOrderOfEnds : Type 0
 AnyOrderOfEnds = (s : State) (ends : List (ℕ × End)) (n : ℕ) → IsValid s → IsValid (after_ends s (take n ends))
 
--- a plan leaves the state that the machine's steps leave, COMMIT or ROLLBACK, one for each of its entries
+-- a plan leaves the state that the machine's steps leave: one COMMIT or ROLLBACK for each of its entries
 abbrev pub SettledIsTheRun : Type 0
 SettledIsTheRun = (s : State) (plan : List (ℕ × End)) → settled plan s ≡ after_ends s plan
 
--- after every front of a plan the state is valid
+-- the state is valid after any number of a plan's first entries
 abbrev pub SettledStaysValid : Type 0
 SettledStaysValid = (s : State) (plan : List (ℕ × End)) (n : ℕ) → IsValid s → IsValid (settled (take n plan) s)
 
--- two plans that end the same sessions' transactions alike leave equal states, whatever their order
+-- two plans that end the same sessions' transactions in the same way leave equal states, whatever their order
 abbrev pub SettledInAnyOrder : Type 0
 SettledInAnyOrder = (s : State) (plan other : List (ℕ × End)) → ((session : ℕ) → end_of plan session ≡ end_of other session) → settled plan s ≡ settled other s
 
 -- COMMITS THAT ARE HELD BACK
 
--- in a valid state what may be served while another session's COMMIT is held back is answered alike behind
--- that COMMIT, and both orders lead to one state
+-- in a valid state, a statement that may be served while another session's COMMIT is held back has the same reply after
+-- that COMMIT. Both orders lead to one state
 abbrev pub PassesCommits : Type 0
 PassesCommits = (s : State) (session other : ℕ) (asked : Statement) → IsValid s → ¬ (session ≡ other) → passes s other asked ≡ true
     → step (step s session statement.Commit).1 other asked ≡ ((step s other asked).0, (step (step s other asked).1 session statement.Commit).1)
 
--- from a valid state, whatever becomes of the COMMITs that are held back, the replies and the state are those
--- of a run in the order in which all was asked
+-- from a valid state, however the COMMITs that are held back end, the replies and the state are those of a run in the
+-- order in which everything was asked
 abbrev pub HeldCommitsMayComeLast : Type 0
 HeldCommitsMayComeLast = (s : State) (waiting : List Waiting) (now : State) (outcome : Outcome)
     → IsValid s → IsHeldRun s waiting now → IsRun s (events_of waiting) (answers_by outcome waiting) (ended_by outcome waiting now)
 
 -- THE GRANT RULE
 
--- the table, the row and the reservation that an UPDATE asks
+-- the table, the row and the reservation that an UPDATE asks for
 abbrev pub IsAsked : State → ℕ → UpdateText → TableDef → Row → Reservation → Type 0
 IsAsked s session text table row r =
     (table_named s.catalog text.table ≡ Some table) × (reservation_of s session text ≡ Some r) × (row_named s.rows r.row ≡ Some row)
@@ -459,44 +452,44 @@ IsAsked s session text table row r =
 abbrev pub MeetsWith : TableDef → Row → Reservation → List Reservation → Type 0
 MeetsWith table row new chosen = AllByRecursion (λ check. Meets check (row_after (chosen ++ new ∷ []) row).amounts) table.checks
 
--- what is granted: whichever of the open reservations are applied with it, its row meets each check
+-- a granted reservation: whichever of the open reservations are applied with it, its row meets each check
 abbrev pub GrantedInEveryChoice : Type 0
 GrantedInEveryChoice = (s : State) (session : ℕ) (text : UpdateText) (id : ℕ)
     → (step s session (statement.Update text)).0 ≡ reply.Reserved id
     → (table : TableDef) × (row : Row) × (new : Reservation) × IsAsked s session text table row new
     × AllByRecursion (MeetsWith table row new) (sublists s.reservations)
 
--- it does so without any earlier reservation of its own session too: an increment that isn't
--- committed can't be spent, not even by the session that made it
+-- the row does so without any earlier reservation of its own session too: an increment that isn't committed can't be
+-- spent, not even by the session that made it
 abbrev pub OwnIncrementNotSpent : Type 0
 OwnIncrementNotSpent = (s : State) (session : ℕ) (text : UpdateText) (id : ℕ)
     → (step s session (statement.Update text)).0 ≡ reply.Reserved id
     → (table : TableDef) × (row : Row) × (new : Reservation) × IsAsked s session text table row new
     × AllByRecursion (MeetsWith table row new) (sublists (others session s.reservations))
 
--- a violation that happens: with the new reservation some choice of the open ones brings the form of the
--- named check to the named worst value, which lies beyond the named limit; both in units of its scale
+-- a violation that can happen. With the new reservation, some choice of the open ones gives the form of the named check
+-- the named worst value. This is past the named limit; both are in units of the check's scale
 abbrev pub IsReachedViolation : TableDef → Row → List Reservation → Reservation → Violation → Type 0
 IsReachedViolation table row reservations new violation = (check : Check) × Contains table.checks check × (violation.check ≡ check.name) × (violation.scale ≡ check.scale)
     × IsBeyond check.span violation.side violation.worst violation.limit
     × ((chosen : List Reservation) × Contains (sublists reservations) chosen × (form check.coeffs (row_after (chosen ++ new ∷ []) row).amounts ≡ violation.worst))
 
--- what is refused by a check: some choice of the open reservations with the new one breaks that check
+-- a reservation that a check refuses: some choice of the open reservations with the new one breaks that check
 abbrev pub RefusedByAChoice : Type 0
 RefusedByAChoice = (s : State) (session : ℕ) (text : UpdateText) (violation : Violation)
     → (step s session (statement.Update text)).0 ≡ reply.Refused (refusal.Check violation)
     → (table : TableDef) × (row : Row) × (new : Reservation) × IsAsked s session text table row new
     × IsReachedViolation table row s.reservations new violation
 
--- moved by what changes add to a check's form, both of its bounds are within its limits
+-- both bounds of a check, moved by what changes add to its form, are within its limits
 abbrev pub StaysWithin : Row → List Reservation → List ℤ → Check → Type 0
 StaysWithin row reservations changes check =
     let open_ones = map (changes_to row) reservations in
     Holds check.span (least check.coeffs row.amounts open_ones +ℤ form check.coeffs changes)
     × Holds check.span (greatest check.coeffs row.amounts open_ones +ℤ form check.coeffs changes)
 
--- the bounds decide: what is granted keeps those of every check of its table within the limits, and what
--- a check refuses doesn't
+-- the bounds decide: a granted reservation keeps those of every check of its table within the limits, and one that a
+-- check refuses doesn't
 abbrev pub BoundsDecideGrants : Type 0
 BoundsDecideGrants = (s : State) (session : ℕ) (text : UpdateText) (table : TableDef) (row : Row) (new : Reservation) → IsValid s → IsAsked s session text table row new
     → ((id : ℕ) → (step s session (statement.Update text)).0 ≡ reply.Reserved id → AllByRecursion (StaysWithin row s.reservations (deltas new.changes)) table.checks)

@@ -9,21 +9,21 @@ use Rattle.escrow_machine.specs.declared.reply.Reply.TheVariants as reply
 use Rattle.escrow_machine.specs.State.{State}
 use Rattle.escrow_machine.specs.Step.{step, fails_for}
 
--- a statement asks the store: it may be refused by it
+-- whether a statement asks the store, which may refuse it
 abbrev pub asks_store : State → ℕ → Statement → Bool
 asks_store s session asked = fails_for s session asked failure.Store
 
--- a statement is answered from rows: it asks the store, or it is an UPDATE, which where it doesn't ask the store goes
--- by the amounts that are kept of a row that has an open reservation
+-- whether a statement is answered from rows: it asks the store, or it is an UPDATE. An UPDATE that doesn't ask the
+-- store uses the amounts that are kept of a row with an open reservation
 abbrev pub reads_rows : State → ℕ → Statement → Bool
 reads_rows s session (statement.Update text) = true
 reads_rows s session asked = asks_store s session asked
 
--- a statement needs neither memory nor the store
+-- whether a statement needs neither memory nor the store
 abbrev pub needs_nothing : State → ℕ → Statement → Bool
 needs_nothing s session asked = not (fails_for s session asked failure.Memory) && not (asks_store s session asked)
 
--- a refusal that needs neither: 20, 21, 27, 33, 43 and 44, and 26 unless an UPDATE is refused so
+-- whether a refusal needs neither: 20, 21, 27, 33, 43 and 44, and 26 unless it refuses an UPDATE
 abbrev pub is_plain_refusal : Statement → Reply → Bool
 is_plain_refusal asked (reply.Refused refusal.TableExists) = true
 is_plain_refusal asked (reply.Refused refusal.NoSuchTable) = true
@@ -35,7 +35,7 @@ is_plain_refusal (statement.Update text) (reply.Refused refusal.TransactionOpen)
 is_plain_refusal asked (reply.Refused refusal.TransactionOpen) = true
 is_plain_refusal asked _ = false
 
--- a statement is served whatever memory there is and whatever the store does: what needs neither, and
--- what is refused without either
+-- whether a statement is served whatever memory there is and whatever the store does: it needs neither, or its refusal
+-- needs neither
 abbrev pub is_promised : State → ℕ → Statement → Bool
 is_promised s session asked = needs_nothing s session asked || is_plain_refusal asked (step s session asked).0

@@ -7,18 +7,18 @@ use Rattle.escrow_machine.specs.declared.reply.Reply.TheVariants as reply
 use Rattle.escrow_num.specs.declared.failure.Failure.{Failure}
 use Rattle.escrow_num.specs.declared.failure.Failure.TheVariants as failure
 
--- the failure that a refusal is, if it is one
+-- the failure in a refusal, if it is one
 abbrev pub failure_of_refusal : Refusal → Option Failure
 failure_of_refusal refusal.Memory = Some failure.Memory
 failure_of_refusal refusal.Store = Some failure.Store
 failure_of_refusal _ = None
 
--- the failure that a reply is, if it is one
+-- the failure in a reply, if it is one
 abbrev pub failure_of : Reply → Option Failure
 failure_of (reply.Refused r) = failure_of_refusal r
 failure_of _ = None
 
--- a reply holds memory, which a copy of it takes too: the lists and the text of what is shown do
+-- whether a reply holds memory, which a copy takes too: the lists and the text in the replies to queries do
 abbrev pub holds_memory : Reply → Bool
 holds_memory (reply.Rows columns rows) = true
 holds_memory (reply.Table text) = true
@@ -26,12 +26,12 @@ holds_memory (reply.Bounds columns checks) = true
 holds_memory (reply.Journal entries) = true
 holds_memory _ = false
 
--- a reply is a refusal
+-- whether a reply is a refusal
 abbrev pub is_refused : Reply → Bool
 is_refused (reply.Refused r) = true
 is_refused _ = false
 
--- a reply tells that the store was written
+-- whether a reply says that the store was written
 abbrev pub tells_write : Reply → Bool
 tells_write (reply.Created name) = true
 tells_write (reply.Dropped name) = true
@@ -42,7 +42,7 @@ tells_write reply.Updated = true
 tells_write (reply.Committed count) = nat_lt 0 count
 tells_write _ = false
 
--- the reply to a restart: that it is done, or its refusal
+-- the reply to a restart: it is done, or it is refused
 abbrev pub restart_reply : Result (Unit {0}) Refusal → Reply
 restart_reply (Ok done) = reply.Restarted
 restart_reply (Err r) = reply.Refused r

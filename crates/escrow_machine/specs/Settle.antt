@@ -1,4 +1,4 @@
--- Believed: what a plan of ends makes of a state.
+-- Believed: how a plan of ends changes a state.
 use Rattle.std.specs.Prelude.{◌≡◌, ℕ, ◌<◌, ◌==◌, Bool, true, false, Option, Some, None, option_map, is_none, List, [], ◌∷◌, length, filter, find, take, slice_get}
 use Rattle.escrow_num.specs.declared.reservation.Reservation.{Reservation}
 use Rattle.escrow_num.specs.declared.session.End.{End}
@@ -11,17 +11,17 @@ use Rattle.escrow_machine.specs.State.{State}
 use Rattle.escrow_schema.specs.Rows.{applied}
 use Rattle.escrow_machine.specs.Step.{step}
 
--- how a plan ends a session's transaction, if it names the session: the first entry of it decides
+-- how a plan ends a session's transaction, if it names the session: the session's first entry decides
 abbrev pub end_of : List (ℕ × End) → ℕ → Option End
 end_of plan session = option_map (λ entry. entry.1) (find (λ entry. session == entry.0) plan)
 
--- a transaction ends, and by a commit
+-- whether a transaction ends by a commit
 abbrev pub is_commit : Option End → Bool
 is_commit (Some end.Commit) = true
 is_commit (Some end.Rollback) = false
 is_commit None = false
 
--- a transaction ends, and by a rollback
+-- whether a transaction ends by a rollback
 abbrev pub is_rollback : Option End → Bool
 is_rollback (Some end.Commit) = false
 is_rollback (Some end.Rollback) = true
@@ -35,8 +35,8 @@ committed_by plan reservations = filter (λ r. is_commit (end_of plan r.session)
 abbrev pub released_by : List (ℕ × End) → List Reservation → List Reservation
 released_by plan reservations = filter (λ r. is_rollback (end_of plan r.session)) reservations
 
--- THE STATE AFTER A PLAN: the reservations of the sessions that it commits are applied to the rows, and of
--- a session that it names neither reservation nor savepoint is left
+-- THE STATE AFTER A PLAN. The reservations of the sessions that it commits are applied to the rows. No session that it
+-- names has a reservation or a savepoint left
 abbrev pub settled : List (ℕ × End) → State → State
 settled plan s = record s {
   rows = applied s.rows (committed_by plan s.reservations);
@@ -49,8 +49,8 @@ pub record AreCounts (plan : List (ℕ × End)) (reservations : List Reservation
   pub committed : done.committed ≡ length (committed_by plan reservations)
   pub released : done.released ≡ length (released_by plan reservations)
 
--- a plan stopped: its entries before the place are done, and that at the place commits a session that then
--- holds a reservation
+-- a plan stopped: its entries before the place are done, and the entry at the place commits a session that then holds a
+-- reservation
 pub record IsStop (plan : List (ℕ × End)) (s : State) (stop : Stop) (new : State) : Type 0 where
   pub done : new ≡ settled (take stop.place plan) s
   pub session : ℕ

@@ -10,10 +10,10 @@ use Rattle.escrow_schema.specs.declared.table.TableDef.{TableDef}
 use Rattle.escrow_journal.specs.Open.{Open}
 use Rattle.escrow_journal.specs.Open as journal
 
--- The state of a database: the catalog in order of the tables' names; the committed rows in order of
--- table and key; ONE list of the open reservations of all sessions, in order of grant; the savepoints
--- in order of session, and in a session in order of making, so that a new one is put in its session's
--- place; the id that the next reservation takes.
+-- The state of a database. The catalog is in order of the tables' names, the committed rows in order of table and key.
+-- The open reservations of all sessions are ONE list, in order of grant. The savepoints are in order of session, and in
+-- a session in the order in which they were made, so a new one is put in its session's place. `next_id` is the id that
+-- the next reservation takes.
 pub record State : Type 0 where
   pub catalog : List TableDef
   pub rows : List Row
@@ -21,11 +21,11 @@ pub record State : Type 0 where
   pub savepoints : List Savepoint
   pub next_id : ℕ
 
--- a database of these tables and rows, in which nothing is open and the next id is 1
+-- a database with these tables and rows, in which nothing is open and the next id is 1
 abbrev pub opened : List TableDef → List Row → State
 opened catalog rows = record { catalog = catalog; rows = rows; reservations = []; savepoints = []; next_id = 1 }
 
--- one without tables
+-- a database without tables
 abbrev pub empty : State
 empty = opened [] []
 
@@ -33,22 +33,22 @@ empty = opened [] []
 abbrev pub open_in : State → Open
 open_in s = record { reservations = s.reservations; savepoints = s.savepoints; next_id = s.next_id }
 
--- the state with this open in it
+-- the state with its open part replaced
 abbrev pub with_open : State → Open → State
 with_open s o = record s { reservations = o.reservations; savepoints = o.savepoints; next_id = o.next_id }
 
--- a session's transaction is open in a state
+-- whether a session's transaction is open in a state
 abbrev pub is_open : ℕ → State → Bool
 is_open session s = journal.is_open session (open_in s)
 
--- something is open in a state: a reservation or a savepoint of any session
+-- whether anything is open in a state: a reservation or a savepoint of any session
 abbrev pub has_open : State → Bool
 has_open s = journal.has_open (open_in s)
 
--- an open reservation, of any session, is of the row
+-- whether an open reservation, of any session, is of the row
 abbrev pub is_reserved : State → RowName → Bool
 is_reserved s name = list_any (λ r. same_row r.row name) s.reservations
 
--- an open reservation, of any session, is of a row of the table
+-- whether an open reservation, of any session, is of a row of the table
 abbrev pub is_table_reserved : State → List ℕ → Bool
 is_table_reserved s table = list_any (λ r. bytes_eq r.row.table table) s.reservations

@@ -1,4 +1,4 @@
--- Believed: a state as its five parts, and back, so that a type's value can hold one.
+-- Believed: a state as its five parts, and back, so that a value of a type can hold one.
 use Rattle.std.specs.Prelude.{ℕ, refl, List}
 use Rattle.std.specs.Coded.{Coded, code_by, coded×, coded_list, coded_ℕ}
 use Rattle.escrow_num.specs.contracts.reservation.Reservation as reservation

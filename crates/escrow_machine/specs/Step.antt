@@ -1,4 +1,4 @@
--- Believed: the step, what may come in its place, and runs.
+-- Believed: the step, what may happen instead of it, and runs.
 use Rattle.std.specs.Prelude.{◌≡◌, ◌⊎◌, ℕ, Bool, true, false, ◌&&◌, not, nat_lt, length, Option, is_none, option_map, unwrap_or, MatchOption, IsTrue, List, [], ◌∷◌, ◌++◌}
 use Rattle.escrow_num.specs.declared.refusal.Refusal.{Refusal}
 use Rattle.escrow_num.specs.declared.refusal.Refusal.TheVariants as refusal
@@ -21,7 +21,7 @@ use Rattle.escrow_machine.specs.Transition.{Transition, transition_of}
 abbrev pub refusals : Transition → List (Option Refusal)
 refusals transition = transition.early ++ transition.late
 
--- the first refusal that applies is the reply, and the state stays; otherwise the reply and the new state
+-- the first refusal that applies is the reply, and the state stays; if none applies, the reply and the new state
 abbrev pub unless_refused : State → List (Option Refusal) → Reply → State → Reply × State
 unless_refused s refusals done new = unwrap_or (option_map (λ r. (reply.Refused r, s)) (first_refusal refusals)) (done, new)
 
@@ -33,9 +33,9 @@ step s session asked = let transition = transition_of s session asked in unless_
 pub record IsStep (s : State) (session : ℕ) (asked : Statement) (answer : Reply) (new : State) : Type 0 where
   pub is_step : (answer, new) ≡ step s session asked
 
--- what a statement takes, and so may fail for: ROLLBACK and ROLLBACK TO nothing, nor does a COMMIT of a session
--- that holds no reservation; SAVEPOINT, SHOW TABLE, SHOW JOURNAL and an UPDATE of RESERVABLE columns of a row that
--- has an open reservation memory; all others memory and the store
+-- what a statement takes, and so may fail for. ROLLBACK and ROLLBACK TO take nothing, nor does a COMMIT of a session
+-- that holds no reservation. SAVEPOINT, SHOW TABLE, SHOW JOURNAL, and an UPDATE of RESERVABLE columns of a row that has
+-- an open reservation take memory. All others take memory and use the store
 abbrev pub fails_for : State → ℕ → Statement → Failure → Bool
 fails_for s session statement.Rollback f = false
 fails_for s session (statement.RollbackTo name) f = false
@@ -46,8 +46,7 @@ fails_for s session (statement.ShowJournal table) failure.Store = false
 fails_for s session (statement.Update text) failure.Store = not (reserves_beside s text)
 fails_for s session asked f = true
 
--- a statement may fail, out of memory or refused by the store, where no early refusal applies, and
--- only for what it takes
+-- whether a statement may fail, for memory or by the store: if no early refusal applies, and only for what it takes
 abbrev pub may_fail : State → ℕ → Statement → Failure → Bool
 may_fail s session asked failure = is_none (first_refusal (transition_of s session asked).early) && fails_for s session asked failure
 
@@ -56,8 +55,8 @@ abbrev pub StepOrRefusal : State → ℕ → Statement → Reply → State → T
 StepOrRefusal s session asked answer new =
     MatchOption (failure_of answer) (IsStep s session asked answer new) (λ failure. IsTrue (may_fail s session asked failure) × (new ≡ s))
 
--- the reply to an event, and the state after it. A restart keeps the catalog and the rows: nothing is open
--- after it, and the next id is 1; or it is refused, for memory or by the store, and the state is equal
+-- the reply to an event, and the state after it. A restart keeps the catalog and the rows; nothing is open after it,
+-- and the next id is 1. Or it is refused, for memory or by the store, and the state is equal
 abbrev pub IsServed : State → Event → Reply → State → Type 0
 IsServed s (event.Statement session asked) answer new = StepOrRefusal s session asked answer new
 IsServed s event.Restart answer new =

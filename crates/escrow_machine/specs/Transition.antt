@@ -28,15 +28,15 @@ use Rattle.escrow_machine.specs.Journal.{journal_reply}
 use Rattle.escrow_machine.specs.State.{State, open_in, with_open, is_open, is_reserved, is_table_reserved}
 use Rattle.escrow_schema.specs.Rows.{row_named, rows_of, applied, with_row, without_row, without_rows_of, with_plain}
 
--- How the machine takes a statement of a session: its refusals in their order, first those that are
--- answered whatever memory there is; the reply and the next state where none of them applies.
+-- How the machine answers a statement of a session: its refusals in their order, first those that are given whatever
+-- memory there is; then the reply and the next state, if no refusal applies.
 pub record Transition : Type 0 where
   pub early : List (Option Refusal)
   pub late : List (Option Refusal)
   pub reply : Reply
   pub next : State
 
--- the state with the table that a text defines in its catalog
+-- the state with the table that a text defines added to its catalog
 abbrev pub after_create : State → CreateText → State
 after_create s text = record s { catalog = unwrap_or (option_map (λ table. with_table table s.catalog) (definition_of text)) s.catalog }
 
@@ -44,7 +44,7 @@ after_create s text = record s { catalog = unwrap_or (option_map (λ table. with
 abbrev pub after_drop : State → List ℕ → State
 after_drop s name = record s { catalog = without_table name s.catalog; rows = without_rows_of name s.rows }
 
--- the state with the row that an INSERT makes among its rows
+-- the state with the row that an INSERT makes added to its rows
 abbrev pub after_insert : State → InsertText → State
 after_insert s text = record s { rows = unwrap_or (option_map (λ row. with_row row s.rows) (new_row s text)) s.rows }
 
@@ -77,16 +77,16 @@ abbrev pub update_reply : State → Plan → Reply
 update_reply s (plan.Reserve key changes) = reply.Reserved s.next_id
 update_reply s (plan.Plain key values) = reply.Updated
 
--- the state after an UPDATE, by its plan: with a reservation more, or with other plain values in the row
+-- the state after an UPDATE, by its plan: with one reservation more, or with other plain values in the row
 abbrev pub after_update : State → ℕ → List ℕ → Plan → State
 after_update s session table (plan.Reserve key changes) = with_open s (granted session (row_name table key) changes (open_in s))
 after_update s session table (plan.Plain key values) = record s { rows = with_plain (row_name table key) values s.rows }
 
--- the session's reservations are applied to the committed rows, and its transaction is over
+-- the session's reservations are applied to the committed rows, and its transaction has ended
 abbrev pub after_commit : State → ℕ → State
 after_commit s session = record (with_open s (ended session (open_in s))) { rows = applied s.rows (own session s.reservations) }
 
--- the session's reservations are dropped, and its transaction is over
+-- the session's reservations are dropped, and its transaction has ended
 abbrev pub after_rollback : State → ℕ → State
 after_rollback s session = with_open s (ended session (open_in s))
 

@@ -1,4 +1,4 @@
--- Believed: what every statement keeps of a state.
+-- Believed: what every statement preserves of a state.
 use Rattle.std.specs.Prelude.{◌≡◌, ℕ, ◌+◌, ◌<◌, ◌≤◌, IsSome, List, length, IsSomeAnd}
 use Rattle.std.specs.List.{AllByRecursion}
 use Rattle.escrow_num.specs.declared.row.Row.{Row}
@@ -17,8 +17,8 @@ use Rattle.escrow_journal.specs.Reservations.{own, own_savepoints, reservation_b
 use Rattle.escrow_machine.specs.State.{State}
 use Rattle.escrow_schema.specs.Rows.{row_named, rows_of, row_before, HasTable, MeetsChecks, applied}
 
--- a reservation is of a session, has an id below the next one, and may have a change for each
--- RESERVABLE column of its table
+-- a reservation is of a session, has an id below the next one, and has a change, or none, for each RESERVABLE column of
+-- its table
 pub record IsReservationIn (catalog : List TableDef) (next_id : ℕ) (r : Reservation) : Type 0 where
   pub session : IsSession r.session
   pub first : 1 ≤ r.id
@@ -43,12 +43,12 @@ pub record IsOrderly (catalog : List TableDef) (reservations : List Reservation)
   pub first_id : 1 ≤ next_id
   pub last_id : next_id ≤ MAX_ID + 1
 
--- a reservation's row stands
+-- a reservation's row exists
 abbrev pub HasRow : List Row → Reservation → Type 0
 HasRow rows r = IsSome (row_named rows r.row)
 
--- what holds of the rows. Its heart is `safe`: whichever of the open reservations are applied, each
--- row meets each check of its table
+-- what holds of the rows. The main part is `safe`: whichever of the open reservations are applied, each row meets each
+-- check of its table
 pub record AreSafeRows (catalog : List TableDef) (rows : List Row) (reservations : List Reservation) : Type 0 where
   pub tables : AllByRecursion (HasTable catalog) rows
   pub row_order : IsAscending row_before rows
@@ -56,7 +56,7 @@ pub record AreSafeRows (catalog : List TableDef) (rows : List Row) (reservations
   pub reserved_rows : AllByRecursion (HasRow rows) reservations
   pub safe : AllByRecursion (λ chosen. AllByRecursion (MeetsChecks catalog) (applied rows chosen)) (sublists reservations)
 
--- A state is valid: what every statement keeps.
+-- A state is valid. Every statement preserves this.
 pub record IsValid (s : State) : Type 0 where
   pub orderly : IsOrderly s.catalog s.reservations s.savepoints s.next_id
   pub safe_rows : AreSafeRows s.catalog s.rows s.reservations

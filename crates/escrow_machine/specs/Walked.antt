@@ -1,4 +1,4 @@
--- Believed: words on reservations, columns and ends.
+-- Believed: definitions on reservations, columns and ends.
 use Rattle.std.specs.Prelude.{ℕ, ℤ, ◌+◌, ◌≤◌, List, [], ◌∷◌, length}
 use Rattle.escrow_num.specs.declared.reservation.Reservation.{Reservation}
 use Rattle.escrow_num.specs.declared.session.End.{End}
@@ -8,7 +8,7 @@ use Rattle.escrow_machine.specs.declared.reply.CheckBounds.{CheckBounds}
 use Rattle.escrow_machine.specs.declared.reply.ColumnBounds.{ColumnBounds}
 use Rattle.escrow_machine.specs.declared.settled.Settled.{Settled}
 
--- a reservation has changes for at most as many columns as a check has coefficients
+-- a reservation has changes for at most as many columns as a check can have coefficients
 abbrev pub IsShort : Reservation → Type 0
 IsShort r = length r.changes ≤ MAX_LEN
 
@@ -20,7 +20,7 @@ columns_from (name ∷ names) (a ∷ amounts) [] = []
 columns_from (name ∷ names) (a ∷ amounts) (range ∷ ranges) =
     record { column = name; scale = range.scale; value = a; inf = range.least; sup = range.greatest } ∷ columns_from names amounts ranges
 
--- counts with the reservations of one more transaction, which ended so
+-- counts that include the reservations of one more transaction, which ended this way
 abbrev pub counted_end : End → ℕ → Settled → Settled
 counted_end end.Commit count done = record done { committed = done.committed + count }
 counted_end end.Rollback count done = record done { released = done.released + count }

@@ -72,7 +72,7 @@ impl Copied for JournalEntry {
     }
 }
 
-/// Whether two pairs of limits are the same.
+/// Returns whether two pairs of limits are equal.
 fn same_limits(limits: &Span, others: &Span) -> bool
     ensures { IsTrue result ↔ (limits.now ≡ others.now) }
 {

@@ -1,8 +1,11 @@
-//! The machine: a state that is plain lists, the step from a statement to its reply and the next
-//! state, runs of steps, and the laws of both. Nothing here stores a row: a database does what the
-//! machine says.
+//! The machine, which defines what a database does: a state of plain lists, the step from a
+//! statement to its reply and the next state, and runs of steps. Nothing here stores a row. A
+//! database must do what the machine says.
 //!
-//! Its one contract: the laws ([`laws`]), each the contract of a function that does nothing.
+//! Its main contract is its [`laws`], each the contract of a function that does nothing.
+//!
+//! Begin with `transition_of` in specs/Transition.antt, the table of statements, and `step` in
+//! specs/Step.antt. Then read [`laws`] and [`Reply`].
 #![tactic(auto)]
 
 mod copies;

@@ -6,16 +6,16 @@ use escrow_num::{
 };
 use std::alloc::{AllocError, Global};
 
-/// What a statement is answered, and a restart.
+/// The reply to a statement or to a restart.
 #[derive(Debug, Drop)]
 pub enum Reply {
-    /// The statement, or the restart, is refused, and nothing changed.
+    /// The statement or the restart is refused, and nothing changed.
     Refused(Refusal),
-    /// A table was created, of this name.
+    /// A table with this name was created.
     Created(Name),
-    /// A table was dropped, of this name.
+    /// A table with this name was dropped.
     Dropped(Name),
-    /// A table was altered, of this name.
+    /// A table with this name was altered.
     Altered(Name),
     /// A row was inserted.
     Inserted,
@@ -23,7 +23,7 @@ pub enum Reply {
     Deleted,
     /// Plain values of a row were replaced.
     Updated,
-    /// A reservation was granted, of this number.
+    /// A reservation with this id was granted.
     Reserved {
         id: u64,
     },
@@ -46,7 +46,7 @@ pub enum Reply {
     },
     /// The open reservations are shown, of all sessions, in order of id.
     Journal(Seq<JournalEntry>),
-    /// A savepoint was made, of this name.
+    /// A savepoint with this name was made.
     Savepoint(Name),
     /// The transaction was committed, and this many reservations applied.
     Committed {
@@ -67,13 +67,13 @@ pub enum Reply {
     Restarted,
 }
 
-/// What stands over the values of a column that is shown.
+/// The heading over the values of a column that is shown.
 #[derive(Clone, Copy, Debug)]
 pub struct Heading {
     /// The column's name.
     pub name: Name,
-    /// The digits behind the point with which the column's numbers are shown: its type's, and 0
-    /// where it is one of texts.
+    /// The digits after the point with which the column's numbers are shown: those of its type, or
+    /// 0 if it is one of texts.
     pub scale: Scale,
 }
 
@@ -86,8 +86,8 @@ pub struct JournalEntry {
     pub session: Session,
     /// The row that it changes.
     pub row: RowName,
-    /// The digits behind the point with which the row's key is shown, where it is a number: those
-    /// of the key column's type. 0 where it is a text.
+    /// The digits after the point with which the row's key is shown, if it is a number: those of
+    /// the key column's type. 0 if it is a text.
     pub key_scale: Scale,
     /// The changes of the columns that its UPDATE assigned, in column order.
     pub changes: Seq<ColumnChange>,
@@ -98,7 +98,7 @@ pub struct JournalEntry {
 pub struct ColumnChange {
     /// The column's name.
     pub column: Name,
-    /// The digits behind the point with which the change is shown: those of the column's type.
+    /// The digits after the point with which the change is shown: those of the column's type.
     pub scale: Scale,
     /// What is added to its amount, in units of that scale.
     pub change: Amount,
@@ -110,13 +110,13 @@ pub struct ColumnChange {
 pub struct ColumnBounds {
     /// The column's name.
     pub column: Name,
-    /// The digits behind the point with which its amounts are shown: those of the column's type.
+    /// The digits after the point with which its amounts are shown: those of the column's type.
     pub scale: Scale,
     /// Its committed amount.
     pub value: Amount,
-    /// The least that it can come to, whichever of the open reservations are applied.
+    /// The least value that it can have, whichever of the open reservations are applied.
     pub inf: Wide,
-    /// The greatest that it can come to.
+    /// The greatest value that it can have.
     pub sup: Wide,
 }
 
@@ -125,11 +125,11 @@ pub struct ColumnBounds {
 pub struct CheckBounds {
     /// The check's name.
     pub check: Name,
-    /// The digits behind the point with which the values of its form are shown: the check's.
+    /// The digits after the point with which the values of its form are shown: those of the check.
     pub scale: Scale,
-    /// The least value that its form can come to, whichever of the open reservations are applied.
+    /// The least value that its form can have, whichever of the open reservations are applied.
     pub least: Wide,
-    /// The greatest value that its form can come to.
+    /// The greatest value that its form can have.
     pub greatest: Wide,
     /// Its limits.
     pub limits: Span,
@@ -138,7 +138,7 @@ pub struct CheckBounds {
 impl Reply {
     ghost use Rattle.escrow_machine.specs.Reply.{failure_of, holds_memory, restart_reply};
 
-    /// Returns the reply to a restart that ended so.
+    /// Returns the reply to a restart with this outcome.
     pub fn to_restart(outcome: Result<(), Refusal>) -> Reply
         ensures { result ≡ restart_reply outcome }
     {
@@ -148,7 +148,7 @@ impl Reply {
         }
     }
 
-    /// The failure that the reply is, if it is one.
+    /// Returns the failure in the reply, if it is one.
     pub fn failure(&self) -> Option<Failure>
         ensures { result ≡ failure_of self.now }
     {
@@ -159,7 +159,7 @@ impl Reply {
         }
     }
 
-    /// A copy of the reply. Only the replies to queries take memory.
+    /// Returns a copy of the reply. Only the replies to queries take memory.
     pub fn copy(&self, alloc: Global) -> Result<Reply, AllocError>
         ensures same { IfOk result (λ r. r ≡ self.now) }
         ensures succeeds { holds_memory self.now ≡ false → IsOk result }
@@ -194,7 +194,7 @@ impl Reply {
         })
     }
 
-    /// Whether two replies are the same: what was done, and what comes with it.
+    /// Returns whether two replies are equal: in what was done, and in what comes with it.
     pub fn is_same(&self, other: &Reply) -> bool
         ensures { IsTrue result ↔ (self.now ≡ other.now) }
     {

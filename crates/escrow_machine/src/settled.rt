@@ -9,7 +9,7 @@ pub struct Settled {
     pub released: u32,
 }
 
-/// Where a plan stopped, and why.
+/// The place where a plan stopped, and why.
 #[derive(Clone, Copy, Debug, PartialEq, Eq)]
 pub struct Stop {
     /// How many entries of the plan are done.

@@ -7,6 +7,6 @@ use Rattle.escrow_memory.specs.declared.child.Child.{Child}
 abbrev pub children_rows : {N : Type 0} → (N → List Row) → List (Child N) → List Row
 children_rows rows = flat_map (λ child. rows child.node.value)
 
--- each child has as many entries as it says, and none is empty
+-- each child has as many entries as its count says, and none is empty
 abbrev pub AreCounted : {N : Type 0} → (N → List Row) → List (Child N) → Type 0
 AreCounted rows = All (λ child. (child.len ≡ length (rows child.node.value)) × (0 < child.len))

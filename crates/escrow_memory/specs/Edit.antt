@@ -10,15 +10,15 @@ use Rattle.sqlite_trees.specs.View.{is_int, IsStorable}
 use Rattle.escrow_memory.specs.declared.tree.Edit.{Edit}
 use Rattle.escrow_memory.specs.declared.tree.Edit.TheVariants.{Put, Delete, Insert, Remove}
 
--- the rows of a tree after a write to it: a row is put in place of that of its rowid, or goes by it; an entry is
--- inserted in its order, or removed
+-- the rows of a tree after a write: a row is put in place of the one with its rowid, or the row with a rowid is
+-- removed; an entry is inserted in its order, or removed
 abbrev pub edited : Edit → List Row → List Row
 edited (Put row) = put_row row.now
 edited (Delete id) = without_rowid id
 edited (Insert order entry) = insert_entry order entry.now
 edited (Remove order entry) = remove_entry order entry.now
 
--- it is a write to trees of this shape
+-- whether a write is one to trees of this shape
 abbrev pub Fits : Edit → Shape → Type 0
 Fits (Put row) shape = (shape ≡ Table) × IsTrue (is_int (rowid row.now))
 Fits (Delete id) shape = shape ≡ Table

@@ -1,4 +1,4 @@
--- Believed: a database of SQLite without objects.
+-- Believed: an SQLite database without objects.
 use Rattle.std.specs.Prelude.{[]}
 use Rattle.sqlite_schema.specs.declared.schema.Schema.{Schema}
 

@@ -1,4 +1,4 @@
--- Believed: what a list of trees shows: for each its heading and its rows.
+-- Believed: what a list of trees shows: for each, its heading and its rows.
 use Rattle.std.specs.Prelude.{◌≡◌, ℕ, ◌<◌, List, [], map, length, slice_set, slice_index_or}
 use Rattle.sqlite_value.specs.Order.{Row}
 use Rattle.sqlite_trees.specs.declared.store.Shape.{Shape}
@@ -31,19 +31,19 @@ objects_of trees = objects_from 0 (headings trees)
 abbrev pub forest : List Held → Trees
 forest trees = with_tree (rows_of trees) catalog_tree (objects_of trees)
 
--- the shape at each number, that of the list of the trees being a table's
+-- the shape at each number; the list of the trees is a table
 abbrev pub shapes : List Held → ℕ → Shape
 shapes trees = set_at (shape_of trees) catalog_tree Table
 
--- the REAL columns at each number, of which the list of the trees has none
+-- the REAL columns at each number; the list of the trees has none
 abbrev pub reals : List Held → ℕ → ℕ
 reals trees = set_at (reals_in (headings trees)) catalog_tree 0
 
--- the shape at each number, also at those of the list of the trees and of the version: both are tables
+-- the shape at each number, including those of the list of the trees and of the version, which are both tables
 abbrev pub all_shapes : List Held → ℕ → Shape
 all_shapes trees = set_at (shapes trees) version_tree Table
 
--- the REAL columns at each number, of which neither the list of the trees nor the version has any
+-- the REAL columns at each number; neither the list of the trees nor the version has any
 abbrev pub all_reals : List Held → ℕ → ℕ
 all_reals trees = set_at (reals trees) version_tree 0
 
@@ -54,7 +54,7 @@ pub record AreAlike (old new : List Held) : Type 0 where
   pub reals : reals new ≡ reals old
   pub objects : objects_of new ≡ objects_of old
 
--- the tree with this number is the new one, in a list that is as long as that takes
+-- the tree with this number is the new one, in a list that is long enough
 pub record Replaces (old new : List Held) (tree : ℕ) (it : Held) : Type 0 where
   pub room : List Held
   pub alike : AreAlike old room

@@ -1,5 +1,5 @@
--- Helps: what the store's trees keep: their order, and the list of them.
--- What the kit's traits ask is proved where it stands.
+-- Helps: what always holds of the store's trees: their order, and the list of them. What the kit's traits require is
+-- proved at each method.
 use Rattle.std.specs.Prelude.{◌≡◌, zero, suc, true, false, if◌then◌else◌, ◌==◌, List, [], ◌∷◌, refl}
 use Rattle.std.proofs.Common.{subst}
 use Rattle.std.proofs.Math.Logic.{∥∥₁_elim}

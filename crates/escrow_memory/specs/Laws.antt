@@ -4,6 +4,6 @@ use Rattle.sqlite.specs.State.{HasCleanDisk}
 use Rattle.escrow_memory.specs.declared.store.BlockStore.{BlockStore}
 use Rattle.escrow_memory.specs.Store.{over_blocks}
 
--- whatever was done over a connection to a store in memory, its disk has returned what was written
+-- whatever was done over a connection to a store in memory, its disk returned what was written
 abbrev pub MemoryIsClean : Type 0
 MemoryIsClean = (connection : Held BlockStore) → HasCleanDisk (state over_blocks connection)

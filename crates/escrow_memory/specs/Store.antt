@@ -12,7 +12,7 @@ use Rattle.escrow_memory.specs.declared.store.BlockStore.{BlockStore}
 use Rattle.escrow_memory.specs.Held.{Held, Replaces, rows_of, forest, all_shapes, all_reals}
 use Rattle.escrow_memory.specs.Trees.{all_held}
 
--- what is seen of the trees of a forest, by number
+-- what trees of a forest show, by number
 abbrev pub trees_of : Forest → List Held
 trees_of it = all_held it.trees.items
 
@@ -29,8 +29,7 @@ snapshot_of it = record {
 abbrev pub current : BlockStore → Forest
 current s = unwrap_or s.changed s.base
 
--- the rows that are left from a place: forward those that stand there and behind, backward those before it, the last
--- first
+-- the rows that are left from a place: forward, those there and after; backward, those before it, the last first
 abbrev pub left_from : Direction → ℕ → List Row → List Row
 left_from Forward at rows = drop at rows
 left_from Backward at rows = reverse (take at rows)
@@ -43,14 +42,14 @@ left_of trees cursor = left_from cursor.direction cursor.at (rows_of trees curso
 abbrev pub SetsCursor : List (Option Cursor) → List (Option Cursor) → ℕ → Cursor → Type 0
 SetsCursor old new at cursor = (c : ℕ) → slice_index_or new c None ≡ (if c == at then Some cursor else slice_index_or old c None)
 
--- the cursor that stands where this one gave a row, or none at its end
+-- the cursor after this one returned a row, or none at its end
 abbrev pub Steps : List Held → Cursor → Row → Option Cursor → Type 0
 Steps trees cursor row None = left_of trees cursor ≡ []
 Steps trees cursor row (Some moved) = left_of trees cursor ≡ row ∷ left_of trees moved
 
--- WHAT THE STORE SHOWS, in the words of the kit's trait: the trees that the transaction sees and those of the last
+-- WHAT THE STORE SHOWS, in the terms of the kit's trait: the trees that the transaction sees and those of the last
 -- commit, what each cursor has left, the savepoints, and whether the transaction can only be rolled back. It is always
--- open and clean.
+-- open and clean
 abbrev pub block_view : BlockStore → View
 block_view s = record {
   trees = (snapshot_of (current s)).trees;
@@ -77,6 +76,6 @@ pub record IsReplaced (old new : BlockStore) (tree : ℕ) (it : Held) : Type 0 w
   pub was_sound : old.is_broken ≡ false
   pub sound : new.is_broken ≡ false
 
--- what the store says of itself
+-- the store's view, as the kit's SQLite uses it
 abbrev pub over_blocks : Ghosts BlockStore
 over_blocks = record { view = block_view; faults = λ _. 0; recovers = λ s db. db ≡ (block_view s).committed; is_shielded = λ _. Unit {0}; is_step = λ _ _ _. Unit {0}; blamed = λ _. None; names = λ _ _ _. Unit {0} }

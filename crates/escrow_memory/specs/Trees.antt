@@ -1,4 +1,4 @@
--- Believed: what a tree, and a list of trees that share their nodes, shows.
+-- Believed: what a tree shows, and a list of trees that share their nodes.
 use Rattle.std.specs.Prelude.{List, map}
 use Rattle.sqlite_trees.specs.Listing.{Heading}
 use Rattle.escrow_memory.specs.declared.tree.Tree.{Tree}
@@ -9,10 +9,10 @@ use Rattle.escrow_memory.specs.Held.{Held}
 abbrev pub heading : Tree → Heading
 heading tree = (tree.shape, tree.reals, tree.described.value)
 
--- what is seen of a tree, whatever nodes its rows stand in
+-- what a tree shows, whatever nodes hold its rows
 abbrev pub held : Tree → Held
 held tree = (heading tree, tree.rows)
 
--- what is seen of trees, whichever other owners they have
+-- what trees show, whatever other owners they have
 abbrev pub all_held : List Shared → List Held
 all_held = map (λ shared. held shared.tree.value)

@@ -1,4 +1,4 @@
-//! Branches.
+//! Branches of a tree.
 ghost use Rattle.std.specs.Prelude.{◌≡◌, ◌+◌, ◌<◌, ◌≤◌, ◌++◌, ◌∷◌, [], take, drop, length, slice_get, None, IfOk, OnOk, IfSome};
 ghost use Rattle.sqlite_record.specs.Record.{decode};
 ghost use Rattle.escrow_memory.specs.Children.{children_rows, AreCounted};
@@ -10,10 +10,10 @@ use crate::probe::Probe;
 use std::alloc::{AllocError, Global};
 use std::mem;
 
-/// A branch of more children is divided.
+/// A branch with more children is divided.
 const MAX_CHILDREN: usize = 32;
 
-/// Nodes in order, none of which is empty.
+/// Nodes in order. None is empty.
 #[derive(Drop)]
 pub(crate) struct Branch<N: Node> {
     children: Vec<Child<N>>,
@@ -22,7 +22,7 @@ pub(crate) struct Branch<N: Node> {
     ghost summed: { total ≡ length (children_rows N.rows children.items) },
 }
 
-/// How many entries the first children have.
+/// Returns how many entries the first children have, up to a place.
 fn len_before<N: Node>(children: &[Child<N>], place: usize, total: usize) -> usize
     requires counted { AreCounted N.rows children.now }
     requires summed { total ≡ length (children_rows N.rows children.now) }
@@ -36,8 +36,8 @@ fn len_before<N: Node>(children: &[Child<N>], place: usize, total: usize) -> usi
     before
 }
 
-/// The child that has an entry, and the entry's place in it. With `cut` 0 it may be the place behind the
-/// child's last entry.
+/// Returns the child that has an entry, and the entry's place in it. With `cut` 0 this may be the
+/// place after the child's last entry.
 fn find<N: Node>(children: &[Child<N>], at: usize, cut: usize) -> (usize, usize)
     requires counted { AreCounted N.rows children.now }
     requires within { at + cut ≤ length (children_rows N.rows children.now) }
@@ -61,7 +61,7 @@ fn find<N: Node>(children: &[Child<N>], at: usize, cut: usize) -> (usize, usize)
     (place, left)
 }
 
-/// Puts the second part of a divided child behind the first.
+/// Puts the second part of a divided child after the first.
 fn add_next<N: Node>(
     alloc: Global,
     children: &mut Vec<Child<N>>,
@@ -82,7 +82,7 @@ fn add_next<N: Node>(
     Ok(())
 }
 
-/// Joins a child and the next where both are small.
+/// Joins a child with the next, if both are small.
 fn join_small<N: Node>(
     alloc: Global,
     children: &mut Vec<Child<N>>,
@@ -102,7 +102,7 @@ fn join_small<N: Node>(
     Ok(())
 }
 
-/// Takes out and puts in as [`Node::splice`], in one child.
+/// Changes one child as [`Node::splice`] does.
 fn splice_child<N: Node>(
     alloc: Global,
     children: &mut Vec<Child<N>>,
@@ -126,7 +126,7 @@ fn splice_child<N: Node>(
     Ok(())
 }
 
-/// Joins the child at a place with the next, and then with the one before it, where both are small.
+/// Joins the child at a place with the next, and then with the one before it, if both are small.
 fn join_around<N: Node>(
     alloc: Global,
     children: &mut Vec<Child<N>>,
@@ -140,7 +140,7 @@ fn join_around<N: Node>(
     join_small(alloc, children, place.saturating_sub(1))
 }
 
-/// Takes out and puts in as [`Node::splice`], and returns which child it was.
+/// Changes the children as [`Node::splice`] does, and returns which child was changed.
 fn edit_children<N: Node>(
     alloc: Global,
     children: &mut Vec<Child<N>>,
@@ -178,7 +178,7 @@ fn share_all<N: Node>(children: &mut Vec<Child<N>>, others: &[Child<N>]) -> Resu
 }
 
 impl<N: Node> Branch<N> {
-    /// No entries. Takes no memory.
+    /// Returns a branch without entries. Takes no memory.
     pub(crate) fn new(alloc: Global) -> Branch<N>
         ensures { result.children.items ≡ [] }
     {
@@ -188,8 +188,8 @@ impl<N: Node> Branch<N> {
         }
     }
 
-    /// The branch without an entry at a place, or with all, and with a new one there, or none; and
-    /// which child it was.
+    /// Returns the branch with an entry removed at a place, or none, and a new one inserted there,
+    /// or none; and which child was changed.
     pub(crate) fn edited(
         self,
         alloc: Global,
@@ -211,8 +211,8 @@ impl<N: Node> Branch<N> {
         Ok((Branch { children, total }, place))
     }
 
-    /// The branch, in two where it is too large. Where the newest child is the last, as where entries
-    /// come in order, the first part is as full as a branch may be.
+    /// Returns the branch, divided in two if it is too large. If the newest child is the last, as
+    /// when entries come in order, the first part is as full as a branch may be.
     fn divided(self, newest: usize) -> Result<(Branch<N>, Option<Branch<N>>), AllocError>
         ensures { IfOk result (λ parts. children_rows N.rows parts.0.children.items ++ next_rows (λ branch. children_rows N.rows branch.children.items) parts.1 ≡ children_rows N.rows self.children.items) }
     {
@@ -238,7 +238,7 @@ impl<N: Node> Branch<N> {
         Ok((first, Some(second)))
     }
 
-    /// The branch after a change, in two where it became too large.
+    /// Returns the branch after a change, divided in two if it became too large.
     fn changed(
         self,
         alloc: Global,

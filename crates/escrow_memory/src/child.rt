@@ -7,8 +7,8 @@ use crate::node::{Change, Node};
 use std::alloc::{AllocError, Global};
 use std::sync::Arc;
 
-/// A node that may have several owners, and how many entries it has. A node is written in place where
-/// it has one owner, and a copy of it where it has several.
+/// A node that may have several owners, and its number of entries. With one owner it is written in
+/// place. With several, a copy of it is written.
 #[derive(Drop)]
 pub(crate) struct Child<N: Node> {
     pub(crate) len: usize,
@@ -27,7 +27,7 @@ impl<N: Node> Child<N> {
         })
     }
 
-    /// A child of one entry.
+    /// Returns a child of one entry.
     pub(crate) fn of_one(alloc: Global, entry: &[u8]) -> Result<Child<N>, AllocError>
         ensures rows { IfOk result (λ child. N.rows child.node.value ≡ decode entry.now ∷ []) }
         ensures len { IfOk result (λ child. child.len ≡ 1) }
@@ -35,7 +35,7 @@ impl<N: Node> Child<N> {
         Child::of(alloc, N::of_one(alloc, entry)?)
     }
 
-    /// One more owner of the node.
+    /// Returns one more owner of the node.
     pub(crate) fn share(&self) -> Result<Child<N>, AllocError>
         ensures node { IfOk result (λ child. child.node.value ≡ self.now.node.value) }
         ensures len { IfOk result (λ child. child.len ≡ self.now.len) }
@@ -46,7 +46,7 @@ impl<N: Node> Child<N> {
         })
     }
 
-    /// As [`Node::splice`]. What an error leaves is not said.
+    /// Changes the node as [`Node::splice`] does. Nothing is promised of its state after an error.
     pub(crate) fn splice(
         &mut self,
         alloc: Global,
@@ -69,7 +69,8 @@ impl<N: Node> Child<N> {
         Ok(next)
     }
 
-    /// As [`Node::join`]. What an error leaves is not said.
+    /// Joins the node with another as [`Node::join`] does. Nothing is promised of its state after
+    /// an error.
     pub(crate) fn join(&mut self, alloc: Global, next: &N) -> Result<(), AllocError>
         ensures ok { OnOk result (N.rows self.new.node.value ≡ N.rows self.old.node.value ++ N.rows next.now) }
         ensures len { OnOk result (self.new.len ≡ length (N.rows self.new.node.value)) }

@@ -1,9 +1,9 @@
-//! Cursors.
+//! Cursors over trees.
 
 use sqlite_trees::store::Direction;
 
-/// A cursor over the entries of a tree: forward it has those from `at` on left, and backward those
-/// before `at`.
+/// A cursor over the entries of a tree. A forward one has the entries from `at` on left, and a
+/// backward one those before `at`.
 #[derive(Clone, Copy, Debug)]
 pub(crate) struct Cursor {
     pub(crate) tree: usize,

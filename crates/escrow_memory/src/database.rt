@@ -8,8 +8,8 @@ use crate::store::BlockStore;
 use sqlite::Connection;
 use std::alloc::{AllocError, Global};
 
-/// A database of SQLite in memory, without objects. Want of memory is the only error: SQLite refuses no
-/// list of objects that is empty, and the store itself has no other.
+/// Returns an SQLite database in memory, without objects. Fails only if memory is refused: SQLite
+/// accepts an empty list of objects, and the store itself has no other error.
 pub fn open(alloc: Global) -> Result<Connection<BlockStore>, AllocError>
     ensures empty { IfOk result (λ conn. (state over_blocks conn).now.schema ≡ no_objects) }
     ensures outside { IfOk result (λ conn. conn.in_transaction ≡ false) }

@@ -18,9 +18,11 @@ use std::sync::atomic::{AtomicBool, AtomicUsize, Ordering};
 #[derive(Drop)]
 pub(crate) struct Entries<N: Node> {
     root: Branch<N>,
-    /// The place that was found last, less the rowid that was sought, if one was: the same for all that stand side by side.
+    /// The place that was found last, less the rowid that was sought, if one was. It is the same
+    /// for entries that are side by side.
     offset: AtomicUsize,
-    /// Whether that place was the one that was expected, or the next: then the one that is asked may be, too.
+    /// Whether that place was the expected one or the next. Then the place of the next search may
+    /// be too.
     is_run: AtomicBool,
 }
 
@@ -35,7 +37,7 @@ impl<N: Node> Model for Entries<N> {
 }
 
 impl<N: Node> Entries<N> {
-    /// No entries. Takes no memory.
+    /// Returns an empty list of entries. Takes no memory.
     pub(crate) fn new(alloc: Global) -> Entries<N>
         ensures { result ≡ [] }
     {
@@ -46,7 +48,7 @@ impl<N: Node> Entries<N> {
         }
     }
 
-    /// The same entries, in the same nodes below the first.
+    /// Returns a copy that shares the nodes below the first.
     pub(crate) fn copy(&self, alloc: Global) -> Result<Entries<N>, AllocError>
         ensures { IfOk result (λ entries. entries ≡ self.now) }
     {
@@ -57,14 +59,14 @@ impl<N: Node> Entries<N> {
         })
     }
 
-    /// How many there are.
+    /// Returns the number of entries.
     pub(crate) fn len(&self) -> usize
         ensures { result ≡ length self.now }
     {
         self.root.len()
     }
 
-    /// The entry at a place, if there are so many.
+    /// Returns the entry at a place, or `None` past the last.
     pub(crate) fn get(&self, at: usize) -> Option<&[u8]>
         ensures some { IfSome result (λ entry. (at < length self.now) × (decode entry.now ≡ slice_index_or self.now at [])) }
         ensures none { result ≡ None → length self.now ≤ at }
@@ -76,7 +78,7 @@ impl<N: Node> Entries<N> {
         }
     }
 
-    /// Whether each entry before a place passes.
+    /// Returns whether each entry before a place passes.
     fn passes_before(&self, probe: Probe<'_>, at: usize) -> bool
         requires { IsCut (passes probe) self.now }
         ensures { IsTrue result → at ≤ count_by (passes probe.entry) self.now }
@@ -90,7 +92,7 @@ impl<N: Node> Entries<N> {
         }
     }
 
-    /// The entry at a place, or none behind the last, if no entry from there on passes.
+    /// Returns the entry at a place, or none after the last, if no entry from there on passes.
     #[tactic(auto, using(crate::proofs::Cuts::passes_before, crate::proofs::Cuts::fails_behind, crate::proofs::Cuts::fails_past))]
     fn get_failing(&self, probe: Probe<'_>, at: usize) -> Option<Option<&[u8]>>
         requires { IsCut (passes probe) self.now }
@@ -106,8 +108,8 @@ impl<N: Node> Entries<N> {
         }
     }
 
-    /// The place behind the entries that pass, and the entry that stands there, if one does, where it is this
-    /// place or the next.
+    /// Returns the place after the entries that pass, and the entry there, if any, if this is
+    /// `near` or the place after it.
     fn seek_near(&self, probe: Probe<'_>, near: usize) -> Option<(usize, Option<&[u8]>)>
         requires { IsCut (passes probe) self.now }
         ensures place { IfSome result (λ found. IsPlaceOf (passes probe.entry) self.now found.0) }
@@ -125,9 +127,9 @@ impl<N: Node> Entries<N> {
         Some((next, found))
     }
 
-    /// The place behind the entries that pass, and the entry that stands there, if one does. Where the last two that were
-    /// asked stood side by side, as where an index is gone through, or as far apart as their rowids, it is looked for
-    /// first at the place that follows from this.
+    /// Returns the place after the entries that pass, and the entry there, if any. The last two
+    /// places may have been side by side, as when an index is walked, or as far apart as their
+    /// rowids. Then the search first tries the place that follows from this.
     pub(crate) fn seek(&self, probe: Probe<'_>) -> (usize, Option<&[u8]>)
         requires { IsCut (passes probe) self.now }
         ensures place { IsPlaceOf (passes probe.entry) self.now result.0 }
@@ -150,8 +152,8 @@ impl<N: Node> Entries<N> {
         (at, found)
     }
 
-    /// Notes the place that was found, less the number that was sought, and whether it was expected there. What stays
-    /// the same isn't written, since a look costs less.
+    /// Notes the place that was found, less the number that was sought, and whether it was
+    /// expected. What stays the same isn't written, since a look costs less.
     fn note(&self, offset: usize, is_run: bool) {
         if self.offset.load(Ordering::SeqCst) != offset {
             self.offset.store(offset, Ordering::SeqCst);
@@ -161,8 +163,8 @@ impl<N: Node> Entries<N> {
         }
     }
 
-    /// Takes out an entry at a place, or none, and puts a new one there, or none. An error leaves no
-    /// entries.
+    /// Removes an entry at a place, or none, and inserts a new one there, or none. After an error
+    /// there are no entries.
     pub(crate) fn splice(
         &mut self,
         alloc: Global,

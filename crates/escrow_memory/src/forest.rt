@@ -1,4 +1,4 @@
-//! Numbered trees, as a transaction or a savepoint has them.
+//! Numbered trees, as a transaction or a savepoint sees them.
 ghost use Rattle.std.specs.Prelude.{◌≡◌, ◌<◌, ◌^◌, map, length, slice_get, Some, None, IfOk, IfSome, OnOk, OnErr};
 ghost use Rattle.sqlite_trees.specs.Tree.{with_tree};
 ghost use Rattle.escrow_memory.specs.Edit.{edited, Fits, Writes};
@@ -9,7 +9,7 @@ use crate::shared::Shared;
 use crate::tree::{Edit, Tree};
 use std::alloc::{AllocError, Global};
 
-/// Trees by their numbers, and SQLite's user version. Two of them share what neither has written.
+/// Trees by their numbers, and SQLite's user version. Two forests share what neither has written.
 #[derive(Drop)]
 pub(crate) struct Forest {
     pub(crate) trees: Vec<Shared>,
@@ -19,7 +19,7 @@ pub(crate) struct Forest {
 impl Forest {
     ghost use Rattle.escrow_memory.specs.Store.{trees_of};
 
-    /// The tree with this number, if there is one.
+    /// Returns the tree with this number, if there is one.
     pub(crate) fn tree(&self, tree: usize) -> Option<&Tree>
         ensures some { IfSome result (λ found. slice_get (trees_of self.now) tree ≡ Some (held found.now)) }
         ensures none { result ≡ None → slice_get (trees_of self.now) tree ≡ None }
@@ -30,7 +30,7 @@ impl Forest {
         }
     }
 
-    /// The same trees.
+    /// Returns a forest that shares the trees.
     pub(crate) fn share(&self, alloc: Global) -> Result<Forest, AllocError>
         ensures trees { IfOk result (λ forest. trees_of forest ≡ trees_of self.now) }
         ensures version { IfOk result (λ forest. forest.version ≡ self.now.version) }
@@ -45,7 +45,7 @@ impl Forest {
         })
     }
 
-    /// Makes a write in the tree with this number. An error leaves the headings as they are.
+    /// Makes a write in the tree with this number. After an error the headings are unchanged.
     pub(crate) fn edit(
         &mut self,
         alloc: Global,
@@ -62,7 +62,7 @@ impl Forest {
         self.trees[tree].edit(alloc, edit, bytes)
     }
 
-    /// Puts a tree in the place of the one with this number. What an error leaves shows the same.
+    /// Replaces the tree with this number. After an error the forest shows the same as before.
     pub(crate) fn replace(
         &mut self,
         alloc: Global,

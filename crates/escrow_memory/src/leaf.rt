@@ -1,4 +1,4 @@
-//! Leaves.
+//! Leaves of a tree.
 ghost use Rattle.std.specs.Prelude.{◌≡◌, ◌+◌, ◌≤◌, ◌++◌, ◌∷◌, [], length, map, All, IfOk};
 ghost use Rattle.sqlite_record.specs.Record.{decode};
 ghost use Rattle.escrow_memory.specs.Slot.{slot_row, IsWithin};
@@ -10,17 +10,17 @@ use crate::slot::Slot;
 use std::alloc::{AllocError, Global};
 use std::mem;
 
-/// A leaf of more entries is divided.
+/// A leaf with more entries is divided.
 const MAX_ENTRIES: usize = 64;
 
-/// A leaf of more bytes is written anew without those that no entry has, or divided.
+/// A leaf with more bytes is rewritten without the bytes that no entry uses, or divided.
 const MAX_BYTES: usize = 4096;
 
-/// Room for an entry in the copy of a leaf.
+/// Spare bytes for one entry in the copy of a leaf.
 const ROOM: usize = 64;
 
-/// Entries in order, whose bytes lie in one list in any order. An entry that is taken out leaves its
-/// bytes there until the leaf is written anew.
+/// Entries in order. Their bytes are in one list, in any order. An entry that is removed leaves its
+/// bytes there until the leaf is rewritten.
 #[derive(Debug, Drop)]
 pub(crate) struct Leaf {
     bytes: Vec<u8>,
@@ -40,7 +40,7 @@ impl Leaf {
         }
     }
 
-    /// The leaf with one more entry at its end.
+    /// Returns the leaf with one more entry at its end.
     fn with(self, entry: &[u8]) -> Result<Leaf, AllocError>
         ensures { IfOk result (λ leaf. leaf_rows leaf ≡ leaf_rows self ++ decode entry.now ∷ []) }
     {
@@ -53,7 +53,7 @@ impl Leaf {
         Ok(Leaf { bytes, slots })
     }
 
-    /// The leaf with more entries at its end, which lie in other bytes.
+    /// Returns the leaf with more entries, whose bytes are in another list, at its end.
     fn with_all(self, bytes: &[u8], slots: &[Slot]) -> Result<Leaf, AllocError>
         requires { All (IsWithin (length bytes.now)) slots.now }
         ensures { IfOk result (λ leaf. leaf_rows leaf ≡ leaf_rows self ++ map (slot_row bytes.now) slots.now) }
@@ -65,7 +65,7 @@ impl Leaf {
         Ok(leaf)
     }
 
-    /// Entries in a leaf of their own, with room for some number of bytes.
+    /// Returns a leaf with these entries alone, with spare room for a number of bytes.
     fn packed(alloc: Global, room: usize, bytes: &[u8], slots: &[Slot]) -> Result<Leaf, AllocError>
         requires { All (IsWithin (length bytes.now)) slots.now }
         ensures { IfOk result (λ leaf. leaf_rows leaf ≡ map (slot_row bytes.now) slots.now) }
@@ -77,7 +77,8 @@ impl Leaf {
         leaf.with_all(bytes, slots)
     }
 
-    /// The leaf without an entry at a place, or with all, and with a new one there, or none.
+    /// Returns the leaf with an entry removed at a place, or none, and a new one inserted there, or
+    /// none.
     fn edited(self, at: usize, cut: usize, new: Option<&[u8]>) -> Result<Leaf, AllocError>
         requires within { at + cut ≤ length (leaf_rows self) }
         requires one { cut ≤ 1 }
@@ -102,8 +103,8 @@ impl Leaf {
         Ok(Leaf { bytes, slots })
     }
 
-    /// The leaf, in two where it is too large. Where the newest entry is the last, as where entries
-    /// come in order, the first part is as full as a leaf may be.
+    /// Returns the leaf, divided in two if it is too large. If the newest entry is the last, as
+    /// when entries come in order, the first part is as full as a leaf may be.
     fn divided(self, alloc: Global, newest: usize) -> Result<(Leaf, Option<Leaf>), AllocError>
         ensures { IfOk result (λ parts. leaf_rows parts.0 ++ next_rows leaf_rows parts.1 ≡ leaf_rows self) }
     {

@@ -1,34 +1,45 @@
-//! A store in memory for the kit's SQLite ([`BlockStore`]), which meets its traits `Store`, `Alter` and `Reopen`:
-//! numbered trees of rows in order, cursors over them, and one transaction that is always open. A tree is a B+ tree
-//! that is copied on write:
+//! A store in memory for the kit's SQLite: numbered trees of rows in order, cursors over them, and
+//! one transaction that is always open.
 //!
-//! - A leaf (`leaf.rt`) holds up to 64 entries as records in SQLite's format, which the kit's `sqlite_record` writes.
-//!   Integers and texts are compared and read where they lie in a record (`narrow.rt`), and all else by the kit. Their
-//!   bytes lie in one list in any order; a slot for each entry says where. So an insertion writes a record behind the
-//!   others and moves slots of 8 bytes, and a leaf of 4 KB is copied by two moves of memory.
-//! - A branch (`branch.rt`) holds up to 32 children and how many entries each has, so that an entry is found by its
-//!   place as well as by its key. It is written once, over any kind of node (`node.rt`), and three levels of it stand
-//!   above the leaves: the level is part of the type, and there is no recursion.
-//! - A child (`child.rt`) is a node that may have several owners. A write goes down from the first branch; a node with
-//!   one owner is written in place, and else a copy of it is, which shares what stands below. What grew too large is
-//!   divided: where the newest entry is the last, all of the others stay in the first part. Small neighbours are joined
-//!   when something is taken out.
-//! - The entries of a tree (`entries.rt`) stand under a branch that is never divided. A search goes down once and gives
-//!   the place and the entry there; where the last two searches gave one place, or two side by side or as far apart as
-//!   their rowids, that place and the next are tried first.
-//! - A forest (`forest.rt`) is a list of trees and SQLite's user version. The store (`store.rt`) has that of the last
-//!   commit, that of the transaction once it has written, and for each savepoint that of the transaction as it was,
-//!   where it had written. To commit is to put the second in the place of the first, to roll back is to drop the
-//!   second, and to release a savepoint is to drop its forest: these take no memory. A savepoint, going back to one,
-//!   and the first write of a transaction share a forest, which takes memory for its list of trees. None of them goes
-//!   over entries, and there is no list of what was written.
+//! Its main contract: [`BlockStore`] meets the kit's traits `Store`, `Alter` and `Reopen`.
 //!
-//! After a write to a tree that fails for want of memory a transaction can only be rolled back, to its beginning or to
-//! a savepoint, as the traits say, so a node that an error met is left empty, and nothing has to be undone.
+//! Begin with [`open`], which returns an SQLite database over such a store, then read `store.rt`. A
+//! tree is a B+ tree that is copied on write. From the bottom up:
 //!
-//! The kit's own store in memory, `MemStore`, keeps each tree as one sorted list of rows, in two copies: an insertion
-//! that is not the last moves what stands behind it, a removal goes over the whole list, and the first write after a
-//! rollback copies all trees. `bench/README.md` has what `bench/stores` measured of both, beside C SQLite.
+//! - A leaf (`leaf.rt`) holds up to 64 entries as records in SQLite's format, which the kit's
+//!   `sqlite_record` writes. Integers and texts are compared and read in place in a record
+//!   (`narrow.rt`), and everything else by the kit. The records' bytes are in one list, in any
+//!   order; a slot for each entry says where. So an insertion writes a record after the others and
+//!   moves slots of 8 bytes, and a leaf of 4 KB is copied by two moves of memory.
+//! - A branch (`branch.rt`) holds up to 32 children and the number of entries of each, so an entry
+//!   is found by its place as well as by its key. The code is written once, over any kind of node
+//!   (`node.rt`). Three levels of branches are above the leaves. The level is part of the type, so
+//!   there is no recursion.
+//! - A child (`child.rt`) is a node that may have several owners. A write goes down from the first
+//!   branch. A node with one owner is written in place; otherwise a copy of it is written, which
+//!   shares the nodes below. A node that grew too large is divided. If the newest entry is the
+//!   last, all others stay in the first part. Small neighbours are joined when something is
+//!   removed.
+//! - The entries of a tree (`entries.rt`) are under a branch that is never divided. A search goes
+//!   down once and returns the place and the entry there. If the last two searches led to one
+//!   place, or to two that are side by side or as far apart as their rowids, that place and the
+//!   next are tried first.
+//! - A forest (`forest.rt`) is a list of trees and SQLite's user version. The store (`store.rt`)
+//!   keeps the forest of the last commit, that of the transaction once it has written, and for each
+//!   savepoint that of the transaction at that time, if it had written. A commit replaces the first
+//!   by the second, a rollback drops the second, and the release of a savepoint drops its forest;
+//!   these take no memory. A savepoint, going back to one, and the first write of a transaction
+//!   share a forest, which takes memory for its list of trees. None of these walks over entries,
+//!   and there is no list of what was written.
+//!
+//! If a write to a tree fails because memory is refused, the transaction can only be rolled back,
+//! to its beginning or to a savepoint, as the traits say. So a node that met an error is left
+//! empty, and nothing has to be undone.
+//!
+//! The kit's own store in memory, `MemStore`, keeps each tree as one sorted list of rows, in two
+//! copies. An insertion that is not the last moves what comes after it, a removal walks the whole
+//! list, and the first write after a rollback copies all trees. `bench/README.md` shows what
+//! `bench/stores` measured of both, beside C SQLite.
 #![tactic(auto)]
 
 mod branch;

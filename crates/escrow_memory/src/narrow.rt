@@ -1,5 +1,6 @@
-//! Entries whose header is narrow: its length takes one byte, and so does the type of each field that is read, as of all but long
-//! texts and blobs. NULL, integers and texts are read where they lie; whatever else is met is left to the kit.
+//! Entries with a narrow header: its length takes one byte, and so does the type of each field that
+//! is read. This holds for all but long texts and blobs. NULL, integers and texts are read in
+//! place; everything else is left to the kit.
 ghost use Rattle.std.specs.Prelude.{◌≡◌, ◌≢◌, ◌⊎◌, ◌-◌, ◌<◌, ◌≤◌, ◌^◌, [], ◌∷◌, ◌++◌, length, take, drop, IsTrue, IfOk, IfSome};
 ghost use Rattle.sqlite_value.specs.declared.value.Value.{Value};
 ghost use Rattle.sqlite_value.specs.declared.value.Value.TheVariants.{Int, Text};
@@ -16,14 +17,14 @@ use sqlite_value::value::ValueRef;
 use std::alloc::AllocError;
 use std::cmp::Ordering;
 
-/// The fields of a narrow entry that are still to come.
+/// The fields of a narrow entry that are still to be read.
 #[derive(Clone, Copy, Debug)]
 struct NarrowFields<'a> {
     types: &'a [u8],
     body: &'a [u8],
 }
 
-/// The number that bytes are, the highest first.
+/// Returns the number of bytes in big-endian order.
 #[inline(always)]
 fn unsigned(bytes: &[u8]) -> u64
     requires { length bytes.now ≤ 8 }
@@ -37,7 +38,7 @@ fn unsigned(bytes: &[u8]) -> u64
     bits
 }
 
-/// The integer that bits are in two's complement, where `top` has every bit set.
+/// Returns the integer of bits in two's complement. `top` has every bit set.
 #[inline(always)]
 fn with_sign(top: u64, bits: u64) -> i64
     requires { bits ≤ top }
@@ -50,7 +51,7 @@ fn with_sign(top: u64, bits: u64) -> i64
     }
 }
 
-/// The integer in the first bytes, `width` of them, and the bytes behind them.
+/// Returns the integer in the first `width` bytes, and the bytes after them.
 #[inline(always)]
 fn split_width(bytes: &[u8], width: usize, top: u64) -> Option<(i64, &[u8])>
     requires narrow { width ≤ 8 }
@@ -62,7 +63,8 @@ fn split_width(bytes: &[u8], width: usize, top: u64) -> Option<(i64, &[u8])>
     Some((with_sign(top, unsigned(front)), behind))
 }
 
-/// The integer that the first bytes are, if it is the type of one, and the bytes behind them.
+/// Returns the integer at the front of the bytes, if `serial` is the type of one, and the bytes
+/// after it.
 #[inline(always)]
 #[tactic(auto, unfolding(sqlite_record::specs::Serial::serial_size, sqlite_record::specs::Serial::serial_value))]
 fn split_int(serial: u8, bytes: &[u8]) -> Option<(i64, &[u8])>
@@ -83,7 +85,8 @@ fn split_int(serial: u8, bytes: &[u8]) -> Option<(i64, &[u8])>
     }
 }
 
-/// The text that the first bytes are, if it is the narrow type of one, and the bytes behind them.
+/// Returns the text at the front of the bytes, if `serial` is the narrow type of one, and the bytes
+/// after it.
 #[inline(always)]
 #[tactic(auto, unfolding(sqlite_record::specs::Serial::serial_size, sqlite_record::specs::Serial::serial_value))]
 fn split_text(serial: u8, bytes: &[u8]) -> Option<(&[u8], &[u8])>
@@ -97,7 +100,8 @@ fn split_text(serial: u8, bytes: &[u8]) -> Option<(&[u8], &[u8])>
     bytes.split_at_checked(usize::from((serial - 12) / 2))
 }
 
-/// The value that the first bytes are, if it is NULL, an integer or a narrow text, and the bytes behind them.
+/// Returns the value at the front of the bytes, if it is NULL, an integer or a narrow text, and the
+/// bytes after it.
 #[inline(always)]
 #[tactic(auto, unfolding(sqlite_record::specs::Serial::serial_size, sqlite_record::specs::Serial::serial_value))]
 fn split_value(serial: u8, bytes: &[u8]) -> Option<(ValueRef<'_>, &[u8])>
@@ -115,7 +119,7 @@ fn split_value(serial: u8, bytes: &[u8]) -> Option<(ValueRef<'_>, &[u8])>
     Some((ValueRef::Text(text), behind))
 }
 
-/// How integers compare by the key of the first column. Its collation speaks of texts alone.
+/// Returns how integers compare by the key of the first column. Its collation is for texts alone.
 #[inline(always)]
 fn compare_ints(order: Order, a: i64, b: i64) -> Ordering
     ensures { result ≡ by_key (first_key order) (Int a) (Int b) }
@@ -128,7 +132,7 @@ fn compare_ints(order: Order, a: i64, b: i64) -> Ordering
 }
 
 impl<'a> NarrowFields<'a> {
-    /// The fields of an entry, if the length of its header takes a byte.
+    /// Returns the fields of an entry, if the length of its header takes a byte.
     #[inline(always)]
     fn new(entry: &'a [u8]) -> Option<NarrowFields<'a>>
         ensures { IfSome result (λ fields. values_of fields.types.now fields.body.now ≡ decode entry.now) }
@@ -146,7 +150,7 @@ impl<'a> NarrowFields<'a> {
         Some(NarrowFields { types, body })
     }
 
-    /// The first field, if it is an integer, and the fields behind it.
+    /// Returns the first field, if it is an integer, and the fields after it.
     #[inline(always)]
     fn split_int(self) -> Option<(i64, NarrowFields<'a>)>
         ensures { IfSome result (λ split. values_of self.entry.types.now self.entry.body.now ≡ Int split.0 ∷ values_of split.1.types.now split.1.body.now) }
@@ -158,7 +162,7 @@ impl<'a> NarrowFields<'a> {
         Some((n, NarrowFields { types, body }))
     }
 
-    /// The first field, if it is NULL, an integer or a text, and the fields behind it.
+    /// Returns the first field, if it is NULL, an integer or a text, and the fields after it.
     #[inline(always)]
     fn split_first(self) -> Option<(ValueRef<'a>, NarrowFields<'a>)>
         ensures { IfSome result (λ split. values_of self.entry.types.now self.entry.body.now ≡ owned split.0 ∷ values_of split.1.types.now split.1.body.now) }
@@ -170,7 +174,8 @@ impl<'a> NarrowFields<'a> {
         Some((value, NarrowFields { types, body }))
     }
 
-    /// How the first field compares with a value by the key of the first column, if it is read, and the fields behind it.
+    /// Compares the first field with a value by the key of the first column. Returns the result and
+    /// the fields after it, if the field is read.
     fn compare_first(
         self,
         order: Order,
@@ -182,7 +187,7 @@ impl<'a> NarrowFields<'a> {
         Some((order.compare_first(first, value), behind))
     }
 
-    /// As [`NarrowFields::compare_first`], where the field and the value are integers.
+    /// [`NarrowFields::compare_first`], if the field and the value are integers.
     #[inline(always)]
     fn compare_int(self, order: Order, value: i64) -> Option<(Ordering, NarrowFields<'a>)>
         ensures { IfSome result (λ found. (first : Value) × (values_of self.entry.types.now self.entry.body.now ≡ first ∷ values_of found.1.types.now found.1.body.now) × (found.0 ≡ by_key (first_key order) first (Int value))) }
@@ -191,7 +196,8 @@ impl<'a> NarrowFields<'a> {
         Some((compare_ints(order, first, value), behind))
     }
 
-    /// How the fields compare with the columns of a row from one on, if each is read, and the fields behind those that were read.
+    /// Compares the fields with the columns of a row from a given one on. Returns the result and
+    /// the fields after those that were read, if each is read.
     #[inline(never)]
     fn compare_from(
         self,
@@ -214,7 +220,8 @@ impl<'a> NarrowFields<'a> {
         Some((Ordering::Equal, fields))
     }
 
-    /// The same from the first column on. Integers, as most columns are, it compares itself, up to the first that is none.
+    /// [`NarrowFields::compare_from`] from the first column on. It compares integers itself, as
+    /// most columns are, up to the first other value.
     #[inline(always)]
     fn compare(self, mut order: Order, row: &Row) -> Option<(Ordering, NarrowFields<'a>)>
         ensures prefix { IfSome result (λ found. found.0 ≡ prefix_cmp order (values_of self.entry.types.now self.entry.body.now) row.now) }
@@ -235,7 +242,7 @@ impl<'a> NarrowFields<'a> {
     }
 }
 
-/// The first field of a narrow entry, if it is an integer.
+/// Returns the first field of a narrow entry, if it is an integer.
 #[inline(always)]
 pub(crate) fn first_int(entry: &[u8]) -> Option<i64>
     ensures { IfSome result (λ n. rowid (decode entry.now) ≡ Int n) }
@@ -244,7 +251,7 @@ pub(crate) fn first_int(entry: &[u8]) -> Option<i64>
     Some(n)
 }
 
-/// How a narrow entry compares with a key, if each field is read.
+/// Returns how a narrow entry compares with a key, if each field is read.
 #[inline(always)]
 fn narrow_with_key(order: Order, entry: &[u8], key: &Row) -> Option<Ordering>
     ensures { IfSome result (λ found. found ≡ prefix_cmp order (decode entry.now) key.now) }
@@ -253,7 +260,7 @@ fn narrow_with_key(order: Order, entry: &[u8], key: &Row) -> Option<Ordering>
     Some(found)
 }
 
-/// How a narrow entry compares with a row, if each field is read and the entry has no more.
+/// Returns how a narrow entry compares with a row, if each field is read and the entry has no more.
 #[inline(always)]
 fn narrow_with_row(order: Order, entry: &[u8], row: &Row) -> Option<Ordering>
     ensures { IfSome result (λ found. found ≡ entry_cmp order (decode entry.now) row.now) }
@@ -264,7 +271,7 @@ fn narrow_with_row(order: Order, entry: &[u8], row: &Row) -> Option<Ordering>
     }
 }
 
-/// As [`compare::with_key`].
+/// [`compare::with_key`], reading in place what it can.
 #[inline(never)]
 pub(crate) fn with_key(order: Order, entry: &[u8], key: &Row) -> Ordering
     ensures { result ≡ prefix_cmp order (decode entry.now) key.now }
@@ -275,7 +282,7 @@ pub(crate) fn with_key(order: Order, entry: &[u8], key: &Row) -> Ordering
     }
 }
 
-/// As [`compare::with_row`].
+/// [`compare::with_row`], reading in place what it can.
 #[inline(never)]
 pub(crate) fn with_row(order: Order, entry: &[u8], row: &Row) -> Ordering
     ensures { result ≡ entry_cmp order (decode entry.now) row.now }
@@ -286,7 +293,7 @@ pub(crate) fn with_row(order: Order, entry: &[u8], row: &Row) -> Ordering
     }
 }
 
-/// Appends the fields of a narrow entry to a row, and answers whether each was read.
+/// Appends the fields of a narrow entry to a row. Returns whether each was read.
 pub(crate) fn push_fields(entry: &[u8], row: &mut Row) -> Result<bool, AllocError>
     ensures { IfOk result (λ is_whole. IsTrue is_whole → row.new ≡ row.old ++ decode entry.now) }
 {

@@ -1,4 +1,4 @@
-//! Tests by which a place in a tree is found.
+//! Tests that find a place in a tree.
 ghost use Rattle.std.specs.Prelude.{◌≡◌};
 ghost use Rattle.sqlite_value.specs.Value.{owned};
 ghost use Rattle.sqlite_value.specs.Order.{value_cmp};
@@ -26,7 +26,7 @@ pub(crate) enum Probe<'a> {
     BelowEntry(Order, &'a Row),
 }
 
-/// The first value of an entry, which is the rowid of a table's; NULL where it has none.
+/// Returns the first value of an entry, which is a table row's rowid, or NULL if it has none.
 fn rowid_of(entry: &[u8]) -> ValueRef<'_>
     ensures { owned result ≡ rowid (decode entry.now) }
 {
@@ -34,7 +34,7 @@ fn rowid_of(entry: &[u8]) -> ValueRef<'_>
     fields.next().unwrap_or(ValueRef::Null)
 }
 
-/// As [`with_rowid`], of any entry and any value.
+/// [`with_rowid`], for any entry and any value.
 #[cold]
 #[inline(never)]
 fn any_with_rowid(entry: &[u8], id: ValueRef<'_>) -> Ordering
@@ -43,7 +43,7 @@ fn any_with_rowid(entry: &[u8], id: ValueRef<'_>) -> Ordering
     compare(rowid_of(entry), id)
 }
 
-/// How the rowid of an entry compares with a value.
+/// Returns how the rowid of an entry compares with a value.
 #[inline(always)]
 pub(crate) fn with_rowid(entry: &[u8], id: ValueRef<'_>) -> Ordering
     ensures { result ≡ value_cmp (rowid (decode entry.now)) (owned id.entry) }
@@ -57,7 +57,7 @@ pub(crate) fn with_rowid(entry: &[u8], id: ValueRef<'_>) -> Ordering
 impl Probe<'_> {
     ghost use Rattle.escrow_memory.specs.Probe.{passes};
 
-    /// The rowid that is sought, and 0 where it is negative or a key is sought.
+    /// Returns the rowid that is sought, or 0 if it is negative or a key is sought.
     pub(crate) fn number(self) -> usize {
         match self {
             Probe::BelowRowid(ValueRef::Int(id)) => usize::try_from(id).unwrap_or(0),
@@ -65,7 +65,7 @@ impl Probe<'_> {
         }
     }
 
-    /// Whether an entry passes.
+    /// Returns whether an entry passes.
     #[inline(always)]
     pub(crate) fn passes(self, entry: &[u8]) -> bool
         ensures { result ≡ passes self.entry (decode entry.now) }

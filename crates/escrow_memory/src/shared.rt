@@ -7,8 +7,8 @@ use crate::tree::{Edit, Tree};
 use std::alloc::{AllocError, Global};
 use std::sync::Arc;
 
-/// A tree that may have several owners. It is written in place where it has one, and a copy of it where it
-/// has several.
+/// A tree that may have several owners. With one owner it is written in place. With several, a copy
+/// of it is written.
 #[derive(Drop)]
 pub(crate) struct Shared {
     pub(crate) tree: Arc<Tree>,
@@ -23,7 +23,7 @@ impl Shared {
         })
     }
 
-    /// One more owner of the tree.
+    /// Returns one more owner of the tree.
     pub(crate) fn share(&self) -> Result<Shared, AllocError>
         ensures { IfOk result (λ shared. shared.tree.value ≡ self.now.tree.value) }
     {
@@ -32,7 +32,7 @@ impl Shared {
         })
     }
 
-    /// Makes a write. An error leaves the heading as it is.
+    /// Makes a write. After an error the heading is unchanged.
     pub(crate) fn edit(
         &mut self,
         alloc: Global,

@@ -3,7 +3,7 @@ ghost use Rattle.std.specs.Prelude.{◌≡◌, ◌++◌, length, slice_range, If
 
 use std::alloc::AllocError;
 
-/// Where an entry lies in the bytes of its leaf: from the first number up to the second.
+/// The place of an entry in the bytes of its leaf: from the first number up to the second.
 #[derive(Clone, Copy, Debug)]
 pub(crate) struct Slot {
     pub(crate) from: u32,
@@ -13,7 +13,8 @@ pub(crate) struct Slot {
 impl Slot {
     ghost use Rattle.escrow_memory.specs.Slot.{IsWithin};
 
-    /// Writes an entry behind the bytes, and answers where it lies. Bytes of 4 GiB count as out of memory.
+    /// Writes an entry after the bytes, and returns its place. A length past 4 GiB counts as
+    /// refused memory.
     pub(crate) fn append(bytes: &mut Vec<u8>, entry: &[u8]) -> Result<Slot, AllocError>
         ensures ok { OnOk result (bytes.new.items ≡ bytes.old.items ++ entry.now) }
         ensures slot { IfOk result (λ slot. (slot.from ≡ length bytes.old.items) × (slot.to ≡ length bytes.new.items)) }
@@ -25,7 +26,7 @@ impl Slot {
         Ok(Slot { from, to })
     }
 
-    /// The entry.
+    /// Returns the entry.
     pub(crate) fn of(self, bytes: &[u8]) -> &[u8]
         requires { IsWithin (length bytes.now) self }
         ensures { result.now ≡ slice_range bytes.now self.from self.to }

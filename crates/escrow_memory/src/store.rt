@@ -18,17 +18,19 @@ use sqlite_value::row::Row;
 use std::alloc::{AllocError, Global};
 use std::sync::Arc;
 
-/// Numbered trees of rows in memory, and numbered cursors over them, with one transaction that is always open, as the kit's traits
-/// [`Store`] and [`Alter`] ask. Its one error of its own is `OutOfMemory`, wherever memory is refused: a write that meets it leaves
-/// a transaction that can only be rolled back, whole or to a savepoint, and the last commit as it was. Commit, rollback and release take no memory. It keeps
-/// nothing on a disk: a crash leaves the last commit, for as long as the program runs.
+/// Numbered trees of rows in memory, and numbered cursors over them, with one transaction that is
+/// always open, as the kit's traits [`Store`] and [`Alter`] require. Its only error of its own is
+/// `OutOfMemory`, whenever memory is refused. After a write that meets it, the transaction can only
+/// be rolled back, wholly or to a savepoint, and the last commit is unchanged. Commit, rollback and
+/// release take no memory. It keeps nothing on a disk: a crash leaves the last commit, for as long
+/// as the program runs.
 pub struct BlockStore {
     alloc: Global,
-    /// As the last commit left them.
+    /// The trees as the last commit left them.
     base: Forest,
-    /// As the transaction sees them, where it has written.
+    /// The trees as the transaction sees them, if it has written.
     changed: Option<Forest>,
-    /// As the transaction saw them at each savepoint, where it had written.
+    /// The trees as the transaction saw them at each savepoint, if it had written.
     marks: Vec<Option<Forest>>,
     cursors: Vec<Option<Cursor>>,
     is_broken: bool,
@@ -37,7 +39,7 @@ pub struct BlockStore {
     bytes: Vec<u8>,
 }
 
-// It is written out, so that no crate above proves again how each part is dropped.
+// Written out, so that crates above need not prove again how its parts are dropped.
 impl Drop for BlockStore {
     fn drop(self) {
         let BlockStore {
@@ -65,7 +67,8 @@ impl BlockStore {
     ghost use Rattle.escrow_memory.specs.Trees.{held};
     ghost use Rattle.escrow_memory.specs.Store.{trees_of, current, left_of, block_view, over_blocks, SetsCursor, Steps, IsReplaced};
 
-    /// A store with an empty tree for each object, listed as it. Want of memory is the only error.
+    /// Returns a store with an empty tree for each object, listed as that object. Fails only if
+    /// memory is refused.
     pub fn new(alloc: Global, schema: &[Object<'_>]) -> Result<BlockStore, AllocError>
         ensures shape { IfOk result (λ s. (block_view s).shape ≡ set_at (set_at (shapes_of schema.now) catalog_tree Shape.Table) version_tree Shape.Table) }
         ensures reals { IfOk result (λ s. (t : ℕ) → t ≢ catalog_tree → t ≢ version_tree → shapes_of schema.now t ≢ Shape.Absent → (block_view s).reals t ≡ reals_of schema.now t) }
@@ -92,7 +95,7 @@ impl BlockStore {
         })
     }
 
-    /// The trees that the transaction sees.
+    /// Returns the trees that the transaction sees.
     fn current(&self) -> &Forest
         ensures { result.now ≡ current self.now }
     {
@@ -102,7 +105,7 @@ impl BlockStore {
         }
     }
 
-    /// The cursor that a seek places.
+    /// Returns the cursor that a seek places.
     fn placed(&self, tree: usize, key: &Row, direction: Direction) -> Cursor
         ensures { left_of (trees_of (current self.now)) result ≡ sought (order_of (shape_of (trees_of (current self.now)) tree)) direction key.now (rows_of (trees_of (current self.now)) tree) }
     {
@@ -125,7 +128,7 @@ impl BlockStore {
         }
     }
 
-    /// Sets a cursor, and makes room for its number.
+    /// Sets a cursor, with room made for its number.
     fn set_cursor(
         cursors: &mut Vec<Option<Cursor>>,
         at: usize,
@@ -140,7 +143,7 @@ impl BlockStore {
         Ok(())
     }
 
-    /// The cursor after it has given a row, or `None` at its end.
+    /// Returns the cursor after it has given a row, or `None` at its end.
     fn step(&self, cursor: Cursor, row: &mut Row) -> Result<Option<Cursor>, AllocError>
         ensures { IfOk result (Steps (trees_of (current self.now)) cursor row.new) }
     {
@@ -162,7 +165,7 @@ impl BlockStore {
         Ok(Some(Cursor { at: next, ..cursor }))
     }
 
-    /// One more owner of the trees that the transaction has written, where it has.
+    /// Returns one more owner of the trees that the transaction has written, if it has.
     fn share_changed(alloc: Global, changed: &Option<Forest>) -> Result<Option<Forest>, AllocError>
         ensures { (base : ForestValue) → IfOk result (λ mark. (trees_of (unwrap_or mark base) ≡ trees_of (unwrap_or changed.now base)) × ((unwrap_or mark base).version ≡ (unwrap_or changed.now base).version)) }
     {
@@ -172,7 +175,7 @@ impl BlockStore {
         }
     }
 
-    /// The trees that the transaction sees, to write to.
+    /// Returns the trees that the transaction sees, for writing.
     fn take_changed(&mut self) -> Result<Forest, AllocError>
         ensures trees { IfOk result (λ forest. trees_of forest ≡ trees_of (current self.old)) }
         ensures version { IfOk result (λ forest. forest.version ≡ (current self.old).version) }
@@ -197,8 +200,8 @@ impl BlockStore {
         Ok(())
     }
 
-    /// Makes a write in the tree with this number, as [`Store`] asks of its four. An error but `Unstorable` leaves a transaction that
-    /// can only be rolled back, whole or to a savepoint.
+    /// Makes a write in the tree with this number, as [`Store`] requires of its four. After any
+    /// error but `Unstorable`, the transaction can only be rolled back, wholly or to a savepoint.
     fn write(&mut self, tree: u32, edit: Edit<'_>) -> Result<(), StoreError>
         requires { Fits edit ((block_view self.old).shape tree) }
         ensures ok { OnOk result (IsClean (block_view self.new) → SetsTree (block_view self.old) (block_view self.new) tree (edited edit.entry)) }
@@ -222,8 +225,8 @@ impl BlockStore {
         Ok(())
     }
 
-    /// Puts a tree in the place of the one with this number. An error leaves a transaction that can only be rolled back, whole or to a
-    /// savepoint.
+    /// Replaces the tree with this number. After an error, the transaction can only be rolled back,
+    /// wholly or to a savepoint.
     fn replace(&mut self, tree: u32, new: Tree) -> Result<(), StoreError>
         ensures ok { OnOk result (IsReplaced self.old self.new tree (held new)) }
         ensures err { IfErr result (IsFailure (block_view self.old) (block_view self.new)) }

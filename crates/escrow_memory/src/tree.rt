@@ -37,7 +37,7 @@ pub(crate) struct Tree {
     pub ghost ordered: { ∥ IsShaped shape rows ∥₁ },
 }
 
-/// One write, so that the four share the steps around it.
+/// A write. It is one type, so that the four writes share the steps around them.
 #[derive(Clone, Copy, Debug)]
 pub(crate) enum Edit<'a> {
     Put(&'a Row),
@@ -46,7 +46,7 @@ pub(crate) enum Edit<'a> {
     Remove(Order, &'a Row),
 }
 
-/// Whether an entry was found and has the rowid.
+/// Returns whether an entry was found and has the rowid.
 fn has_rowid(found: Option<&[u8]>, id: ValueRef<'_>) -> bool
     ensures some { IfSome found.entry (λ entry. result ≡ is_eq (value_cmp (rowid (decode entry.now)) (owned id.entry))) }
     ensures none { found.entry ≡ None → result ≡ false }
@@ -57,7 +57,7 @@ fn has_rowid(found: Option<&[u8]>, id: ValueRef<'_>) -> bool
     }
 }
 
-/// Whether an entry was found and is this one.
+/// Returns whether an entry was found and is this one.
 fn is_entry(order: Order, found: Option<&[u8]>, entry: &Row) -> bool
     ensures some { IfSome found.entry (λ other. result ≡ is_eq (entry_cmp order (decode other.now) entry.now)) }
     ensures none { found.entry ≡ None → result ≡ false }
@@ -83,7 +83,7 @@ pub(crate) fn read_into(entry: &[u8], row: &mut Row) -> Result<(), AllocError>
 impl Tree {
     ghost use Rattle.escrow_memory.specs.Trees.{heading, held};
 
-    /// An empty tree.
+    /// Returns an empty tree.
     pub(crate) fn new(alloc: Global, object: &Object<'_>) -> Result<Tree, AllocError>
         ensures heading { IfOk result (λ tree. heading tree ≡ (object.now.shape, object.now.reals, description object.now)) }
         ensures rows { IfOk result (λ tree. tree.rows ≡ []) }
@@ -96,7 +96,7 @@ impl Tree {
         })
     }
 
-    /// What stands for a number that no tree has.
+    /// Returns what is used for a number that no tree has.
     pub(crate) fn absent(alloc: Global) -> Result<Tree, AllocError>
         ensures heading { IfOk result (λ tree. heading tree ≡ (Shape.Absent, 0, [])) }
         ensures rows { IfOk result (λ tree. tree.rows ≡ []) }
@@ -109,7 +109,7 @@ impl Tree {
         })
     }
 
-    /// Its row in `sqlite_schema`, up to the SQL text.
+    /// Returns its row in `sqlite_schema`, up to the SQL text.
     pub(crate) fn listing(&self, alloc: Global, tree: usize) -> Result<Row, AllocError>
         requires { tree < 2 ^ 62 }
         ensures { IfOk result (λ row. row ≡ take 5 (listing tree self.now.described.value self.now.shape self.now.reals)) }
@@ -123,7 +123,7 @@ impl Tree {
         Ok(row)
     }
 
-    /// A copy, which shares the nodes.
+    /// Returns a copy, which shares the nodes.
     pub(crate) fn copy(&self, alloc: Global) -> Result<Tree, AllocError>
         ensures { IfOk result (λ tree. held tree ≡ held self.now) }
     {
@@ -135,7 +135,7 @@ impl Tree {
         })
     }
 
-    /// Writes the row that has the rowid over `row`, or answers false.
+    /// Writes the row with this rowid over `row`. Returns whether there is one.
     pub(crate) fn get(&self, id: i64, row: &mut Row) -> Result<bool, AllocError>
         requires { self.now.shape ≡ Shape.Table }
         ensures { IfOk result (Finds self.now.rows id row.new) }
@@ -153,7 +153,8 @@ impl Tree {
         }
     }
 
-    /// Inserts a row of a table, or replaces the one that has its rowid. An error leaves no rows.
+    /// Inserts a row of a table, or replaces the one with its rowid. After an error there are no
+    /// rows.
     fn put(&mut self, alloc: Global, new: &Row, bytes: &[u8]) -> Result<(), AllocError>
         requires table { self.old.shape ≡ Shape.Table }
         requires keyed { IsTrue (is_int (rowid new.now)) }
@@ -167,7 +168,7 @@ impl Tree {
         self.rows.splice(alloc, at, cut, Some(bytes))
     }
 
-    /// Takes the row out that has the rowid. An error leaves no rows.
+    /// Removes the row with this rowid. After an error there are no rows.
     fn delete(&mut self, alloc: Global, id: i64) -> Result<(), AllocError>
         requires { self.old.shape ≡ Shape.Table }
         ensures ok { OnOk result (self.new.rows ≡ without_rowid id self.old.rows) }
@@ -180,7 +181,7 @@ impl Tree {
         self.rows.splice(alloc, at, 1, None)
     }
 
-    /// Inserts an entry of an index, unless it is there. An error leaves no entries.
+    /// Inserts an entry of an index, unless it exists. After an error there are no entries.
     fn insert(
         &mut self,
         alloc: Global,
@@ -200,7 +201,7 @@ impl Tree {
         self.rows.splice(alloc, at, 0, Some(bytes))
     }
 
-    /// Takes an entry of an index out. An error leaves no entries.
+    /// Removes an entry of an index. After an error there are no entries.
     fn remove(&mut self, alloc: Global, order: Order, entry: &Row) -> Result<(), AllocError>
         requires { self.old.shape ≡ Shape.Index order }
         ensures ok { OnOk result (self.new.rows ≡ remove_entry order entry.now self.old.rows) }
@@ -218,7 +219,7 @@ impl Edit<'_> {
     ghost use Rattle.escrow_memory.specs.Edit.{edited, Fits, Writes, written};
     ghost use Rattle.escrow_memory.specs.Trees.{heading};
 
-    /// The row that is put or inserted.
+    /// Returns the row that is put or inserted, if one is.
     pub(crate) fn row(&self) -> Option<&Row>
         ensures { result ≡ written self.now }
     {
@@ -228,7 +229,7 @@ impl Edit<'_> {
         }
     }
 
-    /// Makes the write. `bytes` is the record of what is put or inserted.
+    /// Makes the write. `bytes` is the record of the row that is put or inserted.
     pub(crate) fn apply(
         self,
         alloc: Global,

@@ -11,12 +11,12 @@ IsAmount z = (neg_ℤ MAX ≤ℤ z) × (z ≤ℤ MAX)
 abbrev pub is_amount : ℤ → Bool
 is_amount z = int_le (neg_ℤ MAX) z && int_le z MAX
 
--- a text begins with a minus
+-- whether a text begins with a minus
 abbrev pub is_negative : List ℕ → Bool
 is_negative [] = false
 is_negative (c ∷ cs) = c == 45
 
--- what follows a text's sign, a minus or a plus, where it has one
+-- what follows a text's sign, a minus or a plus, or the whole text if it has none
 abbrev pub after_sign : List ℕ → List ℕ
 after_sign [] = []
 after_sign (c ∷ cs) = if c == 45 || c == 43 then cs else c ∷ cs
@@ -26,7 +26,7 @@ abbrev pub is_numeral : List ℕ → Bool
 is_numeral [] = false
 is_numeral (c ∷ cs) = all_ascii_digits (c ∷ cs)
 
--- the number that digits spell behind n: each digit moves what stands before it up by one place
+-- the number that digits spell after n: each digit moves the digits before it up by one place
 abbrev pub number_after : ℕ → List ℕ → ℕ
 number_after n [] = n
 number_after n (c ∷ cs) = number_after (10 * n + (c - 48)) cs

@@ -7,18 +7,18 @@ use Rattle.escrow_num.specs.Scale.{IsScale, unit_at}
 use Rattle.escrow_num.specs.declared.amount.TheConstants.Amount.{MAX}
 use Rattle.escrow_num.specs.declared.scale.TheConstants.Scale.{MAX as MAX_SCALE}
 
--- millionths are so many units of a scale, and the units are an amount
+-- the millionths are this many units of the scale, and the units are an amount
 pub record AreUnits (scale : ℕ) (millionths units : ℤ) : Type 0 where
   pub scaled : IsScale scale
   pub worth : units *ℤ pos (unit_at scale) ≡ millionths
   pub small : IsAmount units
 
--- a decimal, in millionths, is an amount of units of some scale: at most 15 digits, of which at most 6 stand behind the
+-- a decimal, in millionths, is an amount of units of some scale: at most 15 digits, of which at most 6 are after the
 -- point
 abbrev pub IsDecimal : ℤ → Type 0
 IsDecimal z = (scale : ℕ) × (units : ℤ) × AreUnits scale z units
 
--- a digit in front of others: none where it is a zero and none follow
+-- a digit before others that are trimmed: nothing if it is a zero and none follow
 abbrev pub before_trimmed : ℕ → List ℕ → List ℕ
 before_trimmed c [] = if c == 48 then [] else c ∷ []
 before_trimmed c (d ∷ ds) = c ∷ d ∷ ds
@@ -28,8 +28,8 @@ abbrev pub trimmed : List ℕ → List ℕ
 trimmed [] = []
 trimmed (c ∷ cs) = before_trimmed c (trimmed cs)
 
--- the millionths that digits in front of a point and behind it spell: without the zeros at the end
--- at most 6 stand behind it, and the number without the point has at most 15 digits
+-- the millionths that digits before a point and after it spell. Without the zeros at the end, at most 6 digits are
+-- after the point, and the number without the point has at most 15 digits
 unfoldable pub millionths_of : List ℕ → List ℕ → Option ℤ
 millionths_of front behind =
     let digits = trimmed behind in
@@ -40,11 +40,11 @@ millionths_of front behind =
 abbrev pub whole_spelled : List ℕ → Option ℤ
 whole_spelled bytes = if is_numeral bytes then millionths_of bytes [] else None
 
--- the millionths that two numerals spell, one in front of a point and one behind it
+-- the millionths that two numerals spell, one before a point and one after it
 abbrev pub pointed_spelled : List ℕ → List ℕ → Option ℤ
 pointed_spelled front behind = if is_numeral front && is_numeral behind then millionths_of front behind else None
 
--- the millionths that bytes spell whose first point, if there is one, stands at a place
+-- the millionths that bytes spell, given the place of their first point, if they have one
 abbrev pub spelled_at : List ℕ → Option ℕ → Option ℤ
 spelled_at bytes None = whole_spelled bytes
 spelled_at bytes (Some place) = pointed_spelled (take place bytes) (drop (place + 1) bytes)
@@ -53,7 +53,7 @@ spelled_at bytes (Some place) = pointed_spelled (take place bytes) (drop (place 
 abbrev pub unsigned_spelled : List ℕ → Option ℤ
 unsigned_spelled bytes = spelled_at bytes (position (λ c. c == 46) bytes)
 
--- a number turned to the other side of zero, where a test holds
+-- a number with its sign turned, if a test holds
 abbrev pub negated_if : Bool → Option ℤ → Option ℤ
 negated_if test None = None
 negated_if test (Some z) = Some (if test then neg_ℤ z else z)
@@ -62,7 +62,7 @@ negated_if test (Some z) = Some (if test then neg_ℤ z else z)
 unfoldable pub decimal_spelled : List ℕ → Option ℤ
 decimal_spelled text = negated_if (is_negative text) (unsigned_spelled (after_sign text))
 
--- the units of a scale that millionths are, where they are a whole number of them and an amount; nothing is rounded
+-- millionths in units of a scale, if they are a whole number of units and an amount; nothing is rounded
 unfoldable pub units_at : ℕ → ℤ → Option ℤ
 units_at scale z =
     let units = int_div z (pos (unit_at scale)) in

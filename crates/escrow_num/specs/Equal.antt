@@ -1,4 +1,4 @@
--- Helps: the tests of values and of rows' names decide what is the same, as those of a map's keys have to.
+-- Helps: the tests of values and of rows' names decide equality, as a map requires of its keys.
 use Rattle.std.specs.Prelude.{◌≡◌, Bool, true, false, ◌&&◌, bytes_eq, refl}
 use Rattle.std.specs.Bool.{Decides}
 use Rattle.std.specs.Cmp.{IsEquivalence, decided, signed_Decides}
@@ -9,7 +9,7 @@ use Rattle.escrow_num.specs.declared.value.Value.{Value}
 use Rattle.escrow_num.specs.declared.value.Value.TheVariants.{Number, Text}
 use Rattle.escrow_num.specs.Order.{value_eq, same_row}
 
--- two values are the same where the test says so
+-- the test decides whether two values are equal
 pub value_decides : (a b : Value) → Decides (value_eq a b) (a ≡ b)
 value_decides (Number a) (Number b) = (λ e. ap Number ((signed_Decides a b).0 e), λ e. (signed_Decides a b).1 cc)
 value_decides (Text a) (Text b) = (λ e. ap Text ((bytes_decides a b).0 e), λ e. (bytes_decides a b).1 cc)
@@ -23,7 +23,7 @@ both : (a b : Bool) → (a && b) ≡ true → (a ≡ true) × (b ≡ true)
 both true b e = (refl, e)
 both false b e = absurd cc
 
--- two names are of the same row where the test says so
+-- the test decides whether two names are equal
 pub row_decides : (a b : RowName) → Decides (same_row a b) (a ≡ b)
 row_decides a b = (
   λ e.

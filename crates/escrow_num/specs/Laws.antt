@@ -27,7 +27,7 @@ pub record Limits : Type 0 where
   pub decimals : MAX_DECIMAL ≡ pos 999999999999999000000
   pub texts : MAX_TEXT ≡ 36
 
--- units of a scale are given just where they make up the millionths and are an amount: nothing is rounded
+-- units of a scale exist exactly if they make up the millionths and are an amount: nothing is rounded
 pub record UnitsAreExact : Type 0 where
   pub exact : (scale : ℕ) (millionths units : ℤ) → (units_at scale millionths ≡ Some units) ↔ AreUnits scale millionths units
 

@@ -1,10 +1,10 @@
--- Helps: how a name lies in its place. Nothing that callers see rests on it.
+-- Helps: how a name lies in its place. No contract of a public call uses it.
 use Rattle.std.specs.Prelude.{◌≡◌, ℕ, ◌≤◌, ◌-◌, List, length, ◌++◌, take, replicate}
 use Rattle.std.proofs.Common.{arith, ap, ◌∙◌, length-append}
 use Rattle.std.proofs.lemmas.List.{length-replicate, length-take}
 use Rattle.escrow_num.specs.declared.name.TheConstants.Name.{MAX_LEN}
 
--- a name in its place: zeros fill what it leaves of the 36 bytes
+-- a name in its place: zeros fill the rest of the 36 bytes
 abbrev pub padded : List ℕ → List ℕ
 padded name = name ++ replicate (MAX_LEN - length name) 0
 

@@ -1,4 +1,4 @@
--- Believed: each refusal's number, the refusal that a failure is answered as, and the first refusal of several.
+-- Believed: each refusal's number, the refusal for each failure, and the first refusal of several.
 use Rattle.std.specs.Prelude.{ℕ, Bool, if◌then◌else◌, Option, Some, None, List, [], ◌∷◌}
 use Rattle.escrow_num.specs.Span.{first_of_two}
 use Rattle.escrow_num.specs.declared.failure.Failure.{Failure}
@@ -35,16 +35,16 @@ number_of refusal.Store = 60
 number_of refusal.ForeignStore = 61
 number_of refusal.UnknownVersion = 62
 
--- want of memory is answered as 51, and any other failure as 60
+-- if memory is refused, the answer is 51; for any other failure it is 60
 abbrev pub refusal_for : Failure → Refusal
 refusal_for failure.Memory = refusal.Memory
 refusal_for failure.Store = refusal.Store
 
--- a refusal where a test holds
+-- a refusal, if a test holds
 abbrev pub refuse_if : Bool → Refusal → Option Refusal
 refuse_if test refusal = if test then Some refusal else None
 
--- the first refusal that there is, of those in a list
+-- the first refusal in a list, if it has one
 abbrev pub first_refusal : List (Option Refusal) → Option Refusal
 first_refusal [] = None
 first_refusal (refusal ∷ refusals) = first_of_two refusal (first_refusal refusals)

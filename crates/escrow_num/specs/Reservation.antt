@@ -4,10 +4,10 @@ use Rattle.escrow_num.specs.declared.reservation.Reservation.{Reservation}
 use Rattle.escrow_num.specs.declared.value.RowName.{RowName}
 use Rattle.escrow_num.specs.Order.{same_row}
 
--- what each change adds to its column: nothing where the UPDATE doesn't assign it
+-- what each change adds to its column: zero if the UPDATE doesn't assign the column
 abbrev pub deltas : List (Option ℤ) → List ℤ
 deltas changes = map (λ change. unwrap_or change (pos 0)) changes
 
--- the changes that a reservation makes to the row of a name: its own where it is of that row, otherwise none
+-- the changes that a reservation makes to the row of a name: its own if it is of that row, otherwise none
 abbrev pub changes_at : RowName → Reservation → List ℤ
 changes_at name r = if same_row name r.row then deltas r.changes else []

@@ -3,7 +3,7 @@ use Rattle.std.specs.Prelude.{Bool, true, false}
 use Rattle.escrow_num.specs.declared.value.Value.{Value}
 use Rattle.escrow_num.specs.declared.value.Value.TheVariants.{Number, Text}
 
--- a value holds memory, which a copy of it takes too: a text does
+-- whether a value holds memory, which a copy takes too: a text does
 abbrev pub holds_memory : Value → Bool
 holds_memory (Number amount) = false
 holds_memory (Text text) = true

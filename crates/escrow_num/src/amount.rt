@@ -28,10 +28,10 @@ impl Amount {
     /// The greatest magnitude of an amount.
     pub const MAX: i64 = 999_999_999_999_999;
 
-    /// No amount at all: what a change that changes nothing adds.
+    /// Zero, which a change that changes nothing adds.
     pub const ZERO: Amount = Amount { value: 0 };
 
-    /// The amount of a number, or `None` past the limit.
+    /// Returns the amount of a number, or `None` if its magnitude is past [`Amount::MAX`].
     pub fn new(value: i64) -> Option<Self>
         ensures { SomeIff result (IsAmount value) value }
     {
@@ -42,15 +42,16 @@ impl Amount {
         }
     }
 
-    /// The amount that a text spells: an optional `+` or `-`, then one or more digits, leading
-    /// zeros allowed. `None` for any other text, and for a number past the limit.
+    /// Returns the amount that a text spells: an optional `+` or `-`, then one or more digits.
+    /// Leading zeros are allowed. Returns `None` for any other text, and for a number past the
+    /// limit.
     pub fn read(text: &str) -> Option<Self>
         ensures { result ≡ spelled text.now }
     {
         text.parse::<i64>().ok().and_then(Amount::new)
     }
 
-    /// The sum of two, where it is within the limit.
+    /// Returns the sum of two amounts, which must be within the limit.
     pub fn plus(self, other: Amount) -> Amount
         requires { IsAmount (self +ℤ other) }
         ensures { result ≡ self +ℤ other }
@@ -60,7 +61,7 @@ impl Amount {
         }
     }
 
-    /// The number, within the limit.
+    /// Returns the number.
     pub fn get(self) -> i64
         ensures value { result ≡ self }
         ensures within { IsAmount result }
@@ -69,7 +70,7 @@ impl Amount {
     }
 }
 
-/// The number in decimal, with `-` in front where it is negative.
+/// Writes the number in decimal, with a leading `-` if it is negative.
 impl fmt::Display for Amount {
     ghost use Rattle.std.specs.Prelude.{Some};
     ghost use Rattle.std.specs.Fmt.{signed_decimal, styled_signed_decimal};

@@ -5,15 +5,15 @@ use smallvec::SmallVec;
 use std::alloc::{AllocError, Global};
 use std::marker::Model;
 
-/// The change of each RESERVABLE column of a table, in column order: `None` where the UPDATE
-/// doesn't assign the column, so that one that adds zero is told apart. Few columns of a table are
-/// RESERVABLE, so the changes of one reservation stand in it and mostly take no memory.
+/// The change of each RESERVABLE column of a table, in column order. A column that the UPDATE
+/// doesn't assign has `None`, which differs from a change of zero. Few columns of a table are
+/// RESERVABLE, so the changes of most reservations are held in place and take no memory.
 #[derive(Debug)]
 pub struct Changes {
     items: SmallVec<Option<Amount>, { Changes::IN_PLACE }>,
 }
 
-// It is written out, so that no crate above proves again how its part is dropped.
+// Written out, so that crates above need not prove again how its parts are dropped.
 impl Drop for Changes {
     fn drop(self) {
         let Changes { items: _ } = self;
@@ -32,10 +32,10 @@ impl Model for Changes {
 }
 
 impl Changes {
-    /// How many changes take no memory.
+    /// How many changes are held in place.
     pub const IN_PLACE: usize = 4;
 
-    /// No changes. Takes no memory.
+    /// Returns an empty list of changes. Takes no memory.
     pub fn new(alloc: Global) -> Self
         ensures { result ≡ [] }
     {
@@ -44,21 +44,21 @@ impl Changes {
         }
     }
 
-    /// The changes, in order.
+    /// Returns the changes, in order.
     pub fn as_slice(&self) -> &[Option<Amount>]
         ensures { result.now ≡ self.now }
     {
         self.items.as_slice()
     }
 
-    /// The number of changes.
+    /// Returns the number of changes.
     pub fn len(&self) -> usize
         ensures { result ≡ length self.now }
     {
         self.items.len()
     }
 
-    /// Adds the change of the next column. Where memory is refused the changes stay as they are.
+    /// Adds the change of the next column. If memory is refused, the changes stay as they are.
     pub fn push(&mut self, change: Option<Amount>) -> Result<(), AllocError>
         ensures ok { OnOk result (self.new ≡ self.old ++ change ∷ []) }
         ensures err { OnErr result (self.new ≡ self.old) }

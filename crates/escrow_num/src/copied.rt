@@ -8,18 +8,19 @@ use crate::seq::Seq;
 use crate::value::Value;
 use std::alloc::{AllocError, Global};
 
-/// What is copied and compared whole: what the lists of statements and replies are made of.
+/// A value that is copied and compared as a whole, as the items of statements' and replies' lists
+/// are.
 pub trait Copied: Drop {
-    /// A copy. Want of memory is the only error.
+    /// Returns a copy. Fails only if memory is refused.
     fn copy(&self, alloc: Global) -> Result<Self, AllocError>
         ensures { IfOk result (λ t. t ≡ self.now) };
 
-    /// Whether two are the same.
+    /// Returns whether two values are equal.
     fn is_same(&self, other: &Self) -> bool
         ensures { IsTrue result ↔ (self.now ≡ other.now) };
 }
 
-/// A copy of a list. Want of memory is the only error.
+/// Returns a copy of a list. Fails only if memory is refused.
 pub fn copy_all<T: Copied>(alloc: Global, items: &[T]) -> Result<Seq<T>, AllocError>
     ensures { IfOk result (λ copied. copied ≡ items.now) }
 {
@@ -30,7 +31,7 @@ pub fn copy_all<T: Copied>(alloc: Global, items: &[T]) -> Result<Seq<T>, AllocEr
     Ok(copied)
 }
 
-/// Whether two lists have the same items, in the same order.
+/// Returns whether two lists have the same items, in the same order.
 pub fn are_same<T: Copied>(items: &[T], others: &[T]) -> bool
     ensures { IsTrue result ↔ (items.now ≡ others.now) }
 {

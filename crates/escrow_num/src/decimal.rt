@@ -8,8 +8,8 @@ use crate::digits::{after_sign, is_negative, is_numeral, number_of, point_of, tr
 use crate::scale::Scale;
 use std::marker::Model;
 
-/// A number as a statement writes it, in millionths: without the zeros at the end of its digits
-/// behind the point it has at most 15 digits, of which at most 6 stand behind the point.
+/// A number as a statement writes it, in millionths. It has at most 15 digits, of which at most 6
+/// are after the point. Zeros at the end after the point don't count.
 #[derive(Clone, Copy, Debug, PartialEq, Eq, PartialOrd, Ord)]
 pub struct Decimal {
     millionths: i128,
@@ -32,10 +32,12 @@ impl Decimal {
     /// The greatest magnitude of a decimal, in millionths.
     pub const MAX: i128 = 999_999_999_999_999_000_000;
 
-    /// The decimal that a text spells: an optional `+` or `-`, then one or more digits, leading
-    /// zeros allowed, and optionally a point and one or more digits. Zeros at the end behind the
-    /// point count for nothing; `None` for any other text, and where more than 6 digits are left
-    /// behind the point, or more than 15 without it. Nothing is rounded.
+    /// Returns the decimal that a text spells: an optional `+` or `-`, then one or more digits, and
+    /// optionally a point and one or more digits. Leading zeros are allowed, and zeros at the end
+    /// after the point don't count.
+    ///
+    /// Returns `None` for any other text, and if more than 6 digits are left after the point, or
+    /// more than 15 in all. Nothing is rounded.
     #[tactic(auto, unfolding(crate::specs::Decimal::decimal_spelled))]
     pub fn read(text: &str) -> Option<Self>
         ensures { result ≡ decimal_spelled text.now }
@@ -49,7 +51,7 @@ impl Decimal {
         })
     }
 
-    /// The decimal that a text without a sign spells, as [`Decimal::read`].
+    /// Returns the decimal that a text without a sign spells, by the rules of [`Decimal::read`].
     pub fn read_unsigned(text: &[u8]) -> Option<Self>
         ensures { result ≡ unsigned_spelled text.now }
     {
@@ -59,8 +61,8 @@ impl Decimal {
         }
     }
 
-    /// The decimal of the digits in front of a point and of those behind it, of which there may be
-    /// none. `None` past the limits of [`Decimal::read`].
+    /// Returns the decimal of the digits before a point and of those after it, if any. Returns
+    /// `None` past the limits of [`Decimal::read`].
     #[tactic(auto, unfolding(crate::specs::Decimal::millionths_of))]
     pub fn of_digits(front: &[u8], behind: &[u8]) -> Option<Self>
         ensures { result ≡ millionths_of front.now behind.now }
@@ -71,7 +73,7 @@ impl Decimal {
         Some(Self::of_units(units, scale))
     }
 
-    /// The decimal that so many units of a scale are.
+    /// Returns the decimal of a number of units of a scale.
     pub fn of_units(units: Amount, scale: Scale) -> Self
         ensures { result ≡ units *ℤ pos (unit_at scale) }
     {
@@ -80,7 +82,7 @@ impl Decimal {
         }
     }
 
-    /// The number on the other side of zero.
+    /// Returns the number with its sign turned.
     pub fn negated(self) -> Self
         ensures { result ≡ neg_ℤ self }
     {
@@ -89,8 +91,9 @@ impl Decimal {
         }
     }
 
-    /// The units of a scale of so many digits that the number is. `None` where it has more digits
-    /// behind the point, where the units are no amount, and for no scale. Nothing is rounded.
+    /// Returns the number in units of a scale of this many digits. Returns `None` if the number has
+    /// more digits after the point, if the units are no amount, or if there is no such scale.
+    /// Nothing is rounded.
     #[tactic(auto, unfolding(crate::specs::Decimal::units_at))]
     pub fn at_scale(self, digits: u8) -> Option<Amount>
         ensures { result ≡ units_at digits self }
@@ -101,7 +104,7 @@ impl Decimal {
         }
     }
 
-    /// The units of a scale that the number is, where they are an amount.
+    /// Returns the number in units of a scale, if they are an amount.
     #[tactic(auto, unfolding(crate::specs::Decimal::units_at))]
     fn units_of(self, scale: Scale) -> Option<Amount>
         ensures { result ≡ units_at scale self }
@@ -116,14 +119,14 @@ impl Decimal {
         }
     }
 
-    /// The amount that the number is, or `None` where it isn't whole.
+    /// Returns the number as an amount, or `None` if it isn't whole.
     pub fn to_amount(self) -> Option<Amount>
         ensures { result ≡ units_at 0 self }
     {
         self.at_scale(0)
     }
 
-    /// The millionths, within the limit.
+    /// Returns the millionths.
     pub fn get(self) -> i128
         ensures value { result ≡ self }
         ensures written { IsDecimal result }
@@ -144,7 +147,7 @@ impl From<Amount> for Decimal {
     }
 }
 
-/// The decimal of a text without a point.
+/// Returns the decimal of a text without a point.
 fn read_whole(text: &[u8]) -> Option<Decimal>
     ensures { result ≡ whole_spelled text.now }
 {
@@ -155,7 +158,7 @@ fn read_whole(text: &[u8]) -> Option<Decimal>
     }
 }
 
-/// The decimal of what stands in front of a point and behind it.
+/// Returns the decimal of the digits before a point and those after it.
 fn read_pointed(front: &[u8], behind: &[u8]) -> Option<Decimal>
     ensures { result ≡ pointed_spelled front.now behind.now }
 {

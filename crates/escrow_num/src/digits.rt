@@ -8,7 +8,7 @@ ghost use Rattle.escrow_num.specs.declared.amount.TheConstants.Amount.{MAX as MA
 
 use crate::amount::Amount;
 
-/// Whether a text begins with a minus.
+/// Returns whether a text begins with a minus.
 pub(crate) fn is_negative(text: &[u8]) -> bool
     ensures { result ≡ is_negative text.now }
 {
@@ -18,7 +18,7 @@ pub(crate) fn is_negative(text: &[u8]) -> bool
     }
 }
 
-/// What follows a text's sign, where it has one.
+/// Returns what follows a text's sign, or the whole text if it has none.
 pub(crate) fn after_sign(text: &[u8]) -> &[u8]
     ensures { result.now ≡ after_sign text.now }
 {
@@ -28,14 +28,14 @@ pub(crate) fn after_sign(text: &[u8]) -> &[u8]
     }
 }
 
-/// Where the first point of a text stands.
+/// Returns the place of a text's first point.
 pub(crate) fn point_of(text: &[u8]) -> Option<usize>
     ensures { result ≡ position (λ c. c == 46) text.now }
 {
     text.iter().position(|byte| *byte == b'.')
 }
 
-/// Whether bytes are one or more digits.
+/// Returns whether bytes are one or more digits.
 #[tactic(auto, using(crate::proofs::DigitLemmas::are_digits))]
 pub(crate) fn is_numeral(bytes: &[u8]) -> bool
     ensures { result ≡ is_numeral bytes.now }
@@ -43,14 +43,14 @@ pub(crate) fn is_numeral(bytes: &[u8]) -> bool
     !bytes.is_empty() && are_digits(bytes)
 }
 
-/// Whether bytes are digits.
+/// Returns whether bytes are digits.
 fn are_digits(bytes: &[u8]) -> bool
     ensures { result ≡ list_all is_ascii_digit bytes.now }
 {
     bytes.iter().all(|byte| byte.is_ascii_digit())
 }
 
-/// Digits without the zeros at their end.
+/// Returns the digits without the zeros at their end.
 pub(crate) fn trimmed(digits: &[u8]) -> &[u8]
     ensures { result.now ≡ trimmed digits.now }
 {
@@ -61,7 +61,7 @@ pub(crate) fn trimmed(digits: &[u8]) -> &[u8]
     &digits[..len]
 }
 
-/// The number that digits and further digits behind them spell, where it is an amount.
+/// Returns the number that two runs of digits spell together, if it is an amount.
 pub(crate) fn number_of(front: &[u8], behind: &[u8]) -> Option<Amount>
     ensures { SomeIff result (number_of (front.now ++ behind.now) ≤ unsigned_abs MAX_AMOUNT)
         (pos (number_of (front.now ++ behind.now))) }
@@ -71,7 +71,8 @@ pub(crate) fn number_of(front: &[u8], behind: &[u8]) -> Option<Amount>
     Amount::new(number as i64)
 }
 
-/// The number that digits spell behind another, within the limit of amounts.
+/// Returns the number that digits spell after the digits of another number, within the limit of
+/// amounts.
 fn number_after(start: u64, digits: &[u8]) -> Option<u64>
     requires { start ≤ unsigned_abs MAX_AMOUNT }
     ensures { SomeIff result (number_after start digits.now ≤ unsigned_abs MAX_AMOUNT)

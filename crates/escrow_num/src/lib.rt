@@ -1,10 +1,12 @@
-//! The words that every layer above shares: whole amounts, wide sums, numbers with a scale, spans,
-//! names, values, rows, reservations and refusals, and the two small types that keep a list or a
-//! text.
+//! The types that every layer above shares: whole amounts, wide sums, numbers with a scale, spans,
+//! names, values, rows, reservations and refusals. [`Seq`] and [`Text`] hold the lists and the
+//! texts of the layers above.
 //!
-//! Its one contract: the answer of a span is the answer of its two limits, the low one first, and
-//! there is none exactly where each value between the two extremes is allowed
-//! ([`Span::first_broken`]).
+//! Its main contract is that of [`Span::first_broken`]: it returns the first limit of a span that
+//! values leave, the low one first. It returns `None` exactly if each value between the two
+//! extremes is allowed.
+//!
+//! Begin with [`Span`], then read [`Reservation`] and [`Refusal`].
 #![tactic(auto)]
 
 mod amount;

@@ -14,10 +14,10 @@ use std::fmt;
 use std::hash::{Hash, Hasher};
 use std::marker::Model;
 
-/// A name of a table, a column or a check, in upper case: a letter A to Z, then letters A to Z,
-/// digits, `_`, `$` and `#`, 36 of them at most. It is held in place, so that a copy takes no
-/// memory. A name that a statement writes has at most 30 bytes; the check of a RESERVABLE column's
-/// range is named `RANGE_` and the column.
+/// A name of a table, a column or a check, in upper case. It begins with a letter A to Z, and
+/// continues with letters A to Z, digits, `_`, `$` and `#`. It has at most 36 bytes, and is held in
+/// place, so a copy takes no memory. A name that a statement writes has at most 30 bytes. The check
+/// of a RESERVABLE column's range is named `RANGE_` and the column, which takes up to 36.
 #[derive(Clone, Copy)]
 pub struct Name {
     bytes: [u8; 36],
@@ -45,13 +45,13 @@ impl Model for Name {
 }
 
 impl Name {
-    /// The most bytes that a name has.
+    /// The most bytes of a name.
     pub const MAX_LEN: usize = 36;
 
     /// The most bytes of a name that a statement writes.
     pub const MAX_WRITTEN: usize = 30;
 
-    /// The name of these bytes, or `None` where they spell none.
+    /// Returns the name of these bytes, or `None` if they spell none.
     pub fn new(text: &[u8]) -> Option<Self>
         ensures { SomeIff result (IsName text.now) text.now }
     {
@@ -61,7 +61,7 @@ impl Name {
         Some(Self::in_upper_case(text))
     }
 
-    /// The name that the bytes write, in any case of their letters.
+    /// Returns the name that the bytes write, in upper or lower case.
     pub fn in_upper_case(text: &[u8]) -> Self
         requires { IsName (map to_ascii_uppercase text.now) }
         ensures { result ≡ map to_ascii_uppercase text.now }
@@ -76,14 +76,14 @@ impl Name {
         }
     }
 
-    /// Some name, for what has none yet.
+    /// Returns some name, for a place that has none yet.
     pub(crate) fn blank() -> Self {
         let mut bytes = [0; 36];
         bytes[0] = b'A';
         Name { bytes, len: 1 }
     }
 
-    /// The bytes of the name.
+    /// Returns the bytes of the name.
     pub fn as_bytes(&self) -> &[u8]
         ensures value { result.now ≡ self.now }
         ensures within { IsName result.now }
@@ -91,7 +91,7 @@ impl Name {
         &self.bytes[..self.len]
     }
 
-    /// The name's text.
+    /// Returns the name's text.
     pub fn as_str(&self) -> &str
         ensures { result.now ≡ self.now }
     {
@@ -102,7 +102,8 @@ impl Name {
     }
 }
 
-/// Whether bytes spell a name: a letter A to Z, then letters A to Z, digits, `_`, `$` and `#`.
+/// Returns whether bytes spell a name: a letter A to Z, then letters A to Z, digits, `_`, `$` and
+/// `#`.
 fn spells_name(text: &[u8]) -> bool
     ensures { result ≡ spells_name text.now }
 {
@@ -112,14 +113,14 @@ fn spells_name(text: &[u8]) -> bool
     }
 }
 
-/// Whether a name may go on with each of the bytes.
+/// Returns whether each of the bytes may follow a name's first letter.
 fn are_name_bytes(bytes: &[u8]) -> bool
     ensures { result ≡ list_all is_name_byte bytes.now }
 {
     bytes.iter().all(|byte| is_name_byte(*byte))
 }
 
-/// Whether a name may go on with the byte.
+/// Returns whether the byte may follow a name's first letter.
 fn is_name_byte(byte: u8) -> bool
     ensures { result ≡ is_name_byte byte }
 {
@@ -144,7 +145,7 @@ impl Eq for Name {
     ghost laws = { nat_list_eq_equiv };
 }
 
-/// A name is hashed as its text: its bytes, and a byte that no text has.
+/// A name is hashed as its text is: its bytes, then a byte that no text has.
 impl Hash for Name {
     ghost hash_input = { fed.str };
 
@@ -181,7 +182,7 @@ impl Ord for Name {
     }
 }
 
-/// The name's text.
+/// Writes the name's text.
 impl fmt::Display for Name {
     ghost use Rattle.std.specs.Prelude.{Some};
 
@@ -192,7 +193,7 @@ impl fmt::Display for Name {
     }
 }
 
-/// The name's text in quotes.
+/// Writes the name's text in quotes.
 impl fmt::Debug for Name {
     fn fmt<W: fmt::Write>(&self, f: &mut fmt::Formatter<W>) -> fmt::Result {
         fmt::Debug::fmt(self.as_str(), f)

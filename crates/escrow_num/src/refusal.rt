@@ -9,23 +9,23 @@ use crate::wide::Wide;
 use std::alloc::{AllocError, AllocFailed};
 
 /// The limit of a check that a change could break: the check's name, the side, the worst value on
-/// that side, and the limit beyond which it lies. Both numbers are in units of the check's scale.
+/// that side, and the limit that it passes. Both numbers are in units of the check's scale.
 #[derive(Clone, Copy, Debug, PartialEq, Eq)]
 pub struct Violation {
     /// The check's name.
     pub check: Name,
-    /// The side on which the worst value lies beyond the limit.
+    /// The side on which the worst value passes the limit.
     pub side: Side,
-    /// The least value of the check's form where the side is low, the greatest where it is high.
+    /// The least value of the check's form if the side is low, the greatest if it is high.
     pub worst: Wide,
     /// The limit of that side.
     pub limit: Wide,
-    /// How many digits the two numbers have behind the point: the check's scale.
+    /// How many digits both numbers have after the point: the check's scale.
     pub scale: Scale,
 }
 
 impl Violation {
-    /// Whether two are the same: the check, the side, the worst value, the limit and the scale.
+    /// Returns whether two violations are equal: in check, side, worst value, limit and scale.
     pub fn is_same(&self, other: &Violation) -> bool
         ensures { IsTrue result ↔ (self.now ≡ other.now) }
     {
@@ -37,10 +37,11 @@ impl Violation {
     }
 }
 
-/// Why a statement, a line or an opening is refused. Each has its number, which replies carry.
+/// Why a statement, a line or the opening of a store is refused. Each refusal has a number, which
+/// replies carry.
 #[derive(Clone, Copy, Debug)]
 pub enum Refusal {
-    /// 11: the text is no sentence of the grammar; the column, from 1, is that of the fault.
+    /// 11: the text is no sentence of the grammar. The column, from 1, is that of the fault.
     Syntax { column: u32 },
     /// 12: the line is no line of a script.
     Line,
@@ -50,19 +51,20 @@ pub enum Refusal {
     NoSuchTable,
     /// 22: the table's definition breaks a rule.
     BadDefinition,
-    /// 23: a literal is of the wrong kind or doesn't fit its column, or their number is wrong.
+    /// 23: a literal is of the wrong kind or doesn't fit its column, or the number of literals is
+    /// wrong.
     BadValue,
-    /// 24: a column that can't be assigned so.
+    /// 24: a column can't be assigned this way.
     BadAssignment,
-    /// 25: WHERE names another column than the key.
+    /// 25: WHERE names a column other than the key.
     NotTheKey,
     /// 26: the session's transaction is open.
     TransactionOpen,
     /// 27: the table declares no check of that name.
     NoSuchConstraint,
-    /// 30: a row of that key stands.
+    /// 30: a row with that key exists.
     RowExists,
-    /// 31: no row of that key stands.
+    /// 31: no row with that key exists.
     NoSuchRow,
     /// 32: a session holds a reservation of the row.
     RowReserved,
@@ -95,7 +97,7 @@ pub enum Refusal {
 }
 
 impl Refusal {
-    /// The refusal's number, by which programs tell refusals apart.
+    /// Returns the refusal's number, by which programs distinguish refusals.
     pub fn number(&self) -> u8
         ensures { result ≡ number_of self.now }
     {
@@ -129,8 +131,8 @@ impl Refusal {
         }
     }
 
-    /// Whether two refusals are the same: the number, and the column or the violation where there is
-    /// one.
+    /// Returns whether two refusals are equal: in number, and in the column or the violation if
+    /// they have one.
     pub fn is_same(&self, other: &Refusal) -> bool
         ensures { IsTrue result ↔ (self.now ≡ other.now) }
     {

@@ -5,17 +5,17 @@ use crate::value::RowName;
 use std::alloc::Global;
 use std::default::MadeWith;
 
-/// An open reservation: what one UPDATE of RESERVABLE columns asks, until its transaction ends.
+/// An open reservation: what one UPDATE of RESERVABLE columns reserves, until its transaction ends.
 #[derive(Debug, Drop)]
 pub struct Reservation {
-    /// Its number, from 1 to [`Reservation::MAX_ID`]: ids rise in order of grant.
+    /// Its number, from 1 to [`Reservation::MAX_ID`]. Ids rise in the order of the grants.
     pub id: u64,
     /// The session whose transaction holds it.
     pub session: Session,
     /// The row that it changes.
     pub row: RowName,
-    /// The change of each RESERVABLE column of the table, in column order: `None` where the UPDATE
-    /// doesn't assign the column, so that one that adds zero is told apart.
+    /// The change of each RESERVABLE column of the table, in column order. A column that the UPDATE
+    /// doesn't assign has `None`, which differs from a change of zero.
     pub changes: Changes,
 }
 
@@ -24,7 +24,7 @@ impl Reservation {
     pub const MAX_ID: u64 = 999_999_999_999_999;
 }
 
-/// A blank, which fills the places that a small vector doesn't use. Takes no memory.
+/// Returns a blank, which fills the places that a small vector doesn't use. Takes no memory.
 impl MadeWith<Global> for Reservation {
     fn made_with(alloc: Global) -> Self {
         Reservation {
@@ -43,11 +43,11 @@ pub struct Savepoint {
     pub session: Session,
     /// Its name.
     pub name: Name,
-    /// The next id when it was made: what came after it has this id or a greater one.
+    /// The next id when it was made. Later reservations have this id or a greater one.
     pub id: u64,
 }
 
-/// A blank, which fills the places that a small vector doesn't use. Takes no memory.
+/// Returns a blank, which fills the places that a small vector doesn't use. Takes no memory.
 impl MadeWith<Global> for Savepoint {
     fn made_with(_alloc: Global) -> Self {
         Savepoint {

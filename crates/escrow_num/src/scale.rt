@@ -3,7 +3,7 @@ ghost use Rattle.escrow_num.specs.Scale.{IsScale, unit_at};
 
 use std::marker::Model;
 
-/// How many digits a number has behind the point, 0 to 6.
+/// How many digits a number has after the point, 0 to 6.
 #[derive(Clone, Copy, Debug, PartialEq, Eq, PartialOrd, Ord)]
 pub struct Scale {
     digits: u8,
@@ -23,13 +23,13 @@ impl Model for Scale {
 }
 
 impl Scale {
-    /// The most digits behind the point.
+    /// The most digits after the point.
     pub const MAX: u8 = 6;
 
-    /// No digits behind the point, and no point: the scale of whole numbers.
+    /// The scale of whole numbers: no digits after the point, and no point.
     pub const ZERO: Scale = Scale { digits: 0 };
 
-    /// The scale of so many digits, or `None` past the limit.
+    /// Returns the scale of this many digits, or `None` past the limit.
     pub fn new(digits: u8) -> Option<Self>
         ensures { SomeIff result (IsScale digits) digits }
     {
@@ -40,7 +40,7 @@ impl Scale {
         }
     }
 
-    /// The scale of as many digits as a list has, or `None` past the limit.
+    /// Returns the scale of as many digits as a list has, or `None` past the limit.
     pub(crate) fn of_len(len: usize) -> Option<Self>
         ensures { SomeIff result (IsScale len) len }
     {
@@ -51,7 +51,7 @@ impl Scale {
         }
     }
 
-    /// How many digits, within the limit.
+    /// Returns the number of digits.
     pub fn get(self) -> u8
         ensures value { result ≡ self }
         ensures within { IsScale result }
@@ -59,7 +59,7 @@ impl Scale {
         self.digits
     }
 
-    /// The greater of two.
+    /// Returns the greater of two scales.
     pub fn greater(self, other: Scale) -> Scale
         ensures { result ≡ max self other }
     {
@@ -70,7 +70,7 @@ impl Scale {
         }
     }
 
-    /// How many millionths a unit of the scale is: 1,000,000 at 0, and 1 at 6.
+    /// Returns how many millionths one unit of the scale is: 1,000,000 at 0, and 1 at 6.
     #[tactic(auto, unfolding(crate::specs::Scale::unit_at))]
     pub fn unit(self) -> u32
         ensures value { result ≡ unit_at self }

@@ -8,9 +8,8 @@ use crate::wide::Wide;
 use std::fmt;
 use std::marker::Model;
 
-/// The text of a number of units of a scale: the whole part, and behind a point as many digits as
-/// the scale has, with `-` in front where the number is negative. It is held in place, so that it
-/// takes no memory.
+/// The text of a number of units of a scale: the whole part, then a point and as many digits as the
+/// scale has. A negative number has a leading `-`. The text is held in place and takes no memory.
 #[derive(Drop)]
 pub struct Scaled {
     bytes: [u8; 36],
@@ -33,7 +32,7 @@ impl Scaled {
     /// The most bytes of a text: a sign, the 34 digits of the greatest sum, and a point.
     pub const MAX_LEN: usize = 36;
 
-    /// The text of so many units of a scale.
+    /// Returns the text of a number of units of a scale.
     pub fn new(units: Wide, scale: Scale) -> Self
         ensures { result ≡ scaled_text scale units }
     {
@@ -44,7 +43,7 @@ impl Scaled {
         Scaled { bytes, start }
     }
 
-    /// The bytes of the text, 36 at most.
+    /// Returns the bytes of the text, 36 at most.
     pub fn as_bytes(&self) -> &[u8]
         ensures value { result.now ≡ self.now }
         ensures short { length result.now ≤ MAX_LEN }
@@ -52,7 +51,7 @@ impl Scaled {
         &self.bytes[self.start..]
     }
 
-    /// The text, 36 bytes at most.
+    /// Returns the text, 36 bytes at most.
     pub fn as_str(&self) -> &str
         ensures value { result.now ≡ self.now }
         ensures short { length result.now ≤ MAX_LEN }
@@ -75,8 +74,8 @@ impl fmt::Display for Scaled {
     }
 }
 
-/// Writes a magnitude of units of a scale, so that it ends where the place does. Returns where it
-/// begins, and leaves room for a sign before that.
+/// Writes a magnitude of units of a scale so that it ends at the end of the place, with room for a
+/// sign before it. Returns where it begins.
 fn put_magnitude(bytes: &mut [u8], magnitude: u128, scale: u8) -> usize
     requires within { magnitude < 10 ^ 34 }
     requires scale { IsScale scale }
@@ -90,7 +89,7 @@ fn put_magnitude(bytes: &mut [u8], magnitude: u128, scale: u8) -> usize
     put_number(bytes, whole, end)
 }
 
-/// Writes a minus before a number that is negative. Returns where the text begins.
+/// Writes a minus before a number if it is negative. Returns where the text begins.
 fn put_sign(bytes: &mut [u8], is_negative: bool, start: usize) -> usize
     requires { (0 < start) × (start ≤ length bytes.old) }
     ensures room { result ≤ start }
@@ -104,7 +103,7 @@ fn put_sign(bytes: &mut [u8], is_negative: bool, start: usize) -> usize
     }
 }
 
-/// Writes a point before digits, where there are any. Returns where they begin now.
+/// Writes a point before digits, if there are any. Returns where they begin now.
 fn put_point(bytes: &mut [u8], digits: usize, start: usize) -> usize
     requires { (0 < start) × (start ≤ length bytes.old) }
     ensures room { (start ≤ result + 1) × (result ≤ start) }
@@ -117,8 +116,7 @@ fn put_point(bytes: &mut [u8], digits: usize, start: usize) -> usize
     }
 }
 
-/// Writes the last digits of a number, so many of them, before an end. Returns the number without
-/// them.
+/// Writes the last `digits` digits of a number before an end. Returns the number without them.
 fn put_last(bytes: &mut [u8], number: u128, digits: usize, end: usize) -> u128
     requires { (digits ≤ end) × (end ≤ length bytes.old) }
     ensures rest { result ≡ before_last digits number }
@@ -141,7 +139,7 @@ fn put_number(bytes: &mut [u8], number: u128, end: usize) -> usize
     ensures start { result + length (decimal number) ≡ end }
     ensures written { drop result bytes.new ≡ decimal number ++ drop end bytes.old }
 {
-    // A division of 128 bits takes long, so 64 take over as soon as they are enough.
+    // A division of 128 bits takes long, so 64 bits take over as soon as they are enough.
     let mut rest = number;
     let mut at = end;
     while rest > u128::from(u64::MAX) {
@@ -151,7 +149,7 @@ fn put_number(bytes: &mut [u8], number: u128, end: usize) -> usize
     put_small(bytes, rest as u64, at)
 }
 
-/// The same for a number of 64 bits.
+/// [`put_number`] for a number of 64 bits.
 fn put_small(bytes: &mut [u8], number: u64, end: usize) -> usize
     requires { (length (decimal number) ≤ end) × (end ≤ length bytes.old) }
     ensures start { result + length (decimal number) ≡ end }
@@ -166,7 +164,7 @@ fn put_small(bytes: &mut [u8], number: u64, end: usize) -> usize
     put(bytes, b'0' + rest as u8, at)
 }
 
-/// Writes a byte before what begins at a place. Returns where that begins now.
+/// Writes a byte before `start`. Returns where the text begins now.
 fn put(bytes: &mut [u8], byte: u8, start: usize) -> usize
     requires { (0 < start) × (start ≤ length bytes.old) }
     ensures start { result + 1 ≡ start }

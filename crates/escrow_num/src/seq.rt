@@ -3,14 +3,14 @@ ghost use Rattle.std.specs.Prelude.{◌≡◌, length, [], ◌∷◌, ◌++◌, 
 use std::alloc::{AllocFailed, Global};
 use std::marker::Model;
 
-/// A list that contracts see as a list: two of the same items are equal, wherever they lie in
+/// A list that contracts see as a list: two lists of the same items are equal, wherever they lie in
 /// memory. Statements, rows and replies hold their lists in it.
 #[derive(Debug)]
 pub struct Seq<T> {
     items: Vec<T>,
 }
 
-// It is written out, so that no crate above proves again how its part is dropped.
+// Written out, so that crates above need not prove again how its parts are dropped.
 impl<T: Drop> Drop for Seq<T> {
     fn drop(self) {
         let Seq { items: _ } = self;
@@ -26,7 +26,7 @@ impl<T> Model for Seq<T> {
 }
 
 impl<T> Seq<T> {
-    /// An empty list, which takes no memory.
+    /// Returns an empty list, which takes no memory.
     pub fn new(alloc: Global) -> Self
         ensures { result ≡ [] }
     {
@@ -35,14 +35,14 @@ impl<T> Seq<T> {
         }
     }
 
-    /// The items of a vector, in order. Takes no memory.
+    /// Returns the items of a vector, in order. Takes no memory.
     pub fn from_vec(items: Vec<T>) -> Self
         ensures { result ≡ items.items }
     {
         Seq { items }
     }
 
-    /// The vector of the items. Takes no memory.
+    /// Returns the vector of the items. Takes no memory.
     pub fn into_vec(self) -> Vec<T>
         ensures { result.items ≡ self }
     {
@@ -50,35 +50,35 @@ impl<T> Seq<T> {
         items
     }
 
-    /// The items, in order.
+    /// Returns the items, in order.
     pub fn as_slice(&self) -> &[T]
         ensures { result.now ≡ self.now }
     {
         &self.items
     }
 
-    /// The number of items.
+    /// Returns the number of items.
     pub fn len(&self) -> usize
         ensures { result ≡ length self.now }
     {
         self.as_slice().len()
     }
 
-    /// Whether there is no item.
+    /// Returns whether there is no item.
     pub fn is_empty(&self) -> bool
         ensures { IsTrue result ↔ (self.now ≡ []) }
     {
         self.as_slice().is_empty()
     }
 
-    /// The item of an index, counted from 0, or `None` past the last one.
+    /// Returns the item at an index, counted from 0, or `None` past the last one.
     pub fn get(&self, index: usize) -> Option<&T>
         ensures { option_copied result ≡ slice_get self.now index }
     {
         self.as_slice().get(index)
     }
 
-    /// Puts an item in the place of the one at an index. Takes no memory.
+    /// Replaces the item at an index. Takes no memory.
     pub fn set(&mut self, index: usize, item: T)
     where
         T: Drop,
@@ -88,7 +88,8 @@ impl<T> Seq<T> {
         self.items[index] = item;
     }
 
-    /// Adds an item at the end. Where memory is refused the list stays, and the item comes back.
+    /// Adds an item at the end. If memory is refused, the list stays as it is, and the error
+    /// returns the item.
     pub fn push(&mut self, item: T) -> Result<(), AllocFailed<T>>
         ensures ok { OnOk result (self.new ≡ self.old ++ item ∷ []) }
         ensures err { OnErr result (self.new ≡ self.old) }

@@ -23,13 +23,13 @@ impl Model for Session {
 }
 
 impl Session {
-    /// The greatest number of a session: how many sessions a database has.
+    /// The greatest number of a session, which is how many sessions a database has.
     pub const MAX: u8 = 64;
 
     /// The first session.
     pub const FIRST: Session = Session { number: 1 };
 
-    /// The session of a number, or `None` unless it is from 1 to 64.
+    /// Returns the session of a number, or `None` unless it is from 1 to 64.
     pub fn new(number: u8) -> Option<Self>
         ensures { SomeIff result (IsSession number) number }
     {
@@ -40,7 +40,7 @@ impl Session {
         }
     }
 
-    /// The number, from 1 to 64.
+    /// Returns the number, from 1 to 64.
     pub fn get(self) -> u8
         ensures value { result ≡ self }
         ensures within { IsSession result }

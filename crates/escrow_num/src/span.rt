@@ -22,7 +22,7 @@ pub struct Span {
 }
 
 impl Span {
-    /// Whether a value is neither below the low limit nor above the high one.
+    /// Returns whether a value is neither below the low limit nor above the high one.
     pub fn holds(&self, value: Wide) -> bool
         ensures { IsTrue result ↔ Holds self.now value }
     {
@@ -37,10 +37,10 @@ impl Span {
         above && below
     }
 
-    /// The first limit that the values from `least` to `greatest` leave, the low one before the
-    /// high one: the side, the extreme beyond it, and the limit. `None` where they leave neither,
-    /// which is where each value between them is in the span.
-    /// This is O'Neil's test (1986) of the bounds `inf` and `sup` of a field against its limits.
+    /// Returns the first limit that the values from `least` to `greatest` leave, the low one before
+    /// the high one: the side, the extreme past it, and the limit. Returns `None` if they leave
+    /// neither, which means that each value between them is in the span. This is O'Neil's test
+    /// (1986) of the bounds `inf` and `sup` of a field against its limits.
     pub fn first_broken(&self, least: Wide, greatest: Wide) -> Option<(Side, Wide, Wide)>
         requires { least ≤ℤ greatest }
         ensures first { result ≡ first_broken_of self.now least greatest }

@@ -16,7 +16,7 @@ pub struct Text {
     text: String,
 }
 
-// It is written out, so that no crate above proves again how its part is dropped.
+// Written out, so that crates above need not prove again how its parts are dropped.
 impl Drop for Text {
     fn drop(self) {
         let Text { text: _ } = self;
@@ -36,14 +36,14 @@ impl Model for Text {
 }
 
 impl Text {
-    /// The text of a string. Takes no memory.
+    /// Returns the text of a string. Takes no memory.
     pub fn from_string(text: String) -> Self
         ensures { result ≡ string_bytes text }
     {
         Text { text }
     }
 
-    /// The string of the text. Takes no memory.
+    /// Returns the string of the text. Takes no memory.
     pub fn into_string(self) -> String
         ensures { string_bytes result ≡ self }
     {
@@ -51,7 +51,7 @@ impl Text {
         text
     }
 
-    /// The text itself.
+    /// Returns the text itself.
     pub fn as_str(&self) -> &str
         ensures value { result.now ≡ self.now }
         ensures utf8 { IsUtf8 self.now }
@@ -59,7 +59,7 @@ impl Text {
         &self.text
     }
 
-    /// A copy of the text.
+    /// Returns a copy of the text.
     pub fn copy(&self, alloc: Global) -> Result<Text, AllocError>
         ensures { IfOk result (λ t. t ≡ self.now) }
     {
@@ -68,7 +68,7 @@ impl Text {
         })
     }
 
-    /// Whether two texts have the same bytes.
+    /// Returns whether two texts have the same bytes.
     pub fn is_same(&self, other: &Text) -> bool
         ensures { IsTrue result ↔ (self.now ≡ other.now) }
     {

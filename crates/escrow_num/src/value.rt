@@ -23,7 +23,7 @@ impl Value {
     ghost use Rattle.escrow_num.specs.Order.{value_cmp};
     ghost use Rattle.escrow_num.specs.Value.{holds_memory};
 
-    /// A copy of the value. Only a text takes memory.
+    /// Returns a copy of the value. Only a text takes memory.
     pub fn copy(&self, alloc: Global) -> Result<Value, AllocError>
         ensures same { IfOk result (λ v. v ≡ self.now) }
         ensures succeeds { holds_memory self.now ≡ false → IsOk result }
@@ -34,7 +34,7 @@ impl Value {
         }
     }
 
-    /// Whether two values are the same.
+    /// Returns whether two values are equal.
     pub fn is_same(&self, other: &Value) -> bool
         ensures test { result ≡ value_eq self.now other.now }
         ensures same { IsTrue result ↔ (self.now ≡ other.now) }
@@ -46,8 +46,7 @@ impl Value {
         }
     }
 
-    /// How two values compare: numbers in their order, texts by their bytes, and numbers before
-    /// texts.
+    /// Compares two values: numbers in their order, texts by their bytes, and numbers before texts.
     pub fn compare(&self, other: &Value) -> Ordering
         ensures { result ≡ value_cmp self.now other.now }
     {
@@ -83,7 +82,7 @@ pub struct RowName {
     pub key: Value,
 }
 
-/// A blank, which fills a place that isn't used. Takes no memory.
+/// Returns a blank, which fills a place that isn't used. Takes no memory.
 impl MadeWith<Global> for RowName {
     fn made_with(_alloc: Global) -> Self {
         RowName {
@@ -97,7 +96,7 @@ impl RowName {
     ghost use Rattle.escrow_num.specs.Order.{row_cmp};
     ghost use Rattle.escrow_num.specs.Value.{holds_memory};
 
-    /// A copy of the row's name. Only a key that is a text takes memory.
+    /// Returns a copy of the row's name. Only a key that is a text takes memory.
     pub fn copy(&self, alloc: Global) -> Result<RowName, AllocError>
         ensures same { IfOk result (λ r. r ≡ self.now) }
         ensures succeeds { holds_memory self.now.key ≡ false → IsOk result }
@@ -108,7 +107,7 @@ impl RowName {
         })
     }
 
-    /// Whether two names are of the same row.
+    /// Returns whether two names name the same row.
     pub fn is_same(&self, other: &RowName) -> bool
         ensures test { result ≡ same_row self.now other.now }
         ensures same { IsTrue result ↔ (self.now ≡ other.now) }
@@ -116,7 +115,7 @@ impl RowName {
         self.table == other.table && self.key.is_same(&other.key)
     }
 
-    /// How two names compare: by their tables' names, and of one table by their keys.
+    /// Compares two names: by their tables' names, and in one table by their keys.
     pub fn compare(&self, other: &RowName) -> Ordering
         ensures { result ≡ row_cmp self.now other.now }
     {

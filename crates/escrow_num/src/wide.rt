@@ -7,7 +7,7 @@ use std::fmt;
 use std::marker::Model;
 
 /// A sum of products of amounts: a whole number of magnitude at most 10^33. Every worst case of a
-/// check is one, so no sum leaves 128 bits.
+/// check is one, so every sum fits 128 bits.
 #[derive(Clone, Copy, Debug, PartialEq, Eq, PartialOrd, Ord)]
 pub struct Wide {
     value: i128,
@@ -30,10 +30,10 @@ impl Wide {
     /// The greatest magnitude of a wide sum, 10^33.
     pub const MAX: i128 = 1_000_000_000_000_000_000_000_000_000_000_000;
 
-    /// Nothing summed.
+    /// The sum of nothing.
     pub const ZERO: Wide = Wide { value: 0 };
 
-    /// The wide sum of a number, or `None` past the limit.
+    /// Returns the wide sum of a number, or `None` past the limit.
     pub fn new(value: i128) -> Option<Self>
         ensures { SomeIff result (IsWide value) value }
     {
@@ -44,7 +44,7 @@ impl Wide {
         }
     }
 
-    /// The number, within the limit.
+    /// Returns the number.
     pub fn get(self) -> i128
         ensures value { result ≡ self }
         ensures within { IsWide result }
@@ -52,7 +52,7 @@ impl Wide {
         self.value
     }
 
-    /// The sum of two, where it is within the limit.
+    /// Returns the sum of two, which must be within the limit.
     pub fn plus(self, other: Wide) -> Wide
         requires { IsWide (self +ℤ other) }
         ensures { result ≡ self +ℤ other }
@@ -62,7 +62,7 @@ impl Wide {
         }
     }
 
-    /// The difference of two, where it is within the limit.
+    /// Returns the difference of two, which must be within the limit.
     pub fn minus(self, other: Wide) -> Wide
         requires { IsWide (self -ℤ other) }
         ensures { result ≡ self -ℤ other }
@@ -85,7 +85,7 @@ impl From<Amount> for Wide {
     }
 }
 
-/// The number in decimal, with `-` in front where it is negative.
+/// Writes the number in decimal, with a leading `-` if it is negative.
 impl fmt::Display for Wide {
     ghost use Rattle.std.specs.Prelude.{Some};
     ghost use Rattle.std.specs.Fmt.{signed_decimal, styled_signed_decimal};

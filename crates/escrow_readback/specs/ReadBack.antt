@@ -8,7 +8,7 @@ use Rattle.escrow_schema.specs.declared.table.TableDef.{TableDef}
 use Rattle.escrow_schema.specs.Definition.{IsTable, definition_of}
 use Rattle.escrow_schema.specs.Print.{canonical}
 
--- a text asks a CREATE TABLE, and that defines the table
+-- a text asks for a CREATE TABLE that defines the table
 abbrev pub ReadsBack : TableDef → List ℕ → Type 0
 ReadsBack table written = (text : CreateText) × Asks written (requests.Statement (statements.Create text)) × (definition_of text ≡ Some table)
 

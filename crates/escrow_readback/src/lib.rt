@@ -1,7 +1,9 @@
-//! That the canonical text of a table is read back as that table.
+//! The proof that the canonical text of a table is read back as that table.
 //!
-//! Its one contract: the text asks a CREATE TABLE, and that defines the table
-//! ([`laws::tables_are_read_back`]).
+//! Its main contract is the law [`laws::tables_are_read_back`]: the text asks for a CREATE TABLE
+//! that defines the table.
+//!
+//! Begin with [`laws`].
 #![tactic(auto)]
 
 pub mod laws;

@@ -1,4 +1,4 @@
--- Helps: what private contracts say of the rows of a table that are counted. Nothing that callers see rests on it.
+-- Helps: what private contracts say of the rows of a table that are counted. No contract of a public call uses it.
 use Rattle.std.specs.Prelude.{◌≡◌, ◌≤◌, List, length, false, IsTrue}
 use Rattle.std.specs.List.{AllByRecursion}
 use Rattle.escrow_num.specs.declared.row.Row.{Row}
@@ -16,12 +16,13 @@ pub record IsRowWith (table : TableDef) (read : KeyedRow) (row : Row) : Type 0 w
   pub key_is : row.name.key ≡ read.key
   pub values_are : values_of table row ≡ read.values
 
--- rows that are read are such rows of a table, and no more than it may have
+-- the rows that are read are such rows of a table, and no more than it may have
 pub record MayHave (table : TableDef) (read : List KeyedRow) : Type 0 where
   pub each : AllByRecursion (λ one. (row : Row) × IsRowWith table one row) read
   pub few : length read ≤ MAX_ROWS
 
--- a counter of a table has taken rows: the table may have them, and they are counted, or it may not
+-- a counter of a table has taken rows: if the table may have them, they are counted, else the counter says that it may
+-- not
 pub record HasTaken (first now : RowCounter) (read : List KeyedRow) : Type 0 where
   pub same_table : now.table ≡ first.table
   pub counted : IsTrue now.sound → MayHave first.table read × (now.rows ≡ length read)

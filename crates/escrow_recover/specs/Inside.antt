@@ -1,4 +1,4 @@
--- Helps: what private contracts say of a store that is being verified. Nothing that callers see rests on it.
+-- Helps: what private contracts say of a store that is being verified. No contract of a public call uses it.
 use Rattle.std.specs.Prelude.{◌≡◌, ◌≤◌, ℤ, Bool, IsTrue, List, [], ◌∷◌, map, filter, length, IsPermutation}
 use Rattle.std.specs.List.{AllByRecursion, flat_map, list_any}
 use Rattle.std.specs.Ordering.{int_eq}
@@ -30,19 +30,19 @@ use Rattle.escrow_recover.specs.declared.unverified.PartFault.TheVariants as par
 use Rattle.escrow_recover.specs.declared.unverified.Unverified.{Unverified}
 use Rattle.escrow_recover.specs.declared.unverified.Unverified.TheVariants as unverified
 
--- what has a part of no store is no store
+-- a store with a part of no store is no store
 abbrev pub unverified_by : PartFault → Unverified
 unverified_by (part.Failed failure) = unverified.Failed failure
 unverified_by part.Foreign = unverified.ForeignStore
 
--- what isn't verified is refused for want of memory (51) or by the store (60), as no store (61), or as one
--- of another format (62)
+-- a store that isn't verified is refused for memory (51), by the store (60), as no store (61), or as one of another
+-- format (62)
 abbrev pub refused_as : Unverified → Refusal
 refused_as (unverified.Failed failure) = refusal_for failure
 refused_as unverified.ForeignStore = refusal.ForeignStore
 refused_as unverified.OtherFormat = refusal.UnknownVersion
 
--- a row is one of a table, meets its checks, and has values that can be held
+-- a row belongs to a table, meets its checks, and has values that can be held
 pub record IsSoundRow (table : TableDef) (row : Row) : Type 0 where
   pub is_row : IsRowOf table row
   pub meets : AllByRecursion (λ check. Meets check row.amounts) table.checks
@@ -55,7 +55,7 @@ pub record AreRowsIn (s : StoredTable) (rows : List Row) (db : Database) : Type 
   pub few : length rows ≤ MAX_ROWS
   pub cells_are : IsPermutation (flat_map (keyed_cells s.table) rows) (map (λ c. column c 1 ∷ column c 2 ∷ column c 3 ∷ []) (filter (is_in (Int s.id)) (cells db)))
 
--- a table has as many rows in a store as are counted
+-- a table's number of rows in a store is the one that is counted
 abbrev pub HasRows : Database → CountedTable → Type 0
 HasRows db c = (rows : List Row) × AreRowsIn c.stored rows db × (c.rows ≡ length rows)
 
@@ -68,7 +68,7 @@ pub record AreTablesIn (tables : List StoredTable) (db : Database) : Type 0 wher
   pub are_tables : AreTables tables
   pub tabs_are : IsPermutation (map tab_row tables) (tabs db)
 
--- a store of the format that is to be known
+-- a store of the format that must be known
 pub record IsKnown (known : ℤ) (db : Database) : Type 0 where
   pub store : IsStore db
   pub format_is : metas db ≡ format known
@@ -81,11 +81,11 @@ is_number_of tables id = list_any (λ s. int_eq s.id id) tables
 abbrev pub IsNumberOf : List StoredTable → Sql → Type 0
 IsNumberOf tables v = (id : ℤ) × (v ≡ Int id) × IsTrue (is_number_of tables id)
 
--- each cell is of one of these tables
+-- each cell belongs to one of these tables
 abbrev pub AreOfTables : List StoredTable → Database → Type 0
 AreOfTables tables db = AllByRecursion (λ c. IsNumberOf tables (column c 0)) (cells db)
 
--- a store was open, and what a disk has holds the tables and rows that it held in the format before
+-- a store was open, and the disk now holds the tables and rows that it held in the previous format
 pub record WasMigrated (old : State) (trees : Trees) : Type 0 where
   pub is_open : IsTrue old.is_open
   pub is_migrated : IsMigrated old.now trees

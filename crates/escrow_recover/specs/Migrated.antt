@@ -1,4 +1,4 @@
--- Believed: what is migrated, and what a disk then has.
+-- Believed: what is migrated, and what the disk has then.
 use Rattle.std.specs.Prelude.{◌≡◌, ◌≢◌, ◌⊎◌, ℤ, List, map}
 use Rattle.sqlite_trees.specs.Tree.{Trees}
 use Rattle.sqlite.specs.Effect.{Database}
@@ -14,28 +14,27 @@ use Rattle.escrow_recover.specs.Holds.{AreHeld}
 use Rattle.escrow_recover.specs.Found.{IsFounded}
 use Rattle.escrow_recover.specs.Opened.{Stores}
 
--- a database of SQLite holds these tables and these rows in the format before, whatever numbers the tables
--- have in it
+-- an SQLite database holds these tables and these rows in the previous format, whatever numbers the tables have in it
 pub record HoldsBefore (catalog : List TableDef) (rows : List Row) (db : Database) : Type 0 where
   pub tables : List StoredTable
   pub catalog_is : map (λ s. s.table) tables ≡ catalog
   pub store : IsStoreBefore tables rows db
 
--- META says that the format is neither the known one nor the one before
+-- META says that the format is neither the known nor the previous one
 pub record HasUnknownFormat (db : Database) : Type 0 where
   pub number : ℤ
   pub other : number ≢ FORMAT
   pub not_before : number ≢ FORMAT_BEFORE
   pub has : HasFormat number db
 
--- what a disk has holds, in the known format, the tables and rows that a database held in the format before
+-- the disk holds, in the known format, the tables and rows that a database held in the previous format
 abbrev pub IsMigrated : Database → Trees → Type 0
 IsMigrated old trees = (catalog : List TableDef) × (rows : List Row) × HoldsBefore catalog rows old × AreHeld catalog rows trees
 
--- what a disk has is what opening a store made of it, if it made anything
+-- the disk has what opening a store made of it, if it made anything
 abbrev pub IsMade : Database → Trees → Type 0
 IsMade old trees = IsFounded old trees ⊎ IsMigrated old trees
 
--- a store that is open holds the tables and rows that a database held in the format before
+-- an open store holds the tables and rows that a database held in the previous format
 abbrev pub IsMigratedFrom : Database → State → List CountedTable → Type 0
 IsMigratedFrom old s tables = (rows : List Row) × Stores s tables rows × HoldsBefore (catalog_of tables) rows old

@@ -1,4 +1,4 @@
--- Believed: when a database of SQLite is a store, and of which tables and rows.
+-- Believed: when an SQLite database is a store, and of which tables and rows.
 use Rattle.std.specs.Prelude.{◌≡◌, ◌≢◌, ℤ, IsSomeAnd, List, map, length}
 use Rattle.std.specs.List.{AllByRecursion}
 use Rattle.sqlite.specs.Effect.{Database}
@@ -19,8 +19,8 @@ use Rattle.escrow_schema.specs.declared.counted_table.CountedTable.{CountedTable
 abbrev pub HasHeldValues : List TableDef → Row → Type 0
 HasHeldValues catalog row = IsSomeAnd (table_named catalog row.name.table) (λ table. AllByRecursion CanBeHeld (values_of table row))
 
--- A STORE in the format of a number: the image of tables and rows, each row of which meets the checks of its
--- table, and has values that can be held
+-- A STORE in the format of a number: the image of tables and rows. Each row meets the checks of its table, and has
+-- values that can be held
 pub record IsStoreIn (number : ℤ) (tables : List StoredTable) (rows : List Row) (db : Database) : Type 0 where
   pub are_tables : AreTables tables
   pub are_rows : AreRows tables rows
@@ -28,7 +28,7 @@ pub record IsStoreIn (number : ℤ) (tables : List StoredTable) (rows : List Row
   pub held : AllByRecursion (HasHeldValues (map (λ s. s.table) tables)) rows
   pub image : IsImageIn number tables rows db
 
--- a database that is the store of no tables and rows whatever in a format
+-- a database that isn't the store of any tables and rows in a format
 abbrev pub IsNoStoreIn : ℤ → Database → Type 0
 IsNoStoreIn number db = (tables : List StoredTable) (rows : List Row) → IsStoreIn number tables rows db → ⊥
 
@@ -37,7 +37,7 @@ pub record HasFormat (number : ℤ) (db : Database) : Type 0 where
   pub schema : IsStoreSchema db.schema
   pub format_is : metas db ≡ format number
 
--- the tables are those of a store, and META has one row, which says that the format is another than this one
+-- the tables are those of a store, and META has one row, which says that the format isn't this one
 pub record HasFormatBut (known : ℤ) (db : Database) : Type 0 where
   pub number : ℤ
   pub other : number ≢ known
@@ -47,31 +47,31 @@ pub record HasFormatBut (known : ℤ) (db : Database) : Type 0 where
 abbrev pub IsStoreOf : List StoredTable → List Row → Database → Type 0
 IsStoreOf = IsStoreIn FORMAT
 
--- a database that is the store of no tables and rows whatever in the known format
+-- a database that isn't the store of any tables and rows in the known format
 abbrev pub IsNoStore : Database → Type 0
 IsNoStore = IsNoStoreIn FORMAT
 
--- the tables are those of a store, and META has one row, with another number of the format than the known one
+-- the tables are those of a store, and META has one row, with a number other than that of the known format
 abbrev pub HasOtherFormat : Database → Type 0
 HasOtherFormat = HasFormatBut FORMAT
 
--- a table without a column that has a scale: its numbers are whole ones
+-- a table in which no column has a scale: its numbers are whole
 abbrev pub IsWhole : TableDef → Type 0
 IsWhole table = AllByRecursion (λ column. scale_of column.kind ≡ 0) table.columns
 
--- no table of a list has a column that has a scale
+-- no column of the tables has a scale
 abbrev pub AreWhole : List TableDef → Type 0
 AreWhole = AllByRecursion IsWhole
 
--- A STORE in the format before, in which no column has a scale
+-- A STORE in the previous format, in which no column has a scale
 pub record IsStoreBefore (tables : List StoredTable) (rows : List Row) (db : Database) : Type 0 where
   pub store : IsStoreIn FORMAT_BEFORE tables rows db
   pub whole : AreWhole (map (λ s. s.table) tables)
 
--- a database that is the store of no tables and rows whatever in the format before
+-- a database that isn't the store of any tables and rows in the previous format
 abbrev pub IsNoStoreBefore : Database → Type 0
 IsNoStoreBefore db = (tables : List StoredTable) (rows : List Row) → IsStoreBefore tables rows db → ⊥
 
--- a table has as many rows as are counted
+-- a table's number of rows is the one that is counted
 abbrev pub HasCount : List Row → CountedTable → Type 0
 HasCount rows c = c.rows ≡ length (rows_of rows c.stored.table.name)

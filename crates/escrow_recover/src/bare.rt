@@ -13,14 +13,14 @@ use escrow_num::Failure;
 use sqlite::{Alter, Connection};
 use sqlite_schema::schema::Schema;
 
-/// Whether a schema has no object.
+/// Returns whether a schema has no object.
 pub(crate) fn is_bare(schema: &Schema) -> bool
     ensures { IsTrue result ↔ (schema.now ≡ no_schema) }
 {
     schema.tables.is_empty() && schema.indexes.is_empty() && schema.views.is_empty()
 }
 
-/// Makes an empty store of a database without objects, in one transaction.
+/// Makes an empty store from a database without objects, in one transaction.
 pub(crate) fn make_store<S: Alter>(connection: &mut Connection<S>) -> Result<(), Failure>
     requires outside { connection.old.in_transaction ≡ false }
     requires bare { (state S.Store connection.old).now.schema ≡ no_schema }

@@ -1,4 +1,4 @@
-//! A store of the format before.
+//! A store of the previous format.
 ghost use Rattle.std.specs.Prelude.{◌≡◌, ◌↔◌, IsTrue, Err, List, IfOk};
 ghost use Rattle.std.specs.List.{AllByRecursion};
 ghost use Rattle.sqlite.specs.Held.{state};
@@ -20,12 +20,12 @@ use escrow_schema::{Catalog, CountedTable, TableDef};
 use sqlite::Alter;
 use std::alloc::Global;
 
-/// Returns the catalog of a store in the format before, as [`verify`](crate::verify) does of one in the
-/// known format. It has no column with a scale.
+/// Returns the catalog of a store in the previous format, as [`verify`](crate::verify) does for one
+/// in the known format. No column in it has a scale.
 ///
 /// # Errors
 ///
-/// Those of [`verify`](crate::verify), the known format among the others.
+/// Fails as [`verify`](crate::verify) does. The known format counts as another one here.
 pub(crate) fn verify_before<S: Alter>(
     alloc: Global,
     store: &mut RowStore<S>,
@@ -44,14 +44,14 @@ pub(crate) fn verify_before<S: Alter>(
     }
 }
 
-/// Whether no column of these tables has a scale.
+/// Returns whether no column of these tables has a scale.
 fn are_whole(tables: &[CountedTable]) -> bool
     ensures { IsTrue result ↔ AllByRecursion (λ (c : Counted). IsWhole c.stored.table) tables.now }
 {
     tables.iter().all(|table| is_whole(&table.stored.table))
 }
 
-/// Whether no column of a table has a scale.
+/// Returns whether no column of a table has a scale.
 fn is_whole(table: &TableDef) -> bool
     ensures { IsTrue result ↔ IsWhole table.now }
 {

@@ -1,4 +1,4 @@
-//! Whether each cell of a store is of one of its tables.
+//! Whether each cell of a store belongs to one of its tables.
 ghost use Rattle.std.specs.Prelude.{◌≡◌, IsTrue, Err, OnOk};
 ghost use Rattle.std.specs.Ordering.{int_eq};
 ghost use Rattle.std.specs.List.{list_any};
@@ -16,7 +16,7 @@ use escrow_rows::RowStore;
 use escrow_schema::StoredTable;
 use sqlite::{Alter, Row};
 
-/// Tests whether each cell is of one of these tables.
+/// Tests whether each cell belongs to one of these tables.
 pub(crate) fn check_cells<S: Alter>(
     store: &mut RowStore<S>,
     tables: &[StoredTable],
@@ -37,12 +37,12 @@ pub(crate) fn check_cells<S: Alter>(
     }
 }
 
-/// The tables that cells are of, as they are read.
+/// The tables that cells belong to, as they are read.
 #[derive(Drop)]
 struct Owners<'a> {
     /// The tables of the store.
     tables: &'a [StoredTable],
-    /// Whether each cell so far is of one of them.
+    /// Whether each cell so far belongs to one of them.
     known: bool,
 }
 
@@ -66,7 +66,7 @@ impl<'a> Sink for Owners<'a> {
     }
 }
 
-/// Whether a number is that of one of these tables.
+/// Returns whether one of these tables has this number.
 fn has_number(tables: &[StoredTable], id: i64) -> bool
     ensures { result ≡ is_number_of tables.now id }
 {

@@ -19,8 +19,8 @@ use escrow_rows::RowStore;
 use sqlite::types::ValueRef;
 use sqlite::{Alter, Row};
 
-/// Tests whether a database is a store of the format that is known: its schema, META, and SQLite's
-/// numbers of the rows, in this order.
+/// Tests whether a database is a store of the known format: its schema, META, and SQLite's numbers
+/// of the rows, in this order.
 pub(crate) fn check_format<S: Alter>(
     store: &mut RowStore<S>,
     known: Format,
@@ -42,7 +42,7 @@ pub(crate) fn check_format<S: Alter>(
     }
 }
 
-/// Tests whether META has the one row of the format that is known.
+/// Tests whether META has the one row of the known format.
 fn check_meta<S: Alter>(store: &mut RowStore<S>, known: Format) -> Result<(), Unverified>
     ensures known { HasCleanDisk (state S.Store store.new) → OnOk result (IsTrue (state S.Store store.new).is_open × (HasTables (state S.Store store.old).now.schema → metas (state S.Store store.old).now ≡ format (format_number known))) }
     ensures foreign { IsUsable (state S.Store store.new) → result ≡ Err unverified.ForeignStore → HasTables (state S.Store store.old).now.schema → metas (state S.Store store.old).now ≡ format (format_number known) → ⊥ }
@@ -66,7 +66,7 @@ fn check_meta<S: Alter>(store: &mut RowStore<S>, known: Format) -> Result<(), Un
 /// What META says, as it is read.
 #[derive(Clone, Copy)]
 enum Meta {
-    /// Nothing as yet.
+    /// Nothing so far.
     Empty,
     /// One row, with the number of a format.
     Format(i64),
@@ -90,7 +90,7 @@ impl Sink for Meta {
     }
 }
 
-/// What META says by one row.
+/// Returns what META says if this is its one row.
 fn read_meta(row: &Row) -> Result<Meta, Failure>
     ensures { IfOk result (λ meta. IsMetaOf meta (row.now ∷ [])) }
 {
@@ -108,7 +108,7 @@ fn read_meta(row: &Row) -> Result<Meta, Failure>
     }
 }
 
-/// Whether a value is the name of the format.
+/// Returns whether a value is the name of the format.
 fn is_format(value: ValueRef<'_>) -> bool
     ensures { IsTrue result ↔ (owned value.entry ≡ TextValue (codes "format")) }
 {
@@ -118,7 +118,7 @@ fn is_format(value: ValueRef<'_>) -> bool
     }
 }
 
-/// The whole number that a value is, if it is one.
+/// Returns the whole number of a value, if it is one.
 fn number_in(value: ValueRef<'_>) -> Option<i64>
     ensures { MatchOption result ((n : ℤ) → owned value.entry ≡ IntValue n → ⊥) (λ n. owned value.entry ≡ IntValue n) }
 {

@@ -1,10 +1,11 @@
-//! How a store is opened: what it is, found out from what is read of it, and what is made of one that has no
-//! objects or the format before.
+//! Opens a store: reads it and finds out what it is. Makes an empty store from a database without
+//! objects, and migrates a store of the previous format.
 //!
-//! Its one contract: what is opened ([`open_store`]) is read whole and left as it is, or refused where it isn't
-//! a store; a database without objects becomes an empty store, in one transaction. So does a store in the
-//! format before one in the known format, of the same tables and rows ([`migrate`]). [`verify`] reads a store
-//! again.
+//! Its main contract is that of [`open_store`]: a store is read completely and left as it is, and
+//! anything else is refused. A database without objects becomes an empty store, in one transaction.
+//!
+//! Begin with [`open_store`]. [`migrate`] also turns a store in the previous format into one in the
+//! known format, with the same tables and rows, in one transaction. [`verify`] reads a store again.
 #![tactic(auto)]
 
 mod bare;

@@ -23,26 +23,28 @@ use escrow_schema::Catalog;
 use sqlite::{Alter, Connection};
 use std::alloc::Global;
 
-/// Opens a store, as [`open_store`](crate::open_store) does. Beyond that, one of the format before is brought
-/// to the known one, in one transaction: all of it is read and tested first, as a store of the format before,
-/// in which no column has a scale.
+/// Opens a store, as [`open_store`](crate::open_store) does. Beyond that, it migrates a store of
+/// the previous format to the known one, in one transaction. All of it is read and tested first, as
+/// a store of the previous format, in which no column has a scale.
 ///
 /// # Errors
 ///
-/// Those of [`open_store`](crate::open_store). One that is inside a transaction is refused as by the store
-/// (60), and what has the format before and is otherwise no store of it as no store (61).
+/// Fails as [`open_store`](crate::open_store) does. If the connection is inside a transaction, it
+/// is refused as by the store (60). A database that has the previous format but isn't a store of it
+/// is refused as no store (61).
 pub fn migrate<S: Alter>(
     alloc: Global,
     connection: Connection<S>,
 ) -> Result<Opened<S>, StoreFault<S>>
-    // The store of these tables, as they are counted, each row of which meets its checks: what stood there, or none.
+    // The store has these tables, with their numbers of rows, and each row meets its checks. It is
+    // what was there, or an empty one.
     ensures store { IfOk result (λ o. HasCleanDisk (state S.Store o.store) → IsOpened (state S.Store o.store) o.catalog) }
     ensures found { IfOk result (λ o. IsUsable (state S.Store o.store) → (state S.Store connection).now.schema ≢ no_schema → o.migrated ≡ false → (state S.Store o.store).now ≡ (state S.Store connection).now) }
     ensures migrated { IfOk result (λ o. HasCleanDisk (state S.Store o.store) → IsTrue o.migrated → IsMigratedFrom (state S.Store connection).now (state S.Store o.store) o.catalog) }
     ensures flag { IfOk result (λ o. HasCleanDisk (state S.Store o.store) → (IsTrue o.migrated ↔ HasFormat BEFORE (state S.Store connection).now)) }
     ensures made { IfOk result (λ o. (state S.Store connection).now.schema ≡ no_schema → (o.catalog ≡ []) × (HasCleanDisk (state S.Store o.store) → Stores (state S.Store o.store) [] [])) }
 
-    // Why a store isn't opened, just where that is so.
+    // Why a store isn't opened: each reason is returned exactly if it is true.
     ensures bare { (state S.Store connection).now.schema ≡ no_schema → IfErr result (λ f. (why : Why) × (f.cause ≡ refusal_for why)) }
     ensures foreign { IfErr result (λ f. IsUsable (state S.Store f.connection) → f.cause ≡ Refusal.ForeignStore → IsNoStore (state S.Store connection).now × IsNoStoreBefore (state S.Store connection).now) }
     ensures version { IfErr result (λ f. IsUsable (state S.Store f.connection) → f.cause ≡ Refusal.UnknownVersion → HasUnknownFormat (state S.Store connection).now) }
@@ -53,8 +55,9 @@ pub fn migrate<S: Alter>(
     ensures kept { IfErr result (λ f. IsUsable (state S.Store f.connection) → (state S.Store f.connection).now ≡ (state S.Store connection).now) }
     ensures outside { connection.in_transaction ≡ false → IfErr result (λ f. f.connection.in_transaction ≡ false) }
 
-    // What was usable, and what a crash leaves: what it might have left before, an empty store where there was
-    // no object, or the tables and rows of a store in the format before.
+    // If the store is usable, it was before. After a crash the disk has what it might have had
+    // before; an empty store, if there was no object; or the tables and rows of a store in the
+    // previous format.
     ensures usable_opened { IfOk result (λ o. IsUsable (state S.Store o.store) → IsUsable (state S.Store connection)) }
     ensures usable_refused { IfErr result (λ f. IsUsable (state S.Store f.connection) → IsUsable (state S.Store connection)) }
     ensures durable_made { IfOk result (λ o. HasCleanDisk (state S.Store o.store) → (state S.Store connection).now.schema ≡ no_schema → (trees : Trees) → (state S.Store o.store).may_leave trees → trees ≡ (state S.Store o.store).now.trees) }
@@ -109,7 +112,7 @@ fn migrate_whole<S: Alter>(
 }
 
 /// Opens a store of either format, which has the known one afterwards. If it isn't verified, it is
-/// handed back, with why.
+/// returned with the reason.
 fn read_any<S: Alter>(
     alloc: Global,
     store: RowStore<S>,
@@ -142,8 +145,8 @@ fn read_any<S: Alter>(
     }
 }
 
-/// Reads a store in the format before, and brings it to the known one. If it isn't verified, it is
-/// handed back, with why.
+/// Reads a store in the previous format, and migrates it to the known one. If it isn't verified, it
+/// is returned with the reason.
 fn read_before<S: Alter>(
     alloc: Global,
     mut store: RowStore<S>,

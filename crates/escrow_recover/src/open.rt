@@ -21,14 +21,14 @@ use escrow_schema::Catalog;
 use sqlite::{Alter, Connection};
 use std::alloc::Global;
 
-/// A store that is opened.
+/// A store that was opened.
 #[derive(Drop)]
 pub struct Opened<S: Alter> {
     /// The store.
     pub store: RowStore<S>,
-    /// Its tables, and how many rows each has.
+    /// Its tables, with their numbers of rows.
     pub catalog: Catalog,
-    /// Whether it had the format before, and has the known one since.
+    /// Whether it had the previous format, and has the known one since.
     pub migrated: bool,
 }
 
@@ -41,25 +41,26 @@ pub struct StoreFault<S: Alter> {
     pub cause: Refusal,
 }
 
-/// Opens a store. A database without objects is made an empty one, in one transaction. Any other is read
-/// whole and tested, and nothing is changed.
+/// Opens a store. A database without objects becomes an empty store, in one transaction. Any other
+/// is read completely and tested, and nothing is changed.
 ///
 /// # Errors
 ///
-/// [`Refusal::Memory`] (51), [`Refusal::Store`] (60), [`Refusal::ForeignStore`] (61) or
-/// [`Refusal::UnknownVersion`] (62), with the connection. One that is inside a transaction is refused as by
-/// the store.
+/// Fails with [`Refusal::Memory`] (51), [`Refusal::Store`] (60), [`Refusal::ForeignStore`] (61) or
+/// [`Refusal::UnknownVersion`] (62), and returns the connection. If it is inside a transaction, it
+/// is refused as by the store.
 pub fn open_store<S: Alter>(
     alloc: Global,
     connection: Connection<S>,
 ) -> Result<Opened<S>, StoreFault<S>>
-    // The store of these tables, as they are counted, each row of which meets its checks: what stood there, or none.
+    // The store has these tables, with their numbers of rows, and each row meets its checks. It is
+    // what was there, or an empty one.
     ensures store { IfOk result (λ o. HasCleanDisk (state S.Store o.store) → IsOpened (state S.Store o.store) o.catalog) }
     ensures found { IfOk result (λ o. IsUsable (state S.Store o.store) → (state S.Store connection).now.schema ≢ no_schema → (state S.Store o.store).now ≡ (state S.Store connection).now) }
     ensures made { IfOk result (λ o. (state S.Store connection).now.schema ≡ no_schema → (o.catalog ≡ []) × (HasCleanDisk (state S.Store o.store) → Stores (state S.Store o.store) [] [])) }
     ensures same { IfOk result (λ o. o.migrated ≡ false) }
 
-    // Why a store isn't opened, just where that is so.
+    // Why a store isn't opened: each reason is returned exactly if it is true.
     ensures bare { (state S.Store connection).now.schema ≡ no_schema → IfErr result (λ f. (why : Why) × (f.cause ≡ refusal_for why)) }
     ensures foreign { IfErr result (λ f. IsUsable (state S.Store f.connection) → f.cause ≡ Refusal.ForeignStore → IsNoStore (state S.Store connection).now) }
     ensures version { IfErr result (λ f. IsUsable (state S.Store f.connection) → f.cause ≡ Refusal.UnknownVersion → HasOtherFormat (state S.Store connection).now) }
@@ -70,8 +71,8 @@ pub fn open_store<S: Alter>(
     ensures kept { IfErr result (λ f. IsUsable (state S.Store f.connection) → (state S.Store f.connection).now ≡ (state S.Store connection).now) }
     ensures outside { connection.in_transaction ≡ false → IfErr result (λ f. f.connection.in_transaction ≡ false) }
 
-    // What was usable, and what a crash leaves: what it might have left before, or an empty store where there
-    // was no object.
+    // If the store is usable, it was before. After a crash the disk has what it might have had
+    // before, or an empty store if there was no object.
     ensures usable_opened { IfOk result (λ o. IsUsable (state S.Store o.store) → IsUsable (state S.Store connection)) }
     ensures usable_refused { IfErr result (λ f. IsUsable (state S.Store f.connection) → IsUsable (state S.Store connection)) }
     ensures durable { IfOk result (λ o. HasCleanDisk (state S.Store o.store) → (state S.Store connection).now.schema ≡ no_schema → (trees : Trees) → (state S.Store o.store).may_leave trees → trees ≡ (state S.Store o.store).now.trees) }
@@ -91,7 +92,7 @@ pub fn open_store<S: Alter>(
     }
 }
 
-/// Makes an empty store of a database without objects.
+/// Makes an empty store from a database without objects.
 pub(crate) fn make_empty<S: Alter>(
     alloc: Global,
     mut connection: Connection<S>,
@@ -123,7 +124,7 @@ pub(crate) fn make_empty<S: Alter>(
     }
 }
 
-/// Opens a store that was written before: all that is stored is read and tested.
+/// Opens a store that was written before: reads and tests everything that is stored.
 fn read_whole<S: Alter>(
     alloc: Global,
     connection: Connection<S>,
@@ -149,7 +150,7 @@ fn read_whole<S: Alter>(
     }
 }
 
-/// Opens a store in the known format. If it isn't verified, it is handed back, with why.
+/// Opens a store in the known format. If it isn't verified, it is returned with the reason.
 pub(crate) fn read_store<S: Alter>(
     alloc: Global,
     mut store: RowStore<S>,

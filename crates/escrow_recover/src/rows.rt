@@ -20,9 +20,10 @@ use escrow_schema::StoredTable;
 use sqlite::Alter;
 use std::alloc::Global;
 
-/// How many rows a table of a store has. Each one is tested as its cells are read: it has a value that fits
-/// for each column of the table, and it meets the table's checks. No row is kept. Where a cell is none of
-/// such a row, or there are more than [`TableDef::MAX_ROWS`] rows, the store is refused as foreign.
+/// Returns how many rows a table of a store has. Each is tested as its cells are read: it must have
+/// a value that fits for each column of the table, and meet the table's checks. No row is kept. If
+/// a cell belongs to no such row, or there are more than [`TableDef::MAX_ROWS`] rows, the store is
+/// refused as foreign.
 pub(crate) fn count_rows<S: Alter>(
     alloc: Global,
     store: &mut RowStore<S>,

@@ -1,4 +1,4 @@
-//! The tables of a store, found out from the rows of TAB.
+//! The tables of a store, read from the rows of TAB.
 ghost use Rattle.std.specs.Prelude.{◌≡◌, ◌++◌, ◌∷◌, [], List, Err, IfOk, OnOk, IsPermutation, IsSorted, IsTrue, map};
 ghost use Rattle.std.specs.List.{AllByRecursion, list_all};
 ghost use Rattle.sqlite.specs.Held.{state};
@@ -21,8 +21,8 @@ use escrow_schema::{Catalog, StoredTable};
 use sqlite::{Alter, Row};
 use std::alloc::{AllocError, Global};
 
-/// The tables of a store, in order of name. Each row of TAB has to be a table's number, its name and its
-/// canonical text, byte for byte; what isn't so is refused as no store.
+/// Returns the tables of a store, in order of name. Each row of TAB must be a table's number, its
+/// name and its canonical text, byte for byte. Anything else is refused as no store.
 pub(crate) fn read_tables<S: Alter>(
     alloc: Global,
     store: &mut RowStore<S>,
@@ -36,7 +36,7 @@ pub(crate) fn read_tables<S: Alter>(
     tables_of(alloc, &rows)
 }
 
-/// The tables whose rows of TAB these are, in order of name.
+/// Returns the tables with these rows of TAB, in order of name.
 fn tables_of(alloc: Global, rows: &[Row]) -> Result<Vec<StoredTable>, PartFault>
     ensures tables { IfOk result (λ tables. AreTables tables.items × IsCatalog (map (λ s. s.table) tables.items)) }
     ensures rows { IfOk result (λ tables. IsPermutation (map tab_row tables.items) rows.now) }
@@ -53,7 +53,7 @@ fn tables_of(alloc: Global, rows: &[Row]) -> Result<Vec<StoredTable>, PartFault>
     Ok(tables)
 }
 
-/// The table of each row of TAB.
+/// Returns the table of each row of TAB.
 fn each_table(alloc: Global, rows: &[Row]) -> Result<Vec<StoredTable>, PartFault>
     ensures rows { IfOk result (λ tables. map tab_row tables.items ≡ rows.now) }
     ensures each { IfOk result (λ tables. AllByRecursion CanStand tables.items) }
@@ -75,7 +75,7 @@ fn push_table(alloc: Global, tables: &mut Vec<StoredTable>, row: &Row) -> Result
     Ok(tables.push(table)?)
 }
 
-/// Whether no two tables have one number or one name.
+/// Returns whether no two tables have the same number or the same name.
 fn are_apart(tables: &[StoredTable]) -> bool
     ensures { result ≡ are_apart tables.now }
 {
@@ -87,14 +87,14 @@ fn are_apart(tables: &[StoredTable]) -> bool
     true
 }
 
-/// Whether a table has neither the number nor the name of another one.
+/// Returns whether no other table has a table's number or its name.
 fn is_apart(table: &StoredTable, others: &[StoredTable]) -> bool
     ensures { result ≡ list_all (tables_apart table.now) others.now }
 {
     others.iter().all(|other| table.id != other.id && table.table.name != other.table.name)
 }
 
-/// Puts tables in order of name.
+/// Sorts tables by name.
 fn put_in_order(tables: &mut Vec<StoredTable>) -> Result<(), AllocError>
     ensures same { IsPermutation tables.old.items tables.new.items }
     ensures order { OnOk result (IsSorted by_name tables.new.items) }

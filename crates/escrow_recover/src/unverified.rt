@@ -4,11 +4,12 @@ use std::alloc::{AllocError, AllocFailed};
 /// Why a store isn't verified.
 #[derive(Clone, Copy)]
 pub(crate) enum Unverified {
-    /// For want of memory (51), or by a refusal of the store (60): that decides nothing.
+    /// Memory was refused (51), or the store refused a call (60). This decides nothing about the
+    /// store.
     Failed(Failure),
-    /// It is the store of no tables and rows (61).
+    /// It isn't the store of any tables and rows (61).
     ForeignStore,
-    /// Its format is another (62).
+    /// It has another format (62).
     OtherFormat,
 }
 
@@ -41,9 +42,9 @@ impl From<Unverified> for Refusal {
 /// Why a part of a store isn't verified.
 #[derive(Clone, Copy)]
 pub(crate) enum PartFault {
-    /// For want of memory, or by a refusal of the store.
+    /// Memory was refused, or the store refused a call.
     Failed(Failure),
-    /// It is a part of no store.
+    /// It isn't a part of any store.
     Foreign,
 }
 

@@ -1,4 +1,4 @@
-//! A store, verified whole.
+//! A store, verified completely.
 ghost use Rattle.std.specs.Prelude.{◌≡◌, ◌++◌, [], ◌∷◌, IsTrue, Err, List, OnOk, IfOk, IfErr};
 ghost use Rattle.std.specs.List.{AllByRecursion};
 ghost use Rattle.sqlite.specs.Held.{state};
@@ -27,14 +27,14 @@ use escrow_schema::{Catalog, CountedTable, StoredTable};
 use sqlite::Alter;
 use std::alloc::Global;
 
-/// Returns the catalog of a store: what is stored is read whole and tested, row by row, and nothing is
-/// changed.
+/// Returns the catalog of a store. Everything that is stored is read and tested, row by row, and
+/// nothing is changed.
 ///
 /// # Errors
 ///
-/// [`Refusal::UnknownVersion`] (62) if its format is another, else [`Refusal::ForeignStore`] (61) if it is the
-/// store of no tables and rows; [`Refusal::Memory`] (51), and [`Refusal::Store`] (60) if the store refuses a
-/// call.
+/// Fails with [`Refusal::UnknownVersion`] (62) if the store has another format, else with
+/// [`Refusal::ForeignStore`] (61) if it isn't the store of any tables and rows. Fails with
+/// [`Refusal::Memory`] (51), and with [`Refusal::Store`] (60) if the store refuses a call.
 pub fn verify<S: Alter>(alloc: Global, store: &mut RowStore<S>) -> Result<Catalog, Refusal>
     ensures listed { IfOk result IsListed }
     ensures store { HasCleanDisk (state S.Store store.new) → IfOk result (IsOpened (state S.Store store.new)) }
@@ -50,7 +50,8 @@ pub fn verify<S: Alter>(alloc: Global, store: &mut RowStore<S>) -> Result<Catalo
     }
 }
 
-/// The tables of a store in one of the formats, in order of name, each with the number of its rows.
+/// Returns the tables of a store in one of the formats, in order of name, each with the number of
+/// its rows.
 pub(crate) fn verify_format<S: Alter>(
     alloc: Global,
     store: &mut RowStore<S>,
@@ -69,7 +70,7 @@ pub(crate) fn verify_format<S: Alter>(
     Ok(count_all(alloc, store, tables)?)
 }
 
-/// The tables, each with the number of its rows.
+/// Returns the tables, each with the number of its rows.
 fn count_all<S: Alter>(
     alloc: Global,
     store: &mut RowStore<S>,

@@ -20,23 +20,23 @@ use Rattle.escrow_machine.specs.declared.reply.JournalEntry.{JournalEntry}
 use Rattle.escrow_machine.specs.declared.reply.Reply.{Reply}
 use Rattle.escrow_machine.specs.declared.reply.Reply.TheVariants as reply
 
--- VALUES, AND WHAT IS SHOWN OF A ROW
+-- VALUES, AND THE LINES OF ROWS
 
--- a text in quotes, each quote in it twice
+-- a text in quotes, with each quote in it doubled
 abbrev pub quoted : List ℕ → List ℕ
 quoted text = codes "'" ++ doubled text ++ codes "'"
 
--- a value of a column of a scale: a number in decimal with just as many digits behind the point, and with
--- a minus where it is negative, or a text in quotes
+-- a value of a column of a scale: a number in decimal with as many digits after the point as the scale, and with a
+-- minus if it is negative; or a text in quotes
 abbrev pub value_text : ℕ → Value → List ℕ
 value_text scale (value.Number units) = scaled_text scale units
 value_text scale (value.Text text) = quoted text
 
--- what stands between two columns
+-- the text between two columns
 abbrev pub bar : List ℕ
 bar = codes " | "
 
--- the scale of the k-th column, from 0; past the columns, where no row of a table has a value, 0
+-- the scale of the k-th column, from 0. Past the columns, where no row of a table has a value, it is 0
 abbrev pub scale_at : List Heading → ℕ → ℕ
 scale_at headings k = unwrap_or (option_map (λ heading. heading.scale) (slice_get headings k)) 0
 
@@ -45,7 +45,7 @@ abbrev pub value_texts : List Heading → ℕ → List Value → List (List ℕ)
 value_texts headings k [] = []
 value_texts headings k (v ∷ values) = value_text (scale_at headings k) v ∷ value_texts headings (suc k) values
 
--- the values of a row, with a bar between each two
+-- the values of a row, with a bar between two
 abbrev pub row_text : List Heading → List Value → List ℕ
 row_text headings values = join_by (λ text. text) bar (value_texts headings 0 values)
 
@@ -95,7 +95,7 @@ refusal_text refusal.UnknownVersion = codes "unknown version"
 
 -- BOUNDS
 
--- a column's bounds, with its scale: its committed value, the least and the greatest that it can come to
+-- a column's bounds, with its scale: its committed value, and the least and the greatest value that it can have
 unfoldable pub column_text : ColumnBounds → List ℕ
 column_text b =
     b.column ++ codes " value " ++ scaled_text b.scale b.value ++ codes " inf " ++ scaled_text b.scale b.inf ++ codes " sup " ++ scaled_text b.scale b.sup
@@ -113,7 +113,7 @@ check_text b =
 
 -- OPEN RESERVATIONS
 
--- a change in units of a scale, with its sign: a plus where it isn't negative
+-- a change in units of a scale, with its sign: a plus if it isn't negative
 abbrev pub signed_text : ℕ → ℤ → List ℕ
 signed_text scale change = if is_negative change then scaled_text scale change else codes "+" ++ scaled_text scale change
 
@@ -175,10 +175,10 @@ prefix_of database session = database ++ codes "." ++ decimal session ++ codes "
 abbrev pub database_prefix : List ℕ → List ℕ
 database_prefix database = database ++ codes "> "
 
--- a reply to a database as it is written
+-- a reply to a whole database, as it is written
 abbrev pub rendered_whole : List ℕ → Reply → List ℕ
 rendered_whole database answer = with_prefix (database_prefix database) (reply_lines answer)
 
--- a reply to a session as it is written
+-- a reply to a session, as it is written
 abbrev pub rendered : List ℕ → ℕ → Reply → List ℕ
 rendered database session answer = with_prefix (prefix_of database session) (reply_lines answer)

@@ -7,7 +7,8 @@ use escrow_machine::{CheckBounds, ColumnBounds};
 use escrow_num::{Scale, Span, Wide};
 use std::alloc::AllocError;
 
-/// A column's name, its committed value, and the least and the greatest that it can come to.
+/// Shows a column's name, its committed value, and the least and the greatest value that it can
+/// have.
 impl Shown for ColumnBounds {
     ghost use Rattle.escrow_reply.specs.Text.{column_text};
 
@@ -23,7 +24,7 @@ impl Shown for ColumnBounds {
     }
 }
 
-/// A check's name, the least and the greatest value of its form, and its limits.
+/// Shows a check's name, the least and the greatest value of its form, and its limits.
 impl Shown for CheckBounds {
     ghost use Rattle.escrow_reply.specs.Text.{check_text};
 
@@ -39,7 +40,7 @@ impl Shown for CheckBounds {
     }
 }
 
-/// The limits of a check, in units of its scale.
+/// Adds the limits of a check, in units of its scale.
 fn push_limits(line: &mut Vec<u8>, limits: Span, scale: Scale) -> Result<(), AllocError>
     ensures { OnOk result (line.new.items ≡ line.old.items ++ (codes " low " ++ limit_text scale limits.lo ++ codes " high " ++ limit_text scale limits.hi)) }
 {
@@ -47,7 +48,7 @@ fn push_limits(line: &mut Vec<u8>, limits: Span, scale: Scale) -> Result<(), All
     push_limit(line, " high ", limits.hi, scale)
 }
 
-/// Words and a limit behind them, or `none` where there isn't one.
+/// Adds words and a limit, or `none` if there is no limit.
 fn push_limit(
     line: &mut Vec<u8>,
     words: &str,

@@ -9,7 +9,7 @@ use escrow_machine::{ColumnChange, JournalEntry};
 use escrow_num::{Amount, Scale, Wide};
 use std::alloc::AllocError;
 
-/// An open reservation's id, its session, its row, and its changes.
+/// Shows an open reservation's id, its session, its row, and its changes.
 impl Shown for JournalEntry {
     ghost use Rattle.escrow_reply.specs.Text.{entry_text};
 
@@ -27,7 +27,7 @@ impl Shown for JournalEntry {
     }
 }
 
-/// The changes of columns, one behind the other.
+/// Adds the changes of columns, one after another.
 fn push_changes(line: &mut Vec<u8>, changes: &[ColumnChange]) -> Result<(), AllocError>
     ensures { OnOk result (line.new.items ≡ line.old.items ++ flat_map change_text changes.now) }
 {
@@ -37,7 +37,7 @@ fn push_changes(line: &mut Vec<u8>, changes: &[ColumnChange]) -> Result<(), Allo
     Ok(())
 }
 
-/// A column's name, and its change.
+/// Adds a column's name and its change.
 fn push_change(line: &mut Vec<u8>, change: &ColumnChange) -> Result<(), AllocError>
     ensures { OnOk result (line.new.items ≡ line.old.items ++ change_text change.now) }
 {
@@ -47,7 +47,7 @@ fn push_change(line: &mut Vec<u8>, change: &ColumnChange) -> Result<(), AllocErr
     push_with_sign(line, change.change, change.scale)
 }
 
-/// A change in units of a scale, with its sign: a plus where it isn't negative.
+/// Adds a change in units of a scale, with its sign: a plus if it isn't negative.
 fn push_with_sign(line: &mut Vec<u8>, change: Amount, scale: Scale) -> Result<(), AllocError>
     ensures { OnOk result (line.new.items ≡ line.old.items ++ signed_text scale change) }
 {

@@ -1,8 +1,11 @@
 //! The text of replies.
 //!
-//! Its one contract: [`render`] gives the lines of a reply to the byte, each behind the database and
-//! the session that it is for; [`render_whole`] those of one to a whole database. Where a reply is
-//! short and there is room for its line, [`push_short`] adds it without memory.
+//! Its main contract is that of [`render`]: it returns the lines of a reply to the byte, each after
+//! the database and the session that it is for. [`render_whole`] does so for a reply to a whole
+//! database.
+//!
+//! Begin with [`render`]. If a reply is short and there is room for its line, [`push_short`] adds
+//! it without taking memory. The words of each reply are in specs/Text.antt.
 #![tactic(auto)]
 
 mod bounds;

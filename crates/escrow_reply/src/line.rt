@@ -1,11 +1,11 @@
-//! Lines of what is shown.
+//! The lines of what is shown.
 ghost use Rattle.std.specs.Prelude.{◌≡◌, ◌++◌, ◌∷◌, [], map, OnOk};
 ghost use Rattle.escrow_reply.specs.Text.{with_prefix};
 
 use crate::push::{push_bytes, push_text};
 use std::alloc::AllocError;
 
-/// What is shown on a line of its own.
+/// Something that is shown on a line of its own.
 pub(crate) trait Shown {
     ghost use Rattle.std.specs.Prelude.{◌≡◌, ◌++◌, List, ℕ, OnOk};
 
@@ -26,7 +26,7 @@ impl Shown for &str {
     }
 }
 
-/// A line of what is shown, with a prefix before it and a line feed after it.
+/// Adds a line for something that is shown, with a prefix before it and a line feed after it.
 pub(crate) fn push_line<T: Shown>(
     lines: &mut Vec<u8>,
     prefix: &[u8],
@@ -39,7 +39,7 @@ pub(crate) fn push_line<T: Shown>(
     push_text(lines, "\n")
 }
 
-/// A line for each that is shown.
+/// Adds a line for each thing that is shown.
 pub(crate) fn push_lines<T: Shown>(
     lines: &mut Vec<u8>,
     prefix: &[u8],

@@ -9,14 +9,14 @@ use escrow_machine::{Heading, Reply};
 use escrow_num::{Seq, Session, Value};
 use std::alloc::{AllocError, Global};
 
-/// How many bytes the longest prefix takes: `bank16.64> `.
+/// The number of bytes of the longest prefix, `bank16.64> `.
 const MOST_PREFIX: usize = 11;
 
-/// More bytes than most replies take, so that their memory is taken at once.
+/// More bytes than most replies need, so that their memory is taken all at once.
 const MOST_LINE: usize = 64;
 
-/// The lines that answer a statement, each behind the database and the session that they are for, and
-/// before a line feed.
+/// Returns the lines of the reply to a statement, each after the database and the session that it
+/// is for, and before a line feed.
 pub fn render(
     alloc: Global,
     database: &str,
@@ -29,8 +29,8 @@ pub fn render(
     with_prefix(alloc, prefix.as_slice(), reply)
 }
 
-/// The lines that answer what is asked of a whole database, each behind the database's name and before a
-/// line feed.
+/// Returns the lines of the reply to a request of a whole database, each after the database's name
+/// and before a line feed.
 pub fn render_whole(alloc: Global, database: &str, reply: &Reply) -> Result<Vec<u8>, AllocError>
     ensures { IfOk result (λ bytes. bytes.items ≡ rendered_whole database.now reply.now) }
 {
@@ -38,14 +38,14 @@ pub fn render_whole(alloc: Global, database: &str, reply: &Reply) -> Result<Vec<
     with_prefix(alloc, prefix.as_slice(), reply)
 }
 
-/// The lines of a reply, each behind a prefix and before a line feed.
+/// Returns the lines of a reply, each after a prefix and before a line feed.
 pub fn render_lines(alloc: Global, prefix: &str, reply: &Reply) -> Result<Vec<u8>, AllocError>
     ensures { IfOk result (λ bytes. bytes.items ≡ with_prefix prefix.now (reply_lines reply.now)) }
 {
     with_prefix(alloc, prefix.as_bytes(), reply)
 }
 
-/// The prefix of a reply's lines.
+/// Returns the prefix of a reply's lines.
 fn prefix_of(alloc: Global, database: &str, session: Session) -> Result<Vec<u8>, AllocError>
     ensures { IfOk result (λ bytes. bytes.items ≡ prefix_of database.now session) }
 {
@@ -57,7 +57,7 @@ fn prefix_of(alloc: Global, database: &str, session: Session) -> Result<Vec<u8>,
     Ok(prefix)
 }
 
-/// The prefix of the lines of a reply to a whole database.
+/// Returns the prefix of the lines of a reply to a whole database.
 fn database_prefix(alloc: Global, database: &str) -> Result<Vec<u8>, AllocError>
     ensures { IfOk result (λ bytes. bytes.items ≡ database_prefix database.now) }
 {
@@ -67,7 +67,7 @@ fn database_prefix(alloc: Global, database: &str) -> Result<Vec<u8>, AllocError>
     Ok(prefix)
 }
 
-/// The lines of a reply, each with the prefix before it and a line feed after it.
+/// Returns the lines of a reply, each with the prefix before it and a line feed after it.
 fn with_prefix(alloc: Global, prefix: &[u8], reply: &Reply) -> Result<Vec<u8>, AllocError>
     ensures { IfOk result (λ bytes. bytes.items ≡ with_prefix prefix.now (reply_lines reply.now)) }
 {
@@ -79,7 +79,7 @@ fn with_prefix(alloc: Global, prefix: &[u8], reply: &Reply) -> Result<Vec<u8>, A
     Ok(lines)
 }
 
-/// The lines before the last one, for what is shown.
+/// Adds the lines before the last one, for what is shown.
 fn push_shown(lines: &mut Vec<u8>, prefix: &[u8], reply: &Reply) -> Result<(), AllocError>
     ensures { OnOk result (lines.new.items ≡ lines.old.items ++ with_prefix prefix.now (shown_lines reply.now)) }
 {
@@ -98,7 +98,7 @@ fn push_shown(lines: &mut Vec<u8>, prefix: &[u8], reply: &Reply) -> Result<(), A
     }
 }
 
-/// A line for each row under the headings.
+/// Adds a line for each row under the headings.
 fn push_row_lines(
     lines: &mut Vec<u8>,
     prefix: &[u8],

@@ -21,7 +21,7 @@ pub(crate) fn push_text(line: &mut Vec<u8>, text: &str) -> Result<(), AllocError
     push_bytes(line, text.as_bytes())
 }
 
-/// A number in decimal.
+/// Adds a number in decimal.
 pub(crate) fn push_number(line: &mut Vec<u8>, number: u64) -> Result<(), AllocError>
     ensures text { OnOk result (line.new.items ≡ line.old.items ++ decimal number) }
     ensures room { TakesRoom result line.old line.new 40 }
@@ -30,8 +30,8 @@ pub(crate) fn push_number(line: &mut Vec<u8>, number: u64) -> Result<(), AllocEr
     push_text(line, digits.format(number))
 }
 
-/// Units of a scale: as many digits behind the point as the scale has, with a minus where the number
-/// is negative.
+/// Adds units of a scale: as many digits after the point as the scale has, with a minus if the
+/// number is negative.
 #[tactic(auto, using(crate::proofs::Whole::whole_units))]
 pub(crate) fn push_units(line: &mut Vec<u8>, units: Wide, scale: Scale) -> Result<(), AllocError>
     ensures text { OnOk result (line.new.items ≡ line.old.items ++ scaled_text scale units) }
@@ -44,7 +44,7 @@ pub(crate) fn push_units(line: &mut Vec<u8>, units: Wide, scale: Scale) -> Resul
     }
 }
 
-/// A whole number in decimal, with a minus where it is negative.
+/// Adds a whole number in decimal, with a minus if it is negative.
 fn push_whole(line: &mut Vec<u8>, number: i128) -> Result<(), AllocError>
     ensures text { OnOk result (line.new.items ≡ line.old.items ++ signed_decimal number) }
     ensures room { TakesRoom result line.old line.new 40 }
@@ -56,7 +56,7 @@ fn push_whole(line: &mut Vec<u8>, number: i128) -> Result<(), AllocError>
     }
 }
 
-/// Words and units of a scale behind them.
+/// Adds words and units of a scale.
 pub(crate) fn push_measure(
     line: &mut Vec<u8>,
     words: &str,
@@ -70,7 +70,7 @@ pub(crate) fn push_measure(
     push_units(line, units, scale)
 }
 
-/// Words and a number behind them.
+/// Adds words and a number.
 pub(crate) fn push_counted(line: &mut Vec<u8>, words: &str, number: u64) -> Result<(), AllocError>
     ensures text { OnOk result (line.new.items ≡ line.old.items ++ (words.now ++ decimal number)) }
     ensures room { TakesRoom result line.old line.new (length words.now + 40) }

@@ -1,4 +1,4 @@
-//! Replies of one line, which are written without memory where there is room for them.
+//! Replies of one line, which are written without memory if there is room for them.
 ghost use Rattle.std.specs.Prelude.{◌≡◌, ◌≤◌, ◌+◌, ◌++◌, ◌∷◌, [], false, not, length, vec_len, vec_capacity, OnOk};
 ghost use Rattle.escrow_machine.specs.Reply.{holds_memory};
 ghost use Rattle.escrow_reply.specs.Room.{TakesRoom};
@@ -10,13 +10,14 @@ use escrow_machine::Reply;
 use escrow_num::Session;
 use std::alloc::AllocError;
 
-/// More bytes than the line of a short reply takes, with its prefix and its line feed.
+/// More bytes than the line of a short reply takes, including its prefix and its line feed.
 pub const MAX_SHORT: usize = 256;
 
-/// The most bytes of a database's name, or of another prefix, in front of a short reply.
+/// The most bytes of a database's name, or of another prefix, before a short reply.
 pub const MAX_FRONT: usize = 16;
 
-/// Whether a reply is short: it holds no memory, and has one line. All are, but those to queries.
+/// Returns whether a reply is short: it holds no memory, and has one line. All replies but those to
+/// queries are short.
 pub fn is_short(reply: &Reply) -> bool
     ensures { result ≡ not (holds_memory reply.now) }
 {
@@ -27,7 +28,7 @@ pub fn is_short(reply: &Reply) -> bool
     }
 }
 
-/// Adds the line that answers a statement, where it is short and there is room for it.
+/// Adds the line of the reply to a statement, which must be short, if there is room for it.
 pub fn push_short(lines: &mut Vec<u8>, database: &str, session: Session, reply: &Reply)
     requires short { holds_memory reply.now ≡ false }
     requires front { length database.now ≤ MAX_FRONT }
@@ -41,7 +42,8 @@ pub fn push_short(lines: &mut Vec<u8>, database: &str, session: Session, reply: 
     };
 }
 
-/// Adds the line that answers what is asked of a whole database, where it is short and there is room for it.
+/// Adds the line of the reply to a request of a whole database, which must be short, if there is
+/// room for it.
 pub fn push_short_whole(lines: &mut Vec<u8>, database: &str, reply: &Reply)
     requires short { holds_memory reply.now ≡ false }
     requires front { length database.now ≤ MAX_FRONT }
@@ -53,7 +55,8 @@ pub fn push_short_whole(lines: &mut Vec<u8>, database: &str, reply: &Reply)
     };
 }
 
-/// Adds the line of a reply behind a prefix, where it is short and there is room for it.
+/// Adds the line of a reply after a prefix. The reply must be short, and the line is added if there
+/// is room for it.
 pub fn push_short_line(lines: &mut Vec<u8>, prefix: &str, reply: &Reply)
     requires short { holds_memory reply.now ≡ false }
     requires front { length prefix.now ≤ MAX_FRONT }
@@ -67,7 +70,7 @@ pub fn push_short_line(lines: &mut Vec<u8>, prefix: &str, reply: &Reply)
     };
 }
 
-/// The last line of a reply to a session.
+/// Adds the last line of a reply to a session.
 fn push_answer(
     lines: &mut Vec<u8>,
     database: &str,
@@ -84,7 +87,7 @@ fn push_answer(
     push_end(lines, reply)
 }
 
-/// The last line of a reply to a whole database.
+/// Adds the last line of a reply to a whole database.
 fn push_whole(lines: &mut Vec<u8>, database: &str, reply: &Reply) -> Result<(), AllocError>
     ensures text { OnOk result (lines.new.items ≡ lines.old.items ++ (database_prefix database.now ++ reply_text reply.now ++ 10 ∷ [])) }
     ensures room { TakesRoom result lines.old lines.new (length database.now + 177) }
@@ -94,7 +97,7 @@ fn push_whole(lines: &mut Vec<u8>, database: &str, reply: &Reply) -> Result<(), 
     push_end(lines, reply)
 }
 
-/// The last line of a reply behind a prefix.
+/// Adds the last line of a reply after a prefix.
 fn push_line(lines: &mut Vec<u8>, prefix: &str, reply: &Reply) -> Result<(), AllocError>
     ensures text { OnOk result (lines.new.items ≡ lines.old.items ++ (prefix.now ++ reply_text reply.now ++ 10 ∷ [])) }
     ensures room { TakesRoom result lines.old lines.new (length prefix.now + 175) }
@@ -103,7 +106,7 @@ fn push_line(lines: &mut Vec<u8>, prefix: &str, reply: &Reply) -> Result<(), All
     push_end(lines, reply)
 }
 
-/// The words of a reply's last line, and its line feed.
+/// Adds the words of a reply's last line, and a line feed.
 fn push_end(lines: &mut Vec<u8>, reply: &Reply) -> Result<(), AllocError>
     ensures text { OnOk result (lines.new.items ≡ lines.old.items ++ (reply_text reply.now ++ 10 ∷ [])) }
     ensures room { TakesRoom result lines.old lines.new 175 }

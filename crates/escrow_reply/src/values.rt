@@ -8,7 +8,7 @@ use escrow_machine::Heading;
 use escrow_num::{Scale, Value, Wide};
 use std::alloc::AllocError;
 
-/// What stands between two columns.
+/// The text between two columns.
 const BAR: &str = " | ";
 
 impl Shown for &[Heading] {
@@ -21,7 +21,7 @@ impl Shown for &[Heading] {
     }
 }
 
-/// The names of columns, with a bar between each two.
+/// Adds the names of columns, with a bar between two.
 fn push_header(line: &mut Vec<u8>, headings: &[Heading]) -> Result<(), AllocError>
     ensures { OnOk result (line.new.items ≡ line.old.items ++ header_text headings.now) }
 {
@@ -36,7 +36,7 @@ fn push_header(line: &mut Vec<u8>, headings: &[Heading]) -> Result<(), AllocErro
     Ok(())
 }
 
-/// The values of a row, and the headings that they stand under.
+/// The values of a row, and the headings of their columns.
 #[derive(Drop)]
 pub(crate) struct Row<'a> {
     pub(crate) headings: &'a [Heading],
@@ -53,7 +53,7 @@ impl Shown for Row<'_> {
     }
 }
 
-/// The values of a row under the headings, with a bar between each two.
+/// Adds the values of a row under the headings, with a bar between two.
 fn push_row(line: &mut Vec<u8>, headings: &[Heading], values: &[Value]) -> Result<(), AllocError>
     ensures { OnOk result (line.new.items ≡ line.old.items ++ row_text headings.now values.now) }
 {
@@ -68,7 +68,7 @@ fn push_row(line: &mut Vec<u8>, headings: &[Heading], values: &[Value]) -> Resul
     Ok(())
 }
 
-/// The scale of the values at a place, from 0, under the headings.
+/// Returns the scale of the values at a place, counted from 0, under the headings.
 fn scale_at(headings: &[Heading], place: usize) -> Scale
     ensures { result ≡ scale_at headings.now place }
 {
@@ -78,7 +78,7 @@ fn scale_at(headings: &[Heading], place: usize) -> Scale
     }
 }
 
-/// A value: a number, of units of a scale, in decimal, or a text in quotes.
+/// Adds a value: a number, in units of a scale, in decimal, or a text in quotes.
 pub(crate) fn push_value(line: &mut Vec<u8>, value: &Value, scale: Scale) -> Result<(), AllocError>
     ensures { OnOk result (line.new.items ≡ line.old.items ++ value_text scale value.now) }
 {
@@ -88,7 +88,7 @@ pub(crate) fn push_value(line: &mut Vec<u8>, value: &Value, scale: Scale) -> Res
     }
 }
 
-/// A text in quotes, each quote in it twice.
+/// Adds a text in quotes, with each quote in it doubled.
 fn push_quoted(line: &mut Vec<u8>, text: &str) -> Result<(), AllocError>
     ensures { OnOk result (line.new.items ≡ line.old.items ++ quoted text.now) }
 {
@@ -99,7 +99,7 @@ fn push_quoted(line: &mut Vec<u8>, text: &str) -> Result<(), AllocError>
     push_text(line, "'")
 }
 
-/// A byte of a text in quotes: a quote is written twice.
+/// Adds a byte of a text in quotes. A quote is doubled.
 fn push_doubled(line: &mut Vec<u8>, byte: u8) -> Result<(), AllocError>
     ensures { OnOk result (line.new.items ≡ line.old.items ++ doubled (byte ∷ [])) }
 {

@@ -7,7 +7,7 @@ use escrow_machine::Reply;
 use escrow_num::{Name, Refusal, Side, Violation};
 use std::alloc::AllocError;
 
-/// The words of a reply's last line.
+/// Adds the words of a reply's last line.
 pub(crate) fn push_words(line: &mut Vec<u8>, reply: &Reply) -> Result<(), AllocError>
     ensures text { OnOk result (line.new.items ≡ line.old.items ++ reply_text reply.now) }
     ensures room { TakesRoom result line.old line.new 174 }
@@ -35,7 +35,7 @@ pub(crate) fn push_words(line: &mut Vec<u8>, reply: &Reply) -> Result<(), AllocE
     }
 }
 
-/// Words and a name behind them.
+/// Adds words and a name.
 fn push_named(line: &mut Vec<u8>, words: &str, name: Name) -> Result<(), AllocError>
     ensures text { OnOk result (line.new.items ≡ line.old.items ++ (words.now ++ name)) }
     ensures room { TakesRoom result line.old line.new (length words.now + 36) }
@@ -44,7 +44,7 @@ fn push_named(line: &mut Vec<u8>, words: &str, name: Name) -> Result<(), AllocEr
     push_bytes(line, name.as_bytes())
 }
 
-/// Words, a name behind them, and a number behind that.
+/// Adds words, a name, a space and a number.
 fn push_named_count(
     line: &mut Vec<u8>,
     words: &str,
@@ -58,7 +58,7 @@ fn push_named_count(
     push_counted(line, " ", count)
 }
 
-/// A refusal's number, and the words for it.
+/// Adds a refusal's number and its words.
 fn push_refused(line: &mut Vec<u8>, refusal: &Refusal) -> Result<(), AllocError>
     ensures text { OnOk result (line.new.items ≡ line.old.items ++ reply_text (Reply.Refused refusal.now)) }
     ensures room { TakesRoom result line.old line.new 174 }
@@ -67,7 +67,7 @@ fn push_refused(line: &mut Vec<u8>, refusal: &Refusal) -> Result<(), AllocError>
     push_refusal(line, refusal)
 }
 
-/// The words for a refusal, behind a space.
+/// Adds the words of a refusal, after a space.
 fn push_refusal(line: &mut Vec<u8>, refusal: &Refusal) -> Result<(), AllocError>
     ensures text { OnOk result (line.new.items ≡ line.old.items ++ (codes " " ++ refusal_text refusal.now)) }
     ensures room { TakesRoom result line.old line.new 130 }
@@ -102,7 +102,8 @@ fn push_refusal(line: &mut Vec<u8>, refusal: &Refusal) -> Result<(), AllocError>
     }
 }
 
-/// A limit that could be broken, behind a space: the check, the side, the worst value and the limit.
+/// Adds a limit that could be broken, after a space: the check, the side, the worst value and the
+/// limit.
 fn push_violation(line: &mut Vec<u8>, violation: &Violation) -> Result<(), AllocError>
     ensures text { OnOk result (line.new.items ≡ line.old.items ++ (codes " " ++ violation_text violation.now)) }
     ensures room { TakesRoom result line.old line.new 130 }
@@ -117,7 +118,7 @@ fn push_violation(line: &mut Vec<u8>, violation: &Violation) -> Result<(), Alloc
     push_measure(line, " limit ", violation.limit, violation.scale)
 }
 
-/// The word for a side, between two spaces.
+/// Returns the word for a side, between two spaces.
 fn side_words(side: Side) -> &'static str
     ensures text { result.now ≡ codes " " ++ side_text side ++ codes " " }
     ensures short { length result.now ≤ 6 }

@@ -1,4 +1,4 @@
--- Helps: what is left when the transactions of several sessions have ended.
+-- Helps: what remains after the transactions of several sessions have ended.
 use Rattle.std.specs.Prelude.{◌≡◌, ℕ, List, [], ◌∷◌}
 use Rattle.escrow_num.specs.declared.session.End.{End}
 use Rattle.escrow_bounds.specs.Ended.{AreEnded}
@@ -6,12 +6,12 @@ use Rattle.escrow_bounds.specs.Places.{Places}
 use Rattle.escrow_journal.specs.Open.{Open, ended}
 use Rattle.escrow_journal.specs.Reservations.{own}
 
--- what is open when the transactions of a plan have ended, one after another
+-- what is open after the transactions of a plan have ended, one after another
 abbrev pub all_ended : List (ℕ × End) → Open → Open
 all_ended [] o = o
 all_ended (entry ∷ plan) o = all_ended plan (ended entry.0 o)
 
--- places when they have: of each place, the reservations of one session after another have ended
+-- the places after that: in each place, the reservations of one session after another have ended
 abbrev pub AreAllEnded : List (ℕ × End) → Open → Places → Places → Type 0
 AreAllEnded [] o old new = new ≡ old
 AreAllEnded (entry ∷ plan) o old new = (mid : Places) × AreEnded entry.1 (own entry.0 o.reservations) old mid × AreAllEnded plan (ended entry.0 o) mid new

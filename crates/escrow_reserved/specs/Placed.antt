@@ -1,4 +1,4 @@
--- Helps: what places have of tables and of rows.
+-- Helps: how places match tables and rows.
 use Rattle.std.specs.Prelude.{◌≡◌, ℤ, Option, Some, option_map, IsSomeAnd, List, length}
 use Rattle.escrow_num.specs.declared.row.Row.{Row}
 use Rattle.escrow_num.specs.declared.value.RowName.{RowName}
@@ -13,7 +13,7 @@ use Rattle.escrow_schema.specs.Rows.{row_named}
 abbrev pub amounts_named : List Row → RowName → Option (List ℤ)
 amounts_named rows name = option_map (λ row. row.amounts) (row_named rows name)
 
--- a place has the checks of a table, and an amount for each of its RESERVABLE columns
+-- a place has the checks of a table, and an amount for each of the table's RESERVABLE columns
 pub record IsOfTable (table : TableDef) (place : Kept) : Type 0 where
   pub checks : checks_of place.checks ≡ table.checks
   pub amounts : length place.amounts ≡ length (reservables table.columns)

@@ -20,11 +20,11 @@ use Rattle.escrow_reserved.specs.Placed.{amounts_named}
 abbrev pub ReadRows : Type 0
 ReadRows = List (RowName × List ℤ)
 
--- there are at most as many as may be
+-- there are at most as many as may be kept
 abbrev pub AreFew : ReadRows → Type 0
 AreFew rows = length rows ≤ MAX_ROWS
 
--- those of a row, where they are kept
+-- the amounts of a row, if they are kept
 abbrev pub read_at : ReadRows → RowName → Option (List ℤ)
 read_at rows name = lookup (same_row name) rows
 
@@ -32,11 +32,11 @@ read_at rows name = lookup (same_row name) rows
 abbrev pub IsKeptAt : ReadRows → RowName → ℕ → Type 0
 IsKeptAt rows name place = option_map (λ (p : RowName × List ℤ). p.0) (slice_get rows place) ≡ Some name
 
--- a row is kept as it was, or no more
+-- a row is kept as it was, or is no longer kept
 abbrev pub IsLeft : ReadRows → ReadRows → RowName → Type 0
 IsLeft old new name = (read_at new name ≡ None) ⊎ (read_at new name ≡ read_at old name)
 
--- the amounts of a row when reservations are committed: those that are of it are in them
+-- the amounts of a row after reservations are committed: they include the changes of those that are of the row
 abbrev pub committed_to : RowName → List Reservation → List ℤ → List ℤ
 committed_to name reservations amounts = amounts_after_all end.Commit amounts (of_row name reservations)
 
@@ -55,15 +55,15 @@ row_with name amounts = record { name = name; amounts = amounts }
 abbrev pub row_read : ReadRows → RowName → Option ReadRow
 row_read rows name = option_map (row_with name) (read_at rows name)
 
--- it has an amount for each RESERVABLE column of its table
+-- a row has an amount for each RESERVABLE column of its table
 abbrev pub IsKnown : List TableDef → Option ReadRow → Type 0
 IsKnown catalog read = IfSome read (λ r. IsSomeAnd (table_named catalog r.name.table) (λ table. length r.amounts ≡ length (reservables table.columns)))
 
--- and they are its committed amounts
+-- the amounts of a row are its committed ones
 abbrev pub IsRead : List Row → Option ReadRow → Type 0
 IsRead rows read = IfSome read (λ r. amounts_named rows r.name ≡ Some r.amounts)
 
--- when reservations are committed, those that are of the row are in its amounts
+-- after reservations are committed, the row's amounts include the changes of those that are of the row
 abbrev pub committed_by : List Reservation → ReadRow → ReadRow
 committed_by reservations r = record r { amounts = committed_to r.name reservations r.amounts }
 
@@ -73,6 +73,6 @@ committed_by reservations r = record r { amounts = committed_to r.name reservati
 abbrev pub AreKnown : List TableDef → ReadRows → Type 0
 AreKnown catalog rows = (name : RowName) → IsKnown catalog (row_read rows name)
 
--- and they are its committed amounts
+-- the amounts of each row that is kept are its committed ones
 abbrev pub AreRead : List Row → ReadRows → Type 0
 AreRead committed rows = (name : RowName) → IsRead committed (row_read rows name)

@@ -1,4 +1,4 @@
--- Believed: what is open in a database, beside the places of the rows that it reserves.
+-- Believed: what is open in a database, and the places of the rows that it reserves.
 use Rattle.std.specs.Prelude.{◌≡◌, ℕ, ℤ, true, false, Option, Some, None, is_some, option_map, List, [], ◌∷◌, map}
 use Rattle.std.specs.List.{AllByRecursion, list_any}
 use Rattle.escrow_num.specs.declared.refusal.Refusal.{Refusal}
@@ -25,33 +25,32 @@ pub record Reserved : Type 0 where
 abbrev pub nothing : Reserved
 nothing = record { txns = nothing_open; places = [] }
 
--- each place counts just the open reservations of its row, and each of these changes at most as many columns as
--- a check has coefficients
+-- each place counts exactly the open reservations of its row, and each of these changes at most as many columns as a
+-- check can have coefficients
 pub record AreCounted (r : Reserved) : Type 0 where
   pub counts : CountsAll r.places r.txns.reservations
   pub short : AllByRecursion IsShort r.txns.reservations
 
--- just the rows that have an open reservation have a place
+-- exactly the rows that have an open reservation have a place
 abbrev pub ArePlaced : List Reservation → Places → Type 0
 ArePlaced reservations places = (row : RowName) → is_some (place_at places row) ≡ list_any (λ r. same_row r.row row) reservations
 
--- why a session isn't granted changes of a row with these amounts, of which such reservations are open, by the checks
--- of its table
+-- why a session can't get changes of a row with these amounts and open reservations, by the checks of its table
 abbrev pub reason_by : ℕ → List Check → List ℤ → List ℤ → List (List ℤ) → Open → Option Refusal
 reason_by session checks amounts changes reservations o = first_refusal (
     grant_refusal session o
     ∷ option_map refusal.Check (broken checks amounts changes reservations)
     ∷ [])
 
--- why a session isn't granted changes of a row, by its place and the open reservations of it
+-- why a session can't get changes of a row, by its place and the open reservations of it
 abbrev pub reason_against : ℕ → Kept → RowName → List (Option ℤ) → Open → Option Refusal
 reason_against session place row changes o = reason_by session (checks_of place.checks) place.amounts (deltas changes) (of_row row o.reservations) o
 
--- the place of a row is given back where no open reservation is of it, and else all stays
+-- the place of a row is dropped if no open reservation is of it; otherwise everything stays as it is
 pub record Releases (reservations : List Reservation) (row : RowName) (old new : Places) : Type 0 where
   pub free : list_any (λ r. same_row r.row row) reservations ≡ false → place_at new row ≡ None
   pub reserved : list_any (λ r. same_row r.row row) reservations ≡ true → new ≡ old
 
--- these are the amounts that the places of the reservations' rows have, beside each
+-- for each reservation, the amounts in the place of its row
 abbrev pub AreAmounts : Places → List Reservation → List (List ℤ) → Type 0
 AreAmounts places reservations amounts = map (λ r. option_map (λ (place : Kept). place.amounts) (place_at places r.row)) reservations ≡ map Some amounts

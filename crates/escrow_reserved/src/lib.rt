@@ -1,10 +1,13 @@
 //! What is open in a database: the journals of its sessions, and the sums of each row that they
-//! reserve, kept together; what SHOW BOUNDS and SHOW JOURNAL show of these; and the amounts of rows
-//! that were read.
+//! reserve, kept together. It also makes what SHOW BOUNDS and SHOW JOURNAL show of these, and keeps
+//! the amounts of rows that were read.
 //!
-//! Its one contract: whatever call is made, the place of a row counts just the open reservations of
-//! the row ([`Reserved`]), so a reservation is granted by the grant rule over every choice of them
-//! ([`Reserved::grant`]). It knows no store: a caller hands it amounts, checks and tables.
+//! Its main contract is that of [`Reserved`]: after any call, the place of a row counts exactly the
+//! open reservations of the row. So [`Reserved::grant`] grants a reservation by the grant rule,
+//! over every choice of them. Nothing here knows a store: the caller passes amounts, checks and
+//! tables.
+//!
+//! Begin with [`Reserved`], then read [`Recent`].
 #![tactic(auto)]
 
 mod recent;

@@ -13,14 +13,14 @@ use std::alloc::{AllocError, Global};
 use std::marker::Model;
 use std::slice;
 
-/// The amounts of a row as they were read, one for each RESERVABLE column in column order, with what was
-/// committed to them since.
+/// The amounts of a row as they were read, one for each RESERVABLE column in column order, and with
+/// what was committed to them since.
 #[derive(Debug)]
 struct ReadAmounts {
     items: Vec<Amount>,
 }
 
-// It is written out, so that no crate above proves again how its part is dropped.
+// Written out, so that crates above need not prove again how its parts are dropped.
 impl Drop for ReadAmounts {
     fn drop(self) {
         let ReadAmounts { items: _ } = self;
@@ -38,7 +38,7 @@ impl Model for ReadAmounts {
 impl ReadAmounts {
     ghost use Rattle.std.specs.Prelude.{[], ◌∷◌, IfOk};
 
-    /// A copy of amounts. Want of memory is the only error.
+    /// Returns a copy of amounts. Fails only if memory is refused.
     fn copied(alloc: Global, amounts: &[Amount]) -> Result<Self, AllocError>
         ensures { IfOk result (λ copy. copy ≡ amounts.now) }
     {
@@ -47,14 +47,15 @@ impl ReadAmounts {
         })
     }
 
-    /// The amounts, in order.
+    /// Returns the amounts, in order.
     fn as_slice(&self) -> &[Amount]
         ensures { result.now ≡ self.now }
     {
         &self.items
     }
 
-    /// Adds what a committed reservation changes, which is of the row of a name, or of another one.
+    /// Adds the changes of a committed reservation, if it is of the row of this name. One of
+    /// another row adds nothing.
     fn commit(&mut self, name: &RowName, r: &Reservation)
         requires { IsShort r.now }
         ensures { self.new ≡ amounts_after_all End.Commit self.old (of_row name.now (r.now ∷ [])) }
@@ -63,7 +64,7 @@ impl ReadAmounts {
     }
 }
 
-/// Adds to the amounts of a row what a reservation changes. One of another row adds nothing.
+/// Adds the changes of a reservation to the amounts of a row. One of another row adds nothing.
 fn commit_to(amounts: &mut [Amount], name: &RowName, r: &Reservation)
     requires { IsShort r.now }
     ensures { amounts.new ≡ amounts_after_all End.Commit amounts.old (of_row name.now (r.now ∷ [])) }
@@ -71,20 +72,22 @@ fn commit_to(amounts: &mut [Amount], name: &RowName, r: &Reservation)
     commit_amounts(amounts, name, slice::from_ref(r));
 }
 
-/// The amounts of rows that were read, each with what was committed to it since. The caller forgets a row before
-/// it deletes it, and the rows of a table before it drops it. So a row is read once, however often it refuses an
-/// UPDATE, or is reserved and committed again. At most [`Recent::MAX_ROWS`] rows are kept. If there is no room for
-/// another one, the row at the next place goes, in turn.
+/// The amounts of rows that were read, each with what was committed to it since. So a row is read
+/// once, however often an UPDATE of it is refused, or it is reserved and committed.
+///
+/// The caller must forget a row before it deletes it, and the rows of a table before it drops it.
+/// At most [`Recent::MAX_ROWS`] rows are kept. If there is no room for another one, a kept row is
+/// forgotten: each place has its turn.
 #[derive(Debug)]
 pub struct Recent {
     rows: IndexMap<RowName, ReadAmounts>,
-    /// The place where a row was put or committed last, which is tried first.
+    /// The place of the row that was added or committed last, which is tried first.
     last: usize,
-    /// The place whose row goes next.
+    /// The place whose row is forgotten next.
     turn: usize,
 }
 
-// It is written out, so that no crate above proves again how its parts are dropped.
+// Written out, so that crates above need not prove again how its parts are dropped.
 impl Drop for Recent {
     fn drop(self) {
         let Recent {
@@ -116,7 +119,7 @@ impl Recent {
     /// RESERVABLE column takes some 150 bytes, and each further column 8.
     pub const MAX_ROWS: usize = 32_768;
 
-    /// Makes one that has no row. Takes no memory.
+    /// Returns one that keeps no row. Takes no memory.
     pub fn new(alloc: Global) -> Self
         ensures { result ≡ [] }
     {
@@ -127,7 +130,7 @@ impl Recent {
         }
     }
 
-    /// The number of rows that are kept.
+    /// Returns the number of rows that are kept.
     pub fn len(&self) -> usize
         ensures value { result ≡ length self.now }
         ensures few { result ≤ MAX_ROWS }
@@ -135,7 +138,7 @@ impl Recent {
         self.rows.len()
     }
 
-    /// Whether no row is kept.
+    /// Returns whether no row is kept.
     pub fn is_empty(&self) -> bool
         ensures { result ≡ nat_eq (length self.now) 0 }
     {
@@ -151,7 +154,7 @@ impl Recent {
         Some(amounts.as_slice())
     }
 
-    /// Where the row of a name stands among all, if it is kept.
+    /// Returns the place of the row of a name, if it is kept.
     fn find(&self, name: &RowName) -> Option<usize>
         ensures none { IfNone result (read_at self.now name.now ≡ None) }
         ensures at { IfSome result (λ place. IsKeptAt self.now name.now place) }
@@ -163,8 +166,8 @@ impl Recent {
         self.rows.get_index_of(name)
     }
 
-    /// The place that is tried first, if the row of a name stands there. A row that is taken again and again is found
-    /// so without its hash.
+    /// Returns the place that is tried first, if the row of a name is there. A row that is used
+    /// again and again is found like this without a hash.
     fn find_last(&self, name: &RowName) -> Option<usize>
         ensures at { IfSome result (λ place. IsKeptAt self.now name.now place) }
         ensures within { IfSome result (λ place. place < length self.now) }
@@ -173,8 +176,8 @@ impl Recent {
         if row == name { Some(self.last) } else { None }
     }
 
-    /// Keeps the amounts that were read of a row. Want of memory is the only error, and then they aren't kept. If there
-    /// is no room, another row is forgotten first.
+    /// Keeps the amounts that were read of a row. If there is no room, another row is forgotten
+    /// first. Fails only if memory is refused, and then the amounts aren't kept.
     pub fn remember(&mut self, name: &RowName, amounts: &[Amount]) -> Result<(), AllocError>
         ensures kept { OnOk result (read_at self.new name.now ≡ Some amounts.now) }
         ensures others { length self.old < MAX_ROWS → (other : RowName) → same_row name.now other ≡ false → read_at self.new other ≡ read_at self.old other }
@@ -189,7 +192,7 @@ impl Recent {
         Ok(())
     }
 
-    /// Forgets the row at the next place, if there is no room for another one.
+    /// Forgets the row whose turn it is, if there is no room for another one.
     fn make_room(&mut self)
         ensures room { length self.new < MAX_ROWS }
         ensures roomy { length self.old < MAX_ROWS → self.new ≡ self.old }
@@ -203,7 +206,7 @@ impl Recent {
         self.turn = place + 1;
     }
 
-    /// The place whose turn it is.
+    /// Returns the place whose turn it is.
     fn next(&self) -> usize
         requires { 0 < length self.now }
         ensures { result < length self.now }
@@ -214,8 +217,8 @@ impl Recent {
         0
     }
 
-    /// Adds what committed reservations change to the amounts of their rows, where they are kept. Each changes at
-    /// most 10 columns. Takes no memory.
+    /// Adds the changes of committed reservations to the amounts of their rows, if these are kept.
+    /// Each reservation must change at most 10 columns. Takes no memory.
     pub fn commit(&mut self, reservations: &[&Reservation])
         requires { AllByRecursion IsShort (map (λ r. r.now) reservations.now) }
         ensures { (name : RowName) → read_at self.new name ≡ option_map (committed_to name (map (λ r. r.now) reservations.now)) (read_at self.old name) }
@@ -225,7 +228,7 @@ impl Recent {
         }
     }
 
-    /// Adds what a committed reservation changes to the amounts of its row, where they are kept.
+    /// Adds the changes of a committed reservation to the amounts of its row, if these are kept.
     fn commit_one(&mut self, r: &Reservation)
         requires { IsShort r.now }
         ensures own { read_at self.new r.now.row ≡ option_map (committed_to r.now.row (r.now ∷ [])) (read_at self.old r.now.row) }

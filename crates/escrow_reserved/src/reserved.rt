@@ -20,18 +20,19 @@ use escrow_txn::TxnTable;
 use std::alloc::{AllocError, Global};
 use std::marker::Model;
 
-/// What is open in a database: the transactions of its sessions, and beside them a place for each row
-/// that they reserve, with the row's committed amounts and the sums of its reservations. Each place
-/// counts just the open reservations of its row, whatever call is made.
+/// What is open in a database: the transactions of its sessions, and a place for each row that they
+/// reserve. A place has the row's committed amounts and the sums of its reservations. After any
+/// call, each place counts exactly the open reservations of its row.
 ///
-/// Each call keeps that just the reserved rows have a place (`ArePlaced`), and some calls require it.
+/// Each call preserves that exactly the reserved rows have a place (`ArePlaced`), and some calls
+/// require it.
 #[derive(Debug)]
 pub struct Reserved {
     txns: TxnTable,
     bounds: Bounds,
 }
 
-// It is written out, so that no crate above proves again how each part is dropped.
+// Written out, so that crates above need not prove again how its parts are dropped.
 impl Drop for Reserved {
     fn drop(self) {
         let Reserved { txns: _, bounds: _ } = self;
@@ -64,7 +65,7 @@ impl Reserved {
     ghost use Rattle.escrow_reserved.specs.Ends.{AreAllEnded, all_ended};
     ghost use Rattle.escrow_reserved.specs.Reserved.{AreAmounts, AreCounted, ArePlaced, Releases, nothing, reason_against, reason_by};
 
-    /// Makes one in which nothing is open; the next id is 1. Out of memory is the only error.
+    /// Returns one in which nothing is open and the next id is 1. Fails only if memory is refused.
     pub fn new(alloc: Global) -> Result<Self, AllocError>
         ensures { IfOk result (λ r. r ≡ nothing) }
     {
@@ -81,7 +82,8 @@ impl Reserved {
         &self.txns
     }
 
-    /// Returns the places of the reserved rows. Each counts just the open reservations of its row.
+    /// Returns the places of the reserved rows. Each counts exactly the open reservations of its
+    /// row.
     pub fn bounds(&self) -> &Bounds
         ensures places { result.now ≡ self.now.places }
         ensures counted { AreCounted self.now }
@@ -89,15 +91,15 @@ impl Reserved {
         &self.bounds
     }
 
-    /// Tells whether an open reservation, of any session, is of a row.
+    /// Returns whether an open reservation, of any session, is of a row.
     pub fn is_reserved(&self, row: &RowName) -> bool
         ensures { result ≡ list_any (λ r. same_row r.row row.now) self.now.txns.reservations }
     {
         self.bounds.is_reserved(row)
     }
 
-    /// Finds the index of a row's place, for [`Reserved::grant`]. A row without an open reservation
-    /// has none.
+    /// Returns the index of a row's place, for [`Reserved::grant`]. A row without an open
+    /// reservation has none.
     pub fn find(&self, row: &RowName) -> Option<usize>
         requires { ArePlaced self.now.txns.reservations self.now.places }
         ensures found { is_some result ≡ list_any (λ r. same_row r.row row.now) self.now.txns.reservations }
@@ -106,7 +108,7 @@ impl Reserved {
         self.bounds.find(row)
     }
 
-    /// Tells whether an open reservation, of any session, is of a row of a table.
+    /// Returns whether an open reservation, of any session, is of a row of a table.
     pub fn is_table_reserved(&self, table: Name) -> bool
         requires { ArePlaced self.now.txns.reservations self.now.places }
         ensures { result ≡ list_any (λ r. bytes_eq r.row.table table) self.now.txns.reservations }
@@ -114,9 +116,9 @@ impl Reserved {
         self.bounds.has_place_in(table)
     }
 
-    /// Returns the open reservations of the sessions of a plan, session by session, each in order of
-    /// grant. Want of memory is the only error. The row of each has a place, and each changes at most 10
-    /// columns.
+    /// Returns the open reservations of the sessions of a plan, session by session, those of each
+    /// in order of grant. The row of each reservation has a place, and each changes at most 10
+    /// columns. Fails only if memory is refused.
     pub fn all_of(
         &self,
         alloc: Global,
@@ -133,8 +135,8 @@ impl Reserved {
         Ok(all)
     }
 
-    /// Returns the committed amounts of the row of each reservation, in their order. Want of memory is
-    /// the only error.
+    /// Returns the committed amounts of the row of each reservation, in their order. Each row must
+    /// have a place. Fails only if memory is refused.
     pub fn amounts_of(
         &self,
         alloc: Global,
@@ -150,7 +152,7 @@ impl Reserved {
         Ok(all)
     }
 
-    /// The committed amounts of a row that has a place.
+    /// Returns the committed amounts of a row that has a place.
     fn amounts_at(&self, row: &RowName) -> &[Amount]
         requires { IsSome (place_at self.now.places row.now) }
         ensures { Some result.now ≡ option_map (λ place. place.amounts) (place_at self.now.places row.now) }
@@ -158,15 +160,16 @@ impl Reserved {
         self.bounds.amounts(row).unwrap()
     }
 
-    /// Grants a session the first open reservation of a row, and returns its id, the next one. The row
-    /// gets a place, which counts the reservation. `amounts` are the row's committed amounts, at most 10,
-    /// and `checks` those of its table. `changes` has one, or none, for each RESERVABLE column. Where the
-    /// session may hold one more, fewer than [`Spread::MAX_OPEN`](escrow_checks::Spread::MAX_OPEN) are open.
+    /// Grants a session the first open reservation of a row, and returns its id, the next one. The
+    /// row gets a place, which counts the reservation. `amounts` are the row's committed amounts,
+    /// at most 10, and `checks` those of its table. `changes` has one, or none, for each RESERVABLE
+    /// column. If the session may hold one more, fewer than
+    /// [`Spread::MAX_OPEN`](escrow_checks::Spread::MAX_OPEN) must be open.
     ///
-    /// It is refused where the session holds 256 reservations, no id is left, or the changes would break
-    /// a check; the first of these reasons is the error, however little memory there is. Without a reason
-    /// want of memory is the only error. After an error no id is taken, and each row has the place that
-    /// it had.
+    /// Fails if the session holds 256 reservations, no id is left, or the changes would break a
+    /// check. The first of these reasons is the error, however little memory there is. Otherwise it
+    /// fails only if memory is refused. After an error no id was taken, and each row has the place
+    /// that it had.
     pub fn grant_first(
         &mut self,
         session: Session,
@@ -199,8 +202,8 @@ impl Reserved {
         Ok(self.hold(session, row, at, changes, added)?)
     }
 
-    /// Why a session isn't granted the first open reservation of a row, of changes of its committed amounts, if it
-    /// isn't, by the checks of its table.
+    /// Returns why a session can't get the first open reservation of a row, if it can't, memory
+    /// aside. The changes are judged by the row's committed amounts and the checks of its table.
     fn refusal_of_first(
         &self,
         session: Session,
@@ -218,14 +221,14 @@ impl Reserved {
         first_violation(checks, amounts, changes).map(Refusal::Check)
     }
 
-    /// Grants a session one more reservation of a row that has open ones, and returns its id, the next
-    /// one. The row's place, whose index is `at` ([`Reserved::find`]), counts the reservation. `changes`
-    /// and the number of open reservations are as for [`Reserved::grant_first`].
+    /// Grants a session one more reservation of a row that has open ones, and returns its id, the
+    /// next one. The row's place, whose index is `at` ([`Reserved::find`]), counts the reservation.
+    /// `changes` and the number of open reservations are as for [`Reserved::grant_first`].
     ///
-    /// It is refused where the session holds 256 reservations, no id is left, or some choice of the open
-    /// reservations with this one would break a check; the first of these reasons is the error, however
-    /// little memory there is. Without a reason want of memory is the only error. After an error nothing
-    /// has changed.
+    /// Fails if the session holds 256 reservations, no id is left, or some choice of the open
+    /// reservations with this one would break a check. The first of these reasons is the error,
+    /// however little memory there is. Otherwise it fails only if memory is refused. After an error
+    /// nothing has changed.
     pub fn grant(
         &mut self,
         session: Session,
@@ -255,7 +258,8 @@ impl Reserved {
         Ok(self.hold(session, row, at, changes, added)?)
     }
 
-    /// Why a session isn't granted changes of a row, whose place stands at an index, if it isn't.
+    /// Returns why a session can't get changes of the row whose place is at an index, if it can't,
+    /// memory aside.
     fn refusal(&self, session: Session, at: usize, changes: &[Amount]) -> Option<Refusal>
         requires { (row : Row) × IsAt self.now.places row at }
         ensures { (row : Row) (place : Kept) (asked : List (Option ℤ)) → IsAt self.now.places row at → place_at self.now.places row ≡ Some place → changes.now ≡ deltas asked
@@ -267,9 +271,10 @@ impl Reserved {
         self.bounds.verdict_at(at, changes).map(Refusal::Check)
     }
 
-    /// Holds a reservation of changes of a row that nothing but memory refuses: it is the last of its session, with
-    /// the next id, and the row's place, which stands at an index, counts what it adds. Answers its id. Want of memory
-    /// is the only error: no id is taken, and nothing changes, but that a place that counts nothing is given back.
+    /// Adds a reservation of changes of a row that only memory can refuse. It is the last of its
+    /// session, with the next id. The row's place, which is at an index, counts what the changes
+    /// add. Returns the id. Fails only if memory is refused. After an error no id was taken, and
+    /// nothing has changed, except that the place is dropped if it counts nothing.
     fn hold(
         &mut self,
         session: Session,
@@ -303,8 +308,9 @@ impl Reserved {
         }
     }
 
-    /// Ends a session's transaction, and returns how many reservations it held. A commit moves its changes
-    /// into the amounts of the places. A place that then counts nothing is given back. Takes no memory.
+    /// Ends a session's transaction, and returns how many reservations it held. A commit adds its
+    /// changes to the amounts of the places. A place that counts nothing any more is dropped. Takes
+    /// no memory.
     pub fn end(&mut self, session: Session, end: End) -> u32
         ensures count { result ≡ length (own session self.old.txns.reservations) }
         ensures txns { self.new.txns ≡ ended session self.old.txns }
@@ -312,7 +318,7 @@ impl Reserved {
         ensures placed { ArePlaced self.old.txns.reservations self.old.places → ArePlaced self.new.txns.reservations self.new.places }
     {
         let journal = self.txns.journal(session);
-        // That there are few enough reservations to be counted is told with its session.
+        // Gives the proof that there are few enough reservations to be counted.
         let _ = journal.session();
         let count = journal.all().len() as u32;
         self.bounds.remove_all(journal.all(), end);
@@ -336,8 +342,9 @@ impl Reserved {
         count
     }
 
-    /// Takes a session back to its savepoint of a name, and returns how many reservations were dropped.
-    /// Returns `None` exactly where there is no such savepoint, and then nothing changes. Takes no memory.
+    /// Takes a session back to its savepoint of a name, and returns how many reservations were
+    /// dropped. Returns `None` exactly if there is no such savepoint, and then nothing changes.
+    /// Takes no memory.
     pub fn cut(&mut self, session: Session, name: Name) -> Option<u32>
         ensures count { result ≡ released session name self.old.txns }
         ensures txns { self.new.txns ≡ cut_back session name self.old.txns }
@@ -348,9 +355,9 @@ impl Reserved {
         self.txns.cut(session, name)
     }
 
-    /// Makes a savepoint of a session; an earlier one of its name is taken out. A session that has 64 of
-    /// other names is refused, however little memory there is; otherwise want of memory is the only error.
-    /// After an error nothing has changed.
+    /// Makes a savepoint of a session. An earlier one of its name is removed. Fails if the session
+    /// has 64 of other names, however little memory there is. Otherwise it fails only if memory is
+    /// refused. After an error nothing has changed.
     pub fn mark(&mut self, session: Session, name: Name) -> Result<(), Refusal>
         ensures saved { OnOk result (self.new ≡ record self.old { txns = saved session name self.old.txns }) }
         ensures unchanged { OnErr result (self.new ≡ self.old) }
@@ -360,9 +367,9 @@ impl Reserved {
         self.txns.mark(session, name)
     }
 
-    /// Makes new places for the reserved rows of a table, over all the checks that it is to have; the
-    /// places that there are stay as they are. Each check has at most as many coefficients as such a row
-    /// has amounts. Want of memory is the only error.
+    /// Makes new places for a table's reserved rows, over all the checks that the table will have.
+    /// The current places stay as they are. No check may have more coefficients than such a row has
+    /// amounts. Fails only if memory is refused.
     pub fn prepare(&self, alloc: Global, table: Name, checks: &[Check]) -> Result<Addition, Refusal>
         requires placed { ArePlaced self.now.txns.reservations self.now.places }
         requires many { length self.now.txns.reservations ≤ MAX_OPEN }
@@ -377,8 +384,8 @@ impl Reserved {
         self.bounds.prepare(table, checks, &reservations)
     }
 
-    /// Puts the places that [`Reserved::prepare`] made for a table over those of their rows, as long as
-    /// nothing that is open has changed since. Takes no memory.
+    /// Replaces the places of a table's rows by those that [`Reserved::prepare`] made. Nothing that
+    /// is open may have changed since. Takes no memory.
     pub fn adopt(&mut self, addition: Addition)
         requires placed { ArePlaced self.old.txns.reservations self.old.places }
         requires prepared { (table : List ℕ) × (checks : List Form) × ArePrepared table checks self.old.txns.reservations self.old.places addition }
@@ -389,7 +396,7 @@ impl Reserved {
         self.bounds.adopt(addition);
     }
 
-    /// Takes the check at an index out of the place of each row of a table. Takes no memory.
+    /// Removes the check at an index from the place of each row of a table. Takes no memory.
     pub fn drop_check(&mut self, table: Name, index: usize)
         requires placed { ArePlaced self.old.txns.reservations self.old.places }
         ensures txns { self.new.txns ≡ self.old.txns }
@@ -398,7 +405,7 @@ impl Reserved {
         self.bounds.drop_check(table, index);
     }
 
-    /// Drops all that is open, of all sessions; the next id is 1. Takes no memory.
+    /// Drops all that is open, of all sessions, and sets the next id to 1. Takes no memory.
     pub fn clear(&mut self)
         ensures { self.new ≡ nothing }
     {
@@ -407,7 +414,7 @@ impl Reserved {
     }
 }
 
-/// Adds references to reservations behind others.
+/// Adds references to reservations after others.
 fn push_all<'a>(
     all: &mut Vec<&'a Reservation>,
     reservations: &'a [Reservation],
@@ -420,7 +427,8 @@ fn push_all<'a>(
     Ok(())
 }
 
-/// Counts the reservations of a session no more that came after its savepoint of a name, if there is one.
+/// Removes the reservations of a session that came after its savepoint of a name, if there is one,
+/// from the count.
 fn release_after(txns: &TxnTable, bounds: &mut Bounds, session: Session, name: Name)
     requires counts { CountsAll bounds.old txns.now.reservations }
     requires short { AllByRecursion IsShort txns.now.reservations }

@@ -16,9 +16,9 @@ use escrow_num::{Amount, Name, RowName, Seq, Wide, copy_all};
 use escrow_schema::{TableDef, reservable_names};
 use std::alloc::{AllocError, Global};
 
-/// Returns what SHOW BOUNDS shows of a row that has a place in `bounds`: how far the reservations that it
-/// counts can move each RESERVABLE column and each declared check of `table`, the row's. Want of memory
-/// is the only error.
+/// Returns what SHOW BOUNDS shows of a row that has a place in `bounds`: how far the reservations
+/// that the place counts can move each RESERVABLE column and each declared check. `table` is the
+/// row's table. Fails only if memory is refused.
 pub fn row_bounds(
     alloc: Global,
     table: &TableDef,
@@ -43,8 +43,8 @@ pub fn row_bounds(
     })
 }
 
-/// Returns what SHOW BOUNDS shows of a row without open reservations. `amounts` has the committed amount
-/// of each RESERVABLE column of `table`, the row's. Want of memory is the only error.
+/// Returns what SHOW BOUNDS shows of a row without open reservations. `amounts` has the committed
+/// amount of each RESERVABLE column of `table`, the row's table. Fails only if memory is refused.
 pub fn free_bounds(
     alloc: Global,
     table: &TableDef,
@@ -60,7 +60,7 @@ pub fn free_bounds(
     row_bounds(alloc, table, name, &bounds)
 }
 
-/// The bounds of each check of a row that has a place.
+/// Returns the bounds of each check of a row that has a place.
 fn all_check_bounds(
     alloc: Global,
     checks: &[Check],
@@ -80,7 +80,7 @@ fn all_check_bounds(
     Ok(all)
 }
 
-/// The bounds of a check whose form has these extremes.
+/// Returns the bounds of a check whose form has these extremes.
 fn check_bounds(check: &Check, extremes: (Wide, Wide)) -> CheckBounds
     ensures { (amounts : List ℤ) (reservations : List (List ℤ))
         → extremes.0 ≡ least check.now.coeffs amounts reservations → extremes.1 ≡ greatest check.now.coeffs amounts reservations
@@ -95,8 +95,8 @@ fn check_bounds(check: &Check, extremes: (Wide, Wide)) -> CheckBounds
     }
 }
 
-/// The bounds of each column, of which each has an amount and the bounds of its range, in units of the range's
-/// scale.
+/// Returns the bounds of each column, in units of the scale of its range. Each column must have an
+/// amount and the bounds of its range.
 fn all_column_bounds(
     alloc: Global,
     names: &[Name],

@@ -13,8 +13,8 @@ use escrow_schema::{Column, TableDef, reservables};
 use std::alloc::{AllocError, Global};
 
 /// Returns a reservation as SHOW JOURNAL shows it, with the changes of the columns that its UPDATE
-/// assigned. `table` is the table of its row; without one no change is shown, and the key has no
-/// digits behind the point. Want of memory is the only error.
+/// assigned. `table` is the table of its row. Without one no change is shown, and the key has no
+/// digits after the point. Fails only if memory is refused.
 pub fn journal_entry(
     alloc: Global,
     table: Option<&TableDef>,
@@ -33,7 +33,7 @@ pub fn journal_entry(
     })
 }
 
-/// The scale of the keys of the rows of a table; that of whole numbers where there is no table.
+/// Returns the scale of the keys of a table's rows, or that of whole numbers if there is no table.
 fn key_scale_of(table: Option<&TableDef>) -> Scale
     requires { IfSome table (λ t. IsTable t.now) }
     ensures { result ≡ unwrap_or (option_map key_scale (option_copied table.entry)) 0 }
@@ -44,7 +44,7 @@ fn key_scale_of(table: Option<&TableDef>) -> Scale
     }
 }
 
-/// The RESERVABLE columns of a table, in column order; none where there is no table.
+/// Returns the RESERVABLE columns of a table, in column order; none if there is no table.
 fn columns_of(alloc: Global, table: Option<&TableDef>) -> Result<Vec<Column>, AllocError>
     ensures { IfOk result (λ columns. columns.items ≡ unwrap_or (option_map (λ t. reservables t.columns) (option_copied table.entry)) []) }
 {
@@ -54,7 +54,7 @@ fn columns_of(alloc: Global, table: Option<&TableDef>) -> Result<Vec<Column>, Al
     }
 }
 
-/// The changes that there are, each with the name and the scale of its column.
+/// Returns the changes that aren't none, each with the name and the scale of its column.
 fn named_changes(
     alloc: Global,
     columns: &[Column],

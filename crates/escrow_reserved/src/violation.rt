@@ -7,9 +7,9 @@ ghost use Rattle.escrow_checks.specs.Grant.{broken};
 use escrow_checks::{Check, Sparse, Spread};
 use escrow_num::{Amount, Violation};
 
-/// Returns what changes of a row's amounts break of the first check, in the table's order, that they can
-/// break; no reservation of the row is open. With no changes it is what the amounts break. A check has at
-/// most as many coefficients as there are amounts.
+/// Returns what changes of a row's amounts break of the first check, in the table's order, that
+/// they can break. No reservation of the row may be open. With no changes, this is what the amounts
+/// break. No check may have more coefficients than there are amounts.
 pub fn first_violation(
     checks: &[Check],
     amounts: &[Amount],

@@ -1,4 +1,4 @@
--- Believed: what each reading call answers of an image.
+-- Believed: what each call reads from an image.
 use Rattle.std.specs.Prelude.{◌≡◌, ℕ, ℤ, Option, option_map, List, map, length, IsPermutation}
 use Rattle.std.specs.Ordering.{is_lt, int_cmp}
 use Rattle.sqlite.specs.Effect.{Database}
@@ -14,8 +14,8 @@ use Rattle.escrow_schema.specs.Rows.{row_named, rows_of}
 pub use Rattle.escrow_cells.specs.Calls.{IsUsable, OnlyReads, was_done}
 use Rattle.escrow_rows.specs.Changes.{Stands, name_in}
 
--- an answer is this one of the rows, whatever tables and rows the database is the image of, one of them
--- a table that is named
+-- an answer is this function of the rows. This holds for any tables and rows whose image the database is, if the given
+-- table is one of these tables
 abbrev pub Tells : {A : Type 0} → StoredTable → (List Row → A) → Database → A → Type 0
 Tells s of db answer = (tables : List StoredTable) (rows : List Row) → AreTables tables → AreRows tables rows → Stands tables s → IsImage tables rows db → answer ≡ of rows
 
@@ -23,7 +23,7 @@ Tells s of db answer = (tables : List StoredTable) (rows : List Row) → AreTabl
 abbrev pub TellsAmounts : StoredTable → Value → Database → Option (List ℤ) → Type 0
 TellsAmounts s key = Tells s (λ rows. option_map (λ row. row.amounts) (row_named rows (name_in s key)))
 
--- its values, in column order
+-- the values of the row, in column order
 abbrev pub TellsValues : StoredTable → Value → Database → Option (List Value) → Type 0
 TellsValues s key = Tells s (λ rows. option_map (values_of s.table) (row_named rows (name_in s key)))
 

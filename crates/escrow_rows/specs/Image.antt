@@ -22,12 +22,12 @@ use Rattle.escrow_cells.specs.Store.{IsStore, format, metas, tabs, cells}
 use Rattle.escrow_schema.specs.declared.stored.StoredTable.{StoredTable}
 use Rattle.escrow_schema.specs.declared.table.TheConstants.TableDef.{MAX_ROWS}
 
--- a value as SQLite keeps it
+-- a value as SQLite stores it
 abbrev pub stored : Value → Sql
 stored (Number z) = sql.Int z
 stored (Text t) = sql.Text t
 
--- a value is one that a column can hold: an amount, or a text in UTF-8
+-- a column can hold a value: an amount, or a text in UTF-8
 abbrev pub CanBeHeld : Value → Type 0
 CanBeHeld (Number z) = IsAmount z
 CanBeHeld (Text t) = IsUtf8 t
@@ -36,7 +36,7 @@ CanBeHeld (Text t) = IsUtf8 t
 abbrev pub tab_row : StoredTable → SqlRow
 tab_row s = sql.Int s.id ∷ sql.Text s.table.name ∷ sql.Text (canonical s.table) ∷ []
 
--- the cells of values, of which the first stands at a place: the table's number, the key, the place, the value
+-- the cells of values, the first at a given place: the table's number, the key, the place, the value
 abbrev pub cells_from : ℤ → Value → ℤ → List Value → List SqlRow
 cells_from id key place [] = []
 cells_from id key place (v ∷ vs) = (sql.Int id ∷ stored key ∷ sql.Int place ∷ stored v ∷ []) ∷ cells_from id key (place +ℤ pos 1) vs
@@ -53,8 +53,8 @@ stored_named tables name = find (λ s. bytes_eq s.table.name name) tables
 abbrev pub cells_of : List StoredTable → Row → List SqlRow
 cells_of tables row = unwrap_or (option_map (λ s. cells_in s row) (stored_named tables row.name.table)) []
 
--- THE IMAGE in the format of a number: META has this number, TAB a row for each table, with its canonical text, and
--- CELL a cell for each value of each row; both in any order
+-- THE IMAGE in the format of a number: META has this number, TAB has a row for each table, with its canonical text, and
+-- CELL has a cell for each value of each row; the rows of TAB and CELL are in any order
 pub record IsImageIn (number : ℤ) (tables : List StoredTable) (rows : List Row) (db : Database) : Type 0 where
   pub store : IsStore db
   pub format_is : metas db ≡ format number
@@ -65,8 +65,8 @@ pub record IsImageIn (number : ℤ) (tables : List StoredTable) (rows : List Row
 abbrev pub IsImage : List StoredTable → List Row → Database → Type 0
 IsImage = IsImageIn FORMAT
 
--- tables that can stand in a store together: each is one that some text defines, with a number from 1
--- on; no two have one number or one name
+-- tables that can be in a store together: each is one that some text defines, with a number from 1 on; no two have the
+-- same number or the same name
 pub record AreTables (tables : List StoredTable) : Type 0 where
   pub defined : AllByRecursion (λ s. IsTable s.table) tables
   pub from_one : AllByRecursion (λ s. IsTrue (int_le (pos 1) s.id)) tables
@@ -74,11 +74,11 @@ pub record AreTables (tables : List StoredTable) : Type 0 where
   pub names_apart : IsAscending (λ a b. not (bytes_eq a.table.name b.table.name)) tables
   pub few : length tables ≤ MAX_TABLES
 
--- a row is one of the tables
+-- a row belongs to one of the tables
 abbrev pub IsOfTables : List StoredTable → Row → Type 0
 IsOfTables tables row = IsSomeAnd (stored_named tables row.name.table) (λ s. IsRowOf s.table row)
 
--- rows of tables, in order of table and key, no two of one name; at most 65,536 of one table
+-- rows of tables, in order of table and key, no two with the same name; at most 65,536 of each table
 pub record AreRows (tables : List StoredTable) (rows : List Row) : Type 0 where
   pub of_tables : AllByRecursion (IsOfTables tables) rows
   pub row_order : IsAscending row_before rows

@@ -1,4 +1,4 @@
--- Helps: what private contracts say of rows of TAB that are read. Nothing that callers see rests on it.
+-- Helps: what private contracts say of rows of TAB that are read. No contract of a public call uses it.
 use Rattle.std.specs.Prelude.{[], ◌∷◌}
 use Rattle.sqlite_value.specs.declared.value.Value.TheVariants as sql
 use Rattle.sqlite_value.specs.Order.{Row as SqlRow}

@@ -16,17 +16,17 @@ use Rattle.escrow_cells.specs.Store.{cells}
 use Rattle.escrow_schema.specs.declared.stored.StoredTable.{StoredTable}
 use Rattle.escrow_schema.specs.Rows.{with_row}
 
--- the value that SQLite keeps; what a column can't hold reads as zero
+-- the value that SQLite stores; what no column can hold is read as zero
 abbrev pub value_kept : Sql → Value
 value_kept (sql.Int z) = Number z
 value_kept (sql.Text t) = Text t
 value_kept _ = Number (pos 0)
 
--- the value in the cell at a place of the row of a key; where there is none, zero
+-- the value in the cell at a place of the row of a key; zero if there is no such cell
 abbrev pub kept_at : List SqlRow → ℤ → Sql → ℤ → Value
 kept_at all id key place = unwrap_or (option_map (λ cell. value_kept (column cell 3)) (find (is_at (sql.Int id) key (sql.Int place)) all)) (Number (pos 0))
 
--- the values of columns, of which the first stands at a place, in the row of a key
+-- the values of columns in the row of a key, the first column at a given place
 abbrev pub kept_from : List SqlRow → ℤ → Sql → ℤ → List Column → List Value
 kept_from all id key place [] = []
 kept_from all id key place (c ∷ cs) = kept_at all id key place ∷ kept_from all id key (place +ℤ pos 1) cs
@@ -35,14 +35,14 @@ kept_from all id key place (c ∷ cs) = kept_at all id key place ∷ kept_from a
 abbrev pub stored_numbered : List StoredTable → Sql → Option StoredTable
 stored_numbered tables id = find (λ s. same (sql.Int s.id) id) tables
 
--- the row that has a cell, where this is the first of its cells
+-- the row that has a cell, if this is the first of its cells
 abbrev pub row_at : List StoredTable → List SqlRow → SqlRow → List Row
 row_at tables all cell =
     if same (column cell 2) (sql.Int (pos 1))
     then option_to_list (option_and_then (λ s. row_with s.table (kept_from all s.id (column cell 1) (pos 1) s.table.columns)) (stored_numbered tables (column cell 0)))
     else []
 
--- rows put in order, each among those behind it
+-- rows sorted by inserting each among those after it
 abbrev pub sorted_rows : List Row → List Row
 sorted_rows [] = []
 sorted_rows (row ∷ rows) = with_row row (sorted_rows rows)

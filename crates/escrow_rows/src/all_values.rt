@@ -16,8 +16,8 @@ impl<S: Alter> RowStore<S> {
     ghost use Rattle.escrow_schema.specs.Definition.{IsTable};
     ghost use Rattle.escrow_rows.specs.Answers.{OnlyReads, TellsAllValues};
 
-    /// The values of each row of a table, in column order; the rows in order of key. They are read one cell
-    /// at a time.
+    /// Returns the values of each row of a table, in column order; the rows are in order of key.
+    /// Reads one cell at a time.
     pub fn all_values(
         &mut self,
         alloc: Global,
@@ -34,7 +34,7 @@ impl<S: Alter> RowStore<S> {
     }
 }
 
-/// The values of rows take those of each further row.
+/// A list of the rows' values takes those of each further row.
 impl RowTaker for Seq<Seq<Value>> {
     ghost has_taken = { λ _ rows taken. rows ≡ map (λ row. row.values) taken };
 

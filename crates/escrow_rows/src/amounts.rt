@@ -23,12 +23,12 @@ pub struct NewAmounts<'a> {
     pub table: &'a StoredTable,
     /// Its key.
     pub key: &'a Value,
-    /// For each RESERVABLE column, in column order, its new amount, or `None` where it stays.
+    /// For each RESERVABLE column, in column order, its new amount, or `None` if it stays.
     pub amounts: Changes,
 }
 
 impl<S: Alter> RowStore<S> {
-    /// Puts new amounts into rows, in one transaction.
+    /// Writes new amounts into rows, in one transaction.
     pub fn put_amounts(&mut self, alloc: Global, news: &[NewAmounts<'_>]) -> Result<(), Failure>
         ensures { Transacts (state S.Store self.old) (state S.Store self.new) (is_ok result) (PutsAmounts news.now) }
     {
@@ -37,7 +37,7 @@ impl<S: Alter> RowStore<S> {
     }
 }
 
-/// The steps that put new amounts.
+/// Returns the steps that write new amounts.
 fn all_steps<'a>(alloc: Global, news: &[NewAmounts<'a>]) -> Result<Vec<Step<'a>>, AllocError>
     ensures { IfOk result (λ steps. (c : Contents) → fold done c steps.items ≡ all_on news.now c) }
 {
@@ -48,7 +48,7 @@ fn all_steps<'a>(alloc: Global, news: &[NewAmounts<'a>]) -> Result<Vec<Step<'a>>
     Ok(steps)
 }
 
-/// Adds the steps that put new amounts into one row.
+/// Adds the steps that write new amounts into one row.
 fn push_steps<'a>(steps: &mut Vec<Step<'a>>, new: &NewAmounts<'a>) -> Result<(), AllocError>
     ensures { OnOk result ((c : Contents) → fold done c steps.new.items ≡ on_cells (amounts_on new.now) (fold done c steps.old.items)) }
 {
@@ -68,7 +68,7 @@ fn push_steps<'a>(steps: &mut Vec<Step<'a>>, new: &NewAmounts<'a>) -> Result<(),
     Ok(())
 }
 
-/// The new amount at a place, if there is one.
+/// Returns the new amount at a place, if there is one.
 fn amount_at(amounts: &[Option<Amount>], at: usize) -> Option<Datum<'static>>
     ensures { option_map kept result ≡ option_map stored (option_map Number (first_new (drop at amounts.now))) }
 {

@@ -1,4 +1,4 @@
-//! The step that puts a value into a cell.
+//! The step that sets the value of a cell.
 ghost use Rattle.std.specs.Prelude.{◌≡◌, ◌<◌, ◌-◌, ◌+◌, ◌^◌, pos, fold, length, option_map, OnOk};
 ghost use Rattle.std.specs.List.{AllByRecursion};
 ghost use Rattle.escrow_num.specs.declared.value.Value.{Value as HeldValue};
@@ -10,7 +10,7 @@ ghost use Rattle.escrow_rows.specs.Inside.{on_cells, put_value, SetsCellOf};
 use escrow_cells::{Datum, Step};
 use std::alloc::AllocError;
 
-/// Adds the step that puts a new value, if there is one, into the cell of a row at a place from 0.
+/// Adds the step that sets the cell of a row at a place, from 0, to a new value, if there is one.
 pub(crate) fn push_cell<'a>(
     steps: &mut Vec<Step<'a>>,
     table: i64,

@@ -9,7 +9,7 @@ use escrow_num::{Amount, Failure, Text, Value};
 use sqlite_value::value::ValueRef;
 use std::alloc::{AllocError, Global};
 
-/// A value, as a cell holds it.
+/// Returns a value as a cell holds it.
 pub(crate) fn datum(value: &Value) -> Datum<'_>
     ensures { kept result ≡ stored value.now }
 {
@@ -19,8 +19,8 @@ pub(crate) fn datum(value: &Value) -> Datum<'_>
     }
 }
 
-/// The value that a cell holds, or `None` where it holds none that a column can hold: a number past the
-/// limit of amounts, a text that isn't UTF-8, or neither.
+/// Returns the value that a cell holds, or `None` if no column can hold it: a number past the limit
+/// of amounts, a text that isn't UTF-8, or something that is neither.
 pub(crate) fn read_value(alloc: Global, value: ValueRef<'_>) -> Result<Option<Value>, AllocError>
     ensures some { IfOk result (λ found. IfSome found (λ v. stored v ≡ owned value.entry)) }
     ensures held { IfOk result (λ found. IfSome found CanBeHeld) }
@@ -36,7 +36,7 @@ pub(crate) fn read_value(alloc: Global, value: ValueRef<'_>) -> Result<Option<Va
     }
 }
 
-/// The value that a cell holds. One that no column can hold is refused.
+/// Returns the value that a cell holds. Fails if no column can hold it.
 pub(crate) fn held(alloc: Global, value: ValueRef<'_>) -> Result<Value, Failure>
     ensures { IfOk result (λ v. stored v ≡ owned value.entry) }
 {

@@ -16,8 +16,9 @@ impl<S: Alter> RowStore<S> {
     ghost use Rattle.escrow_cells.specs.Calls.{Transacts, was_done};
     ghost use Rattle.escrow_rows.specs.Changes.{Inserts};
 
-    /// Puts a row of a table among its rows, unless SQLite finds that this breaks a constraint: a row has its
-    /// key, or others have made one of their own. Answers whether it is put.
+    /// Inserts a row of a table, unless SQLite finds that this breaks a constraint: another row has
+    /// its key, or somebody else has added a constraint to the store. Returns whether the row is
+    /// inserted.
     pub fn insert(&mut self, alloc: Global, table: &StoredTable, row: &Row) -> Result<bool, Failure>
         requires { IsRowOf table.now.table row.now }
         ensures { Transacts (state S.Store self.old) (state S.Store self.new) (was_done result) (Inserts table.now row.now) }
@@ -28,7 +29,7 @@ impl<S: Alter> RowStore<S> {
     }
 }
 
-/// The steps that put a cell for each of values, by its place from 1.
+/// Returns the steps that insert a cell for each value, by its place from 1.
 fn cell_steps<'a>(
     alloc: Global,
     table: i64,

@@ -1,4 +1,4 @@
-//! A row, made of its cells as they are read.
+//! A row that is built from its cells as they are read.
 ghost use Rattle.std.specs.Prelude.{◌≡◌, ◌≢◌, ◌↔◌, ◌+◌, pos, [], false, IsTrue, None, Ok, IfSome, IfOk};
 ghost use Rattle.sqlite_value.specs.declared.value.Value.TheVariants.{Int};
 ghost use Rattle.sqlite_value.specs.Order.{column};
@@ -14,17 +14,17 @@ use sqlite::Row;
 use sqlite_value::value::ValueRef;
 use std::alloc::{AllocError, Global};
 
-/// A row as its cells tell it.
+/// A row, as its cells have it.
 #[derive(Debug, Drop)]
 pub struct KeyedRow {
-    /// Its key, which each cell has.
+    /// Its key, which each of its cells has.
     pub key: Value,
     /// Its values, in column order.
     pub values: Seq<Value>,
 }
 
 impl KeyedRow {
-    /// No cells as yet, so that the key isn't known.
+    /// Returns a row without cells so far, whose key isn't known yet.
     pub(crate) fn new(alloc: Global) -> Self
         ensures none { result.values ≡ [] }
         ensures held { CanBeHeld result.key }
@@ -35,8 +35,8 @@ impl KeyedRow {
         }
     }
 
-    /// Takes the next cell, of which the first tells the key. Whether the cell is one of this row, at the
-    /// next place.
+    /// Takes the next cell. The first cell gives the key. Returns whether the cell is one of this
+    /// row, at the next place.
     pub(crate) fn take_cell(&mut self, alloc: Global, cell: &Row) -> Result<bool, AllocError>
         ensures next { IfOk result (λ next. IsTrue next → Extends self.old cell.now self.new) }
         ensures other { result ≡ Ok false → CanBeHeld self.old.key → (new : Keyed) → Extends self.old cell.now new → ⊥ }
@@ -58,7 +58,8 @@ impl KeyedRow {
     }
 }
 
-/// Whether a cell is one of the row of a key, behind so many. Where it is the first it has the key.
+/// Returns whether a cell is the next of the row of a key, after this many. If it is the first, it
+/// must have the key.
 fn is_cell(cell: &Row, key: &Value, before: usize) -> bool
     requires { before ≡ 0 → column cell.now 0 ≡ stored key.now }
     ensures { IsTrue result ↔ (cell.now ≡ cell_at key.now (before + 1) (column cell.now 2)) }
@@ -66,7 +67,7 @@ fn is_cell(cell: &Row, key: &Value, before: usize) -> bool
     cell.column_count() == 3 && (before == 0 || has_key(cell, key)) && is_behind(cell, before)
 }
 
-/// Whether a cell has a key. Nothing is copied.
+/// Returns whether a cell has a key. Copies nothing.
 fn has_key(cell: &Row, key: &Value) -> bool
     ensures { IsTrue result ↔ (column cell.now 0 ≡ stored key.now) }
 {
@@ -77,7 +78,7 @@ fn has_key(cell: &Row, key: &Value) -> bool
     }
 }
 
-/// Whether a cell stands behind so many others of its row.
+/// Returns whether a cell comes right after this many others of its row.
 fn is_behind(cell: &Row, before: usize) -> bool
     ensures { IsTrue result ↔ (column cell.now 1 ≡ Int (pos (before + 1))) }
 {
@@ -87,7 +88,7 @@ fn is_behind(cell: &Row, before: usize) -> bool
     }
 }
 
-/// The value in a column of an answer, or `None` where it is none that a column of a table can hold.
+/// Returns the value in a column of an answer, or `None` if no column of a table can hold it.
 fn value_at(alloc: Global, row: &Row, at: usize) -> Result<Option<Value>, AllocError>
     ensures some { IfOk result (λ found. IfSome found (λ v. (stored v ≡ column row.now at) × CanBeHeld v)) }
     ensures none { result ≡ Ok None → (v : HeldValue) → CanBeHeld v → stored v ≢ column row.now at }

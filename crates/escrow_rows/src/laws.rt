@@ -1,7 +1,7 @@
-//! What holds of the rows that a store holds: each law is the contract of a function that does nothing.
+//! Laws of the rows that a store holds. Each is the contract of a function that does nothing.
 ghost use Rattle.escrow_rows.specs.Laws.{TheRowsOfAnImage};
 
-/// The rows that a database holds are those that it is the image of.
+/// The rows that a database holds are those whose image it is.
 pub fn rows_of_an_image()
     ensures { TheRowsOfAnImage }
 {}

@@ -1,8 +1,12 @@
-//! The rows of a database in SQLite: each table stands in TAB by its canonical text, and each row in CELL,
-//! one cell for each column.
+//! The rows of a database in SQLite. TAB has each table, with its canonical text. CELL has each
+//! row, one cell for each column.
 //!
-//! Its one contract: each writing call turns an image of tables and rows into that of what it names, or
-//! leaves the store as it was.
+//! Its main contract is that of each call of [`RowStore`] that writes. A store that is the image of
+//! tables and rows becomes the image of the changed tables and rows, or is left as it was.
+//!
+//! Begin with [`RowStore`], then its calls, such as [`RowStore::insert`] and
+//! [`RowStore::put_amounts`]. A [`RowTaker`] takes the rows of a table one at a time as they are
+//! read.
 #![tactic(auto)]
 
 mod all_values;

@@ -1,6 +1,6 @@
 use escrow_num::Text;
 
-/// A table as a store lists it: nothing is looked into.
+/// A table as a store lists it. Its text isn't parsed.
 #[derive(Debug, Drop)]
 pub struct ListedTable {
     /// Its number.

@@ -8,8 +8,8 @@ impl<S: Alter> RowStore<S> {
     ghost use Rattle.escrow_cells.specs.Calls.{Transacts};
     ghost use Rattle.escrow_rows.specs.Changes.{Migrates};
 
-    /// Brings a store of whatever format to the known one: its tables and rows stay. Takes no memory of its
-    /// own.
+    /// Migrates a store in any format to the known one. Its tables and rows stay. Takes no memory
+    /// of its own.
     pub fn migrate(&mut self) -> Result<(), Failure>
         ensures { Transacts (state S.Store self.old) (state S.Store self.new) (is_ok result) Migrates }
     {

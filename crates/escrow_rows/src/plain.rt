@@ -21,9 +21,10 @@ impl<S: Alter> RowStore<S> {
     ghost use Rattle.escrow_rows.specs.Answers.{Tells};
     ghost use Rattle.escrow_rows.specs.Changes.{SetsPlain, is_there};
 
-    /// Replaces plain values of the row of a key, if it is there: for each column that is neither RESERVABLE nor
-    /// the key, in column order, its new value, or `None` where it stays. Answers whether it is there. Fails
-    /// where no value is new, so that the store isn't asked.
+    /// Replaces plain values of the row of a key, if the row exists. For each column that is
+    /// neither RESERVABLE nor the key, in column order, there is a new value, or `None` if the
+    /// value stays. Returns whether the row exists. Fails if no value is new; the store isn't asked
+    /// then.
     pub fn set_plain(
         &mut self,
         alloc: Global,
@@ -42,7 +43,7 @@ impl<S: Alter> RowStore<S> {
     }
 }
 
-/// The steps that replace plain values of a row.
+/// Returns the steps that replace plain values of a row.
 fn plain_steps<'a>(
     alloc: Global,
     table: &StoredTable,
@@ -63,7 +64,7 @@ fn plain_steps<'a>(
     Ok(steps)
 }
 
-/// The new value at a place, if there is one.
+/// Returns the new value at a place, if there is one.
 fn plain_at(values: &[Option<Value>], at: usize) -> Option<Datum<'_>>
     ensures { option_map kept result ≡ option_map stored (first_new (drop at values.now)) }
 {

@@ -1,4 +1,4 @@
-//! What is read of the row of a key.
+//! Reads of the row of a key.
 ghost use Rattle.std.specs.Prelude.{◌≡◌, ◌++◌, ◌^◌, ◌<◌, ◌+◌, ℤ, pos, [], ◌∷◌, length, List, IfOk, IfSome, OnOk};
 ghost use Rattle.escrow_num.specs.declared.value.Value.{Value as HeldValue};
 ghost use Rattle.sqlite_value.specs.Value.{owned};
@@ -28,8 +28,9 @@ impl<S: Alter> RowStore<S> {
     ghost use Rattle.escrow_rows.specs.Answers.{OnlyReads, Tells, TellsAmounts, TellsValues};
     ghost use Rattle.escrow_rows.specs.Placed.{TellsCells, TellsSpan};
 
-    /// The amounts of the row of a key, one for each RESERVABLE column in column order, or `None` where no row
-    /// has the key. Columns before the first of these and behind the last aren't read.
+    /// Returns the amounts of the row of a key, one for each RESERVABLE column in column order, or
+    /// `None` if no row has the key. Columns before the first of these and after the last aren't
+    /// read.
     pub fn amounts(
         &mut self,
         alloc: Global,
@@ -51,7 +52,7 @@ impl<S: Alter> RowStore<S> {
         Ok(Some(amounts))
     }
 
-    /// The values of the row of a key, in column order, or `None` where no row has the key.
+    /// Returns the values of the row of a key, in column order, or `None` if no row has the key.
     pub fn values(
         &mut self,
         alloc: Global,
@@ -69,7 +70,8 @@ impl<S: Alter> RowStore<S> {
         Ok(Some(Seq::from_vec(values)))
     }
 
-    /// Whether a row has a key: it has then one cell at the first place. Takes no memory of its own.
+    /// Returns whether a row has a key. If so, it has one cell at the first place. Takes no memory
+    /// of its own.
     pub fn stands(&mut self, table: &StoredTable, key: &Value) -> Result<bool, Failure>
         ensures told { HasCleanDisk (state S.Store self.new) → IfOk result (λ stands. IsTrue (state S.Store self.new).is_open × Tells table.now (λ rows. is_some (row_named rows (name_in table.now key.now))) (state S.Store self.old).now stands) }
         ensures only_reads { OnlyReads (state S.Store self.old) (state S.Store self.new) }
@@ -78,8 +80,8 @@ impl<S: Alter> RowStore<S> {
         Ok(cells > 0)
     }
 
-    /// The cells of the row of a key, each by its place and its value, or `None` where there are none. A row
-    /// that hasn't a cell for each column is refused.
+    /// Returns the cells of the row of a key, each with its place and its value, or `None` if there
+    /// are none. Fails if the row doesn't have a cell for each column.
     fn cells_of(&mut self, table: &StoredTable, key: &Value) -> Result<Option<Seq<Row>>, Failure>
         requires { IsTable table.now.table }
         ensures told { HasCleanDisk (state S.Store self.new) → IfOk result (λ found. IsTrue (state S.Store self.new).is_open × TellsCells table.now key.now (state S.Store self.old).now found) }
@@ -90,8 +92,9 @@ impl<S: Alter> RowStore<S> {
         some_cells(table.table.columns.len(), cells)
     }
 
-    /// The cells of the row of a key in some of its columns, each by its place and its value, or `None` where
-    /// there are none. A row that hasn't a cell for each of these is refused.
+    /// Returns the cells of the row of a key in some of its columns, each with its place and its
+    /// value, or `None` if there are none. Fails if the row doesn't have a cell for each of these
+    /// columns.
     fn cells_in(
         &mut self,
         table: &StoredTable,
@@ -112,7 +115,7 @@ impl<S: Alter> RowStore<S> {
     }
 }
 
-/// The cells of a row, if there are any, which have to be this many.
+/// Returns the cells of a row, if there are any. There must be this many.
 fn some_cells(many: usize, cells: Vec<Row>) -> Result<Option<Seq<Row>>, Failure>
     ensures found { IfOk result (IsRowOfCells cells.items) }
     ensures many { IfOk result (λ found. IfSome found (λ some. length some ≡ many)) }
@@ -126,7 +129,7 @@ fn some_cells(many: usize, cells: Vec<Row>) -> Result<Option<Seq<Row>>, Failure>
     Ok(Some(Seq::from_vec(cells)))
 }
 
-/// The amounts in the cells of columns, one cell for each column, behind so many others.
+/// Returns the amounts in the cells of columns, one cell for each column, after this many others.
 fn read_amounts(
     alloc: Global,
     columns: &[Column],
@@ -156,7 +159,7 @@ fn push_amount(amounts: &mut Seq<Amount>, cell: &Row, place: usize) -> Result<()
     Ok(amounts.push(amount)?)
 }
 
-/// The amount that a value is.
+/// Returns the amount that a value is.
 fn amount_in(value: ValueRef<'_>) -> Result<Amount, Failure>
     ensures { IfOk result (λ a. owned value.entry ≡ Int a) }
 {
@@ -166,7 +169,7 @@ fn amount_in(value: ValueRef<'_>) -> Result<Amount, Failure>
     }
 }
 
-/// The values of cells, each at its place from 1 on.
+/// Returns the values of cells, each at its place from 1 on.
 fn read_values(alloc: Global, cells: &[Row]) -> Result<Vec<Value>, Failure>
     ensures { IfOk result (λ values. cells.now ≡ placed 1 values.items) }
 {
@@ -178,7 +181,7 @@ fn read_values(alloc: Global, cells: &[Row]) -> Result<Vec<Value>, Failure>
     Ok(values)
 }
 
-/// The value of a cell at a place.
+/// Returns the value of a cell, which must be at this place.
 fn value_at(cell: &Row, place: usize) -> Result<ValueRef<'_>, Failure>
     requires { place < 2 ^ 63 }
     ensures { IfOk result (λ v. cell.now ≡ Int (pos place) ∷ owned v ∷ []) }

@@ -1,4 +1,4 @@
-//! Reads the rows of a table from its cells, and keeps one row at most.
+//! Reads the rows of a table from its cells, keeping at most one row.
 ghost use Rattle.std.specs.Prelude.{◌≡◌, List, [], ◌∷◌, ◌++◌, false, Ok, None, IsTrue, IfOk, IfSome, OnOk};
 ghost use Rattle.sqlite_value.specs.Order.{Row as SqlRow};
 ghost use Rattle.escrow_rows.specs.Gathered.{HasGathered, Extends};
@@ -23,9 +23,9 @@ impl<S: Alter> RowStore<S> {
     ghost use Rattle.escrow_rows.specs.Answers.{OnlyReads};
     ghost use Rattle.escrow_rows.specs.Reading.{ReadsRows};
 
-    /// Gives a taker the rows of a table, in order of key, and hands it back. The store need not be known to
-    /// be an image: the answer is `None` where the cells are not those of rows, each with a value for each
-    /// column, and each value one that a column can hold.
+    /// Gives the rows of a table to a taker, in order of key, and returns the taker. The store need
+    /// not be known to be an image. Returns `None` if the cells don't make up rows with a value for
+    /// each column, each value one that a column can hold.
     pub fn read_rows<T: RowTaker>(
         &mut self,
         alloc: Global,
@@ -48,24 +48,24 @@ impl<S: Alter> RowStore<S> {
     }
 }
 
-/// Makes rows of the cells of a table, in order of key and place, and gives each to a taker.
+/// Builds rows from the cells of a table, in order of key and place, and gives each row to a taker.
 #[derive(Drop)]
 struct RowReader<T> {
     alloc: Global,
     /// How many values a row has.
     columns: usize,
-    /// What takes each row.
+    /// Takes each row.
     taker: T,
-    /// The row that is under way: it lacks some values.
+    /// The row that is being read: some of its values are missing.
     row: KeyedRow,
-    /// Whether all cells so far are of rows.
+    /// Whether all cells so far belong to rows.
     fits: bool,
 }
 
 impl<T: RowTaker> RowReader<T> {
     ghost use Rattle.escrow_rows.specs.Gathered.{IsGathered};
 
-    /// Takes the next cell. Whether that is the next one of a row.
+    /// Takes the next cell. Returns whether it is the next one of a row.
     fn take_cell(&mut self, cell: &Row) -> Result<bool, Failure>
         ensures same { OnOk result (self.new.columns ≡ self.old.columns) }
         ensures more { IfOk result (λ next. IsTrue next → (first : T) (cells : List SqlRow) → IsGathered T.has_taken self.old.columns first self.old.taker self.old.row cells → IsGathered T.has_taken self.old.columns first self.new.taker self.new.row (cells ++ cell.now ∷ [])) }
@@ -81,7 +81,7 @@ impl<T: RowTaker> RowReader<T> {
         Ok(true)
     }
 
-    /// The taker, or `None` where a cell was of no row, or the last row lacks some.
+    /// Returns the taker, or `None` if a cell belonged to no row, or the last row lacks values.
     fn finish(self) -> Option<T>
         ensures some { IfSome result (λ taker. IsTrue self.fits × (self.row.values ≡ []) × (taker ≡ self.taker)) }
         ensures none { result ≡ None → IsTrue self.fits → self.row.values ≡ [] → ⊥ }

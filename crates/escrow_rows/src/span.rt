@@ -1,20 +1,21 @@
-//! The columns that a read of a row's amounts goes over.
+//! The columns that a read of a row's amounts covers.
 ghost use Rattle.std.specs.Prelude.{◌≡◌, ◌≢◌, ◌<◌, ◌≤◌, ◌+◌, ◌^◌, [], length, take, drop};
 ghost use Rattle.escrow_schema.specs.Column.{reservables};
 
 use escrow_schema::Column;
 
-/// Columns of a table that stand side by side.
+/// Adjacent columns of a table.
 #[derive(Clone, Copy, Debug)]
 pub(crate) struct Span {
     /// How many columns come before them.
     pub(crate) start: usize,
-    /// How many they are.
+    /// How many columns there are.
     pub(crate) len: usize,
 }
 
 impl Span {
-    /// These columns and those behind them up to one; where they are none, that one alone.
+    /// Returns these columns and those after them, up to the column at `place`. If there are none
+    /// so far, returns only that one.
     fn up_to(self, place: usize) -> Self
         requires before { self.start + self.len ≤ place }
         requires few { place < 2 ^ 63 }
@@ -30,7 +31,8 @@ impl Span {
     }
 }
 
-/// The columns from the first RESERVABLE one to the last, or the first column where none is.
+/// Returns the columns from the first RESERVABLE one to the last, or the first column if none is
+/// RESERVABLE.
 pub(crate) fn reservable_span(columns: &[Column]) -> Span
     requires { 0 < length columns.now }
     ensures some { 0 < result.len }

@@ -1,7 +1,7 @@
 use sqlite::{Alter, Connection};
 use std::marker::Model;
 
-/// The rows of a database, in a store that SQLite writes to.
+/// The rows of a database, in a store that SQLite writes.
 #[derive(Drop)]
 pub struct RowStore<S: Alter> {
     pub(crate) conn: Connection<S>,
@@ -25,7 +25,8 @@ impl<S: Alter> RowStore<S> {
     ghost use Rattle.sqlite.specs.Held.{state};
     ghost use Rattle.sqlite_trees.specs.Tree.{Trees};
 
-    /// The rows in the store of a connection that is outside a transaction. Makes no store call.
+    /// Returns the rows in the store of a connection that is outside a transaction. Makes no store
+    /// call.
     pub fn over(conn: Connection<S>) -> Self
         requires { conn.in_transaction ≡ false }
         ensures { result ≡ conn }
@@ -33,7 +34,7 @@ impl<S: Alter> RowStore<S> {
         RowStore { conn }
     }
 
-    /// The connection. Makes no store call.
+    /// Returns the connection. Makes no store call.
     pub fn into_connection(self) -> Connection<S>
         ensures same { result ≡ self }
         ensures outside { result.in_transaction ≡ false }
@@ -41,16 +42,17 @@ impl<S: Alter> RowStore<S> {
         self.conn
     }
 
-    /// While no fault has shut the store a crash leaves what it holds, and nothing else. Makes no store call.
+    /// Shows that a crash leaves exactly what the store holds, as long as no fault has shut it.
+    /// Makes no store call.
     pub fn rests(&self)
         ensures { IsTrue (state S.Store self.now).is_open → (trees : Trees) → (state S.Store self.now).may_leave trees → trees ≡ (state S.Store self.now).now.trees }
     {
-        // What was committed last is what is seen, outside a transaction.
+        // Outside a transaction, the contents of the store are what was committed last.
         let _ = self.conn.is_autocommit();
     }
 
-    /// Limits the steps that a statement of the store may take; with `None` there is no limit. A call
-    /// that would take more fails with [`Failure::Store`](crate::Failure::Store), and changes nothing.
+    /// Limits the steps that a statement of the store may take; `None` means no limit. A call that
+    /// would take more fails with [`Failure::Store`](crate::Failure::Store), and changes nothing.
     pub fn set_step_limit(&mut self, limit: Option<u64>)
         ensures { self.new ≡ record self.old { step_limit = limit } }
     {

@@ -19,7 +19,7 @@ impl<S: Alter> RowStore<S> {
     ghost use Rattle.escrow_rows.specs.Answers.{TellsCount, TellsTables};
     ghost use Rattle.escrow_rows.specs.Changes.{Creates, Drops, Redefines};
 
-    /// Puts a new table, without rows.
+    /// Inserts a new table, without rows.
     pub fn create_table(&mut self, alloc: Global, table: &StoredTable) -> Result<(), Failure>
         requires { IsTable table.now.table }
         ensures { Transacts (state S.Store self.old) (state S.Store self.new) (is_ok result) (Creates table.now) }
@@ -35,8 +35,8 @@ impl<S: Alter> RowStore<S> {
         )
     }
 
-    /// Puts another definition in the place of a table's: one that differs in its checks alone. The
-    /// rows stay as they are, whether they meet the checks or not.
+    /// Replaces a table's definition with one that differs only in its checks. The rows stay,
+    /// whether they meet the checks or not.
     pub fn redefine(
         &mut self,
         alloc: Global,
@@ -62,7 +62,7 @@ impl<S: Alter> RowStore<S> {
         )
     }
 
-    /// Takes out a table and its rows. Takes no memory of its own.
+    /// Deletes a table and its rows. Takes no memory of its own.
     pub fn drop_table(&mut self, table: &StoredTable) -> Result<(), Failure>
         ensures { Transacts (state S.Store self.old) (state S.Store self.new) (is_ok result) (Drops table.now) }
     {
@@ -75,7 +75,7 @@ impl<S: Alter> RowStore<S> {
         )
     }
 
-    /// The tables, in order of their numbers.
+    /// Returns the tables, in order of number.
     pub fn tables(&mut self, alloc: Global) -> Result<Vec<ListedTable>, Failure>
         ensures told { HasCleanDisk (state S.Store self.new) → IfOk result (λ listed. IsTrue (state S.Store self.new).is_open × TellsTables (state S.Store self.old).now listed.items) }
         ensures only_reads { OnlyReads (state S.Store self.old) (state S.Store self.new) }
@@ -84,7 +84,8 @@ impl<S: Alter> RowStore<S> {
         listed_tables(alloc, rows.as_slice())
     }
 
-    /// How many rows a table has: each has one cell at the first place. Takes no memory of its own.
+    /// Returns how many rows a table has. Each has one cell at the first place. Takes no memory of
+    /// its own.
     pub fn count(&mut self, table: &StoredTable) -> Result<usize, Failure>
         ensures told { HasCleanDisk (state S.Store self.new) → IfOk result (λ n. IsTrue (state S.Store self.new).is_open × TellsCount table.now (state S.Store self.old).now n) }
         ensures only_reads { OnlyReads (state S.Store self.old) (state S.Store self.new) }
@@ -93,7 +94,7 @@ impl<S: Alter> RowStore<S> {
     }
 }
 
-/// The tables that rows of TAB list.
+/// Returns the tables that rows of TAB list.
 fn listed_tables(alloc: Global, rows: &[Row]) -> Result<Vec<ListedTable>, Failure>
     ensures { IfOk result (λ tables. rows.now ≡ map listed_row tables.items) }
 {
@@ -112,7 +113,7 @@ fn push_table(tables: &mut Vec<ListedTable>, row: &Row) -> Result<(), Failure>
     Ok(tables.push(table)?)
 }
 
-/// The table that a row of TAB lists.
+/// Returns the table that a row of TAB lists.
 fn listed_table(row: &Row) -> Result<ListedTable, Failure>
     ensures { IfOk result (λ t. row.now ≡ listed_row t) }
 {

@@ -1,4 +1,4 @@
-//! What takes the rows of a table as they are read.
+//! Takers, which take the rows of a table as they are read.
 ghost use Rattle.std.specs.Prelude.{List, [], ◌∷◌, ◌++◌, OnOk};
 ghost use Rattle.escrow_rows.specs.declared.keyed_row.KeyedRow.{KeyedRow as Keyed};
 
@@ -7,7 +7,8 @@ use escrow_num::Failure;
 
 /// Takes rows, one after another.
 pub trait RowTaker: Drop {
-    // Whether a taker that was the first of these is the second one once it has taken these rows.
+    // Whether a taker that began as the first of these is the second one after it has taken these
+    // rows.
     ghost has_taken: { Self → Self → List Keyed → Type 0 };
 
     /// Takes one more row.

@@ -1,4 +1,4 @@
-//! Rows, whole.
+//! Reads of whole rows.
 ghost use Rattle.std.specs.Prelude.{◌≡◌, Some, IfOk, OnOk};
 ghost use Rattle.escrow_schema.specs.Definition.{IsTable};
 ghost use Rattle.escrow_schema.specs.Fit.{IsRowOf, row_with};
@@ -17,7 +17,7 @@ impl<S: Alter> RowStore<S> {
     ghost use Rattle.escrow_schema.specs.Definition.{IsTable};
     ghost use Rattle.escrow_rows.specs.Answers.{OnlyReads, TellsRow, TellsRows};
 
-    /// The row of a key of a table, or `None` where no row has the key.
+    /// Returns the row of a key of a table, or `None` if no row has the key.
     pub fn row(
         &mut self,
         alloc: Global,
@@ -35,7 +35,7 @@ impl<S: Alter> RowStore<S> {
         Ok(Some(row))
     }
 
-    /// The rows of a table, in order of key.
+    /// Returns the rows of a table, in order of key.
     pub fn rows(&mut self, alloc: Global, table: &StoredTable) -> Result<Seq<Row>, Failure>
         requires { IsTable table.now.table }
         ensures told { HasCleanDisk (state S.Store self.new) → IfOk result (λ rows. IsTrue (state S.Store self.new).is_open × TellsRows table.now (state S.Store self.old).now rows) }
@@ -46,7 +46,7 @@ impl<S: Alter> RowStore<S> {
     }
 }
 
-/// The rows that values make. Values that make no row of the table are refused.
+/// Returns the rows that values make. Fails if values make no row of the table.
 fn made_rows(alloc: Global, table: &TableDef, all: &[Seq<Value>]) -> Result<Seq<Row>, Failure>
     requires { IsTable table.now }
     ensures { IfOk result (λ rows. rows ≡ rows_with table.now all.now) }
@@ -58,7 +58,7 @@ fn made_rows(alloc: Global, table: &TableDef, all: &[Seq<Value>]) -> Result<Seq<
     Ok(Seq::from_vec(rows))
 }
 
-/// The row that values make. Values that make no row of the table are refused.
+/// Returns the row that values make. Fails if they make no row of the table.
 pub fn made_row(alloc: Global, table: &TableDef, values: &[Value]) -> Result<Row, Failure>
     requires { IsTable table.now }
     ensures made { IfOk result (λ row. row_with table.now values.now ≡ Some row) }

@@ -1,4 +1,4 @@
--- Helps: what private contracts say of assignments and plans. Nothing that callers see rests on it.
+-- Helps: what private contracts say of assignments and plans. No contract of a public call uses it.
 use Rattle.std.specs.Prelude.{◌≡◌, ◌⊎◌, Option, None, IsSome, option_and_then, Result, Ok, Err, IsOk, List, map}
 use Rattle.escrow_num.specs.declared.refusal.Refusal.{Refusal}
 use Rattle.escrow_num.specs.declared.refusal.Refusal.TheVariants as refusal
@@ -9,21 +9,21 @@ use Rattle.escrow_schema.specs.declared.plan.Plan.{Plan}
 use Rattle.escrow_schema.specs.Column.{scale_of, value_at}
 use Rattle.escrow_schema.specs.Plan.{assigned_to, changes_of, literal_in}
 
--- the value that is assigned to a column, if a literal is that is one at its scale, whether the value
--- fits the column's type or not
+-- the value that is assigned to a column, if a literal is assigned that is a value at the column's scale. The value
+-- need not fit the column's type
 abbrev pub value_assigned : List Assign → Column → Option Value
 value_assigned assigns column = option_and_then (value_at (scale_of column.kind)) (option_and_then literal_in (assigned_to assigns column.name))
 
--- the value, or none, that is assigned to each of some columns
+-- the value that is assigned to each of some columns, or none
 abbrev pub values_assigned : List Column → List Assign → List (Option Value)
 values_assigned columns assigns = map (value_assigned assigns) columns
 
--- what is answered where something is planned: the plan, or why there is none, or want of memory where there is one
+-- what a function that plans returns: the plan, or why there is none, or that memory was refused if there is one
 abbrev pub IsAnswer : Result Plan Refusal → Result Plan Refusal → Type 0
 IsAnswer planned (Ok plan) = planned ≡ Ok plan
 IsAnswer planned (Err e) = (planned ≡ Err e) ⊎ ((e ≡ refusal.Memory) × IsOk planned)
 
--- why changes aren't made: one is bad, or none is and memory is wanted
+-- why there are no changes: one is bad, or all are good and memory was refused
 abbrev pub IsChangesFault : List Column → List Assign → Refusal → Type 0
 IsChangesFault columns assigns e =
     ((e ≡ refusal.BadValue) × (changes_of columns assigns ≡ None)) ⊎ ((e ≡ refusal.Memory) × IsSome (changes_of columns assigns))

@@ -31,7 +31,7 @@ IsPlainName table name = (place : ℕ) × (column : Column) × IsNamedAt table n
 
 -- THE SIX CASES
 
--- an UPDATE has this assignment, somewhere behind SET
+-- an UPDATE has this assignment, somewhere after SET
 abbrev pub Assigns : UpdateText → Assign → Type 0
 Assigns text assign = (k : ℕ) × (slice_get text.assigns k ≡ Some assign)
 
@@ -64,8 +64,8 @@ abbrev pub MixesColumns : TableDef → UpdateText → Type 0
 MixesColumns table text =
     (one : Assign) × (other : Assign) × Assigns text one × Assigns text other × IsReservableName table one.column × IsPlainName table other.column
 
--- one of the six is the case; a law (BadAssignmentsAreOfSixKinds) says that an UPDATE of a table is refused by 24
--- exactly there
+-- one of the six cases applies; by a law (BadAssignmentsAreOfSixKinds), an UPDATE of a table is refused by 24 exactly
+-- then
 abbrev pub IsBadlyAssigned : TableDef → UpdateText → Type 0
 IsBadlyAssigned table text =
     AssignsUnknown table text

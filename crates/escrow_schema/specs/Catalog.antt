@@ -11,11 +11,11 @@ use Rattle.escrow_schema.specs.declared.table.TableDef.{TableDef}
 use Rattle.escrow_schema.specs.declared.catalog.TheConstants.Catalog.{MAX_TABLES}
 use Rattle.escrow_schema.specs.Definition.{IsTable}
 
--- tables are in order of name, no two of one name
+-- tables are in order of name, and no two have the same name
 abbrev pub table_before : TableDef → TableDef → Bool
 table_before a b = is_lt (slice_cmp nat_cmp a.name b.name)
 
--- a catalog is at most 32 tables, each of which some text defines, in order of name
+-- a catalog has at most 32 tables, in order of name, each of which some text defines
 pub record IsCatalog (catalog : List TableDef) : Type 0 where
   pub tables : AllByRecursion IsTable catalog
   pub order : IsAscending table_before catalog
@@ -25,11 +25,11 @@ pub record IsCatalog (catalog : List TableDef) : Type 0 where
 abbrev pub table_named : List TableDef → List ℕ → Option TableDef
 table_named catalog name = find (λ table. bytes_eq table.name name) catalog
 
--- where the table of a name stands in the catalog
+-- the place of the table of a name in the catalog
 abbrev pub place_named : List TableDef → List ℕ → Option ℕ
 place_named catalog name = position (λ table. bytes_eq table.name name) catalog
 
--- a table put into the catalog, in order of name
+-- the catalog with a table added, in order of name
 abbrev pub with_table : TableDef → List TableDef → List TableDef
 with_table table [] = table ∷ []
 with_table table (other ∷ rest) =
@@ -39,7 +39,7 @@ with_table table (other ∷ rest) =
 abbrev pub without_table : List ℕ → List TableDef → List TableDef
 without_table name catalog = filter (λ table. not (bytes_eq table.name name)) catalog
 
--- why a table can't be added, if it can't: a table of its name stands, then as many as there may be
+-- why a table can't be added, if it can't: first, a table of its name exists; then, the catalog is full
 abbrev pub add_refusal : List TableDef → TableDef → Option Refusal
 add_refusal catalog table = first_refusal (
     refuse_if (is_some (table_named catalog table.name)) refusal.TableExists

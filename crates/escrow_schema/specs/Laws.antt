@@ -74,8 +74,8 @@ PlainPlansFit =
     (table : TableDef) (text : UpdateText) (key : Value) (values : List (Option Value)) → planned table text ≡ Ok (Plain key values)
     → AllZip (λ column new. IfSome new (λ v. IsTrue (fits column.kind v))) (plains table.columns 0 table.key) values
 
--- a plan of changes has for each RESERVABLE column the change that is assigned to it, wherever it
--- stands, in units of the column's scale, which are a whole number, and none where nothing is
+-- a plan of changes has for each RESERVABLE column the change that is assigned to it, wherever in the UPDATE, or none.
+-- The change is a whole number of units of the column's scale
 abbrev pub ChangesAsAssigned : Type 0
 ChangesAsAssigned =
     (table : TableDef) (text : UpdateText) (key : Value) (changes : List (Option ℤ)) → planned table text ≡ Ok (Reserve key changes)
@@ -84,8 +84,8 @@ ChangesAsAssigned =
     → assign.value ≡ assigned.Change source change → (units : ℤ) × (slice_get changes i ≡ Some (Some units)) × (units_at (scale_of column.kind) change ≡ Some units))
     × (list_any (λ assign. bytes_eq assign.column column.name) text.assigns ≡ false → slice_get changes i ≡ Some None)
 
--- a plan of new values has for each column that is neither RESERVABLE nor the key the value there of
--- the literal that is assigned to it, wherever it stands, and none where nothing is
+-- a plan of new values has a value, or none, for each column that is neither RESERVABLE nor the key. It is the column's
+-- value of the literal that is assigned to it, wherever in the UPDATE
 abbrev pub NewValuesAsAssigned : Type 0
 NewValuesAsAssigned =
     (table : TableDef) (text : UpdateText) (key : Value) (values : List (Option Value)) → planned table text ≡ Ok (Plain key values)
@@ -94,7 +94,7 @@ NewValuesAsAssigned =
     → assign.value ≡ assigned.Literal literal → (v : Value) × (slice_get values i ≡ Some (Some v)) × (value_in column.kind literal ≡ Some v))
     × (list_any (λ assign. bytes_eq assign.column column.name) text.assigns ≡ false → slice_get values i ≡ Some None)
 
--- a value is a literal's at a scale: nothing of it is rounded
+-- a value is that of a literal at a scale: nothing is rounded
 abbrev pub IsValueOf : ℕ → Literal → Value → Type 0
 IsValueOf scale literal v = (value_at scale literal ≡ Some v) × (v ≡ truncated_value scale literal)
 
@@ -113,7 +113,7 @@ RefusalsOfPlans =
     (table : TableDef) (text : UpdateText) (r : Refusal) → planned table text ≡ Err r
     → (r ≡ refusal.BadAssignment) ⊎ ((r ≡ refusal.NotTheKey) ⊎ (r ≡ refusal.BadValue))
 
--- an UPDATE of a table is refused for its assignments exactly where one of six cases is the case
+-- an UPDATE of a table is refused for its assignments exactly if one of six cases applies
 abbrev pub BadAssignmentsAreOfSixKinds : Type 0
 BadAssignmentsAreOfSixKinds =
     (table : TableDef) (text : UpdateText) → IsTable table → (planned table text ≡ Err refusal.BadAssignment) ↔ IsBadlyAssigned table text
@@ -123,14 +123,14 @@ abbrev pub RefusalsOfKeys : Type 0
 RefusalsOfKeys =
     (table : TableDef) (row : WhereText) (r : Refusal) → key_named table row ≡ Err r → (r ≡ refusal.NotTheKey) ⊎ (r ≡ refusal.BadValue)
 
--- the values of the row that literals make are the values that the literals are
+-- the values of the row that literals make are the values of the literals
 abbrev pub ValuesOfRow : Type 0
 ValuesOfRow =
     (table : TableDef) (literals : List Literal) (row : Row) → IsTable table → fitted table literals ≡ Some row
     → values_in table.columns literals ≡ Some (values_of table row)
 
--- the literal beside a column's name is the column's value in the row that an INSERT with a column
--- list makes, wherever in the list the two stand
+-- in the row of an INSERT with a column list, a column's value is the literal beside its name, wherever in the list the
+-- two are
 abbrev pub ValuesBesideNames : Type 0
 ValuesBesideNames =
     (table : TableDef) (text : InsertText) (names : List (List ℕ)) (row : Row) → IsTable table → text.columns ≡ Some names
@@ -139,14 +139,14 @@ ValuesBesideNames =
     → slice_get names k ≡ Some column.name → slice_get text.values k ≡ Some literal
     → slice_get (values_of table row) i ≡ value_in column.kind literal
 
--- the values of a row of a table, whose amounts meet every check of it, fit their columns' types
+-- if a row's amounts meet every check of its table, the row's values fit their columns' types
 abbrev pub ValuesFit : Type 0
 ValuesFit =
     (table : TableDef) (row : Row) → IsTable table → IsRowOf table row
     → AllByRecursion (λ check. Meets check row.amounts) table.checks → FitColumns table.columns (values_of table row)
 
--- the names of a table's checks: those that its CHECKs give, in order, and behind them RANGE_ and the
--- column's name for each RESERVABLE column, in column order; none stands twice
+-- the names of a table's checks: those that its CHECKs give, in order, then RANGE_ and the column's name for each
+-- RESERVABLE column, in column order; all differ
 pub record HasCheckNames (text : CreateText) (table : TableDef) : Type 0 where
   pub declared : List (List ℕ)
   pub of_text : AreNamed (checks_in text.items) declared
@@ -157,8 +157,8 @@ pub record HasCheckNames (text : CreateText) (table : TableDef) : Type 0 where
 abbrev pub NamesOfChecks : Type 0
 NamesOfChecks = (text : CreateText) (table : TableDef) → definition_of text ≡ Some table → HasCheckNames text table
 
--- numbers, one for each RESERVABLE column in units of its scale, meet every check of a table exactly
--- where in millionths they meet every CHECK as it is written, and each fits its column's type
+-- take numbers, one for each RESERVABLE column in units of its scale. They meet every check of a table exactly if, in
+-- millionths, they meet every CHECK as written, and each fits its column's type
 abbrev pub ChecksMeanConditions : Type 0
 ChecksMeanConditions =
     (text : CreateText) (table : TableDef) (numbers : List ℤ) → definition_of text ≡ Some table → length numbers ≡ length (reservables table.columns)
@@ -166,7 +166,7 @@ ChecksMeanConditions =
     ↔ (AllByRecursion (MeetsText (names_of (reservables table.columns)) (in_millionths (scales_of (reservables table.columns)) numbers)) (checks_in text.items)
     × FitColumns (reservables table.columns) (map value.Number numbers)))
 
--- a text defines a table exactly where the two follow the rules of definitions, one by one
+-- a text defines a table exactly if the two follow the rules of definitions, one by one
 abbrev pub DefinitionsFollowRules : Type 0
 DefinitionsFollowRules = (text : CreateText) (table : TableDef) → (definition_of text ≡ Some table) ↔ FollowsRules text table
 

@@ -21,46 +21,46 @@ use Rattle.escrow_schema.specs.Column.{value_in, scale_of, reservables}
 use Rattle.escrow_schema.specs.Definition.{are_distinct, key_column}
 use Rattle.escrow_schema.specs.Fit.{plains}
 
--- a name is the key column's
+-- whether a name is the key column's
 abbrev pub is_key : TableDef → List ℕ → Bool
 is_key table name = unwrap_or (option_map (λ column. bytes_eq column.name name) (key_column table)) false
 
--- the key that a literal is, where it fits the key column's type
+-- the key of a literal, if it fits the key column's type
 abbrev pub key_in : TableDef → Literal → Option Value
 key_in table literal = option_and_then (λ column. value_in column.kind literal) (key_column table)
 
--- the key that a WHERE names, or why it names none: it is of another column than the key (25), or its literal isn't one
--- that the key's type holds (23)
+-- the key that a WHERE names, or why it names none: WHERE names another column than the key (25), or the key's type
+-- doesn't hold the literal (23)
 abbrev pub key_named : TableDef → WhereText → Result Value Refusal
 key_named table row = if not (is_key table row.column) then Err refusal.NotTheKey else ok_or (key_in table row.literal) refusal.BadValue
 
--- what is assigned to a column is the column itself plus or minus a number
+-- whether the value assigned to a column is the column itself plus or minus a number
 abbrev pub is_itself : List ℕ → Assigned → Bool
 is_itself column (assigned.Literal literal) = false
 is_itself column (assigned.Change source change) = bytes_eq column source
 
--- an assignment is of a RESERVABLE column, to itself plus or minus a number
+-- whether an assignment sets a RESERVABLE column to itself plus or minus a number
 abbrev pub is_change : List Column → Assign → Bool
 is_change columns assign = list_any (λ column. column.reservable && bytes_eq column.name assign.column) columns && is_itself assign.column assign.value
 
--- a column of a name is among columns
+-- whether one of the columns has a name
 abbrev pub has_column : List Column → List ℕ → Bool
 has_column columns name = list_any (λ column. bytes_eq column.name name) columns
 
--- what is assigned is a literal
+-- whether the assigned value is a literal
 abbrev pub is_literal : Assigned → Bool
 is_literal (assigned.Literal literal) = true
 is_literal (assigned.Change source change) = false
 
--- an assignment is of a column that is neither RESERVABLE nor the key, to a literal
+-- whether an assignment sets a column that is neither RESERVABLE nor the key to a literal
 abbrev pub is_replacement : TableDef → Assign → Bool
 is_replacement table assign = has_column (plains table.columns 0 table.key) assign.column && is_literal assign.value
 
--- assignments change RESERVABLE columns: each does, and no two are of one column
+-- whether each assignment changes a RESERVABLE column, and no two the same one
 abbrev pub are_changes : List Column → List Assign → Bool
 are_changes columns assigns = are_distinct (map (λ assign. assign.column) assigns) && list_all (is_change columns) assigns
 
--- assignments replace plain values: each does, and no two are of one column
+-- whether each assignment replaces a plain value, and no two the same one
 abbrev pub are_replacements : TableDef → List Assign → Bool
 are_replacements table assigns = are_distinct (map (λ assign. assign.column) assigns) && list_all (is_replacement table) assigns
 
@@ -68,23 +68,23 @@ are_replacements table assigns = are_distinct (map (λ assign. assign.column) as
 abbrev pub assigned_to : List Assign → List ℕ → Option Assigned
 assigned_to assigns column = option_map (λ assign. assign.value) (find (λ assign. bytes_eq assign.column column) assigns)
 
--- the change that is assigned, where one is
+-- the change that is assigned, if one is
 abbrev pub change_in : Assigned → Option ℤ
 change_in (assigned.Literal literal) = None
 change_in (assigned.Change source change) = Some change
 
--- the literal that is assigned, where one is
+-- the literal that is assigned, if one is
 abbrev pub literal_in : Assigned → Option Literal
 literal_in (assigned.Literal literal) = Some literal
 literal_in (assigned.Change source change) = None
 
--- the change of a column of a scale, in units of it: none where none is assigned to it, and nothing
--- at all where that isn't a whole number of units, or these are no amount
+-- the change of a column, in units of its scale: an inner none if no change is assigned; none at all if it isn't a
+-- whole number of units, or these are no amount
 abbrev pub change_at : ℕ → Option ℤ → Option (Option ℤ)
 change_at scale None = Some None
 change_at scale (Some z) = option_map (λ units. Some units) (units_at scale z)
 
--- the change, or none, of each of some columns, where each is good
+-- the change, or none, of each of some columns, if all are good
 abbrev pub changes_for : List Column → List Assign → Option (List (Option ℤ))
 changes_for [] assigns = Some []
 changes_for (column ∷ columns) assigns =
@@ -95,13 +95,12 @@ changes_for (column ∷ columns) assigns =
 abbrev pub changes_of : List Column → List Assign → Option (List (Option ℤ))
 changes_of columns assigns = changes_for (reservables columns) assigns
 
--- the new value of a column of a type: none where no literal is assigned to it, and nothing at all
--- where the literal doesn't fit
+-- the new value of a column of a type: an inner none if no literal is assigned; none at all if the literal doesn't fit
 abbrev pub new_value : ColumnType → Option Literal → Option (Option Value)
 new_value kind None = Some None
 new_value kind (Some literal) = option_map (λ v. Some v) (value_in kind literal)
 
--- the new value, or none, of each of some columns, where each literal fits
+-- the new value, or none, of each of some columns, if each literal fits
 abbrev pub new_values_of : List Column → List Assign → Option (List (Option Value))
 new_values_of [] assigns = Some []
 new_values_of (column ∷ columns) assigns =
@@ -122,9 +121,9 @@ abbrev pub for_key : (Value → Result Plan Refusal) → Result Value Refusal �
 for_key plan (Ok key) = plan key
 for_key plan (Err refusal) = Err refusal
 
--- what an UPDATE asks, or why it can't be planned: bad assignments (24), then a WHERE of another column than the key
--- (25), then (23) a literal, of the WHERE or assigned, that its column's type doesn't hold, or a change that isn't a
--- whole number of its column's units, or of more of them than an amount has
+-- what an UPDATE asks, or why it can't be planned: first, bad assignments (24); then, a WHERE of another column than
+-- the key (25); then, a bad value (23). A literal, in WHERE or assigned, is bad if its column's type doesn't hold it. A
+-- change is bad if it isn't a whole number of its column's units, or if these are no amount
 abbrev pub planned : TableDef → UpdateText → Result Plan Refusal
 planned table text =
     if are_changes table.columns text.assigns

@@ -12,7 +12,7 @@ use Rattle.escrow_schema.specs.declared.column.ColumnType.TheVariants.{Number, V
 use Rattle.escrow_schema.specs.declared.table.TableDef.{TableDef}
 use Rattle.escrow_schema.specs.Column.{reservables, names_of, scales_of}
 
--- a scale behind a precision; none is written where it is 0
+-- a scale after a precision; nothing is written if it is 0
 abbrev pub scale_words : ℕ → List ℕ
 scale_words scale = if scale == 0 then [] else codes "," ++ decimal scale
 
@@ -21,7 +21,7 @@ abbrev pub type_words : ColumnType → List ℕ
 type_words (Number digits scale) = codes "NUMBER(" ++ (decimal digits ++ (scale_words scale ++ codes ")"))
 type_words (Varchar2 bytes) = codes "VARCHAR2(" ++ (decimal bytes ++ codes ")")
 
--- the mark of the key, or of a RESERVABLE column; another has none
+-- the mark of the key, or of a RESERVABLE column; other columns have none
 unfoldable pub marks_words : Bool → Bool → List ℕ
 marks_words is_key reservable = if is_key then codes " PRIMARY KEY" else if reservable then codes " RESERVABLE" else []
 
@@ -29,24 +29,24 @@ marks_words is_key reservable = if is_key then codes " PRIMARY KEY" else if rese
 abbrev pub column_words : Bool → Column → List ℕ
 column_words is_key column = (column.name ++ (codes " " ++ type_words column.kind)) ++ marks_words is_key column.reservable
 
--- columns in order, of which the first stands at a place
+-- columns in order; the first has this place
 abbrev pub columns_words : List Column → ℕ → ℕ → List (List ℕ)
 columns_words [] place key = []
 columns_words (column ∷ columns) place key = column_words (place == key) column ∷ columns_words columns (place + 1) key
 
--- the sign of a term: the first one shows a minus alone
+-- the sign of a term; the first term only shows a minus
 abbrev pub sign_words : Bool → ℤ → List ℕ
 sign_words true (pos n) = []
 sign_words true (negsuc n) = codes "-"
 sign_words false (pos n) = codes " + "
 sign_words false (negsuc n) = codes " - "
 
--- so many times a column
+-- a magnitude times a column
 abbrev pub times_words : ℕ → List ℕ → List ℕ
 times_words magnitude name = if magnitude == 1 then name else decimal magnitude ++ (codes " * " ++ name)
 
--- a form, of which the next term is the first one or isn't: each column with a coefficient other than
--- zero, in column order
+-- a form: each column with a coefficient other than zero, in column order. The flag says whether the next term is the
+-- first one
 abbrev pub form_words : Bool → List (List ℕ) → List ℤ → List ℕ
 form_words is_first [] coeffs = []
 form_words is_first (name ∷ names) [] = []
@@ -63,8 +63,8 @@ limit_words scale (Some lo) None = codes " >= " ++ scaled_text scale lo
 limit_words scale None (Some hi) = codes " <= " ++ scaled_text scale hi
 limit_words scale None None = []
 
--- the condition of a check over columns of these names and scales: its coefficients as they are
--- written, of units of the columns' own scales, and its limits
+-- the condition of a check over columns of these names and scales: its coefficients as written, in units of the
+-- columns' own scales, and its limits
 abbrev pub condition_words : List (List ℕ) → List ℕ → Check → List ℕ
 condition_words names scales check = form_words true names (written_of check scales) ++ limit_words check.scale check.span.lo check.span.hi
 
@@ -72,7 +72,7 @@ condition_words names scales check = form_words true names (written_of check sca
 unfoldable pub check_words : List (List ℕ) → List ℕ → Check → List ℕ
 check_words names scales check = (codes "CONSTRAINT " ++ check.name) ++ (codes " CHECK (" ++ (condition_words names scales check ++ codes ")"))
 
--- the checks that a table's text declared: those before the ranges of its RESERVABLE columns
+-- the declared checks of a table: those before the ranges of its RESERVABLE columns
 abbrev pub declared_checks : TableDef → List Check
 declared_checks table = take (length table.checks - length (reservables table.columns)) table.checks
 

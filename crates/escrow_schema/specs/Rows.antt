@@ -1,4 +1,4 @@
--- Believed: words on lists of rows.
+-- Believed: lists of rows, and how they change.
 use Rattle.std.specs.Prelude.{◌≤◌, ℕ, ℤ, Bool, not, if◌then◌else◌, Option, unwrap_or, IsSomeAnd, List, [], ◌∷◌, length, map, filter, find, bytes_eq}
 use Rattle.std.specs.List.{AllByRecursion}
 use Rattle.std.specs.Ordering.{is_lt}
@@ -26,11 +26,11 @@ row_named rows name = find (λ row. same_row row.name name) rows
 abbrev pub rows_of : List Row → List ℕ → List Row
 rows_of rows table = filter (λ row. bytes_eq row.name.table table) rows
 
--- rows are in order of table and key, no two of one table and key
+-- rows are in order of table and key, and no two have the same
 abbrev pub row_before : Row → Row → Bool
 row_before a b = is_lt (row_cmp a.name b.name)
 
--- a row is one of a table in the catalog
+-- a row is of a table in the catalog
 abbrev pub HasTable : List TableDef → Row → Type 0
 HasTable catalog row = IsSomeAnd (table_named catalog row.name.table) (λ table. IsRowOf table row)
 
@@ -38,8 +38,7 @@ HasTable catalog row = IsSomeAnd (table_named catalog row.name.table) (λ table.
 abbrev pub MeetsChecks : List TableDef → Row → Type 0
 MeetsChecks catalog row = IsSomeAnd (table_named catalog row.name.table) (λ table. AllByRecursion (λ check. Meets check row.amounts) table.checks)
 
--- rows are of tables in the catalog, in order of table and key, no two of one table and key; at most 65,536
--- of one table
+-- rows are of tables in the catalog, in order of table and key, no two with the same; at most 65,536 are of one table
 pub record AreRowsOf (catalog : List TableDef) (rows : List Row) : Type 0 where
   pub tables : AllByRecursion (HasTable catalog) rows
   pub row_order : IsAscending row_before rows
@@ -47,7 +46,7 @@ pub record AreRowsOf (catalog : List TableDef) (rows : List Row) : Type 0 where
 
 -- ROWS AFTER A CHANGE
 
--- a row put among the rows, in their order
+-- the rows with a row added, in their order
 abbrev pub with_row : Row → List Row → List Row
 with_row row [] = row ∷ []
 with_row row (other ∷ rest) = if is_lt (row_cmp row.name other.name) then row ∷ other ∷ rest else other ∷ with_row row rest
@@ -60,13 +59,13 @@ without_row name rows = filter (λ row. not (same_row row.name name)) rows
 abbrev pub without_rows_of : List ℕ → List Row → List Row
 without_rows_of table rows = filter (λ row. not (bytes_eq row.name.table table)) rows
 
--- the items, each replaced by the one beside it where there is one
+-- the items, each replaced by the one beside it if there is one
 abbrev pub replaced : {A : Type 0} → List (Option A) → List A → List A
 replaced [] items = items
 replaced (new ∷ news) [] = []
 replaced (new ∷ news) (x ∷ items) = unwrap_or new x ∷ replaced news items
 
--- a row with plain values replaced where it is the one of a name, else as it is
+-- a row with plain values replaced if it has this name, else as it is
 abbrev pub with_values : RowName → List (Option Value) → Row → Row
 with_values name values row = if same_row row.name name then record row { plain = replaced values row.plain } else row
 

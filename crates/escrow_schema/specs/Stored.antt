@@ -1,4 +1,4 @@
--- Believed: the tables of a database, with their numbers in its store and how many rows they have.
+-- Believed: the tables of a database, with their numbers in its store and their numbers of rows.
 use Rattle.std.specs.Prelude.{◌≡◌, ℕ, zero, suc, ℤ, pos, not, if◌then◌else◌, Option, List, [], ◌∷◌, map, filter, find, bytes_eq, int_le, IsTrue}
 use Rattle.std.specs.List.{AllByRecursion}
 use Rattle.std.specs.Ordering.{int_eq}
@@ -16,8 +16,8 @@ stored_of tables = map (λ c. c.stored) tables
 abbrev pub catalog_of : List CountedTable → List TableDef
 catalog_of tables = map (λ c. c.stored.table) tables
 
--- tables as a catalog lists them: their definitions are a catalog, their numbers are from 1 on, and no two
--- have one number
+-- tables as a catalog lists them: their definitions are a catalog, their numbers are 1 or more, and no two have the
+-- same number
 pub record IsListed (tables : List CountedTable) : Type 0 where
   pub is_catalog : IsCatalog (catalog_of tables)
   pub from_one : AllByRecursion (λ c. IsTrue (int_le (pos 1) c.stored.id)) tables
@@ -39,11 +39,11 @@ without_counted name tables = filter (λ c. not (bytes_eq c.stored.table.name na
 abbrev pub defined_as : TableDef → CountedTable → CountedTable
 defined_as table c = record c { stored = record c.stored { table = table } }
 
--- the tables, the one of a definition's name with that definition
+-- the tables, with a definition given to the one of its name
 abbrev pub with_definition : TableDef → List CountedTable → List CountedTable
 with_definition table tables = map (λ c. if bytes_eq c.stored.table.name table.name then defined_as table c else c) tables
 
--- the tables, with another number of rows of the one at a place
+-- the tables, with the number of rows of the one at a place replaced
 abbrev pub recounted : List CountedTable → ℕ → ℕ → List CountedTable
 recounted [] place n = []
 recounted (c ∷ cs) zero n = record c { rows = n } ∷ cs

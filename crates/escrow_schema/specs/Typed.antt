@@ -1,4 +1,4 @@
--- Helps: what private contracts say of columns. Nothing that callers see rests on it.
+-- Helps: what private contracts say of columns. No contract of a public call uses it.
 use Rattle.std.specs.Prelude.{◌≡◌, ◌≤◌, true, List, length, All}
 use Rattle.std.specs.List.{list_all}
 use Rattle.escrow_num.specs.declared.scale.TheConstants.Scale.{MAX}
@@ -11,18 +11,18 @@ use Rattle.escrow_schema.specs.declared.column.TheConstants.ColumnType.{MAX_DIGI
 use Rattle.escrow_schema.specs.Column.{names_of}
 use Rattle.escrow_schema.specs.Definition.{are_distinct}
 
--- a type holds numbers of 1 to 15 digits, at most 6 of them, and no more than there are, behind the
--- point, or texts of at most 1 to 255 bytes
+-- a valid type: numbers of 1 to 15 digits, with at most 6 of them after the point, and no more than there are; or texts
+-- of at most 1 to 255 bytes
 abbrev pub IsType : ColumnType → Type 0
 IsType (Number digits scale) = (1 ≤ digits) × (digits ≤ MAX_DIGITS) × (scale ≤ MAX) × (scale ≤ digits)
 IsType (Varchar2 bytes) = (1 ≤ bytes) × (bytes ≤ MAX_BYTES)
 
--- each of columns has a type
+-- each of the columns has a valid type
 abbrev pub TypedColumns : List Column → Type 0
 TypedColumns columns = All (λ column. IsType column.kind) columns
 
--- columns of which each can have the check of its range: at most 10, of distinct names that a
--- statement can write, each of a type
+-- columns that can each have a range check: at most 10, with distinct names that a statement can write, each of a valid
+-- type
 abbrev pub CanRange : List Column → Type 0
 CanRange columns =
     (length columns ≤ MAX_LEN) × (are_distinct (names_of columns) ≡ true)

@@ -1,4 +1,4 @@
-//! The table that an ALTER TABLE makes of one. Only its declared checks change.
+//! The table that an ALTER TABLE makes from one. Only its declared checks change.
 ghost use Rattle.std.specs.Prelude.{◌≡◌, ◌⊎◌, ◌<◌, Ok, Err, IfOk, IfErr, IfSome, IsErr, bytes_eq, length, position};
 ghost use Rattle.escrow_num.specs.declared.refusal.Refusal.TheVariants as refusal;
 ghost use Rattle.escrow_schema.specs.Altered.{altered, declared_place, with_check, without_check_at};
@@ -13,9 +13,10 @@ use escrow_num::{Name, Refusal, Seq, copy_all};
 use escrow_statement::{CheckText, TableChange};
 use std::alloc::{AllocError, Global};
 
-/// The table that a change makes of one. An added CHECK is refused as a bad definition only where all
-/// declared checks together break a rule; reading it takes memory. A constraint that is dropped is no
-/// such constraint where no declared check has its name, whatever memory there is.
+/// Returns the table that a change makes from one. An added CHECK is refused as a bad definition
+/// only if all declared checks together break a rule; reading it takes memory. If a constraint is
+/// to be dropped and no declared check has its name, the answer is that there is no such
+/// constraint, however little memory there is.
 pub fn alter(alloc: Global, table: &TableDef, change: &TableChange) -> Result<TableDef, Refusal>
     requires { IsTable table.now }
     ensures made { IfOk result (λ made. altered table.now change.now ≡ Ok made) }
@@ -36,9 +37,9 @@ pub fn alter(alloc: Global, table: &TableDef, change: &TableChange) -> Result<Ta
     }
 }
 
-/// The table with the checks of one more CHECK, behind the declared ones and before those of the
-/// ranges, or `None` where all of them together break a rule of definitions. Want of memory is the
-/// only error.
+/// Returns the table with the checks of one more CHECK, after the declared ones and before those of
+/// the ranges. Returns `None` if all of them together break a rule of definitions. Fails only if
+/// memory is refused.
 pub fn with_check(
     alloc: Global,
     table: &TableDef,
@@ -64,7 +65,8 @@ pub fn with_check(
     }
 }
 
-/// The place of the declared check of a name. The check of a range isn't declared. Takes no memory.
+/// Returns the place of the declared check of a name. The check of a range isn't a declared one.
+/// Takes no memory.
 pub fn declared_place(table: &TableDef, name: Name) -> Option<usize>
     ensures place { result ≡ declared_place table.now name }
     ensures declared { IfSome result (λ place. place < length (declared_checks table.now)) }
@@ -72,14 +74,14 @@ pub fn declared_place(table: &TableDef, name: Name) -> Option<usize>
     place_among(declared_checks(table), name)
 }
 
-/// The place of the check of a name among checks.
+/// Returns the place of the check of a name among checks.
 fn place_among(checks: &[Check], name: Name) -> Option<usize>
     ensures { result ≡ position (λ check. bytes_eq check.name name) checks.now }
 {
     checks.iter().position(|check| check.name == name)
 }
 
-/// The table without the declared check at a place. Want of memory is the only error.
+/// Returns the table without the declared check at a place. Fails only if memory is refused.
 pub fn without_check_at(
     alloc: Global,
     table: &TableDef,
@@ -95,7 +97,7 @@ pub fn without_check_at(
     with_checks(alloc, table, Seq::from_vec(checks))
 }
 
-/// The table with these checks.
+/// Returns the table with these checks.
 fn with_checks(alloc: Global, table: &TableDef, checks: Seq<Check>) -> Result<TableDef, AllocError>
     ensures { IfOk result (λ made. made ≡ record table.now { checks = checks }) }
 {

@@ -7,7 +7,7 @@ ghost use Rattle.escrow_schema.specs.Stored.{counted_named};
 use crate::counted_table::CountedTable;
 use escrow_num::Name;
 
-/// The table of a name. Takes no memory.
+/// Returns the table of a name. Takes no memory.
 pub fn find_by_name(tables: &[CountedTable], name: Name) -> Option<&CountedTable>
     ensures { option_copied result ≡ counted_named tables.now name }
 {
@@ -16,7 +16,7 @@ pub fn find_by_name(tables: &[CountedTable], name: Name) -> Option<&CountedTable
         .find(|counted| counted.stored.table.name == name)
 }
 
-/// The place of the table of a name. Takes no memory.
+/// Returns the place of the table of a name. Takes no memory.
 pub(crate) fn place_by_name(tables: &[CountedTable], name: Name) -> Option<usize>
     ensures { result ≡ position (λ c. bytes_eq c.stored.table.name name) tables.now }
 {
@@ -25,8 +25,8 @@ pub(crate) fn place_by_name(tables: &[CountedTable], name: Name) -> Option<usize
         .position(|counted| counted.stored.table.name == name)
 }
 
-/// The place of a name in order: that of the first table whose name is greater, or the end. Takes no
-/// memory.
+/// Returns the place of a name in order: that of the first table whose name is greater, or the end.
+/// Takes no memory.
 pub(crate) fn place_in_order(tables: &[CountedTable], name: Name) -> usize
     ensures within { result ≤ length tables.now }
     ensures place { result ≡ unwrap_or (position (λ c. is_lt (slice_cmp nat_cmp name c.stored.table.name)) tables.now) (length tables.now) }
@@ -34,7 +34,7 @@ pub(crate) fn place_in_order(tables: &[CountedTable], name: Name) -> usize
     first_after(tables, name).unwrap_or(tables.len())
 }
 
-/// The place of the first table whose name is greater, if there is one.
+/// Returns the place of the first table whose name is greater, if there is one.
 fn first_after(tables: &[CountedTable], name: Name) -> Option<usize>
     ensures { result ≡ position (λ c. is_lt (slice_cmp nat_cmp name c.stored.table.name)) tables.now }
 {

@@ -11,15 +11,15 @@ use escrow_num::{Name, Refusal};
 use std::alloc::Global;
 use std::marker::Model;
 
-/// The tables of a database, in order of name, which contracts see as their list: at most
-/// [`Catalog::MAX_TABLES`] of them, no two of one name or one number, and each is one that some text
-/// defines. Beside each is its number in the store, and how many rows it has.
+/// The tables of a database, in order of name, each with its number in the store and its number of
+/// rows. Contracts see the list of them. There are at most [`Catalog::MAX_TABLES`], no two have the
+/// same name or the same number, and each is a table that some text defines.
 #[derive(Debug)]
 pub struct Catalog {
     tables: Vec<CountedTable>,
 }
 
-// It is written out, so that no crate above proves again how its part is dropped.
+// Written out, so that crates above need not prove again how its parts are dropped.
 impl Drop for Catalog {
     fn drop(self) {
         let Catalog { tables: _ } = self;
@@ -47,7 +47,7 @@ impl Catalog {
     /// The most tables.
     pub const MAX_TABLES: usize = 32;
 
-    /// No tables. Takes no memory.
+    /// Returns a catalog without tables. Takes no memory.
     pub fn new(alloc: Global) -> Self
         ensures { result ≡ [] }
     {
@@ -56,7 +56,7 @@ impl Catalog {
         }
     }
 
-    /// The catalog of these tables. Takes no memory.
+    /// Returns the catalog of these tables. Takes no memory.
     pub fn of(tables: Vec<CountedTable>) -> Self
         requires { IsListed tables.items }
         ensures { result ≡ tables.items }
@@ -64,7 +64,7 @@ impl Catalog {
         Catalog { tables }
     }
 
-    /// The tables, in order of name.
+    /// Returns the tables, in order of name.
     pub fn tables(&self) -> &[CountedTable]
         ensures value { result.now ≡ self.now }
         ensures listed { IsListed self.now }
@@ -72,7 +72,7 @@ impl Catalog {
         &self.tables
     }
 
-    /// The place of the table of a name, in order of name.
+    /// Returns the place of the table of a name, in order of name.
     pub fn place(&self, name: Name) -> Option<usize>
         ensures place { result ≡ place_named (catalog_of self.now) name }
         ensures there { is_some result ≡ is_some (table_named (catalog_of self.now) name) }
@@ -81,7 +81,7 @@ impl Catalog {
         place_by_name(self.tables(), name)
     }
 
-    /// The table at a place.
+    /// Returns the table at a place.
     pub fn at(&self, place: usize) -> &CountedTable
         requires { place < length self.now }
         ensures at { slice_get self.now place ≡ Some result.now }
@@ -90,7 +90,7 @@ impl Catalog {
         &self.tables()[place]
     }
 
-    /// The table of a name.
+    /// Returns the table of a name.
     pub fn find(&self, name: Name) -> Option<&TableDef>
         ensures found { option_copied result ≡ table_named (catalog_of self.now) name }
         ensures table { IfSome result (λ table. IsTable table.now) }
@@ -99,14 +99,14 @@ impl Catalog {
         Some(&counted.stored.table)
     }
 
-    /// Adds a table without rows, in order of name, and returns its place. Its number in the store is from 1
-    /// on, and no other table has it.
+    /// Adds a table without rows, in order of name, and returns its place. Its number in the store
+    /// must be 1 or more, and no other table may have it.
     ///
     /// # Errors
     ///
-    /// [`Refusal::TableExists`] if there is a table of its name, else [`Refusal::TooManyTables`] if there are
-    /// as many tables as there may be; [`Refusal::Memory`] only where neither is so. The catalog is then
-    /// unchanged.
+    /// Fails with [`Refusal::TableExists`] if there is a table of its name, else with
+    /// [`Refusal::TooManyTables`] if the catalog is full. Fails with [`Refusal::Memory`] only if
+    /// neither applies. After an error the catalog is unchanged.
     pub fn add(&mut self, id: i64, table: TableDef) -> Result<usize, Refusal>
         requires table { IsTable table }
         requires number { IsTrue (int_le (pos 1) id) }
@@ -132,7 +132,7 @@ impl Catalog {
         }
     }
 
-    /// Puts a definition in the place of the one of its name. Takes no memory.
+    /// Replaces the definition of the table of the same name. Takes no memory.
     pub fn replace(&mut self, table: TableDef)
         requires table { IsTable table }
         requires there { is_some (table_named (catalog_of self.old) table.name) ≡ true }
@@ -152,11 +152,11 @@ impl Catalog {
         self.tables[place].rows = rows;
     }
 
-    /// Takes the table of a name out, and returns its definition. Takes no memory.
+    /// Removes the table of a name and returns its definition. Takes no memory.
     ///
     /// # Errors
     ///
-    /// [`Refusal::NoSuchTable`] exactly where there is none. The catalog is then unchanged.
+    /// Fails with [`Refusal::NoSuchTable`] exactly if there is none. The catalog is then unchanged.
     pub fn remove(&mut self, name: Name) -> Result<TableDef, Refusal>
         ensures removed { IfOk result (λ table. table_named (catalog_of self.old) name ≡ Some table) }
         ensures rest { OnOk result (self.new ≡ without_counted name self.old) }
@@ -171,7 +171,7 @@ impl Catalog {
     }
 }
 
-/// A new table, which has no rows.
+/// Returns a new table, which has no rows.
 fn new_table(id: i64, table: TableDef) -> CountedTable
     ensures { result ≡ new_table id table }
 {
@@ -181,7 +181,7 @@ fn new_table(id: i64, table: TableDef) -> CountedTable
     }
 }
 
-/// Puts a definition in the place of that of the table at a place.
+/// Replaces the definition of the table at a place.
 fn define_at(tables: &mut Vec<CountedTable>, place: usize, table: TableDef)
     requires { place < length tables.old.items }
     ensures { (c : Counted) → slice_get tables.old.items place ≡ Some c → tables.new.items ≡ slice_set tables.old.items place (defined_as table c) }

@@ -4,13 +4,14 @@ ghost use Rattle.escrow_schema.specs.Column.{is_size, number_type, scale_of};
 use escrow_num::{Amount, Name, Scale, Text, Value};
 use escrow_statement::{Literal, TypeText};
 
-/// The type of a column: the set of the values that it can hold.
+/// The type of a column: the set of values that it can hold.
 #[derive(Clone, Copy, Debug, PartialEq, Eq)]
 pub enum ColumnType {
-    /// Numbers of at most `digits` digits in all, from 1 to [`ColumnType::MAX_DIGITS`], of which
-    /// `scale` stand behind the point, no more than there are: whole units of 10^-scale.
+    /// Numbers of at most `digits` digits in all, from 1 to [`ColumnType::MAX_DIGITS`]. `scale` of
+    /// them are after the point, and there are no more of these than digits in all. The numbers are
+    /// whole units of 10^-scale.
     Number { digits: u8, scale: Scale },
-    /// Texts in UTF-8 of one byte to this many, from 1 to [`ColumnType::MAX_BYTES`].
+    /// Texts in UTF-8 of 1 to this many bytes. The maximum is from 1 to [`ColumnType::MAX_BYTES`].
     Varchar2 { bytes: u8 },
 }
 
@@ -20,15 +21,17 @@ impl ColumnType {
     ghost use Rattle.escrow_schema.specs.Column.{fits, is_numeric, type_of, top_of, value_in};
     ghost use Rattle.escrow_schema.specs.Typed.{IsType};
 
-    /// The most digits of a number, and those of a type that names none.
+    /// The most digits of a number. A type that names no digits has as many.
     pub const MAX_DIGITS: u8 = 15;
 
     /// The most bytes of a text.
     pub const MAX_BYTES: u8 = 255;
 
-    /// The type that a text writes, or `None` where `NUMBER(p,s)` has a p beyond 1 to 15, or an s
-    /// beyond 0 to 6 or above p, or `VARCHAR2(n)` an n beyond 1 to 255. `NUMBER(p)` has scale 0, and
-    /// `NUMBER` and `INTEGER` are `NUMBER(15)`.
+    /// Returns the type that a text writes. `NUMBER(p)` has scale 0, and `NUMBER` and `INTEGER` are
+    /// `NUMBER(15)`.
+    ///
+    /// Returns `None` if `NUMBER(p,s)` has a p outside 1 to 15, or an s outside 0 to 6 or above p.
+    /// Returns `None` if `VARCHAR2(n)` has an n outside 1 to 255.
     pub fn from_text(text: &TypeText) -> Option<Self>
         ensures { result ≡ type_of text.now }
     {
@@ -46,7 +49,7 @@ impl ColumnType {
         }
     }
 
-    /// Whether the type is one of numbers.
+    /// Returns whether it is a type of numbers.
     pub(crate) fn is_numeric(&self) -> bool
         ensures { result ≡ is_numeric self.now }
     {
@@ -56,8 +59,8 @@ impl ColumnType {
         }
     }
 
-    /// The scale of a type of numbers: these are whole units of 10^-scale. A type of texts has
-    /// scale 0.
+    /// Returns the scale of a type of numbers, which are whole units of 10^-scale. A type of texts
+    /// has scale 0.
     pub fn scale(&self) -> Scale
         ensures { result ≡ scale_of self.now }
     {
@@ -68,8 +71,8 @@ impl ColumnType {
     }
 
     #[tactic(auto, using(crate::proofs::ColumnLemmas::power_positive, crate::proofs::ColumnLemmas::power_within))]
-    /// The greatest number of a type of numbers, in units of its scale, as far above zero as its
-    /// least is below it; 0 of a type of texts.
+    /// Returns the greatest number of a type of numbers, in units of its scale. The least number is
+    /// as far below zero. A type of texts has 0.
     pub(crate) fn top(&self) -> i64
         requires { IsType self.now }
         ensures value { result ≡ top_of self.now }
@@ -81,8 +84,9 @@ impl ColumnType {
         }
     }
 
-    /// Whether a literal fits the type: a number that is a whole number of its units does, from the
-    /// type's least to its greatest, and a text of one byte to as many as the type holds.
+    /// Returns whether a literal fits the type. A number fits if it is a whole number of the type's
+    /// units, from its least to its greatest. A text fits if it has 1 byte to as many as the type
+    /// holds.
     pub(crate) fn fits(&self, literal: &Literal) -> bool
         requires { IsType self.now }
         ensures { result ≡ is_some (value_in self.now literal.now) }
@@ -96,8 +100,8 @@ impl ColumnType {
         }
     }
 
-    /// Whether a value fits the type: a number of units from the type's least to its greatest does,
-    /// and a text of one byte to as many as the type holds.
+    /// Returns whether a value fits the type. A number of units fits from the type's least to its
+    /// greatest. A text fits if it has 1 byte to as many as the type holds.
     pub(crate) fn holds(&self, value: &Value) -> bool
         requires { IsType self.now }
         ensures { result ≡ fits self.now value.now }
@@ -108,7 +112,7 @@ impl ColumnType {
         }
     }
 
-    /// Whether a number of units fits the type.
+    /// Returns whether a number of units fits the type.
     fn holds_number(&self, number: Amount) -> bool
         requires { IsType self.now }
         ensures { result ≡ fits self.now (value.Number number) }
@@ -122,7 +126,7 @@ impl ColumnType {
         }
     }
 
-    /// Whether a text fits the type.
+    /// Returns whether a text fits the type.
     fn holds_text(&self, text: &Text) -> bool
         ensures { result ≡ fits self.now (value.Text text.now) }
     {
@@ -136,8 +140,8 @@ impl ColumnType {
     }
 }
 
-/// The type of numbers of so many digits in all, of which so many stand behind the point, or `None`
-/// where they are no precision and scale of a type.
+/// Returns the type of numbers with this many digits in all and this many after the point, or
+/// `None` if no type has this precision and scale.
 fn number_type(digits: Amount, scale: Amount) -> Option<ColumnType>
     ensures { result ≡ number_type digits scale }
 {
@@ -150,7 +154,8 @@ fn number_type(digits: Amount, scale: Amount) -> Option<ColumnType>
     })
 }
 
-/// Whether numbers are a precision, from 1 to 15, and a scale, from 0 to 6 and not above it.
+/// Returns whether two numbers are a precision, from 1 to 15, and a scale, from 0 to 6 and not
+/// above the precision.
 fn is_size(digits: i64, scale: i64) -> bool
     ensures { result ≡ is_size digits scale }
 {
@@ -161,7 +166,7 @@ fn is_size(digits: i64, scale: i64) -> bool
         && scale <= digits
 }
 
-/// The size that is written, from 1 to the most.
+/// Returns the size that is written, if it is from 1 to the most.
 fn size_up_to(size: Amount, most: u8) -> Option<u8>
     ensures { result ≡ (if int_le (pos 1) size && int_le size (pos most) then Some (unsigned_abs size) else None) }
 {
@@ -179,14 +184,15 @@ pub struct Column {
     pub name: Name,
     /// Its type.
     pub kind: ColumnType,
-    /// Whether UPDATEs reserve changes of it instead of writing it.
+    /// Whether UPDATEs reserve changes of it. If not, they write it.
     pub reservable: bool,
 }
 
 impl Column {
     ghost use Rattle.escrow_schema.specs.Column.{scale_of};
 
-    /// The scale of its type: its numbers are whole units of 10^-scale. A column of texts has scale 0.
+    /// Returns the scale of its type. Its numbers are whole units of 10^-scale. A column of texts
+    /// has scale 0.
     pub fn scale(&self) -> Scale
         ensures { result ≡ scale_of self.now.kind }
     {

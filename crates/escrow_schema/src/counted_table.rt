@@ -1,6 +1,6 @@
 use crate::stored::StoredTable;
 
-/// A table of a store, and how many rows it has.
+/// A table of a store, with its number of rows.
 #[derive(Debug, Drop)]
 pub struct CountedTable {
     /// The table, with its number in the store.

@@ -17,8 +17,8 @@ use escrow_num::{Name, Refusal, Seq};
 use escrow_statement::{CheckText, CreateText, Item};
 use std::alloc::{AllocError, Global};
 
-/// The table that a text defines. Refused as a bad definition only where a rule of definitions is
-/// broken, and no such text gives a table; reading a text takes memory.
+/// Returns the table that a text defines. Fails with a bad definition only if the text breaks a
+/// rule of definitions, and then no table follows from it. Reading a text takes memory.
 pub fn define(alloc: Global, text: &CreateText) -> Result<TableDef, Refusal>
     ensures ok { IfOk result (λ table. definition_of text.now ≡ Some table) }
     ensures bad { IsErrOf result Refusal.BadDefinition → definition_of text.now ≡ None }
@@ -31,7 +31,7 @@ pub fn define(alloc: Global, text: &CreateText) -> Result<TableDef, Refusal>
     }
 }
 
-/// The table that a text defines, or `None` where it breaks a rule.
+/// Returns the table that a text defines, or `None` if it breaks a rule.
 fn definition_of(alloc: Global, text: &CreateText) -> Result<Option<TableDef>, AllocError>
     ensures { IfOk result (λ table. table ≡ definition_of text.now) }
 {
@@ -45,15 +45,15 @@ fn definition_of(alloc: Global, text: &CreateText) -> Result<Option<TableDef>, A
     }
 }
 
-/// The place of the column that is written as key, once.
+/// Returns the place of the key column. One column must be written as key, once.
 fn key_place(items: &[Item], columns: &[Column]) -> Option<usize>
     ensures { result ≡ key_place items.now columns.now }
 {
     place_of_column(columns, &key_name(items)?)
 }
 
-/// The table of these columns and this key, or `None` where its name, they or the CHECKs break a
-/// rule.
+/// Returns the table with these columns and this key, or `None` if its name, the columns or the
+/// CHECKs break a rule.
 fn table_of(
     alloc: Global,
     text: &CreateText,
@@ -83,7 +83,7 @@ fn table_of(
     }
 }
 
-/// The checks that items declare, or `None` where one breaks a rule.
+/// Returns the checks that items declare, or `None` if one breaks a rule.
 fn declared_checks(
     alloc: Global,
     items: &[Item],
@@ -96,7 +96,8 @@ fn declared_checks(
     checks_behind(alloc, &[], texts.as_slice(), columns)
 }
 
-/// Declared checks, and behind them those of further CHECKs, or `None` where one breaks a rule.
+/// Returns the declared checks, and after them those of further CHECKs, or `None` if one breaks a
+/// rule.
 pub(crate) fn checks_behind(
     alloc: Global,
     declared: &[Check],
@@ -116,8 +117,8 @@ pub(crate) fn checks_behind(
     }
 }
 
-/// The table of these columns, of this key and with these declared checks, or `None` where two of
-/// all its checks have one name.
+/// Returns the table with these columns, this key and these declared checks, or `None` if two of
+/// all its checks have the same name.
 pub(crate) fn table_with(
     alloc: Global,
     name: Name,
@@ -143,7 +144,7 @@ pub(crate) fn table_with(
     }))
 }
 
-/// The declared checks, and behind them the range of each RESERVABLE column.
+/// Returns the declared checks, and after them the range of each RESERVABLE column.
 fn with_ranges(
     alloc: Global,
     written: Seq<Check>,

@@ -14,9 +14,13 @@ use escrow_num::{Name, Refusal, Row, Value};
 use escrow_statement::{InsertText, Literal};
 use std::alloc::{AllocError, Global};
 
-/// The row that an INSERT makes. Refused as a bad value exactly where its columns aren't each of the
-/// table's once, where there aren't as many literals as columns, or where a literal doesn't fit its
-/// column's type. Memory is only taken for a row.
+/// Returns the row that an INSERT makes. Takes memory only if there is a row.
+///
+/// Fails with a bad value exactly if one of these applies:
+///
+/// - A column list doesn't name each column of the table once.
+/// - The number of literals isn't that of the columns.
+/// - A literal doesn't fit its column's type.
 pub fn fit_row(alloc: Global, table: &TableDef, text: &InsertText) -> Result<Row, Refusal>
     requires { IsTable table.now }
     ensures ok { IfOk result (λ row. inserted_row table.now text.now ≡ Some row) }
@@ -33,7 +37,7 @@ pub fn fit_row(alloc: Global, table: &TableDef, text: &InsertText) -> Result<Row
     }
 }
 
-/// Whether each column has a literal, no literal is left, and each fits its column's type.
+/// Returns whether each column has a literal that fits its type, with no literal left over.
 fn all_fit(columns: &[Column], text: &InsertText) -> bool
     requires { TypedColumns columns.now }
     ensures { result ≡ is_some (asked_values columns.now text.now) }
@@ -41,8 +45,8 @@ fn all_fit(columns: &[Column], text: &InsertText) -> bool
     is_list(columns, text) && each_fits(columns, text)
 }
 
-/// Whether there are as many literals as columns, and where columns are named, as many distinct
-/// names.
+/// Returns whether there are as many literals as columns and, if columns are named, as many
+/// distinct names.
 fn is_list(columns: &[Column], text: &InsertText) -> bool
     ensures { result ≡ is_list columns.now text.now.columns text.now.values }
 {
@@ -56,7 +60,7 @@ fn is_list(columns: &[Column], text: &InsertText) -> bool
     }
 }
 
-/// Whether each column has a literal that fits its type.
+/// Returns whether each column has a literal that fits its type.
 fn each_fits(columns: &[Column], text: &InsertText) -> bool
     requires { TypedColumns columns.now }
     ensures { result ≡ is_some (values_at text.now.columns text.now.values 0 columns.now) }
@@ -69,7 +73,7 @@ fn each_fits(columns: &[Column], text: &InsertText) -> bool
     true
 }
 
-/// Whether the column at a place has a literal that fits its type.
+/// Returns whether the column at a place has a literal that fits its type.
 fn has_value(column: &Column, place: usize, text: &InsertText) -> bool
     requires { IsType column.now.kind }
     ensures { result ≡ is_some (asked_value text.now.columns text.now.values place column.now) }
@@ -80,7 +84,7 @@ fn has_value(column: &Column, place: usize, text: &InsertText) -> bool
     }
 }
 
-/// The literal of the column of a name that stands at a place.
+/// Returns the literal of the column that has a name and a place.
 fn literal_for<'a>(text: &'a InsertText, place: usize, name: &Name) -> Option<&'a Literal>
     ensures { option_copied result ≡ literal_for text.now.columns text.now.values place name.now }
 {
@@ -90,7 +94,7 @@ fn literal_for<'a>(text: &'a InsertText, place: usize, name: &Name) -> Option<&'
     }
 }
 
-/// The literal that stands beside a name.
+/// Returns the literal beside a name.
 fn literal_beside<'a>(names: &[Name], literals: &'a [Literal], name: &Name) -> Option<&'a Literal>
     ensures { option_copied result ≡ literal_beside names.now literals.now name.now }
 {
@@ -102,7 +106,7 @@ fn literal_beside<'a>(names: &[Name], literals: &'a [Literal], name: &Name) -> O
     None
 }
 
-/// The row of an INSERT whose literals fit the table.
+/// Returns the row of an INSERT whose literals fit the table.
 fn make_row(alloc: Global, table: &TableDef, text: &InsertText) -> Result<Row, AllocError>
     requires table { IsTable table.now }
     requires fit { IsSome (asked_values table.now.columns text.now) }
@@ -112,7 +116,7 @@ fn make_row(alloc: Global, table: &TableDef, text: &InsertText) -> Result<Row, A
     row_with(alloc, table, values.as_slice())
 }
 
-/// The values of columns, of which each has a literal that fits.
+/// Returns the values of columns, each of which has a literal that fits.
 fn values_at(alloc: Global, columns: &[Column], text: &InsertText) -> Result<Vec<Value>, AllocError>
     requires { IsSome (values_at text.now.columns text.now.values 0 columns.now) }
     ensures { IfOk result (λ values. values_at text.now.columns text.now.values 0 columns.now ≡ Some values.items) }
@@ -124,7 +128,8 @@ fn values_at(alloc: Global, columns: &[Column], text: &InsertText) -> Result<Vec
     Ok(values)
 }
 
-/// Adds the value of the column at a place, if it has a literal that is one at its scale.
+/// Adds the value of the column at a place, if it has a literal that is a value at the column's
+/// scale.
 fn push_value(
     alloc: Global,
     values: &mut Vec<Value>,

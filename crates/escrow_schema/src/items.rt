@@ -1,4 +1,4 @@
-//! What the items of a CREATE TABLE write.
+//! What the items of a CREATE TABLE declare.
 ghost use Rattle.std.specs.Prelude.{◌≡◌, ◌++◌, IfOk, OnOk, count_by, length, map};
 ghost use Rattle.std.specs.List.{list_any, flat_map};
 ghost use Rattle.escrow_schema.specs.Definition.{column_of, column_texts, columns_of, is_key_mark, is_reservable_mark, keys_of, key_names, only_one, checks_in, checks_of_item, check_of_mark};
@@ -9,7 +9,7 @@ use escrow_num::{Name, Seq};
 use escrow_statement::{CheckText, ColumnMark, ColumnText, Item};
 use std::alloc::{AllocError, Global};
 
-/// The columns that items write, in order, or `None` where one has no type.
+/// Returns the columns that items declare, in order, or `None` if one has no valid type.
 pub(crate) fn columns_of(alloc: Global, items: &[Item]) -> Result<Option<Seq<Column>>, AllocError>
     ensures { IfOk result (λ columns. columns ≡ columns_of (column_texts items.now)) }
 {
@@ -26,7 +26,7 @@ pub(crate) fn columns_of(alloc: Global, items: &[Item]) -> Result<Option<Seq<Col
     Ok(Some(Seq::from_vec(columns)))
 }
 
-/// The column that a text writes, or `None` where it has no type.
+/// Returns the column that a text declares, or `None` if it has no valid type.
 fn column_of(text: &ColumnText) -> Option<Column>
     ensures { result ≡ column_of text.now }
 {
@@ -38,7 +38,7 @@ fn column_of(text: &ColumnText) -> Option<Column>
     })
 }
 
-/// Whether RESERVABLE is among marks.
+/// Returns whether one of the marks is RESERVABLE.
 fn has_reservable_mark(marks: &[ColumnMark]) -> bool
     ensures { result ≡ list_any is_reservable_mark marks.now }
 {
@@ -47,14 +47,14 @@ fn has_reservable_mark(marks: &[ColumnMark]) -> bool
         .any(|mark| matches!(mark, ColumnMark::Reservable))
 }
 
-/// Whether a mark is PRIMARY KEY.
+/// Returns whether a mark is PRIMARY KEY.
 fn is_key_mark(mark: &ColumnMark) -> bool
     ensures { result ≡ is_key_mark mark.now }
 {
     matches!(mark, ColumnMark::PrimaryKey)
 }
 
-/// The name that is written as key, or `None` where none is or more are.
+/// Returns the name that is written as key, or `None` if there isn't exactly one.
 pub(crate) fn key_name(items: &[Item]) -> Option<Name>
     ensures { result ≡ only_one (key_names items.now) }
 {
@@ -72,7 +72,7 @@ pub(crate) fn key_name(items: &[Item]) -> Option<Name>
     key
 }
 
-/// How many names an item writes as key.
+/// Returns how many names an item writes as key.
 fn count_keys(item: &Item) -> usize
     ensures { result ≡ length (keys_of item.now) }
 {
@@ -83,14 +83,14 @@ fn count_keys(item: &Item) -> usize
     }
 }
 
-/// How many of marks are PRIMARY KEY.
+/// Returns how many of the marks are PRIMARY KEY.
 fn count_key_marks(marks: &[ColumnMark]) -> usize
     ensures { result ≡ count_by is_key_mark marks.now }
 {
     marks.iter().filter(|mark| is_key_mark(mark)).count()
 }
 
-/// The name that an item which writes one as key writes.
+/// Returns the name that an item writes as key, if it writes one.
 fn name_of(item: &Item) -> Option<Name>
     ensures { length (keys_of item.now) ≡ 1 → result ≡ only_one (keys_of item.now) }
 {
@@ -101,7 +101,7 @@ fn name_of(item: &Item) -> Option<Name>
     }
 }
 
-/// The CHECKs of items, in order.
+/// Returns the CHECKs of items, in order.
 pub(crate) fn checks_in<'a>(
     alloc: Global,
     items: &'a [Item],

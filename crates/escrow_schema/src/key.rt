@@ -8,8 +8,8 @@ use crate::table::TableDef;
 use escrow_num::Refusal;
 use escrow_statement::WhereText;
 
-/// Why a WHERE names no key, if it names none: it is of another column than the key, or its literal
-/// isn't one that the key's type holds, the first of these that applies. Takes no memory.
+/// Checks that a WHERE names a key. If not, it returns the first reason that applies: WHERE names
+/// another column than the key, or the key's type doesn't hold the literal. Takes no memory.
 pub fn check_key(table: &TableDef, row: &WhereText) -> Result<(), Refusal>
     requires { IsTable table.now }
     ensures { result_err result ≡ result_err (key_named table.now row.now) }

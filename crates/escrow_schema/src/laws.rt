@@ -1,14 +1,14 @@
-//! What holds of every table that a text defines, and of the rows and plans of it: each law is the
-//! contract of a function that does nothing.
+//! Laws of every table that a text defines, and of its rows and plans. Each is the contract of a
+//! function that does nothing.
 ghost use Rattle.escrow_schema.specs.Laws.{NameOfTable, NamesOfChecks, FewReservable, ChecksOfWholeRow, ChecksKeepAmounts, FewChecks, RowsOfTable, ValuesOfRow, ValuesBesideNames, ValuesFit, ChecksMeanConditions, DefinitionsFollowRules, PlansOfWholeRow, PlainPlansFit, ChangesAsAssigned, NewValuesAsAssigned, KeysOfPlans, KeysOfWheres, RefusalsOfPlans, BadAssignmentsAreOfSixKinds, RefusalsOfKeys, Limits};
 
-/// A text defines a table exactly where the two follow the rules of definitions, one by one.
+/// A text defines a table exactly if the two follow the rules of definitions, one by one.
 pub fn definitions_follow_rules()
     ensures { DefinitionsFollowRules }
 {}
 
-/// Numbers in units of their columns' scales meet every check of a table exactly where in millionths
-/// they meet every CHECK as it is written, and each fits its column's type.
+/// Numbers in units of their columns' scales meet every check of a table exactly if, in millionths,
+/// they meet every CHECK as written, and each fits its column's type.
 pub fn checks_mean_conditions()
     ensures { ChecksMeanConditions }
 {}
@@ -18,8 +18,9 @@ pub fn name_of_table()
     ensures { NameOfTable }
 {}
 
-/// The checks of a table have the names that its CHECKs give them, in order, and behind them stands
-/// the range of each RESERVABLE column, under `RANGE_` and the column's name; no two have one name.
+/// The checks of a table have the names that its CHECKs give them, in order. After them comes the
+/// range of each RESERVABLE column, under `RANGE_` and the column's name. No two names are the
+/// same.
 pub fn names_of_checks()
     ensures { NamesOfChecks }
 {}
@@ -40,64 +41,63 @@ pub fn checks_keep_amounts()
     ensures { ChecksKeepAmounts }
 {}
 
-/// A table has at most 42 checks: 32 declared ones, and 10 ranges.
+/// A table has at most 42 checks: 32 declared ones and 10 ranges.
 pub fn few_checks()
     ensures { FewChecks }
 {}
 
-/// The row that an INSERT makes is one of its table: its key and its plain values fit their columns'
-/// types, and it has an amount for each RESERVABLE column.
+/// The row that an INSERT makes is a row of its table. Its key and its plain values fit their
+/// columns' types, and it has an amount for each RESERVABLE column.
 pub fn rows_of_table()
     ensures { RowsOfTable }
 {}
 
-/// The values of the row that literals make are the values that the literals are, in order.
+/// The values of a row that literals make are the values of the literals, in order.
 pub fn values_of_row()
     ensures { ValuesOfRow }
 {}
 
-/// The literal beside a column's name is the column's value in the row that an INSERT with a column
-/// list makes, in units of the column's scale, wherever in the list the two stand.
+/// In the row of an INSERT with a column list, a column's value is the literal beside its name, in
+/// units of the column's scale. Their place in the list doesn't matter.
 pub fn values_beside_names()
     ensures { ValuesBesideNames }
 {}
 
-/// The values of a row of a table, whose amounts meet every check of it, fit their columns' types.
+/// If a row's amounts meet every check of its table, the row's values fit their columns' types.
 pub fn values_fit()
     ensures { ValuesFit }
 {}
 
-/// A plan of changes has one, or none, for each RESERVABLE column.
+/// A plan of changes has a change, or none, for each RESERVABLE column.
 pub fn plans_of_whole_row()
     ensures { PlansOfWholeRow }
 {}
 
-/// A plan of new values has one that fits, or none, for each column that is neither RESERVABLE nor
-/// the key.
+/// A plan of new values has a value that fits, or none, for each column that is neither RESERVABLE
+/// nor the key.
 pub fn plain_plans_fit()
     ensures { PlainPlansFit }
 {}
 
-/// A plan of changes has for each RESERVABLE column the change that is assigned to it, in units of
-/// the column's scale, of which it is a whole number, and none where nothing is.
+/// A plan of changes has for each RESERVABLE column the change that is assigned to it, or none. The
+/// change is a whole number of units of the column's scale.
 pub fn changes_as_assigned()
     ensures { ChangesAsAssigned }
 {}
 
 /// A plan of new values has for each column that is neither RESERVABLE nor the key the literal that
-/// is assigned to it, and none where nothing is.
+/// is assigned to it, or none.
 pub fn new_values_as_assigned()
     ensures { NewValuesAsAssigned }
 {}
 
-/// A plan's key is the literal of the UPDATE's WHERE, in units of the key's scale, of which it is a
-/// whole number.
+/// A plan's key is the literal of the UPDATE's WHERE, as a whole number of units of the key's
+/// scale.
 pub fn keys_of_plans()
     ensures { KeysOfPlans }
 {}
 
-/// The key that a WHERE names is its literal, in units of the key's scale, of which it is a whole
-/// number.
+/// The key that a WHERE names is its literal, as a whole number of units of the key's scale.
 pub fn keys_of_wheres()
     ensures { KeysOfWheres }
 {}
@@ -108,10 +108,10 @@ pub fn refusals_of_plans()
     ensures { RefusalsOfPlans }
 {}
 
-/// An UPDATE is refused for its assignments, by 24, exactly where it assigns a column that the table
-/// doesn't have, the key, or a column twice; assigns to a RESERVABLE column anything but that column
-/// plus or minus a number, or to a plain one anything but a literal; or mixes RESERVABLE and plain
-/// columns.
+/// An UPDATE is refused for its assignments, by 24, exactly if one of six cases applies. It assigns
+/// a column that the table doesn't have. It assigns the key. It assigns a column twice. It assigns
+/// to a RESERVABLE column anything but that column plus or minus a number. It assigns to a plain
+/// column anything but a literal. It mixes RESERVABLE and plain columns.
 pub fn bad_assignments_are_of_six_kinds()
     ensures { BadAssignmentsAreOfSixKinds }
 {}
@@ -121,8 +121,8 @@ pub fn refusals_of_keys()
     ensures { RefusalsOfKeys }
 {}
 
-/// A database has 32 tables at most, a table 2 to 30 columns and 65,536 rows at most, a number 15 digits at
-/// most, and a text 255 bytes.
+/// The limits of this layer. A database has at most 32 tables. A table has 2 to 30 columns and at
+/// most 65,536 rows. A number has at most 15 digits, and a text at most 255 bytes.
 pub fn limits()
     ensures { Limits }
 {}

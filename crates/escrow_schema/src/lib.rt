@@ -1,16 +1,22 @@
-//! Table definitions: the rules that a CREATE TABLE has to follow, the catalog of the tables that
-//! stand, the row that an INSERT makes, what an UPDATE asks of a row, and the canonical text of a
-//! table.
+//! Table definitions: the rules of CREATE TABLE, the catalog of a database's tables, and the
+//! canonical text of a table. Also the row that an INSERT makes, and what an UPDATE asks of a row.
 //!
-//! [`define`] gives the table that a text defines, and refuses exactly where a rule of definitions
-//! is broken; [`alter`] adds checks to such a table and drops one, by the same rules. [`Catalog`]
-//! keeps such tables in order of name, each with its number in the store and how many rows it has. [`fit_row`] and [`plan_update`] refuse exactly what doesn't
-//! fit the table, before they take memory. [`values_of`] and [`row_of`] turn a row into its values
-//! and back. [`print_table`] writes the canonical text of a table, which is read back as the same
-//! table by the law of `escrow_readback`.
+//! Its main contract is that of [`define`]: it returns the table that a text defines, and refuses
+//! the text only if it breaks a rule of definitions.
 //!
-//! A number of a column is a whole number of units of 10^-scale, where the scale is that of the
-//! column's type; a literal that isn't one is refused, and nothing is rounded.
+//! Begin with [`TableDef`] and [`define`]. Then:
+//!
+//! - [`alter`] adds checks to a table or drops one, by the same rules.
+//! - [`Catalog`] keeps tables in order of name, each with its number in the store and its number of
+//!   rows.
+//! - [`fit_row`] and [`plan_update`] refuse exactly what doesn't fit the table, before they take
+//!   memory.
+//! - [`values_of`] and [`row_of`] turn a row into its values and back.
+//! - [`print_table`] writes the canonical text of a table. By the law of `escrow_readback`, the
+//!   text is read back as the same table.
+//!
+//! A column's number is a whole number of units of 10^-scale, where the scale is that of the
+//! column's type. Any other literal is refused; nothing is rounded.
 #![tactic(auto)]
 
 mod altered;

@@ -1,4 +1,4 @@
-//! Additions to a list, of items that are copied.
+//! Adds copied items to a list.
 ghost use Rattle.std.specs.Prelude.{◌≡◌, ◌++◌, [], ◌∷◌, OnOk};
 
 use std::alloc::AllocError;

@@ -6,7 +6,7 @@ use escrow_num::{Scale, Value};
 use escrow_statement::Literal;
 use std::alloc::{AllocError, Global};
 
-/// Whether a value is the one that a literal is at a scale. Takes no memory.
+/// Returns whether a value is that of a literal at a scale. Takes no memory.
 pub fn is_value(scale: Scale, literal: &Literal, value: &Value) -> bool
     ensures { IsTrue result ↔ (value_at scale literal.now ≡ Some value.now) }
 {
@@ -17,9 +17,9 @@ pub fn is_value(scale: Scale, literal: &Literal, value: &Value) -> bool
     }
 }
 
-/// The value that a literal is at a scale, which is 0 to 6: a number in units of 10^-scale. `None`
-/// where the number isn't a whole number of them, or they are no amount; nothing is rounded. Only a
-/// text takes memory.
+/// Returns the value of a literal at a scale, which is 0 to 6. A number's value is in units of
+/// 10^-scale. Returns `None` if the number isn't a whole number of units, or if they are no amount;
+/// nothing is rounded. Only a text takes memory.
 pub fn value_at(alloc: Global, scale: Scale, literal: &Literal) -> Result<Option<Value>, AllocError>
     ensures { IfOk result (λ v. v ≡ value_at scale literal.now) }
 {
@@ -32,8 +32,8 @@ pub fn value_at(alloc: Global, scale: Scale, literal: &Literal) -> Result<Option
     }
 }
 
-/// The value of a literal that has no more digits than the scale has, as every literal that fits a
-/// column has at the column's: so nothing is cut. Only a text takes memory.
+/// Returns the value of a literal that has no more digits than the scale. A literal that fits a
+/// column is so at the column's scale, so nothing is cut off. Only a text takes memory.
 pub fn truncated_value(alloc: Global, scale: Scale, literal: &Literal) -> Result<Value, AllocError>
     requires { IsSome (value_at scale literal.now) }
     ensures { IfOk result (λ v. v ≡ truncated_value scale literal.now) }

@@ -24,23 +24,24 @@ pub enum Plan {
     Reserve {
         /// The row's key.
         key: Value,
-        /// The change of each RESERVABLE column, in units of its scale and in column order: `None`
-        /// where it isn't assigned.
+        /// The change of each RESERVABLE column, in units of its scale and in column order, or
+        /// `None` if the column isn't assigned.
         changes: Changes,
     },
-    /// To write its plain columns, which are those that are neither RESERVABLE nor the key.
+    /// To write its plain columns: those that are neither RESERVABLE nor the key.
     Plain {
         /// The row's key.
         key: Value,
-        /// The new value of each plain column, in column order: `None` where it isn't assigned.
+        /// The new value of each plain column, in column order, or `None` if the column isn't
+        /// assigned.
         values: Seq<Option<Value>>,
     },
 }
 
-/// What an UPDATE asks, or why it can't be planned: bad assignments, a WHERE of another column than
-/// the key, a literal that its column's type doesn't hold, or a change that isn't a whole number of
-/// its column's units or is no amount of them, the first of these that applies. Memory is only taken
-/// for a plan.
+/// Returns what an UPDATE asks of a row. If it can't be planned, the first reason that applies is
+/// returned: bad assignments; a WHERE of another column than the key; or a bad value. A bad value
+/// is a literal that its column's type doesn't hold, or a change that isn't a whole number of its
+/// column's units, or isn't an amount of them. Takes memory only if there is a plan.
 pub fn plan_update(alloc: Global, table: &TableDef, text: &UpdateText) -> Result<Plan, Refusal>
     requires { IsTable table.now }
     ensures plan { IfOk result (λ plan. planned table.now text.now ≡ Ok plan) }
@@ -58,7 +59,7 @@ pub fn plan_update(alloc: Global, table: &TableDef, text: &UpdateText) -> Result
     Err(Refusal::BadAssignment)
 }
 
-/// The plan of an UPDATE whose assignments change RESERVABLE columns, or why it has none.
+/// Returns the plan of an UPDATE whose assignments change RESERVABLE columns, or why there is none.
 fn plan_changes(alloc: Global, table: &TableDef, text: &UpdateText) -> Result<Plan, Refusal>
     requires table { IsTable table.now }
     requires changes { are_changes table.now.columns text.now.assigns ≡ true }
@@ -70,7 +71,7 @@ fn plan_changes(alloc: Global, table: &TableDef, text: &UpdateText) -> Result<Pl
     Ok(Plan::Reserve { key, changes })
 }
 
-/// The plan of an UPDATE whose assignments replace plain values, or why it has none.
+/// Returns the plan of an UPDATE whose assignments replace plain values, or why there is none.
 fn plan_values(alloc: Global, table: &TableDef, text: &UpdateText) -> Result<Plan, Refusal>
     requires table { IsTable table.now }
     requires values { are_changes table.now.columns text.now.assigns ≡ false }

@@ -15,9 +15,8 @@ use escrow_checks::Check;
 use escrow_num::{Name, Scale, Text};
 use std::alloc::{AllocError, Global};
 
-/// The canonical text of a table: its columns in order, each with its type and its mark, then its
-/// declared checks under their names. The text is that of a CREATE TABLE which defines the same
-/// table.
+/// Returns the canonical text of a table: its columns in order, each with its type and its mark,
+/// then its declared checks under their names. It is a CREATE TABLE that defines the same table.
 pub fn print_table(alloc: Global, table: &TableDef) -> Result<Text, AllocError>
     requires { IsTable table.now }
     ensures text { IfOk result (λ text. text ≡ canonical table.now) }
@@ -40,7 +39,7 @@ fn push_table(alloc: Global, text: &mut String, table: &TableDef) -> Result<(), 
     push(text, ")")
 }
 
-/// Adds the columns, and behind them the declared checks, which are over the columns of these names
+/// Adds the columns, and after them the declared checks, which are over the columns of these names
 /// and scales.
 fn push_items(
     alloc: Global,
@@ -57,7 +56,7 @@ fn push_items(
     push_checks(alloc, text, names, scales, declared_checks(table))
 }
 
-/// Adds columns, of which the key stands at a place.
+/// Adds columns. `key` is the place of the key.
 fn push_columns(
     alloc: Global,
     text: &mut String,
@@ -73,7 +72,7 @@ fn push_columns(
     Ok(())
 }
 
-/// Adds what stands before the item at a place: nothing before the first one.
+/// Adds the separator before the item at a place. The first item has none.
 fn push_separator(text: &mut String, place: usize) -> Result<(), AllocError>
     ensures { OnOk result (string_bytes text.new ≡ string_bytes text.old ++ (if place == 0 then [] else codes ", ")) }
 {
@@ -113,7 +112,7 @@ fn push_type(alloc: Global, text: &mut String, kind: &ColumnType) -> Result<(), 
     push(text, ")")
 }
 
-/// Adds a scale behind a precision; none where it is 0.
+/// Adds a scale after a precision, or nothing if the scale is 0.
 fn push_scale(alloc: Global, text: &mut String, scale: Scale) -> Result<(), AllocError>
     ensures { OnOk result (string_bytes text.new ≡ string_bytes text.old ++ scale_words scale) }
 {
@@ -124,7 +123,7 @@ fn push_scale(alloc: Global, text: &mut String, scale: Scale) -> Result<(), Allo
     push_number(alloc, text, u64::from(scale.get()))
 }
 
-/// The mark of the key, or of a RESERVABLE column, behind a space.
+/// Returns the mark of the key, or of a RESERVABLE column, after a space.
 #[tactic(auto, unfolding(crate::specs::Print::marks_words))]
 fn mark_of(is_key: bool, reservable: bool) -> &'static str
     ensures { result.now ≡ marks_words is_key reservable }
@@ -138,7 +137,7 @@ fn mark_of(is_key: bool, reservable: bool) -> &'static str
     }
 }
 
-/// Adds checks over the RESERVABLE columns of these names and scales, behind what stands before them.
+/// Adds the checks over the RESERVABLE columns of these names and scales, after what is there.
 fn push_checks(
     alloc: Global,
     text: &mut String,
@@ -172,7 +171,7 @@ fn push_check(
     push(text, ")")
 }
 
-/// Adds the condition of a check: its form, of coefficients as they are written, and its limits.
+/// Adds the condition of a check: its form, with the coefficients as written, and its limits.
 fn push_condition(
     alloc: Global,
     text: &mut String,

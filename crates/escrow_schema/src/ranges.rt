@@ -1,4 +1,4 @@
-//! The checks of the ranges of RESERVABLE columns: each keeps a column within its type.
+//! The range checks of RESERVABLE columns. Each keeps a column within its type.
 ghost use Rattle.std.specs.Prelude.{◌≡◌, ◌++◌, ◌≤◌, ◌<◌, IfOk, OnOk, Some, neg_ℤ, length, map, codes, slice_index_or};
 ghost use Rattle.escrow_num.specs.declared.name.TheConstants.Name.{MAX_WRITTEN};
 ghost use Rattle.escrow_schema.specs.Column.{top_of, names_of};
@@ -27,7 +27,8 @@ pub(crate) fn push_ranges(
     Ok(())
 }
 
-/// The range check, under its name, of the RESERVABLE column at a place among them.
+/// Returns the range check, under its name, of the RESERVABLE column at a place among the
+/// RESERVABLE ones.
 fn range_check(name: Name, columns: &[Column], place: usize) -> Check
     requires columns { CanRange columns.now }
     requires within { place < length columns.now }
@@ -43,7 +44,7 @@ fn range_check(name: Name, columns: &[Column], place: usize) -> Check
     }
 }
 
-/// From the least number of a type to its greatest, in units.
+/// Returns the span from the least number of a type to its greatest, in units.
 fn range_span(kind: &ColumnType) -> Span
     requires { IsType kind.now }
     ensures { result ≡ record { lo = Some (neg_ℤ (top_of kind.now)); hi = Some (top_of kind.now) } }
@@ -55,7 +56,7 @@ fn range_span(kind: &ColumnType) -> Span
     }
 }
 
-/// The name of the range check of a column: `RANGE_` and the column.
+/// Returns the name of the range check of a column: `RANGE_` and the column.
 fn range_name(alloc: Global, column: &Name) -> Result<Name, AllocError>
     requires { length column.now ≤ MAX_WRITTEN }
     ensures { IfOk result (λ name. name ≡ codes "RANGE_" ++ column.now) }

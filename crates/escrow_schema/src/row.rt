@@ -1,4 +1,4 @@
-//! The row of values.
+//! From values to a row.
 ghost use Rattle.std.specs.Prelude.{◌≡◌, ◌↔◌, ◌++◌, ◌||◌, ◌==◌, ◌<◌, [], ◌∷◌, None, Some, Ok, IfOk, IfSome, IsTrue, OnOk, length, if◌then◌else◌};
 ghost use Rattle.escrow_schema.specs.Definition.{IsTable};
 ghost use Rattle.escrow_schema.specs.Fit.{FitColumns, IsRowOf, amounts_of, number_in, plain_of, row_with};
@@ -9,8 +9,8 @@ use crate::table::TableDef;
 use escrow_num::{Amount, Row, RowName, Seq, Value};
 use std::alloc::{AllocError, Global};
 
-/// The row of values, one for each column in column order, or `None` where one doesn't fit its
-/// column's type, or there aren't as many.
+/// Returns the row of values, one for each column in column order. Returns `None` if one doesn't
+/// fit its column's type, or if there aren't as many as columns.
 pub fn row_of(alloc: Global, table: &TableDef, values: &[Value]) -> Result<Option<Row>, AllocError>
     requires { IsTable table.now }
     ensures some { IfOk result (λ found. IfSome found (λ row. (row_with table.now values.now ≡ Some row) × FitColumns table.now.columns values.now × IsRowOf table.now row)) }
@@ -23,7 +23,7 @@ pub fn row_of(alloc: Global, table: &TableDef, values: &[Value]) -> Result<Optio
     Ok(Some(row))
 }
 
-/// Whether there are as many values as columns, and each fits its column's type.
+/// Returns whether there are as many values as columns, and each fits its column's type.
 fn fit_columns(columns: &[Column], values: &[Value]) -> bool
     requires { TypedColumns columns.now }
     ensures { IsTrue result ↔ FitColumns columns.now values.now }
@@ -39,7 +39,7 @@ fn fit_columns(columns: &[Column], values: &[Value]) -> bool
     true
 }
 
-/// The row of values that fit the table.
+/// Returns the row of values that fit the table.
 pub(crate) fn row_with(alloc: Global, table: &TableDef, values: &[Value]) -> Result<Row, AllocError>
     requires as_many { length table.now.columns ≡ length values.now }
     requires key { table.now.key < length values.now }
@@ -56,7 +56,7 @@ pub(crate) fn row_with(alloc: Global, table: &TableDef, values: &[Value]) -> Res
     })
 }
 
-/// The amounts of the RESERVABLE columns, in column order.
+/// Returns the amounts of the RESERVABLE columns, in column order.
 fn amounts_of(
     alloc: Global,
     columns: &[Column],
@@ -82,7 +82,7 @@ fn push_amount(amounts: &mut Vec<Amount>, column: &Column, value: &Value) -> Res
     Ok(())
 }
 
-/// The number that a value is; no text is a value of a RESERVABLE column.
+/// Returns a value's number. A text has zero, but no RESERVABLE column holds one.
 fn number_in(value: &Value) -> Amount
     ensures { result ≡ number_in value.now }
 {
@@ -92,7 +92,7 @@ fn number_in(value: &Value) -> Amount
     }
 }
 
-/// The values of the other columns but the key, in column order.
+/// Returns the values of the columns that are neither RESERVABLE nor the key, in column order.
 fn plain_of(
     alloc: Global,
     columns: &[Column],

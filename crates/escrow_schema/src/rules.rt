@@ -1,4 +1,4 @@
-//! The rules that a table's columns and names have to follow.
+//! The rules that a table's columns and names must follow.
 ghost use Rattle.std.specs.Prelude.{◌≡◌, ◌&&◌, IfOk, bytes_eq, length, position};
 ghost use Rattle.std.specs.List.{list_any, list_all};
 ghost use Rattle.escrow_checks.specs.WrittenName.{is_written_name};
@@ -12,8 +12,9 @@ use escrow_checks::{Check, Coefficients, is_written_name};
 use escrow_num::{Name, Scale};
 use std::alloc::{AllocError, Global};
 
-/// Whether columns follow the rules: 2 to 30 of them, of distinct names that a statement can write;
-/// a key that isn't RESERVABLE; 1 to 10 RESERVABLE ones, each of numbers.
+/// Returns whether columns follow the rules. There are 2 to 30, with distinct names that a
+/// statement can write. The key isn't RESERVABLE. 1 to 10 columns are RESERVABLE, and each of these
+/// is of numbers.
 pub(crate) fn are_columns(
     alloc: Global,
     columns: &[Column],
@@ -35,28 +36,28 @@ pub(crate) fn are_columns(
     )
 }
 
-/// Whether each column is of numbers.
+/// Returns whether each column is of numbers.
 fn are_numeric(columns: &[Column]) -> bool
     ensures { result ≡ list_all (λ column. is_numeric column.kind) columns.now }
 {
     columns.iter().all(|column| column.kind.is_numeric())
 }
 
-/// Whether names are distinct, and a statement can write each.
+/// Returns whether names are distinct, and a statement can write each.
 fn are_names(names: &[Name]) -> bool
     ensures { result ≡ (are_distinct names.now && list_all is_written_name names.now) }
 {
     are_distinct(names) && are_written(names)
 }
 
-/// Whether a statement can write each name.
+/// Returns whether a statement can write each name.
 fn are_written(names: &[Name]) -> bool
     ensures { result ≡ list_all is_written_name names.now }
 {
     names.iter().all(|name| is_written_name(name))
 }
 
-/// Whether no two names are the same.
+/// Returns whether all names differ.
 pub(crate) fn are_distinct(names: &[Name]) -> bool
     ensures { result ≡ are_distinct names.now }
 {
@@ -68,21 +69,21 @@ pub(crate) fn are_distinct(names: &[Name]) -> bool
     true
 }
 
-/// Whether a name is among others.
+/// Returns whether a name is among others.
 fn is_among(name: &Name, others: &[Name]) -> bool
     ensures { result ≡ list_any (λ other. bytes_eq name.now other) others.now }
 {
     others.iter().any(|other| *name == *other)
 }
 
-/// The place of the column of a name.
+/// Returns the place of the column of a name.
 pub(crate) fn place_of_column(columns: &[Column], name: &Name) -> Option<usize>
     ensures { result ≡ place_of_column columns.now name.now }
 {
     columns.iter().position(|column| column.name == *name)
 }
 
-/// Whether the column at a place isn't RESERVABLE.
+/// Returns whether the column at a place isn't RESERVABLE.
 fn is_plain_at(columns: &[Column], place: usize) -> bool
     ensures { result ≡ is_plain_at columns.now place }
 {
@@ -92,7 +93,7 @@ fn is_plain_at(columns: &[Column], place: usize) -> bool
     }
 }
 
-/// The RESERVABLE ones of columns, in order. Want of memory is the only error.
+/// Returns the RESERVABLE columns, in order. Fails only if memory is refused.
 pub fn reservables(alloc: Global, columns: &[Column]) -> Result<Vec<Column>, AllocError>
     ensures { IfOk result (λ chosen. chosen.items ≡ reservables columns.now) }
 {
@@ -103,14 +104,14 @@ pub fn reservables(alloc: Global, columns: &[Column]) -> Result<Vec<Column>, All
         .collect(alloc)
 }
 
-/// How many of columns are RESERVABLE. Takes no memory.
+/// Returns how many columns are RESERVABLE. Takes no memory.
 fn count_reservable(columns: &[Column]) -> usize
     ensures { result ≡ length (reservables columns.now) }
 {
     columns.iter().filter(|column| column.reservable).count()
 }
 
-/// The declared checks of a table, in order: those before the ranges. Takes no memory.
+/// Returns the declared checks of a table, in order: those before the ranges. Takes no memory.
 pub(crate) fn declared_checks(table: &TableDef) -> &[Check]
     ensures { result.now ≡ declared_checks table.now }
 {
@@ -119,14 +120,14 @@ pub(crate) fn declared_checks(table: &TableDef) -> &[Check]
     &checks[..checks.len().saturating_sub(ranges)]
 }
 
-/// The names of columns, in order. Want of memory is the only error.
+/// Returns the names of columns, in order. Fails only if memory is refused.
 pub fn names_of(alloc: Global, columns: &[Column]) -> Result<Vec<Name>, AllocError>
     ensures { IfOk result (λ names. names.items ≡ names_of columns.now) }
 {
     columns.iter().map(|column| column.name).collect(alloc)
 }
 
-/// The names of the RESERVABLE ones of columns, in order. Want of memory is the only error.
+/// Returns the names of the RESERVABLE columns, in order. Fails only if memory is refused.
 pub fn reservable_names(alloc: Global, columns: &[Column]) -> Result<Vec<Name>, AllocError>
     ensures { IfOk result (λ names. names.items ≡ names_of (reservables columns.now)) }
 {
@@ -137,14 +138,14 @@ pub fn reservable_names(alloc: Global, columns: &[Column]) -> Result<Vec<Name>, 
         .collect(alloc)
 }
 
-/// The scales of columns, in order. Want of memory is the only error.
+/// Returns the scales of columns, in order. Fails only if memory is refused.
 pub fn scales_of(alloc: Global, columns: &[Column]) -> Result<Vec<Scale>, AllocError>
     ensures { IfOk result (λ scales. scales.items ≡ scales_of columns.now) }
 {
     columns.iter().map(|column| column.scale()).collect(alloc)
 }
 
-/// The scales of the RESERVABLE ones of columns, in order. Want of memory is the only error.
+/// Returns the scales of the RESERVABLE columns, in order. Fails only if memory is refused.
 pub fn reservable_scales(alloc: Global, columns: &[Column]) -> Result<Vec<Scale>, AllocError>
     ensures { IfOk result (λ scales. scales.items ≡ scales_of (reservables columns.now)) }
 {
@@ -155,7 +156,7 @@ pub fn reservable_scales(alloc: Global, columns: &[Column]) -> Result<Vec<Scale>
         .collect(alloc)
 }
 
-/// The names of checks, in order.
+/// Returns the names of checks, in order.
 pub(crate) fn check_names(alloc: Global, checks: &[Check]) -> Result<Vec<Name>, AllocError>
     ensures { IfOk result (λ names. names.items ≡ check_names checks.now) }
 {

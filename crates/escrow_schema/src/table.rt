@@ -17,7 +17,7 @@ pub struct TableDef {
     pub checks: Seq<Check>,
 }
 
-// It is written out, so that no crate above proves again how each part is dropped.
+// Written out, so that crates above need not prove again how its parts are dropped.
 impl Drop for TableDef {
     fn drop(self) {
         let TableDef {
@@ -33,7 +33,7 @@ impl TableDef {
     ghost use Rattle.escrow_schema.specs.Definition.{IsTable, key_column, key_scale};
     ghost use Rattle.escrow_schema.specs.Typed.{TypedColumns};
 
-    /// The fewest columns of a table: its key, and a RESERVABLE one.
+    /// The fewest columns of a table: its key and one RESERVABLE column.
     pub const MIN_COLUMNS: usize = 2;
 
     /// The most columns of a table.
@@ -42,7 +42,7 @@ impl TableDef {
     /// The most rows of a table.
     pub const MAX_ROWS: usize = 65_536;
 
-    /// The columns, in order, each of which has a type and the key among them.
+    /// Returns the columns, in order. Each has a valid type, and the key is among them.
     pub(crate) fn typed_columns(&self) -> &[Column]
         requires { IsTable self.now }
         ensures value { result.now ≡ self.now.columns }
@@ -52,7 +52,7 @@ impl TableDef {
         self.columns.as_slice()
     }
 
-    /// The key column.
+    /// Returns the key column.
     pub fn key_column(&self) -> &Column
         requires { IsTable self.now }
         ensures { key_column self.now ≡ Some result.now }
@@ -60,7 +60,7 @@ impl TableDef {
         &self.typed_columns()[self.key]
     }
 
-    /// The scale of the key column: a key that is a number is one of units of 10^-scale.
+    /// Returns the scale of the key column. A key that is a number is in units of 10^-scale.
     pub fn key_scale(&self) -> Scale
         requires { IsTable self.now }
         ensures { result ≡ key_scale self.now }

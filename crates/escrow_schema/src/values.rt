@@ -1,4 +1,4 @@
-//! The values of a row.
+//! From a row to its values.
 ghost use Rattle.std.specs.Prelude.{◌≡◌, ◌++◌, IfOk, OnOk, drop, map, take};
 ghost use Rattle.escrow_num.specs.declared.value.Value.TheVariants as value;
 ghost use Rattle.escrow_schema.specs.Fit.{values_of};
@@ -7,7 +7,8 @@ use crate::table::TableDef;
 use escrow_num::{Row, Seq, Value};
 use std::alloc::{AllocError, Global};
 
-/// The values of a row of a table, in column order, each a copy. Want of memory is the only error.
+/// Returns copies of the values of a row of a table, in column order. Fails only if memory is
+/// refused.
 pub fn values_of(alloc: Global, table: &TableDef, row: &Row) -> Result<Seq<Value>, AllocError>
     ensures { IfOk result (λ values. values ≡ values_of table.now row.now) }
 {

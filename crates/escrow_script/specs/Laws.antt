@@ -3,7 +3,7 @@ use Rattle.std.specs.Prelude.{◌≡◌, ◌≤◌, ℕ, List}
 use Rattle.escrow_script.specs.declared.limits.TheConstants.{MAX_DATABASES, MAX_LINE, MAX_SCRIPT, MAX_STREAM}
 use Rattle.escrow_script.specs.Line.{Reading, Reads}
 
--- a line has one reading at most
+-- a line has at most one reading
 abbrev pub HasOneReading : Type 0
 HasOneReading =
     (databases : ℕ) (bytes : List ℕ) (one other : Reading) → databases ≤ MAX_DATABASES → Reads databases bytes one → Reads databases bytes other → one ≡ other

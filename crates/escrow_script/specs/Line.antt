@@ -7,13 +7,12 @@ use Rattle.escrow_script.specs.declared.limits.TheConstants.{MAX_LINE}
 
 -- THE LINES OF A SCRIPT
 
--- a byte in front of the first line
+-- a byte added before the first line
 abbrev pub onto_first : ℕ → List (List ℕ) → List (List ℕ)
 onto_first b [] = (b ∷ []) ∷ []
 onto_first b (first ∷ lines) = (b ∷ first) ∷ lines
 
--- the lines of a script: each is the bytes up to a line feed, and the bytes after the last line feed
--- are a line if there are any
+-- the lines of a script: each is the bytes up to a line feed; bytes after the last line feed are a line too
 abbrev pub lines_of : List ℕ → List (List ℕ)
 lines_of [] = []
 lines_of (b ∷ bytes) = if b == 10 then [] ∷ lines_of bytes else onto_first b (lines_of bytes)
@@ -27,8 +26,8 @@ database_name place = if place == 0 then codes "bank" else codes "bank" ++ decim
 
 -- WHAT A LINE IS
 
--- a line asks nothing; it ends a phase; it restarts a database, by its place; it is a statement, of a
--- database by its place, of a session, and with a text; or it is no line
+-- a line has no meaning; it ends a phase; it restarts a database, given by its place; it is a statement, with the place
+-- of its database, its session and its text; or it is no line
 pub data Reading : Type 0 where
   nothing : Reading
   join : Reading
@@ -36,11 +35,11 @@ pub data Reading : Type 0 where
   statement : ℕ → ℕ → List ℕ → Reading
   no_line : Reading
 
--- a space or a tab
+-- whether a byte is a space or a tab
 abbrev pub is_blank : ℕ → Bool
 is_blank c = c == 32 || c == 9
 
--- a line without the one carriage return at its end, if it ends so
+-- a line without the carriage return at its end, if it has one
 abbrev pub without_return : List ℕ → List ℕ
 without_return bytes = if slice_index bytes (length bytes - 1) == 13 then take (length bytes - 1) bytes else bytes
 
@@ -48,7 +47,7 @@ without_return bytes = if slice_index bytes (length bytes - 1) == 13 then take (
 abbrev pub after_blanks : List ℕ → List ℕ
 after_blanks bytes = drop (prefix_len is_blank bytes) bytes
 
--- the content of a line: what is left without its carriage return and its blanks in front
+-- the content of a line: the line without its carriage return and its leading blanks
 abbrev pub content_of : List ℕ → List ℕ
 content_of bytes = after_blanks (without_return bytes)
 
@@ -56,11 +55,11 @@ content_of bytes = after_blanks (without_return bytes)
 abbrev pub IsComment : List ℕ → Type 0
 IsComment content = (rest : List ℕ) × (content ≡ codes "--" ++ rest)
 
--- `@join`, and nothing but blanks behind it
+-- `@join`, with only blanks after it
 abbrev pub IsJoin : List ℕ → Type 0
 IsJoin content = (blanks : List ℕ) × AllPass is_blank blanks × (content ≡ codes "@join" ++ blanks)
 
--- `@restart`, blanks, the name of one of so many databases, and nothing but blanks behind it
+-- `@restart`, blanks, the name of one of this many databases, and only blanks after it
 pub record IsRestart (databases : ℕ) (content : List ℕ) (place : ℕ) : Type 0 where
   pub within : place < databases
   pub front : List ℕ
@@ -70,13 +69,13 @@ pub record IsRestart (databases : ℕ) (content : List ℕ) (place : ℕ) : Type
   pub back_blank : AllPass is_blank back
   pub parts : content ≡ codes "@restart" ++ (front ++ (database_name place ++ back))
 
--- a statement: the name of one of so many databases, a point, a session in decimal, a colon, and the text
+-- a statement: the name of one of this many databases, a point, a session in decimal, a colon, and the text
 pub record IsStatement (databases : ℕ) (content : List ℕ) (place session : ℕ) (text : List ℕ) : Type 0 where
   pub within : place < databases
   pub is_session : IsSession session
   pub parts : content ≡ database_name place ++ codes "." ++ decimal session ++ codes ":" ++ text
 
--- what the content of a line is made of, of each reading
+-- what the content of a line must be, for each reading
 abbrev pub IsMadeOf : ℕ → List ℕ → Reading → Type 0
 IsMadeOf databases content nothing = (content ≡ []) ⊎ IsComment content
 IsMadeOf databases content join = IsJoin content
@@ -84,17 +83,16 @@ IsMadeOf databases content (restart place) = IsRestart databases content place
 IsMadeOf databases content (statement place session text) = IsStatement databases content place session text
 IsMadeOf databases content no_line = ⊥
 
--- the content is made of this, or it is no line as it is made of nothing of these
+-- the content is as the reading demands, or it is no line because it is as no reading demands
 abbrev pub ReadsContent : ℕ → List ℕ → Reading → Type 0
 ReadsContent databases content no_line = (reading : Reading) → IsMadeOf databases content reading → ⊥
 ReadsContent databases content reading = IsMadeOf databases content reading
 
--- a line that can be read has at most 4,096 bytes, and they are UTF-8
+-- a readable line has at most 4,096 bytes, and they are UTF-8
 abbrev pub IsReadable : List ℕ → Type 0
 IsReadable bytes = (length bytes ≤ MAX_LINE) × IsUtf8 bytes
 
--- WHAT A LINE IS, for so many databases: a readable line is what its content is made of, and any other
--- is no line
+-- WHAT A LINE IS, with this many databases: a readable line is what its content is, and any other is no line
 abbrev pub Reads : ℕ → List ℕ → Reading → Type 0
 Reads databases bytes reading =
     (IsReadable bytes × ReadsContent databases (content_of bytes) reading) ⊎ ((IsReadable bytes → ⊥) × (reading ≡ no_line))

@@ -1,4 +1,4 @@
--- Helps: what a line is, by its parts, found one after another.
+-- Helps: what a line is, found part by part.
 use Rattle.std.specs.Prelude.{ℕ, zero, suc, ◌+◌, ◌-◌, ◌*◌, ◌==◌, Bool, not, ◌&&◌, ◌||◌, nat_eq, nat_le, if◌then◌else◌, Option, Some, None, List, [], ◌∷◌, length, take, drop, bytes_eq, codes}
 use Rattle.std.specs.Char.{is_ascii_digit}
 use Rattle.std.specs.List.{starts_with, list_all, prefix_len}
@@ -14,34 +14,34 @@ seen (line.Restart database) = restart database
 seen (line.Statement database session text) = statement database session text.now
 seen line.NoLine = no_line
 
--- an empty content, or a comment
+-- whether a content is empty or a comment
 abbrev pub is_nothing : List ℕ → Bool
 is_nothing content = length content == 0 || starts_with nat_eq content (codes "--")
 
--- `@join`, and nothing but blanks behind it
+-- whether a content is `@join`, with only blanks after it
 abbrev pub is_join : List ℕ → Bool
 is_join content = starts_with nat_eq content (codes "@join") && list_all is_blank (drop 5 content)
 
--- the place of the database of a name, of so many databases
+-- the place of the database with a name, among this many databases
 abbrev pub database_place : ℕ → List ℕ → Option ℕ
 database_place zero name = None
 database_place (suc n) name = if bytes_eq (database_name n) name then Some n else database_place n name
 
--- how many bytes stand before the first blank
+-- how many bytes come before the first blank
 abbrev pub word_len : List ℕ → ℕ
 word_len bytes = prefix_len (λ c. not (is_blank c)) bytes
 
--- the place of the database whose name stands alone behind blanks, of which there is one at least
+-- the place of the database whose name is the only word, after at least one blank
 abbrev pub named_place : ℕ → List ℕ → Option ℕ
 named_place databases bytes =
     if prefix_len is_blank bytes == 0 || not (list_all is_blank (drop (word_len (after_blanks bytes)) (after_blanks bytes))) then None
     else database_place databases (take (word_len (after_blanks bytes)) (after_blanks bytes))
 
--- the place of the database that is to be restarted
+-- the place of the database to restart
 abbrev pub restart_of : ℕ → List ℕ → Option ℕ
 restart_of databases content = if starts_with nat_eq content (codes "@restart") then named_place databases (drop 8 content) else None
 
--- a digit from 1 to 9
+-- whether a byte is a digit from 1 to 9
 abbrev pub is_first_digit : ℕ → Bool
 is_first_digit c = nat_le 49 c && nat_le c 57
 

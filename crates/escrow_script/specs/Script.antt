@@ -16,12 +16,12 @@ most_bytes limit.Stream = MAX_STREAM
 abbrev pub is_feed : ℕ → Bool
 is_feed b = b == 10
 
--- a line is in hand: reads are left, and a line feed stands among the bytes that were read and aren't taken
+-- whether a line is in hand: calls of the reader are left, and a line feed is among the bytes that were read and aren't
+-- taken
 abbrev pub has_line : ℕ → List ℕ → Bool
 has_line reads unread = nat_lt 0 reads && nat_lt (position_or_len is_feed unread) (length unread)
 
--- the bytes that a script has left: those that were read and aren't taken, and those of its reader,
--- where these are known
+-- the bytes that a script has left: those that were read and aren't taken, and those of its reader, if these are known
 abbrev pub left : List ℕ → Option (List ℕ) → Option (List ℕ)
 left unread remaining = prepend_known unread remaining
 
@@ -29,23 +29,22 @@ left unread remaining = prepend_known unread remaining
 abbrev pub HasEnded : List ℕ → Option (List ℕ) → Type 0
 HasEnded unread remaining = (unread ≡ []) × IsAtEnd remaining
 
--- what a reader gave, where its bytes are known, was taken from what a script may still have
+-- what a reader returned, if its bytes are known, was taken from what a script may still have
 abbrev pub Spends : Option (List ℕ) → Option (List ℕ) → ℕ → ℕ → Type 0
 Spends None rest old new = ⊤
 Spends (Some bytes) None old new = ⊥
 Spends (Some bytes) (Some rest) old new = length bytes + new ≡ length rest + old
 
--- The next line was taken: the bytes that were left are its bytes and the rest's lines, and of its
--- bytes as many were kept as a line may have and one more. Or there was none, and nothing is left.
+-- The next line was taken: the bytes that were left are its bytes and the lines of the rest. At most one byte more than
+-- a line may have was kept. Or there was none, and nothing is left.
 abbrev pub TakesLine : Bool → Option (List ℕ) → Option (List ℕ) → List ℕ → Type 0
 TakesLine found None rest kept = ⊤
 TakesLine found (Some bytes) None kept = ⊥
 TakesLine true (Some bytes) (Some rest) kept = (line : List ℕ) × (lines_of bytes ≡ line ∷ lines_of rest) × (kept ≡ take (MAX_LINE + 1) line)
 TakesLine false (Some bytes) (Some rest) kept = (lines_of bytes ≡ []) × (rest ≡ [])
 
--- The bytes up to the first line feed went from what is unread to a line, of which as many bytes are
--- kept as it may have and one more, and the line feed was taken; or all of them, where there is no line
--- feed.
+-- The bytes up to the first line feed moved from what is unread to a line, and the line feed was taken; or all of them,
+-- if there is no line feed. Of the line, at most one byte more than it may have is kept.
 pub record Moves (found : Bool) (unread rest line kept : List ℕ) : Type 0 where
   pub is_found : found ≡ nat_lt (position_or_len is_feed unread) (length unread)
   pub is_rest : rest ≡ drop (position_or_len is_feed unread + 1) unread

@@ -1,4 +1,4 @@
--- Believed: refusals that no database decides, and what a fault leaves unwritten.
+-- Believed: refusals that no database decides, and what is unwritten after a fault.
 use Rattle.std.specs.Prelude.{◌≡◌, ◌<◌, ℕ, List, [], length, codes}
 use Rattle.escrow_num.specs.declared.refusal.Refusal.{Refusal}
 use Rattle.escrow_num.specs.declared.refusal.Refusal.TheVariants as refusal
@@ -15,15 +15,15 @@ abbrev pub fault_refusal : ParseFault → Refusal
 fault_refusal (fault.Syntax column) = refusal.Syntax column
 fault_refusal fault.Memory = refusal.Memory
 
--- the reply to what is no line of a script
+-- the reply to a line that is no line of a script
 abbrev pub no_line_text : List ℕ
 no_line_text = with_prefix (codes "script> ") (reply_lines (reply.Refused refusal.Line))
 
--- a fault is the writer's, whatever its cause
+-- the fault is the writer's, with some cause
 abbrev pub IsOfWriter : ServeFault → Type 0
 IsOfWriter fault = (cause : WriteFault) × (fault ≡ serve_fault.Write cause)
 
--- after want of memory, or a fault of the reader, no reply is left to write, and after one of the writer some of one is
+-- after a fault of memory or of the reader, no reply is left to write; after one of the writer, some of one is
 abbrev pub Leaves : ServeFault → List ℕ → Type 0
 Leaves (serve_fault.Read cause) unwritten = unwritten ≡ []
 Leaves (serve_fault.Write cause) unwritten = 0 < length unwritten

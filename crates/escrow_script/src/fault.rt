@@ -17,18 +17,20 @@ pub enum ReadFault {
     /// It has more bytes than can be counted.
     #[error("it is longer than {MAX_STREAM} bytes")]
     Endless,
-    /// Its descriptor is closed, or is not open for reading. The system reports both alike.
+    /// Its descriptor is closed, or isn't open for reading. The system reports the two in the same
+    /// way.
     #[error("standard input is closed or isn't open for reading")]
     Closed,
-    /// What it is to be read from is a folder.
+    /// Its input is a folder.
     #[error("standard input is a folder")]
     Folder,
-    /// The system fails.
+    /// The system fails with another error.
     #[error("{0}")]
     System(io::Error),
 }
 
-/// The number of Linux's error for a descriptor that is closed or is open for something else, EBADF. It has no kind.
+/// Linux's number EBADF, for a descriptor that is closed or is open for something else. This error
+/// has no kind.
 const BAD_DESCRIPTOR: i32 = 9;
 
 impl From<io::Error> for ReadFault {
@@ -44,13 +46,14 @@ impl From<io::Error> for ReadFault {
 /// Why replies can't be written.
 #[derive(Clone, Copy, Debug, Error)]
 pub enum WriteFault {
-    /// The descriptor is closed, or is not open for writing. The system reports both alike.
+    /// The descriptor is closed, or isn't open for writing. The system reports the two in the same
+    /// way.
     #[error("standard output is closed or isn't open for writing")]
     Closed,
-    /// The writer took none of the bytes, and reported no error.
+    /// The writer accepted none of the bytes, and reported no error.
     #[error("standard output takes nothing")]
     TakesNothing,
-    /// The system fails.
+    /// The system fails with another error.
     #[error("{0}")]
     System(io::Error),
 }
@@ -68,10 +71,10 @@ impl From<io::Error> for WriteFault {
 /// Why a script isn't served to its end. The lines before the fault are served.
 #[derive(Clone, Copy, Debug, Error)]
 pub enum ServeFault {
-    /// The reader answered an error, or gave more than a script may have.
+    /// The reader returned an error, or returned more than a script may have.
     #[error("the script can't be read: {0}")]
     Read(ReadFault),
-    /// The writer answered an error, or took nothing of what was left to write.
+    /// The writer returned an error, or accepted none of the bytes that were left.
     #[error("a reply can't be written: {0}")]
     Write(WriteFault),
     /// Memory was refused outside a statement.
@@ -112,7 +115,8 @@ impl From<WriteFault> for ServeFault {
     }
 }
 
-/// The refusal of a text that isn't served: 11 with the column of its first fault, or 51 for want of memory.
+/// Returns the refusal of a text that isn't served: 11 with the column of its first fault, or 51 if
+/// memory was refused.
 pub fn fault_refusal(fault: ParseFault) -> Refusal
     ensures { result ≡ fault_refusal fault }
 {

@@ -1,8 +1,10 @@
-//! What a script is made of, and what is written of it, whatever databases serve it.
+//! The lines of a script and the writing of replies, whatever databases serve them.
 //!
-//! Its one contract: [`Script::next_line`] takes the lines of what a reader gives, one after another,
-//! and [`classify`] tells what each is. Replies are gathered and written by [`gather`] and
-//! [`write_gathered`], and by [`out_of_memory`] where memory is refused.
+//! Its main contract is that of [`Script::next_line`], which takes the lines from a reader one
+//! after another. [`classify`] says what each line is.
+//!
+//! Begin with [`Script`] and [`Line`]. [`gather`] collects replies and [`write_gathered`] writes
+//! them; [`out_of_memory`] does so if memory is refused.
 #![tactic(auto)]
 
 mod fault;

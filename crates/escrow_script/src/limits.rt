@@ -3,7 +3,7 @@ use crate::fault::ReadFault;
 /// The most databases of a program.
 pub const MAX_DATABASES: u8 = 16;
 
-/// The most bytes of a line, without its line feed and before its carriage return is dropped.
+/// The most bytes of a line, without its line feed, and before its carriage return is dropped.
 pub const MAX_LINE: usize = 4096;
 
 /// The most bytes of a script.
@@ -12,7 +12,7 @@ pub const MAX_SCRIPT: usize = 16_777_216;
 /// The most calls of a script's reader.
 pub const MAX_READS: usize = 33_554_432;
 
-/// The most bytes of a stream, and the most calls of its reader: all that 64 bits count.
+/// The most bytes of a stream, and the most calls of its reader: the greatest number of 64 bits.
 pub const MAX_STREAM: usize = 18_446_744_073_709_551_615;
 
 /// How much is read from a reader.
@@ -20,7 +20,7 @@ pub const MAX_STREAM: usize = 18_446_744_073_709_551_615;
 pub enum Limit {
     /// As much as a script may have: [`MAX_SCRIPT`] bytes, in [`MAX_READS`] calls.
     Script,
-    /// Everything until the reader's end: [`MAX_STREAM`] bytes, in as many calls.
+    /// Everything up to the reader's end: [`MAX_STREAM`] bytes, in as many calls.
     Stream,
 }
 
@@ -28,7 +28,7 @@ impl Limit {
     ghost use Rattle.std.specs.Prelude.{◌≡◌};
     ghost use Rattle.escrow_script.specs.Script.{most_bytes};
 
-    /// The most bytes.
+    /// Returns the most bytes.
     pub(crate) fn bytes(self) -> usize
         ensures { result ≡ most_bytes self }
     {
@@ -38,7 +38,7 @@ impl Limit {
         }
     }
 
-    /// The most calls of the reader.
+    /// Returns the most calls of the reader.
     pub(crate) fn reads(self) -> usize {
         match self {
             Limit::Script => MAX_READS,
@@ -46,7 +46,7 @@ impl Limit {
         }
     }
 
-    /// The fault of a reader that gives more, or has to be called more often.
+    /// Returns the fault of a reader that returns more bytes, or needs more calls.
     pub(crate) fn fault(self) -> ReadFault {
         match self {
             Limit::Script => ReadFault::TooLong,

@@ -14,7 +14,7 @@ pub enum Line<'a> {
     Nothing,
     /// `@join`: it ends a phase, and has no reply.
     Join,
-    /// `@restart` and the name of a database, which is restarted.
+    /// `@restart` and the name of the database to restart.
     Restart {
         /// The place of the database, from 0.
         database: usize,
@@ -25,15 +25,17 @@ pub enum Line<'a> {
         database: usize,
         /// The session that asks.
         session: Session,
-        /// The statement's text, all that follows the colon.
+        /// The statement's text: everything after the colon.
         text: &'a str,
     },
-    /// No line of a script, an unknown database or a session out of range: it is refused.
+    /// Not a line of a script: it names an unknown database or a session out of range, or is
+    /// anything else. It is refused.
     NoLine,
 }
 
-/// What the bytes of a line are, without their line feed, for so many databases, 16 at most. A line of more than
-/// [`MAX_LINE`] bytes is no line, so that its first `MAX_LINE + 1` bytes tell what it is.
+/// Returns what the bytes of a line are, without their line feed. There must be at most 16
+/// databases. More than [`MAX_LINE`] bytes are no line, so the first `MAX_LINE + 1` bytes decide
+/// what a line is.
 pub fn classify(databases: usize, line: &[u8]) -> Line<'_>
     requires { databases ≤ MAX_DATABASES }
     ensures { Reads databases line.now (seen result) }
@@ -47,14 +49,14 @@ pub fn classify(databases: usize, line: &[u8]) -> Line<'_>
     }
 }
 
-/// The line without its carriage return and the blanks in front.
+/// Returns the line without its carriage return and its leading blanks.
 fn content_of(line: &str) -> &str
     ensures { result.now ≡ content_of line.now }
 {
     after_blanks(without_return(line))
 }
 
-/// The line without the carriage return at its end, if there is one.
+/// Returns the line without the carriage return at its end, if it has one.
 fn without_return(line: &str) -> &str
     ensures { result.now ≡ without_return line.now }
 {
@@ -64,14 +66,14 @@ fn without_return(line: &str) -> &str
     }
 }
 
-/// Whether a byte is a space or a tab.
+/// Returns whether a byte is a space or a tab.
 fn is_blank(byte: u8) -> bool
     ensures { result ≡ is_blank byte }
 {
     byte == b' ' || byte == b'\t'
 }
 
-/// How many spaces and tabs a line begins with.
+/// Returns how many spaces and tabs a line begins with.
 fn blanks(line: &[u8]) -> usize
     ensures value { result ≡ prefix_len is_blank line.now }
     ensures within { result ≤ length line.now }
@@ -84,14 +86,14 @@ fn blanks(line: &[u8]) -> usize
     line.len()
 }
 
-/// The line behind the spaces and tabs at its beginning.
+/// Returns the line after the spaces and tabs at its beginning.
 fn after_blanks(line: &str) -> &str
     ensures { result.now ≡ after_blanks line.now }
 {
     &line[blanks(line.as_bytes())..]
 }
 
-/// What the content of a line is.
+/// Returns what the content of a line is.
 fn classify_content(databases: usize, content: &str) -> Line<'_>
     requires { databases ≤ MAX_DATABASES }
     ensures { ReadsContent databases content.now (seen result) }
@@ -111,28 +113,28 @@ fn classify_content(databases: usize, content: &str) -> Line<'_>
     }
 }
 
-/// Whether there is nothing but spaces and tabs.
+/// Returns whether there is nothing but spaces and tabs.
 fn is_all_blank(bytes: &[u8]) -> bool
     ensures { result ≡ list_all is_blank bytes.now }
 {
     bytes.iter().all(|byte| is_blank(*byte))
 }
 
-/// Whether a content is empty or a comment.
+/// Returns whether a content is empty or a comment.
 fn is_nothing(content: &[u8]) -> bool
     ensures { result ≡ is_nothing content.now }
 {
     content.is_empty() || content.starts_with(b"--")
 }
 
-/// Whether a content is `@join` and nothing but spaces and tabs behind it.
+/// Returns whether a content is `@join`, with only spaces and tabs after it.
 fn is_join(content: &[u8]) -> bool
     ensures { result ≡ is_join content.now }
 {
     content.starts_with(b"@join") && is_all_blank(&content[5..])
 }
 
-/// The place of the database that a content asks to be restarted: `@restart` and its name.
+/// Returns the place of the database that a content asks to restart: `@restart` and its name.
 fn restart_of(databases: usize, content: &[u8]) -> Option<usize>
     requires { databases ≤ MAX_DATABASES }
     ensures { result ≡ restart_of databases content.now }
@@ -144,7 +146,7 @@ fn restart_of(databases: usize, content: &[u8]) -> Option<usize>
     }
 }
 
-/// The place of the database whose name stands alone behind spaces and tabs, of which there is one at least.
+/// Returns the place of the database whose name is the only word, after at least one space or tab.
 fn named_place(databases: usize, bytes: &[u8]) -> Option<usize>
     requires { databases ≤ MAX_DATABASES }
     ensures { result ≡ named_place databases bytes.now }
@@ -157,7 +159,7 @@ fn named_place(databases: usize, bytes: &[u8]) -> Option<usize>
     database_place(databases, name)
 }
 
-/// How many bytes stand before the first space or tab.
+/// Returns how many bytes come before the first space or tab.
 fn word_len(bytes: &[u8]) -> usize
     ensures value { result ≡ word_len bytes.now }
     ensures within { result ≤ length bytes.now }
@@ -170,7 +172,8 @@ fn word_len(bytes: &[u8]) -> usize
     bytes.len()
 }
 
-/// A statement: a database's name, a point, a session, a colon, and the text.
+/// Returns a statement, if the content is one: a database's name, a point, a session, a colon, and
+/// the text.
 fn statement_of(databases: usize, content: &str) -> Option<Line<'_>>
     requires { databases ≤ MAX_DATABASES }
     ensures some { IfSome result (λ line. IsMadeOf databases content.now (seen line)) }
@@ -187,7 +190,7 @@ fn statement_of(databases: usize, content: &str) -> Option<Line<'_>>
     })
 }
 
-/// The session of one or two digits, the first of them not zero.
+/// Returns the session of one or two digits, of which the first isn't zero.
 fn session_of(digits: &[u8]) -> Option<Session>
     ensures { result ≡ session_of digits.now }
 {

@@ -4,7 +4,7 @@ ghost use Rattle.escrow_script.specs.Reading.{database_place};
 
 use crate::limits::MAX_DATABASES;
 
-/// The name of the database at a place, from 0 to 15: `bank`, `bank2`, `bank3` and so on.
+/// Returns the name of the database at a place, from 0 to 15: `bank`, `bank2`, `bank3` and so on.
 pub fn database_name(place: usize) -> &'static str
     requires { place < MAX_DATABASES }
     ensures { result.now ≡ database_name place }
@@ -30,7 +30,7 @@ pub fn database_name(place: usize) -> &'static str
     }
 }
 
-/// The place of the database of a name, of so many databases.
+/// Returns the place of the database with a name, if there are this many databases.
 pub(crate) fn database_place(databases: usize, name: &[u8]) -> Option<usize>
     requires { databases ≤ MAX_DATABASES }
     ensures { result ≡ database_place databases name.now }

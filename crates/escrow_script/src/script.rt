@@ -13,8 +13,8 @@ use std::alloc::{AllocError, Global};
 use std::io::Read;
 
 /// A script that is read line by line: the bytes that aren't taken yet, and the line that was taken
-/// last. One byte more than a line may have is kept of a longer one, which tells that it is too
-/// long.
+/// last. Of a line that is too long, one byte more than a line may have is kept, which shows that
+/// it is too long.
 #[derive(Debug, Drop)]
 pub struct Script {
     unread: Unread,
@@ -22,7 +22,7 @@ pub struct Script {
     limit: Limit,
     bytes_left: usize,
     reads_left: usize,
-    // The reader has said that it is at its end, and isn't asked again.
+    // The reader has reported its end, and isn't called again.
     has_ended: bool,
     ghost short: { vec_len line ≤ MAX_LINE + 1 },
 }
@@ -30,22 +30,22 @@ pub struct Script {
 impl Script {
     ghost use Rattle.escrow_script.specs.Script.{left, has_line, most_bytes, HasEnded, Spends, TakesLine, Moves};
 
-    /// A script of which nothing is read.
+    /// Returns a script of which nothing is read yet.
     ///
     /// # Errors
     ///
-    /// Memory is short.
+    /// Fails if memory is refused.
     pub fn new(alloc: Global) -> Result<Script, AllocError>
         ensures { IfOk result (λ s. (s.unread ≡ []) × (s.bytes_left ≡ MAX_SCRIPT) × (s.has_ended ≡ false)) }
     {
         Script::up_to(alloc, Limit::Script)
     }
 
-    /// A script of which nothing is read, and of which so much may be read.
+    /// Returns a script of which nothing is read yet, with a limit on what may be read.
     ///
     /// # Errors
     ///
-    /// Memory is short.
+    /// Fails if memory is refused.
     pub fn up_to(alloc: Global, limit: Limit) -> Result<Script, AllocError>
         ensures { IfOk result (λ s. (s.unread ≡ []) × (s.bytes_left ≡ most_bytes limit) × (s.has_ended ≡ false)) }
     {
@@ -59,8 +59,8 @@ impl Script {
         })
     }
 
-    /// The line that was taken last, without its line feed: all of it, or its first bytes, one more than
-    /// a line may have.
+    /// Returns the line that was taken last, without its line feed. Of a line that is too long, it
+    /// returns one byte more than a line may have.
     pub fn line(&self) -> &[u8]
         ensures value { result.now ≡ self.now.line.items }
         ensures within { length result.now ≤ MAX_LINE + 1 }
@@ -68,7 +68,7 @@ impl Script {
         self.line.as_slice()
     }
 
-    /// Whether the next line is in hand, so that it is taken without a read.
+    /// Returns whether the next line is in hand, so that it can be taken without a read.
     pub fn has_line(&self) -> bool
         ensures { result ≡ has_line self.now.reads_left self.now.unread }
     {
@@ -76,15 +76,17 @@ impl Script {
         self.reads_left > 0 && line_len(bytes) < bytes.len()
     }
 
-    /// Takes the next line, and answers whether there was one. A line that is in hand is taken, or memory
-    /// is refused. A reader that has said that it is at its end isn't asked again: at a terminal it would go on.
+    /// Takes the next line, and returns whether there was one. If a line is in hand, it is taken or
+    /// memory is refused. A reader that has reported its end isn't called again: at a terminal it
+    /// would continue.
     ///
-    /// Each call is given the same reader.
+    /// Each call must be given the same reader.
     ///
     /// # Errors
     ///
-    /// [`ServeFault::Read`] where the reader answers an error, gives more bytes than the limit, or is called more
-    /// often than the limit; [`ServeFault::Memory`] for want of memory. It is no other.
+    /// Fails with [`ServeFault::Read`] if the reader returns an error, returns more bytes than the
+    /// limit, or needs more calls than the limit. Fails with [`ServeFault::Memory`] if memory is
+    /// refused. There are no other errors.
     pub fn next_line<R: Read>(&mut self, reader: &mut R) -> Result<bool, ServeFault>
         requires ended { self.old.has_ended ≡ true → HasEnded self.old.unread (R.remaining reader.old) }
         ensures taken { IfOk result (λ found. TakesLine found (left self.old.unread (R.remaining reader.old))
@@ -95,7 +97,7 @@ impl Script {
         ensures in_hand { IfOk result (λ found. has_line self.old.reads_left self.old.unread ≡ true → found ≡ true) }
         ensures cause { IfErr result (λ fault. has_line self.old.reads_left self.old.unread ≡ true → fault ≡ ServeFault.Memory) }
         ensures ended { IfOk result (λ _. self.new.has_ended ≡ true → HasEnded self.new.unread (R.remaining reader.new)) }
-        // The writer has no part in it.
+        // No error is the writer's.
         ensures kind { IfErr result (λ fault. (cause : WriteFault) → fault ≢ ServeFault.Write cause) }
     {
         if self.has_ended {
@@ -118,7 +120,7 @@ impl Script {
     ///
     /// # Errors
     ///
-    /// Memory is short. No byte is taken then, nor where no line is in hand.
+    /// Fails if memory is refused. Then, and if no line is in hand, no byte is taken.
     pub fn take_ready(&mut self) -> Result<bool, AllocError>
         ensures taken { IfOk result (λ found. found ≡ true → (rem : Option (List ℕ)) →
             TakesLine true (left self.old.unread rem) (left self.new.unread rem) self.new.line.items) }
@@ -137,7 +139,7 @@ impl Script {
         self.take_front()
     }
 
-    /// Moves the unread bytes up to a line feed into the line, and answers whether there was one.
+    /// Moves the unread bytes up to a line feed into the line, and returns whether there was one.
     fn take_front(&mut self) -> Result<bool, AllocError>
         ensures moved { IfOk result (λ found. Moves found self.old.unread self.new.unread self.old.line.items self.new.line.items) }
         ensures less { IfOk result (λ found. vec_len self.new.line + length self.new.unread ≤ vec_len self.old.line + length self.old.unread) }
@@ -156,7 +158,7 @@ impl Script {
         Ok(found)
     }
 
-    /// Reads the next bytes, once all that were read are taken, and answers how many.
+    /// Reads the next bytes, once all that were read are taken, and returns how many.
     fn fill<R: Read>(&mut self, reader: &mut R) -> Result<usize, ServeFault>
         requires taken { self.old.unread ≡ [] }
         requires more { 1 ≤ self.old.reads_left }
@@ -179,7 +181,7 @@ impl Script {
     }
 }
 
-/// How many bytes stand before the first line feed, or in all where there is none.
+/// Returns how many bytes come before the first line feed, or how many there are if there is none.
 fn line_len(bytes: &[u8]) -> usize
     ensures value { result ≡ position_or_len is_feed bytes.now }
     ensures within { result ≤ length bytes.now }
@@ -190,7 +192,7 @@ fn line_len(bytes: &[u8]) -> usize
     }
 }
 
-/// Adds bytes to a line, of which no more than one more than a line may have are kept.
+/// Adds bytes to a line, of which at most one more than a line may have is kept.
 fn keep(line: &mut Vec<u8>, bytes: &[u8]) -> Result<(), AllocError>
     requires { vec_len line.old ≤ MAX_LINE + 1 }
     ensures ok { OnOk result (line.new.items ≡ take (MAX_LINE + 1) (line.old.items ++ bytes.now)) }

@@ -6,7 +6,7 @@ use std::alloc::{AllocError, Global};
 use std::io::Read;
 use std::marker::Model;
 
-/// How many bytes are asked of a reader at a time.
+/// How many bytes are requested from a reader at a time.
 const CHUNK: usize = 8192;
 
 /// The bytes that were read from a reader and aren't taken yet.
@@ -28,7 +28,7 @@ impl Model for Unread {
 }
 
 impl Unread {
-    /// Nothing, with room for what a read gives.
+    /// Returns an empty list of bytes, with room for those of one read.
     pub(crate) fn new(alloc: Global) -> Result<Unread, AllocError>
         ensures { IfOk result (λ u. u ≡ []) }
     {
@@ -39,14 +39,14 @@ impl Unread {
         })
     }
 
-    /// The bytes, in order.
+    /// Returns the bytes, in order.
     pub(crate) fn as_slice(&self) -> &[u8]
         ensures { result.now ≡ self.now }
     {
         &self.chunk[self.from..self.to]
     }
 
-    /// Takes so many bytes from the front, or all where there are fewer.
+    /// Drops this many bytes from the front, or all if there are fewer.
     pub(crate) fn skip(&mut self, count: usize)
         ensures { self.new ≡ drop count self.old }
     {
@@ -57,8 +57,8 @@ impl Unread {
         }
     }
 
-    /// Reads the next bytes, once all are taken, and answers how many. There are none at the
-    /// reader's end alone.
+    /// Reads the next bytes, once all are taken, and returns how many. There are none only at the
+    /// reader's end.
     pub(crate) fn fill<R: Read>(&mut self, reader: &mut R) -> Result<usize, ReadFault>
         requires { self.old ≡ [] }
         ensures read { OnOk result (Consumes (R.remaining reader.old) (R.remaining reader.new) self.new) }

@@ -6,14 +6,15 @@ use crate::fault::{ServeFault, WriteFault};
 use std::alloc::AllocError;
 use std::io::Write;
 
-/// How many bytes of replies are gathered at most before they are written, but for the last reply.
+/// How many bytes of replies are gathered before they are written. Only the last reply may go past
+/// this.
 pub const MOST_GATHERED: usize = 65_536;
 
 /// Adds a reply to those that are gathered.
 ///
 /// # Errors
 ///
-/// Memory is short, and what was gathered is as it was, with the room that it had.
+/// Fails if memory is refused. The gathered replies are then as they were, with the same room.
 pub fn gather(replies: &mut Vec<u8>, reply: Vec<u8>) -> Result<(), AllocError>
     ensures ok { OnOk result (replies.new.items ≡ replies.old.items ++ reply.items) }
     ensures err { OnErr result (replies.new.items ≡ replies.old.items) }
@@ -26,12 +27,13 @@ pub fn gather(replies: &mut Vec<u8>, reply: Vec<u8>) -> Result<(), AllocError>
     replies.extend_from_slice(reply.as_slice())
 }
 
-/// Writes what is gathered, after which nothing is gathered, or a prefix of it.
+/// Writes what is gathered. Then nothing is gathered. After an error, a prefix of it was written.
 ///
 /// # Errors
 ///
-/// [`ServeFault::Write`], and no other: the writer answered an error, or took nothing of what was left. What it
-/// took before is a prefix of what is gathered, and not all of it.
+/// Fails only with [`ServeFault::Write`]: the writer returned an error, or accepted none of the
+/// bytes that were left. What it accepted before is a prefix of what is gathered, and not all of
+/// it.
 pub fn write_gathered<W: Write>(writer: &mut W, replies: &mut Vec<u8>) -> Result<(), ServeFault>
     ensures ok { OnOk result (Appends (W.contents writer.old) (W.contents writer.new) replies.old.items) }
     ensures none { OnOk result (replies.new.items ≡ []) }
@@ -43,8 +45,8 @@ pub fn write_gathered<W: Write>(writer: &mut W, replies: &mut Vec<u8>) -> Result
     Ok(())
 }
 
-/// Writes what is gathered where memory was refused, and answers the fault: want of memory, once all of it is written,
-/// or the writer's.
+/// Writes what is gathered after memory was refused, and returns the fault: that of memory once
+/// everything is written, or the writer's.
 pub fn out_of_memory<W: Write>(writer: &mut W, replies: &mut Vec<u8>) -> ServeFault
     ensures { (len : ℕ) × Appends (W.contents writer.old) (W.contents writer.new) (take len replies.old.items) × Leaves result (drop len replies.old.items) }
 {
@@ -54,12 +56,12 @@ pub fn out_of_memory<W: Write>(writer: &mut W, replies: &mut Vec<u8>) -> ServeFa
     }
 }
 
-/// Writes all of the bytes, or fewer of them from the front on.
+/// Writes all of the bytes. After an error, a prefix of them was written.
 ///
 /// # Errors
 ///
-/// The writer answered an error, or took nothing of what was left. What it took before is a prefix of the bytes, and
-/// not all of them.
+/// Fails if the writer returned an error, or accepted none of the bytes that were left. What it
+/// accepted before is a prefix of the bytes, and not all of them.
 pub fn write_whole<W: Write>(writer: &mut W, bytes: &[u8]) -> Result<(), WriteFault>
     ensures ok { OnOk result (Appends (W.contents writer.old) (W.contents writer.new) bytes.now) }
     ensures err { OnErr result ((len : ℕ) × (len < length bytes.now) × Appends (W.contents writer.old) (W.contents writer.new) (take len bytes.now)) }

@@ -24,7 +24,7 @@ pub record Item : Type 0 where
   pub bytes : List ℕ
   pub task : Task
 
--- a line behind others
+-- lines, with one added after them
 abbrev pub behind : List Item → List ℕ → Task → List Item
 behind items bytes asked = items ++ record { bytes = bytes; task = asked } ∷ []
 
@@ -35,7 +35,7 @@ waiting_of (task.Refuse place session refusal) = waiting.Refused place session r
 waiting_of (task.Statement place session asked) = waiting.Asked place session
 waiting_of _ = waiting.Nothing
 
--- the event that a task asks of the database at a place, if it asks one
+-- the event that a task asks of the database at a place, if it asks for one
 abbrev pub event_at : ℕ → Task → List Event
 event_at place (task.Statement other session asked) = if other == place then event.Statement session asked ∷ [] else []
 event_at place _ = []
@@ -45,7 +45,7 @@ abbrev pub events_at : ℕ → List Item → List Event
 events_at place [] = []
 events_at place (item ∷ items) = event_at place item.task ++ events_at place items
 
--- a task may wait: it is neither a restart, nor asks for totals
+-- whether a task may wait: it is neither a restart, nor asks for totals
 abbrev pub MayWait : Task → Type 0
 MayWait (task.Restart place) = ⊥
 MayWait (task.Statistics place session) = ⊥
@@ -66,7 +66,7 @@ pub record Gathers (databases : ℕ) (held : List Waiting) (parts : List Part) (
   pub waits : held ≡ map (λ item. waiting_of item.task) items
   pub asked : AreAsked parts items
 
--- what waits is of a database that exists
+-- a line that waits is for a database that exists
 abbrev pub IsWithin : ℕ → Waiting → Type 0
 IsWithin databases (waiting.Refused place session refusal) = place < databases
 IsWithin databases (waiting.Asked place session) = place < databases
@@ -91,7 +91,7 @@ pub record Runs (states new : List State) (items : List Item) (parts : List Part
   pub each : (place : ℕ) (before after : State) (part : Part) → slice_get states place ≡ Some before → slice_get new place ≡ Some after
       → slice_get parts place ≡ Some part → IsRun before (events_at place items) (reverse part.answers.items) after
 
--- lines were taken, one after another, of each as many bytes as are kept
+-- lines were taken, one after another; of each, no more bytes are kept than of any line
 abbrev pub TakesLines : List (List ℕ) → Option (List ℕ) → Option (List ℕ) → Type 0
 TakesLines [] bytes rest = rest ≡ bytes
 TakesLines (kept ∷ more) bytes rest = (mid : Option (List ℕ)) × (length kept ≤ MAX_LINE + 1) × TakesLine true bytes mid kept × TakesLines more mid rest
@@ -101,7 +101,7 @@ abbrev pub IsLast : ℕ → Option Task → List (List ℕ) → Type 0
 IsLast databases None last = last ≡ []
 IsLast databases (Some asked) last = (bytes : List ℕ) × (last ≡ bytes ∷ []) × IsTask databases bytes asked
 
--- behind a line that was taken, lines in hand were taken: they wait in a batch, but for the last one where it may not
+-- after a line that was taken, lines in hand were taken: they wait in a batch, except the last one if it may not wait
 pub record GathersLines (databases : ℕ) (first unread rest : List ℕ) (waits : List Waiting) (parts : List Part) (alone : Option Task) : Type 0 where
   pub short : length first ≤ MAX_LINE + 1
   pub items : List Item
@@ -113,7 +113,7 @@ pub record GathersLines (databases : ℕ) (first unread rest : List ℕ) (waits 
   pub taken : (rem : Option (List ℕ)) → TakesLines lines (left unread rem) (left rest rem)
   pub fewer : length lines + length rest ≤ length unread
 
--- there is room for a short reply to each line that waits, and to the one that may not
+-- there is room for a short reply to each line that waits, and to the one that may not wait
 abbrev pub HasRoom : Option Task → ℕ → ℕ → ℕ → Type 0
 HasRoom None waits len capacity = len + MAX_SHORT * waits ≤ capacity
 HasRoom (Some asked) waits len capacity = len + MAX_SHORT * (waits + 1) ≤ capacity

@@ -6,7 +6,7 @@ use Rattle.escrow_rows.specs.Answers.{IsUsable}
 use Rattle.escrow_core.specs.Seen.{Seen}
 use Rattle.escrow_core.specs.Serves.{AreHeldOf}
 
--- what a crash leaves of a database whose store can be used: the tables and the rows of its state, and nothing else
+-- what a crash leaves of a database whose store can be used: exactly the tables and the rows of its state
 abbrev pub LeavesItsRows : {S : Type 0} → Ghosts S → Seen S → Type 0
 LeavesItsRows g database =
     IsUsable (state g database.store) → (trees : Trees) → (state g database.store).may_leave trees → AreHeldOf database.state trees

@@ -24,7 +24,7 @@ use Rattle.escrow_script.specs.declared.limits.TheConstants.{MAX_SCRIPT}
 use Rattle.escrow_script.specs.Written.{fault_refusal, no_line_text, Leaves}
 use Rattle.escrow_script.specs.Line.{Reading, nothing, join, restart, statement, no_line, database_name, Reads, lines_of}
 
--- the state in a database, as contracts show it
+-- the state of a database, as contracts see it
 abbrev pub state_in : {S : Type 0} → Seen S → State
 state_in database = database.state
 
@@ -32,30 +32,30 @@ state_in database = database.state
 abbrev pub states_of : {S : Type 0} → List (Seen S) → List State
 states_of databases = map state_in databases
 
--- the disk of each database's store has returned what was written
+-- the disk of each database's store returned what was written
 abbrev pub HaveCleanDisks : {S : Type 0} → Ghosts S → List (Seen S) → Type 0
 HaveCleanDisks g databases = AllByRecursion (λ database. HasCleanDisk (state g database.store)) databases
 
--- a text is a statement, and its answer is the machine's step or its refusal
+-- a text is a statement, and its reply is the machine's step or its refusal
 abbrev pub IsServed : State → ℕ → List ℕ → Reply → State → Type 0
 IsServed s session text answer new =
     (asked : Statement) × Asks text (request.Statement asked) × StepOrRefusal s session asked answer new
 
--- A text is none, and is refused with the column of its first fault; or it is refused for memory, as
--- any text may be, since reading it takes memory. Nothing changes.
+-- A text is no statement, and is refused with the column of its first fault. Or it is refused for memory, as any text
+-- may be, since reading it takes memory. Nothing changes.
 abbrev pub IsRefused : State → List ℕ → Reply → State → Type 0
 IsRefused s text answer new = (f : ParseFault) × IsFaultIn text f × (answer ≡ reply.Refused (fault_refusal f)) × (new ≡ s)
 
--- the answer to a text of a session, and the state after it: the machine's step or what may come in its place, where
--- the text is a statement; 11 with the column of its first fault, where it asks nothing; or 51 for want of memory to
--- read it
+-- the reply to a text of a session, and the state after it. If the text is a statement, it is the machine's step, or
+-- what may happen instead. If the text asks nothing, it is 11 with the column of its first fault. It is 51 if memory to
+-- read the text is refused
 abbrev pub Answers : State → ℕ → List ℕ → Reply → State → Type 0
 Answers s session text answer new = IsServed s session text answer new ⊎ IsRefused s text answer new
 
 -- WHAT A SCRIPT'S LINES DO
 
--- A database in a script: its state, and what its sessions were answered, in order, each reply with its
--- session, since the script began or the database was last restarted.
+-- A database in a script: its state, and the replies to its sessions, in order, each with its session, since the script
+-- began or the database was last restarted.
 pub record Sitting : Type 0 where
   pub state : State
   pub answered : List (ℕ × Reply)
@@ -64,11 +64,11 @@ pub record Sitting : Type 0 where
 abbrev pub begun : State → Sitting
 begun s = record { state = s; answered = [] }
 
--- what one session was answered
+-- the replies to one session
 abbrev pub replies_to : ℕ → List (ℕ × Reply) → List Reply
 replies_to session answered = map (λ given. given.1) (filter (λ given. given.0 == session) answered)
 
--- what was answered before counts no more where a database was restarted
+-- after a restart of the database, earlier replies no longer count
 abbrev pub answered_after : Reply → List (ℕ × Reply) → List (ℕ × Reply)
 answered_after reply.Restarted answered = []
 answered_after _ answered = answered
@@ -79,13 +79,13 @@ Restarts name sitting out new =
     (answer : Reply) × (after : State) × machine.IsServed sitting.state event.Restart answer after
     × (out ≡ rendered_whole name answer) × (new ≡ record { state = after; answered = answered_after answer sitting.answered })
 
--- the text of a session prints its answer, which is one more that the session was given
+-- the text of a session prints its reply, which is added to those of the session
 abbrev pub PrintsAnswer : List ℕ → Sitting → ℕ → List ℕ → List ℕ → Sitting → Type 0
 PrintsAnswer name sitting session text out new =
     (answer : Reply) × (after : State) × Answers sitting.state session text answer after
     × (out ≡ rendered name session answer) × (new ≡ record { state = after; answered = sitting.answered ++ (session, answer) ∷ [] })
 
--- the text of a session asks totals: it prints those of what its session was answered, and nothing changes
+-- the text of a session asks for totals: it prints those of the replies to its session, and nothing changes
 abbrev pub PrintsTotals : List ℕ → Sitting → ℕ → List ℕ → List ℕ → Sitting → Type 0
 PrintsTotals name sitting session text out new =
     Asks text request.Statistics × (out ≡ rendered_totals name session (tally_of (replies_to session sitting.answered))) × (new ≡ sitting)
@@ -94,8 +94,8 @@ PrintsTotals name sitting session text out new =
 abbrev pub PrintsText : List ℕ → Sitting → ℕ → List ℕ → List ℕ → Sitting → Type 0
 PrintsText name sitting session text out new = PrintsAnswer name sitting session text out new ⊎ PrintsTotals name sitting session text out new
 
--- what a line writes, and the sittings of the databases after it: a restart and a statement are those of the
--- database at its place, and the others stay
+-- what a line writes, and the sittings of the databases after it: a restart and a statement affect the database at
+-- their place, and the others stay as they are
 abbrev pub ServesLine : List Sitting → Reading → List ℕ → List Sitting → Type 0
 ServesLine sittings nothing out new = (out ≡ []) × (new ≡ sittings)
 ServesLine sittings join out new = (out ≡ []) × (new ≡ sittings)
@@ -123,18 +123,18 @@ abbrev pub WritesLines : List State → List (List ℕ) → List ℕ → List St
 WritesLines states lines out new =
     (end : List Sitting) × ServesLines (map begun states) lines out end × (new ≡ map (λ sitting. sitting.state) end)
 
--- THE OUTPUT OF A SCRIPT: what it writes from the databases' states, when no session was answered yet, and the states
+-- THE OUTPUT OF A SCRIPT: what it writes from the databases' states, with no replies to any session yet, and the states
 -- after it
 abbrev pub Output : List ℕ → List State → List ℕ → List State → Type 0
 Output script states out new = WritesLines states (lines_of script) out new
 
--- all of the lines were served, however many they are: their output was written
+-- all of the lines were served, however many they are, and their output was written
 pub record ServesAll (script : List ℕ) (states new : List State) (old_bytes new_bytes : Option (List ℕ)) : Type 0 where
   pub out : List ℕ
   pub output : Output script states out new
   pub appends : Appends old_bytes new_bytes out
 
--- the script was served whole: it is no longer than a script may be, and its output was written
+-- the whole script was served: it is no longer than a script may be, and its output was written
 pub record ServesWhole (script : List ℕ) (states new : List State) (old_bytes new_bytes : Option (List ℕ)) : Type 0 where
   pub limit : length script ≤ MAX_SCRIPT
   pub out : List ℕ

@@ -8,7 +8,7 @@ use Rattle.escrow_script.specs.Written.{fault_refusal}
 use Rattle.escrow_serve.specs.declared.task.Task.{Task}
 use Rattle.escrow_serve.specs.declared.task.Task.TheVariants as task
 
--- what the bytes of a line ask of so many databases
+-- what the bytes of a line ask, with this many databases
 abbrev pub IsTask : ℕ → List ℕ → Task → Type 0
 IsTask databases bytes task.Nothing = Reads databases bytes nothing ⊎ Reads databases bytes join
 IsTask databases bytes task.NoLine = Reads databases bytes no_line

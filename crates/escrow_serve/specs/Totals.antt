@@ -1,4 +1,4 @@
--- Helps: the totals that are kept while a script is served, and the sittings that they are of.
+-- Helps: the totals that are kept while a script is served, and the sittings to which they belong.
 use Rattle.std.specs.Prelude.{◌≡◌, ℕ, ◌+◌, ◌-◌, ◌^◌, ◌<◌, ◌≤◌, Some, List, [], ◌∷◌, length, replicate, slice_get}
 use Rattle.escrow_num.specs.Session.{IsSession}
 use Rattle.escrow_machine.specs.declared.reply.Reply.{Reply}
@@ -18,7 +18,7 @@ abbrev pub totals_after : Reply → Totals → Totals
 totals_after reply.Restarted totals = no_totals
 totals_after _ totals = totals
 
--- the totals of each session are those of what it was answered, and all sessions were answered so many times at most
+-- the totals of each session are those of the replies to it, and all sessions together got at most this many replies
 pub record AreTotals (totals : Totals) (answered : List (ℕ × Reply)) (most : ℕ) : Type 0 where
   pub each : (session : ℕ) → IsSession session → slice_get totals.tallies (session - 1) ≡ Some (tally_of (replies_to session answered))
   pub few : length answered ≤ most
@@ -28,14 +28,14 @@ pub record Sits (state : State) (totals : Totals) (sitting : Sitting) (most : �
   pub is_state : sitting.state ≡ state
   pub are_totals : AreTotals totals sitting.answered most
 
--- so are those of all databases
+-- the states and the totals of all databases are too
 abbrev pub AllSit : List State → List Totals → List Sitting → ℕ → Type 0
 AllSit [] [] [] most = Unit {0}
 AllSit (state ∷ states) (totals ∷ others) (sitting ∷ sittings) most = Sits state totals sitting most × AllSit states others sittings most
 AllSit _ _ _ most = ⊥
 
 -- what a text prints and leaves of a database, whichever sitting it had, as long as fewer replies were given than a
--- total counts
+-- total can count
 abbrev pub TextServed : List ℕ → State → Totals → ℕ → List ℕ → List ℕ → State → Totals → Type 0
 TextServed name state totals session text out new_state new_totals =
     (sitting : Sitting) (most : ℕ) → Sits state totals sitting most → most < 2 ^ 64 - 1

@@ -25,8 +25,8 @@ use escrow_stats::Tally;
 use sqlite::Alter;
 use std::alloc::{AllocError, Global};
 
-/// Serves what a line asks by itself, and gathers the lines of its reply, of which there may be none. There is room
-/// for a short one.
+/// Serves what a line asks, by itself, and gathers the lines of its reply, if it has one. There
+/// must be room for a short one.
 pub(crate) fn serve_task<S: Alter>(
     alloc: Global,
     databases: &mut Vec<Database<S>>,
@@ -84,7 +84,7 @@ pub(crate) fn serve_task<S: Alter>(
     }
 }
 
-/// Restarts a database, and answers its reply.
+/// Restarts a database, and returns its reply.
 fn restart<S: Alter>(alloc: Global, database: &mut Database<S>, totals: &mut Totals) -> Reply
     ensures served { HasCleanDisk (state S.Store database.new.store) → IsServed database.old.state Event.Restart result database.new.state }
     ensures totals { totals.new ≡ totals_after result totals.old }
@@ -98,7 +98,7 @@ fn restart<S: Alter>(alloc: Global, database: &mut Database<S>, totals: &mut Tot
     Reply::to_restart(outcome)
 }
 
-/// Serves a statement, and gathers the lines of its reply. There is room for a short one.
+/// Serves a statement, and gathers the lines of its reply. There must be room for a short one.
 fn serve_statement<S: Alter>(
     alloc: Global,
     name: &str,
@@ -119,7 +119,8 @@ fn serve_statement<S: Alter>(
     totals.count(session, &given);
 }
 
-/// Gathers the lines of a session's totals; want of memory is a reply that counts. There is room for a short one.
+/// Gathers the lines of a session's totals. If memory is refused, the reply says so, and counts.
+/// There must be room for a short one.
 fn show_totals(
     alloc: Global,
     name: &str,
@@ -142,8 +143,8 @@ fn show_totals(
     }
 }
 
-/// Gathers the lines of a reply, and answers the reply that was given: a query is refused where its lines can't be
-/// had for want of memory. There is room for any other reply.
+/// Gathers the lines of a reply, and returns the reply that was given: a query is refused if memory
+/// for its lines is refused. There must be room for any other reply.
 fn give(alloc: Global, name: &str, session: Session, reply: Reply, replies: &mut Vec<u8>) -> Reply
     requires front { length name.now ≤ MAX_FRONT }
     requires room { vec_len replies.old + MAX_SHORT ≤ vec_capacity replies.old }
@@ -164,7 +165,8 @@ fn give(alloc: Global, name: &str, session: Session, reply: Reply, replies: &mut
     }
 }
 
-/// Gathers the lines of a reply, for which memory is taken. Where it is refused, there is as much room as before.
+/// Gathers the lines of a reply, for which it takes memory. If memory is refused, there is as much
+/// room as before.
 fn gather_shown(
     alloc: Global,
     name: &str,
@@ -180,7 +182,8 @@ fn gather_shown(
     gather(replies, lines)
 }
 
-/// Gathers the lines of totals, for which memory is taken. Where it is refused, there is as much room as before.
+/// Gathers the lines of totals, for which it takes memory. If memory is refused, there is as much
+/// room as before.
 fn gather_totals(
     alloc: Global,
     name: &str,

@@ -24,7 +24,7 @@ pub(crate) struct Batch {
 }
 
 impl Batch {
-    /// No line waits, for so many databases.
+    /// Returns a batch without lines, for this many databases.
     pub(crate) fn new(alloc: Global, databases: usize) -> Result<Batch, AllocError>
         ensures { IfOk result (λ batch. Gathers databases batch.waiting.items batch.parts.items []) }
     {
@@ -38,14 +38,15 @@ impl Batch {
         })
     }
 
-    /// How many lines wait.
+    /// Returns how many lines wait.
     pub(crate) fn len(&self) -> usize
         ensures { result ≡ vec_len self.now.waiting }
     {
         self.waiting.len()
     }
 
-    /// Lets a line wait, if what it asks may, and there is memory for it; else gives back what it asks.
+    /// Adds a line to those that wait, if its task may wait and there is memory for it; else
+    /// returns the task.
     pub(crate) fn admit(&mut self, task: Task) -> Option<Task>
         requires { (bytes : List ℕ) × IsTask (vec_len self.old.parts) bytes task }
         ensures waits { IfNone result ((databases : ℕ) (bytes : List ℕ) (items : List Item) → IsTask databases bytes task
@@ -69,8 +70,8 @@ impl Batch {
         }
     }
 
-    /// Asks its database what a line asks, if it may wait, and returns what the line waits for; else gives back what
-    /// it asks.
+    /// Asks the database of a task, if it may wait, and returns what the line waits for; else
+    /// returns the task.
     fn ask(&mut self, task: Task) -> Result<Waiting, Task>
         requires { (bytes : List ℕ) × IsTask (vec_len self.old.parts) bytes task }
         ensures waits { IfOk result (λ waiting. (waiting ≡ waiting_of task) × MayWait task × ((bytes : List ℕ) (items : List Item)
@@ -108,8 +109,8 @@ impl Batch {
         }
     }
 
-    /// Serves the lines that wait, and gathers their replies in the script's order. There is room for a short reply to
-    /// each.
+    /// Serves the lines that wait, and gathers their replies in the script's order. There must be
+    /// room for a short reply to each.
     pub(crate) fn serve<S: Alter>(
         &mut self,
         alloc: Global,

@@ -1,8 +1,11 @@
-//! Scripts as databases serve them, line after line.
+//! Serves scripts line after line.
 //!
-//! Its one contract: what [`serve_script`] and [`serve_lines`] write, and the states of the databases
-//! after it, are those of the lines, served one after another by the machine. A script has a limit, and
-//! lines that come until their reader ends have none that is met.
+//! Its main contract is that of [`serve_script`] and [`serve_lines`]: their output, and the states
+//! of the databases afterwards, are those of the lines, served one after another by the machine. A
+//! script has a limit. Lines that are served until their reader ends have a limit that is never
+//! reached.
+//!
+//! Begin with [`serve_script`]. The meaning of its output is in specs/Output.antt.
 #![tactic(auto)]
 
 mod alone;

@@ -6,12 +6,12 @@ use escrow_sql::Statement;
 use sqlite::Alter;
 use std::alloc::{AllocError, Global};
 
-/// What a batch asks of one database, and what it was answered.
+/// What a batch asks of one database, and the replies.
 #[derive(Drop)]
 pub(crate) struct Part {
     /// The statements that wait, in order.
     events: Vec<Event>,
-    /// The replies that are left to give, the next one last.
+    /// The replies that are left to return, the next one last.
     answers: Vec<Reply>,
     ghost room: { vec_len answers + vec_len events ≤ vec_capacity answers },
 }
@@ -21,7 +21,7 @@ impl Part {
     ghost use Rattle.sqlite.specs.State.{HasCleanDisk};
     ghost use Rattle.escrow_serve.specs.Batch.{HasRun};
 
-    /// Nothing is asked.
+    /// Returns a part that asks nothing.
     pub(crate) fn new(alloc: Global) -> Part
         ensures { result.events.items ≡ [] }
     {
@@ -31,7 +31,8 @@ impl Part {
         }
     }
 
-    /// Lets a statement wait, if it may, and there is memory for it and its reply; else gives it back.
+    /// Adds a statement to those that wait, if it may wait and there is memory for it and its
+    /// reply; else returns the statement.
     pub(crate) fn ask(&mut self, session: Session, statement: Statement) -> Result<(), Statement>
         ensures asked { OnOk result (self.new.events.items ≡ self.old.events.items ++ Event.Statement session statement ∷ []) }
         ensures same { OnErr result (self.new.events.items ≡ self.old.events.items) }
@@ -79,7 +80,8 @@ impl Part {
     }
 }
 
-/// Whether a statement may wait for others: its reply is always short, and grouping it with others saves a write.
+/// Returns whether a statement may wait for others: its reply is always short, and serving it
+/// together with others saves a write.
 fn may_wait(statement: &Statement) -> bool {
     matches!(
         statement,

@@ -22,18 +22,19 @@ use sqlite::Alter;
 use std::alloc::Global;
 use std::io::{Read, Write};
 
-/// How many lines wait at most to be served together.
+/// The most lines that wait to be served together.
 const MOST_WAITING: usize = 256;
 
-/// Serves a script: reads its lines in order, and serves each in the database that it names. Lines in hand are
-/// served together, so that their COMMITs can share a write. Replies are gathered while the next line is in hand,
-/// and written before the reader is asked for more, so that whoever waits for a reply has it. There are 1 to 16
-/// databases. SHOW STATISTICS shows what its session was answered in this call, since the last restart of its
-/// database.
+/// Serves a script: reads its lines in order, and serves each in the database that it names. Lines
+/// that are in hand are served together, so that their COMMITs can share a write. Replies are
+/// gathered while the next line is in hand, and written before the reader is called again, so a
+/// client that waits for a reply gets it. There must be 1 to 16 databases. SHOW STATISTICS shows
+/// the totals of its session in this call, since the last restart of its database.
 ///
-/// After a fault the lines served so far stand in the databases, and all of their replies were written,
-/// unless the writer failed: then a prefix of them. A line is served only once there is room for a short reply,
-/// as any is but a query's; a query whose lines can't be had for want of memory is answered 51.
+/// After a fault, the databases have the lines that were served so far, and all their replies were
+/// written. If the writer failed, a prefix of the replies was written. A line is served only if
+/// there is room for a short reply. All replies are short but those to queries. If memory for a
+/// query's lines is refused, the reply is 51.
 pub fn serve_script<S: Alter, R: Read, W: Write>(
     alloc: Global,
     databases: &mut Vec<Database<S>>,
@@ -43,21 +44,23 @@ pub fn serve_script<S: Alter, R: Read, W: Write>(
     requires some { 1 ≤ vec_len databases.old }
     requires few { vec_len databases.old ≤ MAX_DATABASES }
 
-    // Where each disk has returned what was written, the output and the states after it are those of the
-    // script, all of which was read, also where a fault has shut a store.
+    // If each disk returned what was written, the output and the states after it are those of the
+    // script, all of which was read. This holds even if a fault has shut a store.
     ensures output { HaveCleanDisks S.Store databases.new.items → OnOk result (IfSome (R.remaining reader.old) (λ script.
         ServesWhole script (states_of databases.old.items) (states_of databases.new.items) (W.contents writer.old) (W.contents writer.new))) }
     ensures end { OnOk result (IfSome (R.remaining reader.old) (λ script. IsAtEnd (R.remaining reader.new))) }
 
-    // After a fault some lines were served, and their output was written, or a prefix of it where the writer failed.
+    // After a fault some lines were served, and their output was written, or a prefix of it if the
+    // writer failed.
     ensures fault { HaveCleanDisks S.Store databases.new.items → IfErr result (λ fault. IfSome (R.remaining reader.old) (λ script.
         StopsWithin fault script (states_of databases.old.items) (states_of databases.new.items) (W.contents writer.old) (W.contents writer.new))) }
 
-    // A disk that has returned what was written had done so before.
+    // If each disk has returned what was written by the end of the call, it had before the call
+    // too.
     ensures clean { HaveCleanDisks S.Store databases.new.items → HaveCleanDisks S.Store databases.old.items }
 
-    // However the call ends, a crash leaves just the tables and the rows of the states after it, where stores can be
-    // used.
+    // However the call ends, a crash leaves exactly the tables and rows of the states after it, in
+    // each store that can be used.
     ensures on_disk { AllByRecursion (LeavesItsRows S.Store) databases.new.items }
 {
     let served = serve_from(alloc, Limit::Script, databases, reader, writer);
@@ -65,7 +68,7 @@ pub fn serve_script<S: Alter, R: Read, W: Write>(
     served
 }
 
-/// Serves lines as [`serve_script`] does, until their reader is at its end, however many they are.
+/// Serves lines as [`serve_script`] does, but until their reader ends, however many they are.
 pub fn serve_lines<S: Alter, R: Read, W: Write>(
     alloc: Global,
     databases: &mut Vec<Database<S>>,
@@ -75,21 +78,23 @@ pub fn serve_lines<S: Alter, R: Read, W: Write>(
     requires some { 1 ≤ vec_len databases.old }
     requires few { vec_len databases.old ≤ MAX_DATABASES }
 
-    // Where each disk has returned what was written, the output and the states after it are those of all
-    // lines, all of which were read, also where a fault has shut a store.
+    // If each disk returned what was written, the output and the states after it are those of all
+    // lines, all of which were read. This holds even if a fault has shut a store.
     ensures output { HaveCleanDisks S.Store databases.new.items → OnOk result (IfSome (R.remaining reader.old) (λ script.
         ServesAll script (states_of databases.old.items) (states_of databases.new.items) (W.contents writer.old) (W.contents writer.new))) }
     ensures end { OnOk result (IfSome (R.remaining reader.old) (λ script. IsAtEnd (R.remaining reader.new))) }
 
-    // After a fault some lines were served, and their output was written, or a prefix of it where the writer failed.
+    // After a fault some lines were served, and their output was written, or a prefix of it if the
+    // writer failed.
     ensures fault { HaveCleanDisks S.Store databases.new.items → IfErr result (λ fault. IfSome (R.remaining reader.old) (λ script.
         StopsWithin fault script (states_of databases.old.items) (states_of databases.new.items) (W.contents writer.old) (W.contents writer.new))) }
 
-    // A disk that has returned what was written had done so before.
+    // If each disk has returned what was written by the end of the call, it had before the call
+    // too.
     ensures clean { HaveCleanDisks S.Store databases.new.items → HaveCleanDisks S.Store databases.old.items }
 
-    // However the call ends, a crash leaves just the tables and the rows of the states after it, where stores can be
-    // used.
+    // However the call ends, a crash leaves exactly the tables and rows of the states after it, in
+    // each store that can be used.
     ensures on_disk { AllByRecursion (LeavesItsRows S.Store) databases.new.items }
 {
     let served = serve_from(alloc, Limit::Stream, databases, reader, writer);
@@ -97,7 +102,7 @@ pub fn serve_lines<S: Alter, R: Read, W: Write>(
     served
 }
 
-/// Serves lines, of which no more is read than a limit allows, as [`serve_script`] does.
+/// Serves lines as [`serve_script`] does, but reads no more of them than a limit allows.
 fn serve_from<S: Alter, R: Read, W: Write>(
     alloc: Global,
     limit: Limit,
@@ -133,7 +138,8 @@ fn serve_from<S: Alter, R: Read, W: Write>(
     Ok(())
 }
 
-/// Shows that a crash leaves just its tables and its rows of each database whose store can be used.
+/// Shows that, for each database whose store can be used, a crash leaves exactly its tables and its
+/// rows.
 fn see_left<S: Alter>(databases: &[Database<S>])
     ensures { AllByRecursion (LeavesItsRows S.Store) databases.now }
 {
@@ -142,8 +148,9 @@ fn see_left<S: Alter>(databases: &[Database<S>])
     }
 }
 
-/// Takes the next line, with room for a short reply to it, and answers whether there was one. Where memory is
-/// refused what is gathered is written first, and a line that was taken isn't to be served.
+/// Takes the next line, with room for a short reply to it, and returns whether there was one. If
+/// memory is refused, what is gathered is written first, and a line that was taken must not be
+/// served.
 fn take_line<R: Read, W: Write>(
     script: &mut Script,
     reader: &mut R,
@@ -176,8 +183,8 @@ fn take_line<R: Read, W: Write>(
     }
 }
 
-/// Serves the line that was taken last, and those in hand behind it that may be served together with it, and gathers
-/// the lines of their replies. There is room for a short reply to the first.
+/// Serves the line that was taken last and those in hand after it that may be served with it, and
+/// gathers the lines of their replies. There must be room for a short reply to the first.
 fn serve_in_hand<S: Alter>(
     alloc: Global,
     databases: &mut Vec<Database<S>>,
@@ -214,7 +221,8 @@ fn serve_in_hand<S: Alter>(
     }
 }
 
-/// Serves one line by itself, and gathers the lines of its reply. There is room for a short one.
+/// Serves one line by itself, and gathers the lines of its reply. There must be room for a short
+/// one.
 fn serve_line<S: Alter>(
     alloc: Global,
     databases: &mut Vec<Database<S>>,
@@ -235,8 +243,9 @@ fn serve_line<S: Alter>(
     serve_task(alloc, databases, totals, task, replies);
 }
 
-/// Lets the line that was taken last wait, and those in hand behind it, up to the first that may not: it is taken too,
-/// and what it asks is returned. There is room for a short reply to each.
+/// Adds the line that was taken last, and those in hand after it, to those that wait, up to the
+/// first that may not wait. That line is taken too, and its task is returned. There must be room
+/// for a short reply to each.
 fn gather_lines(
     alloc: Global,
     databases: usize,

@@ -13,7 +13,7 @@ pub(crate) enum Task {
     Nothing,
     /// It is no line of a script, and is refused.
     NoLine,
-    /// A database is restarted.
+    /// A database is to be restarted.
     Restart {
         /// The place of the database, from 0.
         database: usize,
@@ -24,20 +24,20 @@ pub(crate) enum Task {
         session: Session,
         refusal: Refusal,
     },
-    /// A statement is served.
+    /// A statement is to be served.
     Statement {
         database: usize,
         session: Session,
         statement: Statement,
     },
-    /// The totals of the session are shown.
+    /// The totals of the session are to be shown.
     Statistics {
         database: usize,
         session: Session,
     },
 }
 
-/// Parses a line, for so many databases.
+/// Parses a line, with this many databases.
 pub(crate) fn read_task(alloc: Global, databases: usize, line: &[u8]) -> Task
     requires { databases ≤ MAX_DATABASES }
     ensures { IsTask databases line.now result }

@@ -17,12 +17,12 @@ const SESSIONS: usize = Session::MAX as usize;
 /// restarted.
 #[derive(Clone, Copy)]
 pub(crate) struct Totals {
-    /// That of session 1 first.
+    /// The totals of session 1 come first.
     tallies: [Tally; SESSIONS],
 }
 
 impl Totals {
-    /// The totals of a database whose sessions were answered nothing.
+    /// Returns the totals of a database whose sessions got no reply yet.
     pub(crate) fn new() -> Self
         ensures { result ≡ no_totals }
     {
@@ -31,14 +31,14 @@ impl Totals {
         }
     }
 
-    /// The totals of a session.
+    /// Returns the totals of a session.
     pub(crate) fn of(&self, session: Session) -> Tally
         ensures { (answered : List (ℕ × Reply)) (most : ℕ) → AreTotals self.now answered most → result ≡ tally_of (replies_to session answered) }
     {
         self.tallies[place_of(session)]
     }
 
-    /// Counts a reply that a session was given.
+    /// Counts a reply to a session.
     pub(crate) fn count(&mut self, session: Session, reply: &Reply)
         ensures { (answered : List (ℕ × Reply)) (most : ℕ) → AreTotals self.old answered most → most < 2 ^ 64 - 1
             → AreTotals self.new (answered ++ (session, reply.now) ∷ []) (most + 1) }
@@ -49,14 +49,14 @@ impl Totals {
     }
 }
 
-/// The totals of so many databases whose sessions were answered nothing.
+/// Returns the totals of this many databases whose sessions got no reply yet.
 pub(crate) fn totals_of(alloc: Global, databases: usize) -> Result<Vec<Totals>, AllocError>
     ensures { IfOk result (λ totals. totals.items ≡ replicate databases no_totals) }
 {
     vec![in alloc; Totals::new(); databases]
 }
 
-/// Where the totals of a session stand among those of all.
+/// Returns the place of a session's totals among those of all.
 fn place_of(session: Session) -> usize
     ensures value { result ≡ session - 1 }
     ensures within { result < SESSIONS }

@@ -25,14 +25,14 @@ pub(crate) enum Waiting {
         session: Session,
         refusal: Refusal,
     },
-    /// Its statement is served, and has the next reply of its database.
+    /// Its statement will be served, and has the next reply of its database.
     Asked {
         database: usize,
         session: Session,
     },
 }
 
-/// Gathers the replies to lines that wait, in order. There is room for a short one to each.
+/// Gathers the replies to lines that wait, in order. There must be room for a short one to each.
 pub(crate) fn give_all(
     waiting: &[Waiting],
     parts: &mut Vec<Part>,
@@ -58,7 +58,7 @@ pub(crate) fn give_all(
     }
 }
 
-/// Gathers the reply to a line that waits, if it has one. There is room for a short one.
+/// Gathers the reply to a line that waits, if it has one. There must be room for a short one.
 fn give(waiting: Waiting, parts: &mut Vec<Part>, totals: &mut Vec<Totals>, replies: &mut Vec<u8>)
     requires few { vec_len parts.old ≤ MAX_DATABASES }
     requires each { vec_len totals.old ≡ vec_len parts.old }
@@ -106,7 +106,8 @@ fn give(waiting: Waiting, parts: &mut Vec<Part>, totals: &mut Vec<Totals>, repli
     }
 }
 
-/// Gathers a short reply, for which there is room, and counts it. A longer one would take memory, and is refused for it.
+/// Gathers a short reply, for which there must be room, and counts it. A longer one would take
+/// memory, and is refused for it.
 pub(crate) fn give_short(
     name: &str,
     session: Session,

@@ -16,17 +16,17 @@ use Rattle.escrow_free.specs.Histories.{AreHistories}
 abbrev pub HoldCleanDisks : {S : Type 0} → Ghosts S → Type 0
 HoldCleanDisks {S} g = (store : Held S) → HasCleanDisk (state g store)
 
--- a history is a run of the machine from a state to some other, its entries numbered from 1
+-- a history is a run of the machine from a state to some other state, and its entries are numbered from 1
 abbrev pub RunsFrom : State → List Entry → Type 0
 RunsFrom s entries = (end : State) × AreSteps s entries end × AreNumbered 0 entries
 
--- so many histories as states, each a run from the state at its place
+-- as many histories as states, each a run from the state at its place
 pub record AreRuns (states : List State) (histories : List (List Entry)) : Type 0 where
   pub count : length histories ≡ length states
   pub each : (place : ℕ) (s : State) (entries : List Entry) → slice_get states place ≡ Some s → slice_get histories place ≡ Some entries → RunsFrom s entries
 
--- THE OUTPUT OF A SCRIPT whose sessions run at the same time: there are histories, each a run of the machine from the
--- state of its database, and what was written is what the script's lines write of them
+-- THE OUTPUT OF A SCRIPT whose sessions run at the same time. There are histories, each a run of the machine from the
+-- state of its database, and the output is what the script's lines write according to them.
 abbrev pub RunsFree : List ℕ → List State → Option (List ℕ) → Option (List ℕ) → Type 0
 RunsFree script states old_bytes new_bytes =
     (histories : List (List Entry)) × AreRuns states histories × ServesFree script histories old_bytes new_bytes
@@ -35,6 +35,6 @@ RunsFree script states old_bytes new_bytes =
 abbrev pub ended_of : {S : Type 0} → Closing S → Seen S
 ended_of c = record { store = c.history.store; state = c.history.state }
 
--- Databases were handed back, each at the place where it was handed in, as its history ends there.
+-- Databases were handed back, each at the place where it was handed in, as its history ends.
 abbrev pub AreEnded : {S : Type 0} → Ghosts S → List (Seen S) → List (Seen S) → Type 0
 AreEnded {S} g old new = (parts : List (Piece S)) × (closed : List (Closing S)) × AreHistories g old parts closed × (new ≡ map ended_of closed)

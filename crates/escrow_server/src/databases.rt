@@ -14,8 +14,8 @@ use escrow_script::{MAX_DATABASES, database_name};
 use sqlite::{Alter, Connection, File, FileStore};
 use std::alloc::Global;
 
-/// Opens so many databases, each over the store at its place, one after another, and notes where their files
-/// are. Those that were opened before one that can't be are left in `databases`.
+/// Opens this many databases, one after another, each over the store at its place, and notes where
+/// their files are. If one can't be opened, those opened before it stay in `databases`.
 pub(crate) fn open_databases<S: Alter + Drop, O: OpenStore<S>>(
     alloc: Global,
     stores: &O,
@@ -31,7 +31,7 @@ pub(crate) fn open_databases<S: Alter + Drop, O: OpenStore<S>>(
     ensures most { OnOk result (vec_len databases.new ≤ MAX_DATABASES) }
     ensures kind { IfErr result (λ fault. run_status fault ≡ 3) }
 {
-    // What is opened has to be closed, so room for it is made before.
+    // Each database that is opened must be closed, so room for it is made first.
     let room = usize::from(count);
     let Ok(()) = databases.reserve(room).and(sites.reserve(room)) else {
         return Err(unopened(0, OpenFault::Memory));
@@ -49,7 +49,7 @@ pub(crate) fn open_databases<S: Alter + Drop, O: OpenStore<S>>(
     Ok(())
 }
 
-/// The fault of a store that isn't opened, by its database's place.
+/// Returns the fault of a store that can't be opened, with its database's place.
 fn unopened(place: u8, cause: OpenFault) -> RunFault
     requires { place < MAX_DATABASES }
     ensures { run_status result ≡ 3 }
@@ -61,8 +61,8 @@ fn unopened(place: u8, cause: OpenFault) -> RunFault
     }
 }
 
-/// Opens the database at a place, and notes where its files are. Those of one that is refused are left as they
-/// were.
+/// Opens the database at a place, and notes where its files are. If it is refused, its files are
+/// left as they were.
 fn open_database<S: Alter + Drop, O: OpenStore<S>>(
     alloc: Global,
     stores: &O,
@@ -86,7 +86,7 @@ fn open_database<S: Alter + Drop, O: OpenStore<S>>(
             Ok(database)
         }
         Err((cause, connection)) => {
-            // While its files are open nobody else uses them.
+            // While the database has its files open, nobody else uses them.
             if let Some(site) = &site {
                 stores.put_back(site);
             }
@@ -96,9 +96,9 @@ fn open_database<S: Alter + Drop, O: OpenStore<S>>(
     }
 }
 
-/// The database of what a store holds: its tables and rows, or none where it has no objects. Nothing is
-/// open in it. A store of the format before is brought to the known one, and that is told beside it. Where it
-/// is refused the connection is handed back.
+/// Returns the database over what a store holds: its tables and rows, or no tables if the store has
+/// no objects. Nothing is open in it. A store of the previous format is migrated to the known one,
+/// and the result says so. If the store is refused, the connection is returned.
 fn over<S: Alter + Drop>(
     alloc: Global,
     connection: Connection<S>,
@@ -118,10 +118,10 @@ fn over<S: Alter + Drop>(
     }
 }
 
-/// Why stores aren't closed, by the places of their databases.
+/// Why stores can't be closed, by the places of their databases.
 pub(crate) type Unclosed = [Option<CloseFault>; MAX_DATABASES as usize];
 
-/// Closes the stores of databases, each in its files, and answers why some of them aren't closed.
+/// Closes the stores of databases, each in its files. Returns why some of them can't be closed.
 pub(crate) fn close_databases(
     rt: &HostRuntime,
     mut databases: Vec<Database<FileStore<File>>>,

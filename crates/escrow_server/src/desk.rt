@@ -1,4 +1,4 @@
-//! What the thread is told that shows how far a script is.
+//! What the program tells the thread that shows the progress of a script.
 use crate::screen::{Screen, served_by_all};
 use escrow_free::Audience;
 use escrow_stats::Watcher;
@@ -9,34 +9,35 @@ use std::thread;
 use std::thread::{JoinHandle, Threads};
 use std::time::{Clock, Duration};
 
-/// What a screen is told of a script that is served: who watches its databases, and what the program does.
+/// What the program tells a screen about the script that it serves: the watchers of its databases,
+/// and what the program does.
 #[derive(Drop)]
 pub struct Desk<V> {
     told: Mutex<Told<V>>,
     bell: Condvar,
 }
 
-/// What is told.
+/// What the screen is told.
 #[derive(Drop)]
 pub(crate) struct Told<V> {
-    /// A watcher for each database, in their order, or none before the first phase.
+    /// A watcher for each database, in their order. There are none before the first phase.
     pub(crate) watchers: Vec<V>,
     /// What the program does.
     pub(crate) stage: Stage,
-    /// Whether something stands on the screen.
+    /// Whether something is drawn on the screen.
     pub(crate) is_drawn: bool,
     // How many phases have begun.
     begun: u64,
 }
 
-/// What the program does with a script.
+/// What the program is doing with a script.
 #[derive(Clone, Copy, PartialEq, Eq)]
 pub(crate) enum Stage {
     /// It reads lines, or writes replies.
     Between,
     /// The sessions of a phase are served.
     Phase(Phase),
-    /// Nothing any more.
+    /// The script has ended.
     Over,
 }
 
@@ -52,7 +53,7 @@ pub(crate) struct Phase {
 }
 
 impl<V> Desk<V> {
-    /// Nothing is told.
+    /// Returns a desk that tells nothing yet.
     fn new(alloc: Global) -> Self {
         Desk {
             told: Mutex::new(Told {
@@ -65,7 +66,7 @@ impl<V> Desk<V> {
         }
     }
 
-    /// What is told now. It waits for who has it.
+    /// Returns what the screen is told now. Waits for whoever holds it.
     pub(crate) fn told<P: Wait>(&self, rt: &P) -> MutexGuard<'_, Told<V>> {
         self.told.lock(rt)
     }
@@ -80,7 +81,7 @@ impl<V> Desk<V> {
             .wait_while(rt, told, |told| told.stage == Stage::Between)
     }
 
-    /// Waits while it is at a stage, and so long at most.
+    /// Waits while the program is at a stage, but no longer than this.
     pub(crate) fn wait_at<'a, P: Wait + Clock>(
         &self,
         rt: &P,
@@ -93,13 +94,13 @@ impl<V> Desk<V> {
             .0
     }
 
-    /// Tells that nothing stands on the screen any more.
+    /// Notes that nothing is drawn on the screen any more.
     pub(crate) fn clear(&self, told: &mut Told<V>) {
         told.is_drawn = false;
         self.bell.notify_one();
     }
 
-    /// Tells that no phase is served, and waits until nothing stands on the screen.
+    /// Notes that no phase is being served, and waits until nothing is drawn on the screen.
     fn leave<P: Wait>(&self, rt: &P, stage: Stage) {
         let mut told = self.told(rt);
         told.stage = stage;
@@ -109,7 +110,7 @@ impl<V> Desk<V> {
 }
 
 impl<S: Alter> Desk<Watcher<S>> {
-    /// Tells that the next phase is served, which has so many statements.
+    /// Notes that the next phase is being served, with this many statements.
     fn begin<P: Wait>(&self, rt: &P, statements: usize) {
         let mut told = self.told(rt);
         let number = told.begun.wrapping_add(1);
@@ -124,7 +125,7 @@ impl<S: Alter> Desk<Watcher<S>> {
     }
 }
 
-/// A thread that shows how far a script is, and the desk that tells it.
+/// A thread that shows the progress of a script, and the desk that tells it.
 #[derive(Drop)]
 pub(crate) struct Shower<'a, V, T> {
     rt: &'a T,
@@ -133,7 +134,7 @@ pub(crate) struct Shower<'a, V, T> {
 }
 
 impl<V: Drop, T: Threads + Wait> Shower<'_, V, T> {
-    /// Tells the thread that all is over, and waits for it.
+    /// Tells the thread that the script has ended, and waits for the thread to end.
     pub(crate) fn stop(self) {
         let Shower { rt, desk, thread } = self;
         desk.leave(rt, Stage::Over);
@@ -155,8 +156,8 @@ impl<S: Alter + Drop, T: Threads + Wait> Audience<Watcher<S>> for Shower<'_, Wat
     }
 }
 
-/// Starts a thread that shows on a screen how far a script is, unless there is no screen, or memory or
-/// the thread isn't had.
+/// Starts a thread that shows the progress of a script on a screen. Starts none if there is no
+/// screen, or if memory or the thread is refused.
 pub(crate) fn start<
     'a,
     S: Alter + Drop + Send + 'static,

@@ -1,4 +1,4 @@
-//! What a terminal is sent to show how far a script is.
+//! What is sent to a terminal to show the progress of a script.
 ghost use Rattle.std.specs.Prelude.{◌≡◌, ◌<◌, ◌≤◌, ◌++◌, IfOk, OnOk, string_bytes, slice_get};
 ghost use Rattle.escrow_server.specs.Drawing.{back_text, drawing_text, erasing_text, height, line_text, lines_text, more_text, over_text, phase_text, shown_text, totals_text};
 
@@ -6,7 +6,7 @@ use escrow_script::{MAX_DATABASES, database_name};
 use escrow_stats::Tally;
 use std::alloc::{AllocError, Global};
 
-/// How far a phase is.
+/// The progress of a phase.
 #[derive(Clone, Copy)]
 pub(crate) struct Progress {
     /// Its number, from 1.
@@ -31,8 +31,8 @@ impl Layout {
     ghost use Rattle.escrow_script.specs.declared.limits.TheConstants.{MAX_DATABASES};
     ghost use Rattle.escrow_server.specs.Drawing.{height};
 
-    /// The layout of so many databases on a terminal of so many rows. One row is the phase's, and the cursor is in
-    /// the last one, so that the terminal doesn't scroll.
+    /// Returns the layout of this many databases on a terminal with this many rows. One row is for
+    /// the phase. The cursor is in the last row, so that the terminal doesn't scroll.
     pub(crate) fn new(rows: usize, databases: usize) -> Self
         ensures { result.shown ≤ MAX_DATABASES }
     {
@@ -53,7 +53,7 @@ impl Layout {
         }
     }
 
-    /// How many lines a drawing has.
+    /// Returns how many lines a drawing has.
     pub(crate) fn height(self) -> usize
         requires { self.shown ≤ MAX_DATABASES }
         ensures { result ≡ height self.shown self.more }
@@ -66,9 +66,9 @@ impl Layout {
     }
 }
 
-/// A line for a phase, one for each database that has one, in their order, and one for those that have none. Where
-/// lines were drawn before, and the cursor stands below them, they are drawn over. What is too long for a row of the
-/// terminal is left out.
+/// Returns a drawing: a line for the phase, one for each database that has one, in their order, and
+/// one for those that have none. If lines were drawn before, and the cursor is below them, it is
+/// drawn over them. Text that is too long for a row of the terminal is cut off.
 pub(crate) fn drawing(
     alloc: Global,
     is_drawn: bool,
@@ -86,7 +86,7 @@ pub(crate) fn drawing(
     format!(in alloc; "{over}\u{1b}[?7l{phase}{lines}{more}\u{1b}[?7h")
 }
 
-/// The line of a phase.
+/// Returns the line of a phase.
 fn phase(alloc: Global, progress: Progress) -> Result<String, AllocError>
     ensures { IfOk result (λ text. string_bytes text ≡ phase_text progress) }
 {
@@ -98,7 +98,7 @@ fn phase(alloc: Global, progress: Progress) -> Result<String, AllocError>
     format!(in alloc; "phase {phase}: {served} of {statements} statements\u{1b}[K\n")
 }
 
-/// The line of so many databases that have none of their own, if there are any.
+/// Returns the line for this many databases that have no line of their own, if there are any.
 fn more(alloc: Global, count: usize) -> Result<String, AllocError>
     ensures { IfOk result (λ text. string_bytes text ≡ more_text count) }
 {
@@ -109,7 +109,7 @@ fn more(alloc: Global, count: usize) -> Result<String, AllocError>
     }
 }
 
-/// Nothing is left of so many lines that were drawn, below which the cursor stands.
+/// Returns what erases this many lines above the cursor.
 pub(crate) fn erasing(alloc: Global, lines: usize) -> Result<String, AllocError>
     ensures { IfOk result (λ text. string_bytes text ≡ erasing_text lines) }
 {
@@ -117,7 +117,7 @@ pub(crate) fn erasing(alloc: Global, lines: usize) -> Result<String, AllocError>
     format!(in alloc; "{back}\u{1b}[J")
 }
 
-/// The cursor goes up to where so many lines were drawn, if they were.
+/// Returns what moves the cursor up to where this many lines were drawn, if they were.
 fn over(alloc: Global, is_drawn: bool, lines: usize) -> Result<String, AllocError>
     ensures { IfOk result (λ text. string_bytes text ≡ over_text is_drawn lines) }
 {
@@ -128,14 +128,14 @@ fn over(alloc: Global, is_drawn: bool, lines: usize) -> Result<String, AllocErro
     }
 }
 
-/// The cursor goes up so many rows, to the first column.
+/// Returns what moves the cursor up this many rows, to the first column.
 fn back(alloc: Global, rows: usize) -> Result<String, AllocError>
     ensures { IfOk result (λ text. string_bytes text ≡ back_text rows) }
 {
     format!(in alloc; "\r\u{1b}[{rows}A")
 }
 
-/// The lines of the first so many databases.
+/// Returns the lines of the first `shown` databases.
 fn lines(alloc: Global, tallies: &[Tally], shown: usize) -> Result<String, AllocError>
     requires { shown ≤ MAX_DATABASES }
     ensures { IfOk result (λ text. string_bytes text ≡ lines_text tallies.now shown) }
@@ -164,7 +164,7 @@ fn push_line(
     Ok(())
 }
 
-/// The line of the database at a place. What stood behind it in its row is cleared.
+/// Returns the line of the database at a place. It clears what was after it in its row.
 fn line(alloc: Global, place: usize, tally: &Tally) -> Result<String, AllocError>
     requires { place < MAX_DATABASES }
     ensures { IfOk result (λ text. string_bytes text ≡ line_text place tally.now) }
@@ -174,7 +174,7 @@ fn line(alloc: Global, place: usize, tally: &Tally) -> Result<String, AllocError
     format!(in alloc; "{name}{totals}\u{1b}[K\n")
 }
 
-/// What stands behind the name of a database.
+/// Returns the text after the name of a database.
 fn totals(alloc: Global, tally: &Tally) -> Result<String, AllocError>
     ensures { IfOk result (λ text. string_bytes text ≡ totals_text tally.now) }
 {

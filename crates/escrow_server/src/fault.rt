@@ -2,7 +2,7 @@ use escrow_files::OpenFault;
 use escrow_free::FreeFault;
 use escrow_script::ServeFault;
 
-/// Why the program ends before its script is served to its end.
+/// Why the program ends before it has served its script to the end.
 #[derive(Clone, Copy)]
 pub(crate) enum RunFault {
     /// The store of a database can't be opened. Nothing was read.
@@ -11,12 +11,12 @@ pub(crate) enum RunFault {
         database: &'static str,
         /// Its place, from 0.
         place: u8,
-        /// Why it can't.
+        /// Why it can't be opened.
         cause: OpenFault,
     },
-    /// The script isn't served to its end.
+    /// The script isn't served to its end, one line after another.
     Unserved(ServeFault),
-    /// It isn't, with its sessions at the same time.
+    /// The script isn't served to its end, with its sessions at the same time.
     Unjoined(FreeFault),
 }
 
@@ -24,7 +24,7 @@ impl RunFault {
     ghost use Rattle.std.specs.Prelude.{◌≡◌, ◌≤◌};
     ghost use Rattle.escrow_server.specs.Program.{run_status};
 
-    /// The exit status: 3 where a store can't be opened, otherwise 1.
+    /// Returns the exit status: 3 if a store can't be opened, otherwise 1.
     pub(crate) fn status(self) -> u8
         ensures value { result ≡ run_status self }
         ensures failed { 1 ≤ result }

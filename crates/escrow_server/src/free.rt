@@ -20,8 +20,8 @@ use std::mem;
 use std::sync::Wait;
 use std::thread::Threads;
 
-/// Serves a script phase by phase, the sessions of a phase at the same time, and leaves the databases as their
-/// histories end. After a fault none is left. It may wait.
+/// Serves a script phase by phase, the sessions of a phase at the same time, and leaves the
+/// databases as their histories end. After a fault no database is left. May wait.
 pub(crate) fn serve_phases<
     S: Alter + Drop + Send + 'static,
     T: Threads + Wait + Sync,
@@ -45,7 +45,7 @@ pub(crate) fn serve_phases<
     // Whatever the disks did, each database is at its place again, as its history ends.
     ensures back { OnOk result (AreEnded S.Store databases.old.items databases.new.items) }
 {
-    // What is handed back has to be kept, so room for it is made before.
+    // The databases that are handed back must be kept, so room for them is made first.
     let room = Vec::with_capacity(alloc, usize::from(MAX_DATABASES))?;
     let handed = mem::replace(databases, room);
     let audit = serve_before(rt, alloc, handed, reader, writer, screen)?;
@@ -53,8 +53,8 @@ pub(crate) fn serve_phases<
     Ok(())
 }
 
-/// The same, of databases that are handed in, with the histories that are handed back. Nobody watches the databases
-/// where nothing shows how far the script is.
+/// Serves a script as [`serve_phases`] does, in databases that are handed in. Returns the databases
+/// with their histories. If there is no screen, nobody watches the databases.
 fn serve_before<
     S: Alter + Drop + Send + 'static,
     T: Threads + Wait + Sync,
@@ -94,7 +94,8 @@ fn serve_before<
     }
 }
 
-/// Puts databases that came out of their locks where there is room for them, in their order.
+/// Puts databases that came out of their locks into `databases`, in order. There must be room for
+/// them.
 fn put_back<S: Alter + Drop>(databases: &mut Vec<Database<S>>, closed: Vec<Closed<S>>)
     requires none { vec_len databases.old ≡ 0 }
     requires room { MAX_DATABASES ≤ vec_capacity databases.old }

@@ -1,8 +1,10 @@
-//! The program: its arguments, the files of its stores, and what it does with a script.
+//! The program: its arguments, the files of its stores, and how it serves a script.
 //!
-//! Its one contract: [`run_program`] serves the script that the words of a command line ask, and returns
-//! the exit status. It serves line after line by [`serve_lines`] or [`serve_script`], or the sessions of
-//! a phase at the same time by [`serve_free`].
+//! Its main contract is that of [`run_program`]: it serves the script as the words of the command
+//! line ask, and returns the exit status. It serves one line after another, by [`serve_lines`] or
+//! [`serve_script`], or the sessions of a phase at the same time, by [`serve_free`].
+//!
+//! Begin with [`run_program`]. Then read [`Screen`], which shows the progress of a script.
 #![tactic(auto)]
 
 mod databases;

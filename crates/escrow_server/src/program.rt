@@ -29,20 +29,27 @@ use std::sync::Wait;
 use std::thread::Threads;
 use std::{env, io};
 
-/// Runs the program, with files from `rt` and the threads of workers from `threads`: reads the words of its command
-/// line from `line`, opens the databases that they ask, in memory or in files, and serves what comes from `input`, with
-/// the replies to `output`: lines until they end, a script line after line, or the sessions of a phase at the same time.
-/// Help goes to `output` too, and why the program ends early to `errors`. At the end, and where the program ends early,
-/// the stores in files are closed; one that can't be is told of on `errors`, and doesn't change the status. Where
-/// sessions at the same time aren't served to the end, the logs of the stores stay beside them. It may wait.
+/// Runs the program. Reads the words of its command line from `line`. Opens the databases that they
+/// ask for, in memory or in files. Serves what comes from `input`, and writes the replies to
+/// `output`. It serves lines until they end, a script line by line, or the sessions of a phase at
+/// the same time. Files come from `rt`, and the threads of workers from `threads`. Help goes to
+/// `output` too. If the program ends early, the reason goes to `errors`.
 ///
-/// While sessions at the same time are served, a screen, if there is one, shows how far they are. Its thread is started
-/// by `threads`, and nothing of what it shows goes to `errors`: the clauses speak of that stream alone.
+/// At the end, also if that is early, the stores in files are closed. If one can't be closed, a
+/// line on `errors` says so, and the status is the same. If sessions at the same time aren't served
+/// to the end, the logs of the stores stay beside them. May wait.
 ///
-/// Exit status: 0 when all was served and written, and for help; 1 when the input can't be read, a reply or the help
-/// can't be written, memory is short, a phase has statements of more than 64 sessions or the histories don't fit; 2 for
-/// wrong arguments, one that isn't UTF-8 among them; 3 when the store of a database can't be opened, before anything is
-/// read.
+/// While sessions are served at the same time, a screen, if there is one, shows their progress.
+/// `threads` starts its thread. Nothing that it shows goes to `errors`: the clauses speak of that
+/// stream only.
+///
+/// Exit status:
+///
+/// - 0 if everything was served and written, and for help;
+/// - 1 if the input can't be read, a reply or the help can't be written, memory is refused, a phase
+///   has statements of more than 64 sessions, or the histories don't fit the replies;
+/// - 2 for wrong arguments, among them one that isn't UTF-8;
+/// - 3 if the store of a database can't be opened; then nothing was read.
 pub fn run_program<
     T: Threads + Wait + Sync,
     E: Env,
@@ -59,8 +66,9 @@ pub fn run_program<
     errors: &mut F,
     screen: Option<X>,
 ) -> ExitCode
-    // Status 0 comes without a word on `errors`, or with one of the stores of a path that were migrated or can't be
-    // closed, and any other with one that says why, as far as it is taken.
+    // With status 0, nothing is written to `errors` but lines about the stores of a path: those
+    // that were migrated, and those that can't be closed. With any other status, a line says why,
+    // as far as the writer takes it.
     ensures quiet { exit_status result ≡ 0 → (path : Option (List ℕ)) × IsQuiet path (F.contents errors.old) (F.contents errors.new) }
     ensures said { exit_status result ≢ 0 → (path : Option (List ℕ)) × SaysWhy path (F.contents errors.old) (F.contents errors.new) }
 {
@@ -71,12 +79,12 @@ pub fn run_program<
     ExitCode::from(status)
 }
 
-/// The words of the command line.
+/// Returns the words of the command line.
 fn words<E: Env>(alloc: Global, line: &E) -> io::Result<Vec<String>> {
     Ok(env::args(&(line, alloc))?.collect(alloc)?)
 }
 
-/// Says why the words can't be had, and answers the exit status.
+/// Says why the words can't be read, and returns the exit status.
 #[tactic(auto, using(crate::proofs::ProgramLemmas::says_why))]
 fn without_words<F: Write>(errors: &mut F, error: ErrorKind) -> u8
     ensures status { result ≡ unread_status error }
@@ -95,7 +103,8 @@ fn without_words<F: Write>(errors: &mut F, error: ErrorKind) -> u8
     }
 }
 
-/// Runs the program with the words of its command line, its name first, and answers the exit status.
+/// Runs the program with the words of its command line, its name first, and returns the exit
+/// status.
 fn run_words<
     T: Threads + Wait + Sync,
     S: AsStr,
@@ -112,14 +121,15 @@ fn run_words<
     errors: &mut F,
     screen: Option<X>,
 ) -> u8
-    // Words that ask have the script served, in as many databases as they ask, and in their mode: in memory, or in files.
+    // If the words ask for a script to be served, it is served in as many databases as they ask
+    // for, and in their mode: in memory, or in files.
     ensures asked { (args : Args) → asked_by (map S.text words.now) ≡ Some args → args.path ≡ None → IfSome (R.remaining input.old) (λ script.
         EndsInMemory args.mode args.databases result script (R.remaining input.new) (W.contents output.old) (W.contents output.new)) }
     ensures stored { (args : Args) → asked_by (map S.text words.now) ≡ Some args → IsSome args.path → IfSome (R.remaining input.old) (λ script.
         EndsOverFiles result script (R.remaining input.new) (W.contents output.old) (W.contents output.new)) }
 
-    // Other words end with the status of what is wrong with them, or with 1 where memory is short or help can't be
-    // written; nothing is read, and nothing written but help.
+    // Other words end with the status of what is wrong with them, or with 1 if memory is refused or
+    // help can't be written. Nothing is read, and nothing but help is written.
     ensures refused { asked_by (map S.text words.now) ≡ None → (result ≡ 1) ⊎ (result ≡ refused_status (map S.text words.now)) }
     ensures unread { asked_by (map S.text words.now) ≡ None → Keeps (R.remaining input.old) (R.remaining input.new) }
     ensures unserved { asked_by (map S.text words.now) ≡ None → refused_status (map S.text words.now) ≢ 0 → WritesNothing (W.contents output.old) (W.contents output.new) }
@@ -135,7 +145,7 @@ fn run_words<
     }
 }
 
-/// Serves the script in the databases that arguments ask, and answers the exit status.
+/// Serves the script in the databases that the arguments ask for, and returns the exit status.
 fn run_args<
     T: Threads + Wait + Sync,
     R: Read,
@@ -212,7 +222,7 @@ fn run_args<
     }
 }
 
-/// Serves the script in databases, where all of their stores were opened. It may wait.
+/// Serves the script in databases, if all of their stores were opened. May wait.
 fn serve_opened<
     S: Alter + Drop + Send + 'static,
     T: Threads + Wait + Sync,
@@ -232,24 +242,26 @@ fn serve_opened<
     requires least { OnOk opened (1 ≤ vec_len databases.old) }
     requires most { OnOk opened (vec_len databases.old ≤ MAX_DATABASES) }
     requires kind { IfErr opened (λ fault. run_status fault ≡ 3) }
-    // Line after line: where each disk has returned what was written, the script was served from the states of the
-    // databases.
+    // Line by line: if each disk returned what was written, the script was served from the states
+    // of the databases.
     ensures served { mode ≡ Mode.Run → HaveCleanDisks S.Store databases.new.items → OnOk result (IfSome (R.remaining input.old) (λ script. (old : List State)
         × IsOpened S.Store opened databases.old.items old × ServesWhole script old (states_of databases.new.items) (W.contents output.old) (W.contents output.new))) }
     ensures stopped { mode ≡ Mode.Run → HaveCleanDisks S.Store databases.new.items → IfErr result (λ fault. IfSome (R.remaining input.old) (λ script.
         Stops fault (IsOpened S.Store opened databases.old.items) (states_of databases.new.items) script (R.remaining input.new) (W.contents output.old) (W.contents output.new))) }
 
-    // The same of lines that are served until they end.
+    // The same, for lines that are served until they end.
     ensures lines { mode ≡ Mode.Serve → HaveCleanDisks S.Store databases.new.items → OnOk result (IfSome (R.remaining input.old) (λ script. (old : List State)
         × IsOpened S.Store opened databases.old.items old × ServesAll script old (states_of databases.new.items) (W.contents output.old) (W.contents output.new))) }
     ensures cut { mode ≡ Mode.Serve → HaveCleanDisks S.Store databases.new.items → IfErr result (λ fault. IfSome (R.remaining input.old) (λ script.
         Stops fault (IsOpened S.Store opened databases.old.items) (states_of databases.new.items) script (R.remaining input.new) (W.contents output.old) (W.contents output.new))) }
 
-    // Sessions at the same time: so it was where disks always return what was written.
+    // Sessions at the same time: the script was served like this if disks always return what was
+    // written.
     ensures free { mode ≡ Mode.Free → HoldCleanDisks S.Store → OnOk result (IfSome (R.remaining input.old) (λ script. (old : List State)
         × IsOpened S.Store opened databases.old.items old × RunsFree script old (W.contents output.old) (W.contents output.new))) }
 
-    // Whatever the stores do, all of the script was read, or nothing was where a store isn't opened.
+    // Whatever the stores do, all of the script was read; or, if a store can't be opened, nothing
+    // was.
     ensures end { OnOk result (IfSome (R.remaining input.old) (λ script. IsAtEnd (R.remaining input.new))) }
     ensures unopened { IfErr result (λ fault. run_status fault ≡ 3 → Keeps (R.remaining input.old) (R.remaining input.new) × WritesNothing (W.contents output.old) (W.contents output.new)) }
 {
@@ -262,7 +274,7 @@ fn serve_opened<
     Ok(())
 }
 
-/// Tells which stores had the format before, if any, and have the known one since.
+/// Says which stores had the previous format, if any, and have the known one now.
 fn tell_migrated<F: Write>(alloc: Global, errors: &mut F, path: &str, sites: &[Option<Site>])
     ensures { TellsOfMigrated (Some path.now) (F.contents errors.old) (F.contents errors.new) }
 {
@@ -272,10 +284,10 @@ fn tell_migrated<F: Write>(alloc: Global, errors: &mut F, path: &str, sites: &[O
     }
 }
 
-/// What is told where no memory is left for the name of a file.
+/// The line if memory for the name of a file is refused.
 const MIGRATED: &str = "escrowd: a store was of format 1 and is now of format 2\n";
 
-/// The stores that had the format before, a line each.
+/// Returns a line for each store that had the previous format.
 fn migrated_text(alloc: Global, path: &str, sites: &[Option<Site>]) -> Result<String, AllocError>
     ensures { IfOk result (λ text. AreLinesOf path.now (string_bytes text)) }
 {
@@ -290,7 +302,7 @@ fn migrated_text(alloc: Global, path: &str, sites: &[Option<Site>]) -> Result<St
     Ok(text)
 }
 
-/// Adds the line of the store at a place to the lines in front of it.
+/// Adds the line of the store at a place after the lines so far.
 fn add_migrated(alloc: Global, text: &mut String, path: &str, place: u8) -> Result<(), AllocError>
     requires { AreLinesOf path.now (string_bytes text.old) }
     ensures { OnOk result (AreLinesOf path.now (string_bytes text.new)) }
@@ -299,7 +311,7 @@ fn add_migrated(alloc: Global, text: &mut String, path: &str, place: u8) -> Resu
     text.push_str(line.as_str())
 }
 
-/// The line of the store at a place, which had the format before.
+/// Returns the line of the store at a place, which had the previous format.
 fn migrated_line(alloc: Global, path: &str, place: u8) -> Result<String, AllocError>
     ensures { IfOk result (λ line. string_bytes line ≡ migrated_line (file_of path.now place)) }
 {
@@ -307,7 +319,8 @@ fn migrated_line(alloc: Global, path: &str, place: u8) -> Result<String, AllocEr
     format!(in alloc; "escrowd: {file} was of format 1 and is now of format 2\n")
 }
 
-/// Prints help or the version where it is asked, or else says what is wrong, and answers the exit status.
+/// Prints help or the version if it was asked for, or else says what is wrong. Returns the exit
+/// status.
 fn refuse<W: Write, F: Write>(alloc: Global, output: &mut W, errors: &mut F, fault: &ArgFault) -> u8
     ensures status { (result ≡ 1) ⊎ (result ≡ fault.now.status) }
     ensures help { result ≡ 0 → Appends (W.contents output.old) (W.contents output.new) fault.now.text }
@@ -328,7 +341,7 @@ fn refuse<W: Write, F: Write>(alloc: Global, output: &mut W, errors: &mut F, fau
     }
 }
 
-/// Prints help or the version, or says why it can't be written, and answers the exit status.
+/// Prints help or the version, or says why it can't be written. Returns the exit status.
 fn give_help<W: Write, F: Write>(alloc: Global, output: &mut W, errors: &mut F, help: &str) -> u8
     ensures status { (result ≡ 0) ⊎ (result ≡ 1) }
     ensures help { result ≡ 0 → Appends (W.contents output.old) (W.contents output.new) help.now }
@@ -345,17 +358,17 @@ fn give_help<W: Write, F: Write>(alloc: Global, output: &mut W, errors: &mut F, 
     }
 }
 
-/// Prints a text, as far as it is taken: the exit status is the same.
+/// Prints a text, as far as the writer takes it. The exit status doesn't depend on that.
 fn print<W: Write>(output: &mut W, text: &str)
     ensures { WritesPrefix (W.contents output.old) (W.contents output.new) text.now }
 {
     let _ = write_whole(output, text.as_bytes());
 }
 
-/// What is said where memory is short.
+/// The text if memory is refused.
 const NO_MEMORY: &str = "out of memory\n";
 
-/// The exit status of what was served in memory. Says why where that isn't all.
+/// Returns the exit status of what was served in memory. If that isn't everything, says why.
 fn status_in_memory<F: Write>(alloc: Global, errors: &mut F, served: Result<(), RunFault>) -> u8
     ensures ok { OnOk served (result ≡ 0) }
     ensures err { IfErr served (λ fault. result ≡ run_status fault) }
@@ -371,8 +384,8 @@ fn status_in_memory<F: Write>(alloc: Global, errors: &mut F, served: Result<(), 
     }
 }
 
-/// The exit status of what was served over files. Says why where that isn't all, and which stores aren't
-/// closed.
+/// Returns the exit status of what was served over files. If that isn't everything, says why, and
+/// which stores can't be closed.
 fn status_over_files<F: Write>(
     alloc: Global,
     errors: &mut F,
@@ -397,7 +410,7 @@ fn status_over_files<F: Write>(
     }
 }
 
-/// Says why a script isn't served to its end, and answers the exit status.
+/// Says why a script isn't served to its end, and returns the exit status.
 fn stop<F: Write>(errors: &mut F, fault: RunFault, text: Result<String, AllocError>) -> u8
     ensures status { result ≡ run_status fault }
     ensures failed { 1 ≤ result }
@@ -407,7 +420,7 @@ fn stop<F: Write>(errors: &mut F, fault: RunFault, text: Result<String, AllocErr
     fault.status()
 }
 
-/// Says why the program ends, by a text for which there may have been no memory.
+/// Says why the program ends, by a text for which memory may have been refused.
 fn say_text<F: Write>(errors: &mut F, text: Result<String, AllocError>)
     ensures { SaysReason (F.contents errors.old) (F.contents errors.new) }
 {
@@ -417,7 +430,7 @@ fn say_text<F: Write>(errors: &mut F, text: Result<String, AllocError>)
     }
 }
 
-/// Why a script isn't served to its end, with the file of a store that isn't opened.
+/// Returns why a script isn't served to its end, with the file of a store that can't be opened.
 fn explained(alloc: Global, path: Option<&str>, fault: RunFault) -> Result<String, AllocError> {
     match fault {
         RunFault::Unserved(fault) => format!(in alloc; "{fault}\n"),
@@ -436,7 +449,7 @@ fn explained(alloc: Global, path: Option<&str>, fault: RunFault) -> Result<Strin
     }
 }
 
-/// Why a script isn't served to its end, and below it which stores aren't closed.
+/// Returns why a script isn't served to its end, and below it which stores can't be closed.
 fn explained_whole(
     alloc: Global,
     path: &str,
@@ -449,10 +462,10 @@ fn explained_whole(
     Ok(text)
 }
 
-/// What begins the line of a store that isn't closed.
+/// How the line of a store that can't be closed begins.
 const STORE: &str = "escrowd: the store of ";
 
-/// Tells which stores aren't closed, if any.
+/// Says which stores can't be closed, if any.
 fn tell_unclosed<F: Write>(alloc: Global, errors: &mut F, path: &str, unclosed: &Unclosed)
     ensures { TellsOfStoresAlone (F.contents errors.old) (F.contents errors.new) }
 {
@@ -466,7 +479,7 @@ fn tell_unclosed<F: Write>(alloc: Global, errors: &mut F, path: &str, unclosed: 
     }
 }
 
-/// The stores that aren't closed, a line each.
+/// Returns a line for each store that can't be closed.
 fn unclosed_text(alloc: Global, path: &str, unclosed: &Unclosed) -> Result<String, AllocError> {
     let mut text = String::new(alloc);
     for place in 0..MAX_DATABASES {
@@ -478,7 +491,7 @@ fn unclosed_text(alloc: Global, path: &str, unclosed: &Unclosed) -> Result<Strin
     Ok(text)
 }
 
-/// The line of the store at a place, which isn't closed.
+/// Returns the line of the store at a place, which can't be closed.
 fn unclosed_line(
     alloc: Global,
     path: &str,
@@ -494,15 +507,15 @@ fn unclosed_line(
     )
 }
 
-/// Writes the program's name, a colon and a text. Where they can't be written, nothing is left to
-/// say it to.
+/// Writes the program's name, a colon and a text. If they can't be written, there is nobody left to
+/// tell.
 fn say_why<F: Write>(errors: &mut F, text: &str)
     ensures { WritesPrefix (F.contents errors.old) (F.contents errors.new) (codes "escrowd: " ++ text.now) }
 {
     say(errors, "escrowd: ", text);
 }
 
-/// Writes a head and a text, as far as they are taken.
+/// Writes a head and a text, as far as the writer takes them.
 fn say<F: Write>(errors: &mut F, head: &str, text: &str)
     ensures { WritesPrefix (F.contents errors.old) (F.contents errors.new) (head.now ++ text.now) }
 {

@@ -1,4 +1,4 @@
-//! Where it is shown how far a script is.
+//! A screen, which shows the progress of a script.
 use crate::desk::{Desk, Phase, Stage, Told};
 use crate::drawing::{Layout, Progress, drawing, erasing};
 use escrow_script::write_whole;
@@ -9,9 +9,9 @@ use std::io::Write;
 use std::sync::{MutexGuard, Wait};
 use std::time::{Clock, Duration, Instant};
 
-/// Where it is shown how far a script is whose sessions run at the same time.
+/// A screen that shows the progress of a script whose sessions run at the same time.
 pub trait Screen {
-    /// Shows it until all is over, by a thread of its own.
+    /// Shows the progress until the script ends, in a thread of its own.
     fn show<S: Alter>(self, alloc: Global, desk: &Desk<Watcher<S>>);
 }
 
@@ -26,25 +26,27 @@ impl Screen for NoScreen {
     fn show<S: Alter>(self, _alloc: Global, _desk: &Desk<Watcher<S>>) {}
 }
 
-/// A terminal, which shows how far a phase is while it is long. One line has the phase, how many of its statements
-/// were served, and how many it has. Below, a line for each database has how many statements it served since the
-/// script began, and how many of these were granted, broken and commits. If the databases are too many for the
-/// terminal, the first ones are shown, and a line says how many more there are.
+/// A terminal, which shows the progress of a phase that takes long. One line has the phase, how
+/// many of its statements were served, and how many it has. Below, a line for each database has how
+/// many statements it served since the script began, and how many of these were granted, broken and
+/// commits. If the databases are too many for the terminal, the first ones are shown, and a line
+/// says how many more there are.
 ///
-/// The lines come a pause after the phase began, and after each further pause others in their place. They are erased
-/// before the replies of the phase are written, which may stand on the same terminal.
+/// The lines appear a pause after the phase began. After each further pause, new lines replace
+/// them. They are erased before the replies of the phase are written, since these may go to the
+/// same terminal.
 ///
-/// Where there is no clock nothing is shown. What the writer refuses, and what there is no memory
-/// for, is left out.
+/// If there is no clock, nothing is shown. What the writer refuses, or memory is refused for, is
+/// left out.
 #[derive(Drop)]
 pub struct Terminal<P, Q> {
-    /// What is waited by, and the clock.
+    /// Waits, and has the clock.
     pub rt: P,
-    /// What writes to the terminal.
+    /// Writes to the terminal.
     pub writer: Q,
-    /// How long there is nothing new before each drawing.
+    /// The pause before each drawing.
     pub pause: Duration,
-    /// How many rows the terminal has at least.
+    /// The least number of rows that the terminal has.
     pub rows: usize,
 }
 
@@ -60,7 +62,7 @@ impl<P: Wait + Clock + Drop, Q: Write + Drop> Screen for Terminal<P, Q> {
     }
 }
 
-/// Draws what watchers read in each phase, until all is over. It may wait.
+/// Draws what watchers read in each phase, until the script ends. May wait.
 fn draw_all<S: Alter, P: Wait + Clock, Q: Write>(
     rt: &P,
     writer: &mut Q,
@@ -80,7 +82,7 @@ fn draw_all<S: Alter, P: Wait + Clock, Q: Write>(
     }
 }
 
-/// Draws what watchers read until a phase is over, and erases it then. It may wait.
+/// Draws what watchers read until a phase has ended, and then erases it. May wait.
 fn draw_phase<'a, S: Alter, P: Wait + Clock, Q: Write>(
     rt: &P,
     writer: &mut Q,
@@ -112,7 +114,7 @@ fn draw_phase<'a, S: Alter, P: Wait + Clock, Q: Write>(
     told
 }
 
-/// Draws how far a phase is, by what watchers read now. Want of memory is the only error.
+/// Draws the progress of a phase, as watchers read it now. Fails only if memory is refused.
 fn draw<S: Alter, Q: Write>(
     writer: &mut Q,
     rows: usize,
@@ -139,7 +141,7 @@ fn draw<S: Alter, Q: Write>(
     Ok(())
 }
 
-/// How many statements all databases had served, as their watchers read now.
+/// Returns how many statements all databases have served, as their watchers read it now.
 pub(crate) fn served_by_all<S: Alter>(watchers: &mut Vec<Watcher<S>>) -> u64 {
     let mut served = 0_u64;
     for watcher in watchers.iter_mut() {
@@ -148,7 +150,7 @@ pub(crate) fn served_by_all<S: Alter>(watchers: &mut Vec<Watcher<S>>) -> u64 {
     served
 }
 
-/// Erases so many lines that were drawn. Want of memory is the only error.
+/// Erases this many lines that were drawn. Fails only if memory is refused.
 fn erase<Q: Write>(writer: &mut Q, alloc: Global, lines: usize) -> Result<(), AllocError> {
     let text = erasing(alloc, lines)?;
     let _ = write_whole(writer, text.as_bytes());

@@ -1,4 +1,4 @@
--- Believed: what fed workers did.
+-- Believed: what workers did that were fed through channels.
 use Rattle.std.specs.Prelude.{◌≡◌, ℕ, ◌==◌, if◌then◌else◌, List, [], ◌∷◌, length, slice_get, Some}
 use Rattle.escrow_statement.specs.declared.statement.Request.{Request}
 use Rattle.escrow_shards.specs.Seat.{Seat}

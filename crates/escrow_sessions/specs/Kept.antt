@@ -6,11 +6,11 @@ use Rattle.escrow_stats.specs.declared.tally.Tally.{Tally}
 use Rattle.escrow_shards.specs.declared.answer.Answer.{Answer}
 use Rattle.escrow_shards.specs.declared.answer.Answer.TheVariants.{Served, Unserved}
 
--- the reply of an answer that was served
+-- the reply in an answer, if the statement was served
 abbrev pub reply_of : Answer → List Reply
 reply_of (Served reply) = reply ∷ []
 reply_of (Unserved r) = []
 
--- totals, where they are kept, are those of replies
+-- the totals, if they are kept, are those of the replies
 abbrev pub AreKept : Option Tally → List Reply → Type 0
 AreKept totals replies = IfSome totals (λ t. t ≡ tally_of replies)

@@ -17,23 +17,23 @@ use Rattle.escrow_sessions.specs.Serving.{Serves}
 abbrev pub Limits : Type 0
 Limits = (MAX_WORKERS ≡ 64) × (MAX_WAITING ≡ 16)
 
--- of each receipt, what was asked and what was answered
+-- for each receipt, its statement and its reply
 abbrev pub calls_in : List Receipt → List (Statement × Reply)
 calls_in receipts = map (λ r. (r.statement, r.reply)) receipts
 
--- of requests and what they were given, the statements that were served, each with its reply
+-- from requests and their answers, the statements that were served, each with its reply
 abbrev pub served_in : List Request → List Given → List (Statement × Reply)
 served_in (request.Statement asked ∷ rs) (given.Reply (Served reply) ∷ gs) = (asked, reply) ∷ served_in rs gs
 served_in (r ∷ rs) (g ∷ gs) = served_in rs gs
 served_in rs [] = []
 served_in [] gs = []
 
--- what a pass gained is what was served: a receipt for each statement with its reply, in order, and nothing else
+-- what a pass gained is what was served: a receipt for each of these statements with its reply, in order, and no others
 pub record Gained (old new : Seat) (served : List (Statement × Reply)) : Type 0 where
   pub database : new.database ≡ old.database
   pub session : new.session ≡ old.session
   pub calls : calls_in new.receipts ≡ calls_in old.receipts ++ served
 
--- where requests are given answers (Serves), the pass gains just those of them that were served
+-- if requests have answers (Serves), the pass gains exactly the receipts of those that were served
 abbrev pub ReceiptsAreServed : Type 0
 ReceiptsAreServed = (old new : Seat) (requests : List Request) (answers : List Given) → Serves old requests answers new → Gained old new (served_in requests answers)

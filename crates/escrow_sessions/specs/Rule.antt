@@ -5,38 +5,38 @@ use lib.ListN.{get_elem?}
 use Rattle.escrow_sessions.specs.declared.rule.Item.{Item}
 use Rattle.escrow_sessions.specs.declared.rule.Log.{Log}
 
--- what is known where both ends are, and nothing was sent yet
+-- what is known if both ends are here, and nothing was sent yet
 abbrev pub both_ends : Log
 both_ends = record { sends = true; sent = []; takes = true; taken = [] }
 
--- what is known at no end
+-- what is known if no end is here
 abbrev pub no_end : Log
 no_end = record { sends = false; sent = []; takes = false; taken = [] }
 
--- the part of it at the end that sends, and at the end that takes
+-- the part of it at the end that sends, and at the end that receives
 abbrev pub sending : Log → Log
 sending v = record { sends = v.sends; sent = v.sent; takes = false; taken = [] }
 
 abbrev pub taking : Log → Log
 taking v = record { sends = false; sent = []; takes = v.takes; taken = v.taken }
 
--- of two ends together
+-- what two ends know together
 abbrev pub together : Log → Log → Log
 together v w = record { sends = v.sends; sent = v.sent; takes = w.takes; taken = w.taken }
 
--- one message more was sent, or taken
+-- one more message was sent, or received
 abbrev pub with_sent : Log → Item → Log
 with_sent v x = record { sends = v.sends; sent = v.sent ++ x ∷ []; takes = v.takes; taken = v.taken }
 
 abbrev pub with_taken : Log → Item → Log
 with_taken v x = record { sends = v.sends; sent = v.sent; takes = v.takes; taken = v.taken ++ x ∷ [] }
 
--- the one pass at an end knows what was sent, or taken
+-- the only pass at an end knows what was sent, or received
 pub record Knows (feeder worker : ℕ) (sent taken : List Item) (pass : ℕ) (v : Log) : Type 0 where
   pub sends : v.sends ≡ true → (pass ≡ feeder) × (v.sent ≡ sent)
   pub takes : v.takes ≡ true → (pass ≡ worker) × (v.taken ≡ taken)
 
--- WHAT WAS SENT is what was taken, and then what the channel holds.
+-- WHAT WAS SENT is what was received, followed by what the channel holds.
 pub record Keeps (items : List Item) (views : List Log) : Type 0 where
   pub feeder : ℕ
   pub worker : ℕ

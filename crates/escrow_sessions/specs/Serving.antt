@@ -1,4 +1,4 @@
--- Believed: what a worker does with its requests.
+-- Believed: how a worker serves its requests.
 use Rattle.std.specs.Prelude.{◌≡◌, ℕ, ◌<◌, List, [], ◌∷◌, map, length}
 use Rattle.std.specs.List.{AllZip}
 use Rattle.escrow_statement.specs.declared.statement.Request.{Request}
@@ -25,21 +25,20 @@ replies_of receipts = map (λ r. r.reply) receipts
 abbrev pub totals_of : Seat → Tally
 totals_of seat = tally_of (replies_of seat.receipts)
 
--- ONE REQUEST. A statement is called, as a call is answered; SHOW STATISTICS shows the totals so far, and changes
--- nothing.
+-- ONE REQUEST. A statement has the answer of a call. SHOW STATISTICS shows the totals so far, and changes nothing.
 abbrev pub IsGiven : Request → Given → Seat → Seat → Type 0
 IsGiven (request.Statement asked) (given.Reply answer) old new = IsAnswered answer asked old new
 IsGiven request.Statistics (given.Totals totals) old new = (totals ≡ totals_of old) × (new ≡ old)
 IsGiven (request.Statement asked) (given.Totals totals) old new = ⊥
 IsGiven request.Statistics (given.Reply answer) old new = ⊥
 
--- REQUESTS IN ORDER. Answers are given to the first requests, one to each, and lead from a seat to a seat.
+-- REQUESTS IN ORDER. The first requests have one answer each, which lead from a seat to a seat.
 abbrev pub Serves : Seat → List Request → List Given → Seat → Type 0
 Serves old requests [] new = new ≡ old
 Serves old [] (g ∷ gs) new = ⊥
 Serves old (r ∷ rs) (g ∷ gs) new = (next : Seat) × (IsGiven r g old next × Serves next rs gs new)
 
--- how many answers tell how a worker ended: all, fewer, or none
+-- how a worker ended, by how many answers there are: all, fewer, or none
 abbrev pub HasEnded : Ended → ℕ → ℕ → Type 0
 HasEnded All requests answers = answers ≡ requests
 HasEnded Stopped requests answers = answers < requests
@@ -50,7 +49,7 @@ pub record IsDone (seat : Seat) (requests : List Request) (d : Done) : Type 0 wh
   pub serves : Serves seat requests d.answers.items d.pass
   pub ended : HasEnded d.ended (length requests) (length d.answers.items)
 
--- so it is with each of the workers, in the order of their feeds
+-- each of the workers did this, in the order of their feeds
 abbrev pub AreDone : List Feed → List Done → Type 0
 AreDone feeds done = AllZip (λ f d. IsDone f.pass f.requests.items d) feeds done
 

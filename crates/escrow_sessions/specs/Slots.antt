@@ -1,4 +1,4 @@
--- Helps: workers that are being fed.
+-- Helps: workers that are being fed through channels.
 use Rattle.std.specs.Prelude.{◌≡◌, ℕ, ◌<◌, ◌≤◌, List, [], ◌∷◌, ◌++◌, length, map, slice_get, Some}
 use Rattle.escrow_statement.specs.declared.statement.Request.{Request}
 use Rattle.escrow_shards.specs.Seat.{Seat}
@@ -18,19 +18,19 @@ pub record IsSentTo (old : FedWorker) (x : Item) (new : FedWorker) : Type 0 wher
   pub began : new.thread.promise ≡ old.thread.promise
   pub sent : sent_on new.line ≡ sent_on old.line ++ x ∷ []
 
--- a worker to which these messages were sent; or one that wasn't had
+-- a worker to which these messages were sent, or one that couldn't be started
 abbrev pub IsSlot : Seat → List Item → Slot → Type 0
 IsSlot seat sent (Fed fed) = (fed.thread.promise.pass.value ≡ seat) × (sent_on fed.line ≡ sent)
 IsSlot seat sent (Absent d) = IsAbsent seat d
 
--- a message for each request, and all that is sent
+-- the messages for requests, and all messages, with the one for the end
 abbrev pub messages : List Request → List Item
 messages requests = map One requests
 
 abbrev pub to_the_end : List Request → List Item
 to_the_end requests = messages requests ++ End ∷ []
 
--- what came of a slot, whatever was sent to it up to the end
+-- what a slot returns, whatever was sent to it up to the end
 abbrev pub JoinsAs : Slot → Done → Type 0
 JoinsAs slot d = (seat : Seat) (requests : List Request) → IsSlot seat (to_the_end requests) slot → IsDone seat requests d
 
@@ -38,13 +38,13 @@ JoinsAs slot d = (seat : Seat) (requests : List Request) → IsSlot seat (to_the
 abbrev pub IsNewSlot : Seat → Slot → Type 0
 IsNewSlot seat slot = IsSlot seat [] slot
 
--- the requests of items were sent, each to its place
+-- the requests of items were sent, each to the worker at its place
 pub record AreFurther (items : List (ℕ × Request)) (old new : List Slot) : Type 0 where
   pub count : length new ≡ length old
   pub each : (place : ℕ) (before after : Slot) (seat : Seat) (sent : List Item) → slice_get old place ≡ Some before → slice_get new place ≡ Some after
       → IsSlot seat sent before → IsSlot seat (sent ++ messages (of place items)) after
 
--- the end was sent to each
+-- the end was sent to a worker
 abbrev pub IsEnded : Slot → Slot → Type 0
 IsEnded before after = (seat : Seat) (sent : List Item) → IsSlot seat sent before → IsSlot seat (sent ++ End ∷ []) after
 
@@ -52,7 +52,7 @@ pub record AreEnded (old new : List Slot) : Type 0 where
   pub count : length new ≡ length old
   pub each : (place : ℕ) (before after : Slot) → slice_get old place ≡ Some before → slice_get new place ≡ Some after → IsEnded before after
 
--- the end was sent to those before a place, and the others are as they were
+-- the end was sent to the workers before a place, and the others are unchanged
 pub record AreEndedBefore (n : ℕ) (old new : List Slot) : Type 0 where
   pub count : length new ≡ length old
   pub ended : (place : ℕ) (before after : Slot) → place < n → slice_get old place ≡ Some before → slice_get new place ≡ Some after → IsEnded before after

@@ -1,4 +1,4 @@
--- Helps: what a worker did with what its source gave.
+-- Helps: what a worker did with the requests of its source.
 use Rattle.std.specs.Prelude.{◌≡◌, ◌⊎◌, List, [], length, Option, None}
 use Rattle.std.specs.Iterator.{Yields, YieldsThen, YieldsFirst}
 use Rattle.std.specs.Vec.Iter.{into_iter_items}
@@ -20,37 +20,37 @@ pub record IsAbsent (seat : Seat) (d : Done) : Type 0 where
   pub answers : d.answers.items ≡ []
   pub ended : d.ended ≡ NotStarted
 
--- a list gives its first request
+-- a list returns its first request
 abbrev pub gives_listed : Listed → Option Request → Listed → Type 0
 gives_listed = YieldsFirst (λ l. into_iter_items l.left)
 
 module _ {Q : Type 0} (gives : Q → Option Request → Q → Type 0) where
-  -- a source gave requests, and each has its answer
+  -- a source returned requests, and each has its answer
   pub record IsServedSoFar (seat : Seat) (old : Q) (answers : List Given) (now : Seat) (new : Q) : Type 0 where
     pub requests : List Request
     pub given : Yields gives old requests new
     pub serves : Serves seat requests answers now
     pub each : length answers ≡ length requests
 
-  -- a source gave requests up to its end, and that is what was done with them
+  -- a source returned requests up to its end, and this is what was done with them
   pub record IsServed (seat : Seat) (old : Q) (d : Done) (new : Q) : Type 0 where
     pub requests : List Request
     pub drained : YieldsThen gives old requests None new
     pub done : IsDone seat requests d
 
-  -- what came of a worker: it served all that its source gave, or nothing at all
+  -- what a worker returns: it served all requests of its source, or none at all
   abbrev pub IsWorked : Seat → Q → Worked Q → Type 0
   IsWorked seat old w = IsServed seat old w.done w.source ⊎ (IsAbsent seat w.done × (w.source ≡ old))
 
-  -- what will come of a worker, or has come
+  -- what a worker will return, or has returned
   abbrev pub IsWorker : Seat → Q → Worker Q → Type 0
   IsWorker seat old (Started h) = (h.promise.pass.value ≡ seat) × (h.promise.source.value ≡ old)
   IsWorker seat old (Absent w) = IsWorked seat old w
 
--- what comes of the worker of a feed
+-- the worker of a feed
 abbrev pub IsWorkerOf : Feed → Worker Listed → Type 0
 IsWorkerOf f w = (source : Listed) × (into_iter_items source.left ≡ f.requests.items) × IsWorker gives_listed f.pass source w
 
--- what came of a worker, whichever feed's it is
+-- what a worker did, whichever feed it had
 abbrev pub CameOf : Worker Listed → Done → Type 0
 CameOf w d = (f : Feed) → IsWorkerOf f w → IsDone f.pass f.requests.items d

@@ -2,7 +2,7 @@ use std::alloc::Global;
 use std::sync::atomic::AtomicU64;
 use std::thread::Scope;
 
-/// What the workers of a run are started with: a scope for their threads, and what they share.
+/// What a run needs to start its workers: a scope for their threads, and what the workers share.
 #[derive(Drop)]
 pub(crate) struct Crew<'a, 's, E, H, R, G> {
     pub(crate) scope: &'a Scope<'s, E>,
@@ -10,7 +10,7 @@ pub(crate) struct Crew<'a, 's, E, H, R, G> {
     pub(crate) alloc: Global,
     pub(crate) hall: &'s H,
     pub(crate) gate: &'s G,
-    // The place of a worker that couldn't be had, while it is called in place.
+    // The place of a worker whose thread can't be started, while it is called on this thread.
     pub(crate) absent: &'s AtomicU64,
 }
 

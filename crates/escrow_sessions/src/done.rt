@@ -1,10 +1,10 @@
 use escrow_shards::{Answer, Pass};
 use escrow_stats::Tally;
 
-/// What a worker gives to a request.
+/// What a worker returns for a request.
 #[derive(Debug, Drop)]
 pub enum Given {
-    /// What its statement was answered.
+    /// The answer to the statement.
     Reply(Answer),
     /// The totals of its session's replies so far.
     Totals(Tally),
@@ -13,11 +13,11 @@ pub enum Given {
 /// How a worker ended.
 #[derive(Clone, Copy, Debug, PartialEq, Eq)]
 pub enum Ended {
-    /// Each request has its answer.
+    /// Each request was answered.
     All,
-    /// Room for the next answer wasn't had: that request, and those behind it, weren't served.
+    /// Memory for the next answer was refused. Its request and those after it weren't served.
     Stopped,
-    /// The worker couldn't be had: nothing was served.
+    /// The worker couldn't be started. Nothing was served.
     NotStarted,
 }
 

@@ -15,7 +15,7 @@ pub(crate) struct Line {
     ghost sends: { (view pass).sends ≡ true },
 }
 
-/// The end that takes.
+/// The end that receives.
 #[derive(Drop)]
 pub(crate) struct Taker {
     pub(crate) receiver: RuledReceiver<Item, Log, InOrder>,

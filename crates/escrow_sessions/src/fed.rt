@@ -25,17 +25,18 @@ use std::sync::atomic::AtomicU64;
 use std::thread;
 use std::thread::Threads;
 
-/// Serves items as they come, each by the worker of the place that it names among the passes. All workers are
-/// started before the first item is asked for, and each item is sent to its worker before the next is asked for. What
-/// each worker did stands in the order of the passes. It may wait: a worker that is [`MAX_WAITING`] requests behind
-/// holds up those that come.
+/// Serves items as they come. Each names a pass by its place, and this pass's worker serves it. All
+/// workers are started before the first item is taken, and each item is sent to its worker before
+/// the next is taken. Returns what each worker did, in the order of the passes. May wait: while
+/// [`MAX_WAITING`] requests wait for a worker, the next one for it holds up all later items.
 ///
 /// [`MAX_WAITING`]: crate::MAX_WAITING
 ///
 /// # Errors
 ///
-/// [`Cause::TooMany`] where there are more than [`MAX_WORKERS`] passes, and only there;
-/// [`Cause::Memory`]. No worker was started then, and passes and items are handed back.
+/// Fails with [`Cause::TooMany`] exactly if there are more than [`MAX_WORKERS`] passes. The only
+/// other error is [`Cause::Memory`]. After an error no worker was started, and passes and items are
+/// returned.
 pub fn run_fed<
     S: Alter + Send,
     L: UnderLock<S> + Send,
@@ -62,7 +63,7 @@ pub fn run_fed<
     serve_fed(rt, alloc, shared, passes, items, gate)
 }
 
-/// The same, in any hall.
+/// [`run_fed`] over anything that serves statements.
 fn serve_fed<
     H: Hall + Sync,
     R: Threads + Wait + Sync,
@@ -128,7 +129,7 @@ fn serve_fed<
     ))
 }
 
-/// Starts a worker for each pass, into room that was taken for them.
+/// Starts a worker for each pass. There must be room for the workers.
 fn start_all<E, H: Hall + Sync, R: Wait + Sync, G: Gate + Sync>(
     crew: &Crew<'_, '_, E, H, R, G>,
     passes: Vec<Pass>,
@@ -164,7 +165,7 @@ fn feed<R: Wait, I: Iterator<Item = (usize, Request)> + Drop>(
     }
 }
 
-/// Tells each worker that no request comes any more.
+/// Tells each worker that there are no more requests.
 fn end<R: Wait>(rt: &R, slots: &mut Vec<Slot>)
     ensures { AreEnded slots.old.items slots.new.items }
 {
@@ -173,7 +174,7 @@ fn end<R: Wait>(rt: &R, slots: &mut Vec<Slot>)
     }
 }
 
-/// Waits for the workers, and puts what they did into room that was taken for it.
+/// Waits for the workers, and returns what they did. There must be room for it.
 fn join_all<R: Threads>(rt: &R, slots: Vec<Slot>, done: Vec<Done>) -> Vec<Done>
     requires empty { done.items ≡ [] }
     requires room { vec_len slots ≤ vec_capacity done }

@@ -1,4 +1,4 @@
-//! A worker with the channel on which it is fed.
+//! A worker with the channel that feeds it.
 ghost use Rattle.std.specs.Prelude.{◌≡◌, []};
 ghost use Rattle.crossbeam_channel.specs.Ends.{sends_on, receives_on};
 ghost use Rattle.escrow_sessions.specs.Line.{taken_on};
@@ -7,7 +7,8 @@ use crate::ends::{Line, Taker};
 use crate::team::{Work, Worked};
 use std::thread::PromisedHandle;
 
-/// A worker on its thread, which began with the other end of a channel, from which nothing was taken yet.
+/// A worker on its thread. It began with the other end of the channel, from which nothing had been
+/// received.
 #[derive(Drop)]
 pub(crate) struct FedWorker {
     pub(crate) line: Line,

@@ -4,7 +4,7 @@ use escrow_statement::Request;
 /// The most workers that are started together.
 pub const MAX_WORKERS: usize = 64;
 
-/// What a worker is to do: its requests, in order, in the session of a pass.
+/// The work of a worker: requests, in order, in the session of a pass.
 #[derive(Debug, Drop)]
 pub struct Feed {
     /// The pass of the session.
@@ -22,11 +22,11 @@ pub enum Cause {
     Memory,
 }
 
-/// No worker was started. The feeds are handed back, and nothing was served.
+/// No worker was started, and nothing was served. The feeds are returned.
 #[derive(Debug, Drop)]
 pub struct NotRun {
     /// The feeds, as they were.
     pub feeds: Vec<Feed>,
-    /// Why.
+    /// The cause.
     pub cause: Cause,
 }

@@ -2,7 +2,8 @@ ghost use Rattle.std.specs.Prelude.{◌≡◌, ◌≤◌, ℕ, [], vec_len};
 ghost use Rattle.std.specs.List.{AllByRecursion, AllZip};
 ghost use Rattle.std.specs.Vec.{vec_capacity};
 
-/// Puts what a function makes of each value, and of its place, into room that was taken for it.
+/// Applies a function to each value and its place, and collects the results. There must be room for
+/// them.
 pub fn fill<X: Drop, Y, F: Fn(u64, X) -> Y>(xs: Vec<X>, mut ys: Vec<Y>, f: F) -> Vec<Y>
     requires can { AllByRecursion (λ x. (place : ℕ) → F.pre f place x) xs.items }
     requires empty { ys.items ≡ [] }

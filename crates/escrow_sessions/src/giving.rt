@@ -1,4 +1,4 @@
-//! What requests are given.
+//! What a worker returns for a request.
 ghost use Rattle.std.specs.Prelude.{◌≡◌, ◌-◌, ◌^◌, ◌<◌, ◌++◌, List, length};
 ghost use Rattle.escrow_machine.specs.declared.reply.Reply.{Reply};
 ghost use Rattle.escrow_stats.specs.Tally.{tally_of};
@@ -14,8 +14,8 @@ use escrow_stats::Tally;
 use std::alloc::Global;
 use std::sync::Wait;
 
-/// What a request of the session of a pass is given. The totals of its replies are kept from the first asking for
-/// them on.
+/// Returns the answer to a request of the session of a pass. If the request asks for the session's
+/// totals, they are kept from then on.
 pub(crate) fn give<H: Hall, R: Wait, G: Gate>(
     rt: &R,
     alloc: Global,
@@ -50,7 +50,7 @@ pub(crate) fn give<H: Hall, R: Wait, G: Gate>(
     }
 }
 
-/// Counts a reply that was served in totals that are kept.
+/// Counts a reply that was served in the totals, if they are kept.
 fn count(totals: &mut Option<Tally>, answer: &Answer)
     ensures { (replies : List Reply) → length replies < 2 ^ 64 - 1 → AreKept totals.old replies → AreKept totals.new (replies ++ reply_of answer.now) }
 {
@@ -59,7 +59,7 @@ fn count(totals: &mut Option<Tally>, answer: &Answer)
     }
 }
 
-/// The tally of the replies of receipts.
+/// Returns the tally of the replies of receipts.
 fn tally(receipts: &[Receipt]) -> Tally
     ensures { result ≡ tally_of (replies_of receipts.now) }
 {

@@ -4,13 +4,13 @@ use sqlite::Alter;
 use std::alloc::Global;
 use std::sync::Wait;
 
-/// What serves statements for workers: databases that threads share. Workers go by this, and not by the store, so
-/// that it is shown once that they may be shared.
+/// What serves statements for workers: databases that threads share. Workers use this trait, and
+/// not the store, so one proof suffices that threads may share it.
 pub(crate) trait Hall {
     ghost use Rattle.escrow_shards.specs.Answer.{IsAnswered};
     ghost use Rattle.escrow_shards.specs.Seat.{Seat};
 
-    /// A seat is for one of its databases and sessions.
+    /// Whether a seat is for one of its databases and sessions.
     ghost has_seat: { Self → Seat → Type 0 };
 
     /// Serves a statement of the session of a pass, as [`Shared::call_gated`] does.

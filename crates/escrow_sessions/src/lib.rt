@@ -1,8 +1,11 @@
-//! Workers: sessions of shared databases that are served at the same time, each by a thread of its own.
+//! Workers: sessions of shared databases that are served at the same time, each on a thread of its
+//! own.
 //!
-//! Its one contract: each worker's answers are one for each of its requests, in order, or for the
-//! first so many of them, and the receipts that its pass gained are just those of the answers that
-//! were served.
+//! Its main contract is that of [`run_sessions`]: each worker answers its requests in order: all of
+//! them, or only some first ones. Its pass gains exactly the receipts of the answers that were
+//! served. [`run_fed`] promises the same for requests that come one by one.
+//!
+//! Begin with [`run_sessions`], then read [`laws`].
 #![tactic(auto)]
 
 mod crew;

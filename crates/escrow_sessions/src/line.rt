@@ -1,4 +1,4 @@
-//! What is done at the ends of the channel to a worker.
+//! What is done at the two ends of the channel to a worker.
 ghost use Rattle.std.specs.Prelude.{◌≡◌, IfOk, ◌++◌, List};
 ghost use Rattle.crossbeam_channel.specs.Ends.{sends_on, receives_on};
 ghost use Rattle.escrow_sessions.specs.declared.rule.Item.{Item};
@@ -13,10 +13,11 @@ use std::alloc::{AllocError, Global};
 use std::sync::Wait;
 use std::unreachable;
 
-/// How many messages wait in a channel at most.
+/// The most messages that wait in a channel.
 pub const MAX_WAITING: usize = 16;
 
-/// A new channel, with nothing sent. Want of memory is the only error.
+/// Returns the two ends of a new channel, on which nothing was sent. Fails only if memory is
+/// refused.
 pub(crate) fn open(alloc: Global) -> Result<(Line, Taker), AllocError>
     ensures { IfOk result (λ ends. AreNew ends.0 ends.1) }
 {
@@ -34,7 +35,7 @@ pub(crate) fn open(alloc: Global) -> Result<(Line, Taker), AllocError>
 }
 
 impl Line {
-    /// Sends a message. It may wait until there is room.
+    /// Sends a message. May wait until there is room.
     pub(crate) fn send<R: Wait>(&mut self, rt: &R, mut item: Item)
         ensures { IsSent self.old item self.new }
     {
@@ -47,7 +48,8 @@ impl Line {
         unreachable!()
     }
 
-    /// Both ends together show what is left of what was sent.
+    /// Brings both ends together. This shows that what was received is the first part of what was
+    /// sent.
     pub(crate) fn meet(self, taker: Taker)
         requires { receives_on taker.receiver ≡ sends_on self.sender }
         ensures { (left : List Item) × (sent_on self ≡ taken_on taker ++ left) }

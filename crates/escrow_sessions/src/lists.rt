@@ -4,7 +4,7 @@ use escrow_statement::Request;
 use std::sync::Wait;
 use std::vec::IntoIter;
 
-/// The requests of a list that are left.
+/// The remaining requests of a list.
 #[derive(Drop)]
 pub(crate) struct Listed {
     pub(crate) left: IntoIter<Request>,

@@ -1,13 +1,13 @@
 use crate::feed::Cause;
 use escrow_shards::Pass;
 
-/// No worker was started. Passes and items are handed back, and nothing was served.
+/// No worker was started, and nothing was served. Passes and items are returned.
 #[derive(Drop)]
 pub struct NotFed<I> {
     /// The passes, as they were.
     pub passes: Vec<Pass>,
-    /// The items, of which none was asked for.
+    /// The items, none of which was taken.
     pub items: I,
-    /// Why.
+    /// The cause.
     pub cause: Cause,
 }

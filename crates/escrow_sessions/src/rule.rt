@@ -8,12 +8,12 @@ use std::collections::LinkedList;
 pub(crate) enum Item {
     /// A request.
     One(Request),
-    /// No request comes any more.
+    /// There are no more requests.
     End,
 }
 
-/// What is known at an end of a channel: whether it is the end that sends, and what was sent; whether it is the one
-/// that takes, and what was taken. No value of it is made.
+/// What is known at an end of a channel: whether this is the end that sends, and what was sent;
+/// whether this is the end that receives, and what was received. No value of it exists at run time.
 pub(crate) struct Log {
     pub(crate) sends: bool,
     pub(crate) sent: LinkedList<Item>,
@@ -21,7 +21,7 @@ pub(crate) struct Log {
     pub(crate) taken: LinkedList<Item>,
 }
 
-/// The rule of a channel: what was sent is what was taken, and then what it holds.
+/// The rule of a channel. What was sent is what was received, followed by what the channel holds.
 pub(crate) struct InOrder;
 
 impl Protocol<Item, Log> for InOrder {
@@ -48,7 +48,7 @@ impl Lesson<Item, Log> for Sends {
     ghost fact = { λ v items. ⊤ };
 }
 
-/// A message is taken.
+/// A message is received.
 pub(crate) struct Takes;
 
 impl Outcome<Item, Log> for Takes {
@@ -64,7 +64,7 @@ impl Lesson<Item, Log> for Takes {
     ghost fact = { λ v items. ⊤ };
 }
 
-/// The two ends go apart, and come together again.
+/// The two ends are separated, and brought together again.
 pub(crate) struct Ends;
 
 impl Split<Log> for Ends {
@@ -83,7 +83,7 @@ impl Join<Log> for Ends {
     ghost spent = { no_end };
 }
 
-/// What both ends together know.
+/// What the two ends know together.
 pub(crate) struct Whole;
 
 impl Lesson<Item, Log> for Whole {

@@ -21,13 +21,15 @@ use std::sync::atomic::AtomicU64;
 use std::thread;
 use std::thread::Threads;
 
-/// Serves feeds at the same time, each by a worker on a thread of its own; one feed by itself is served on the calling
-/// thread. What each did stands in the order of the feeds. It may wait.
+/// Serves feeds at the same time, each by a worker on a thread of its own. If there is only one
+/// feed, it is served on the calling thread. Returns what each worker did, in the order of the
+/// feeds. May wait.
 ///
 /// # Errors
 ///
-/// [`Cause::TooMany`] where there are more than [`MAX_WORKERS`] feeds, and only there;
-/// [`Cause::Memory`]. No worker was started then, and the feeds are handed back.
+/// Fails with [`Cause::TooMany`] exactly if there are more than [`MAX_WORKERS`] feeds. The only
+/// other error is [`Cause::Memory`]. After an error no worker was started, and the feeds are
+/// returned.
 pub fn run_sessions<
     S: Alter + Send,
     L: UnderLock<S> + Send,
@@ -49,7 +51,7 @@ pub fn run_sessions<
     serve_lists(rt, alloc, shared, feeds, gate)
 }
 
-/// The same, in any hall.
+/// [`run_sessions`] over anything that serves statements.
 fn serve_lists<H: Hall + Sync, R: Threads + Wait + Sync, G: Gate + Sync>(
     rt: &R,
     alloc: Global,
@@ -95,7 +97,7 @@ fn serve_lists<H: Hall + Sync, R: Threads + Wait + Sync, G: Gate + Sync>(
     ))
 }
 
-/// Serves a feed that has no company, on the calling thread, into room that was taken for what comes of it.
+/// Serves a feed, the only one, on the calling thread. There must be room for what was done.
 fn serve_here<H: Hall, R: Wait, G: Gate>(
     rt: &R,
     alloc: Global,
@@ -136,7 +138,7 @@ fn serve_listed<H: Hall, R: Wait, G: Gate>(
     serve(rt, alloc, hall, pass, &mut source, gate)
 }
 
-/// Starts a worker for each feed, into room that was taken for them.
+/// Starts a worker for each feed. There must be room for the workers.
 fn start_all<E, H: Hall + Sync, R: Wait + Sync, G: Gate + Sync>(
     crew: &Crew<'_, '_, E, H, R, G>,
     feeds: Vec<Feed>,
@@ -171,7 +173,7 @@ fn start_listed<E, H: Hall + Sync, R: Wait + Sync, G: Gate + Sync>(
     start(crew, place, pass, Listed { left })
 }
 
-/// Waits for workers, and puts what they did into room that was taken for it.
+/// Waits for workers, and returns what they did. There must be room for it.
 fn join_all<R: Threads>(rt: &R, workers: Vec<Worker<Listed>>, done: Vec<Done>) -> Vec<Done>
     requires empty { done.items ≡ [] }
     requires room { vec_len workers ≤ vec_capacity done }
@@ -180,7 +182,7 @@ fn join_all<R: Threads>(rt: &R, workers: Vec<Worker<Listed>>, done: Vec<Done>) -
     fill(workers, done, |_, worker| join_listed(rt, worker))
 }
 
-/// Waits for a worker, and answers what it did.
+/// Waits for a worker, and returns what it did.
 fn join_listed<R: Threads>(rt: &R, worker: Worker<Listed>) -> Done
     ensures { CameOf worker result }
 {

@@ -1,4 +1,4 @@
-//! A worker that is fed.
+//! A worker that is fed through a channel.
 ghost use Rattle.std.specs.Prelude.{[], ◌∷◌, ◌++◌, List};
 ghost use Rattle.escrow_shards.specs.Seat.{Seat};
 ghost use Rattle.escrow_sessions.specs.Slots.{IsSlot, JoinsAs};
@@ -15,7 +15,8 @@ use escrow_shards::{Gate, Pass};
 use std::sync::Wait;
 use std::thread::Threads;
 
-/// A worker that is fed through a channel, or one that wasn't had, to which nothing is sent.
+/// A worker that is fed through a channel, or one that couldn't be started, to which nothing is
+/// sent.
 #[derive(Drop)]
 pub(crate) enum Slot {
     Fed(FedWorker),
@@ -48,7 +49,7 @@ pub(crate) fn start_fed<E, H: Hall + Sync, R: Wait + Sync, G: Gate + Sync>(
 }
 
 impl Slot {
-    /// Sends a message to the worker, if it was had. It may wait until there is room.
+    /// Sends a message to the worker, if it was started. May wait until there is room.
     pub(crate) fn send<R: Wait>(&mut self, rt: &R, item: Item)
         ensures { (seat : Seat) (sent : List Item) → IsSlot seat sent self.old → IsSlot seat (sent ++ item ∷ []) self.new }
     {
@@ -58,7 +59,7 @@ impl Slot {
         }
     }
 
-    /// What came of the worker, once its thread has ended.
+    /// Waits for the worker's thread to end, and returns what the worker did.
     pub(crate) fn join<R: Threads>(self, rt: &R) -> Done
         ensures { JoinsAs self result }
     {

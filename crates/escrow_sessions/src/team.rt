@@ -15,14 +15,14 @@ use std::sync::Wait;
 use std::sync::atomic::{AtomicU64, Ordering};
 use std::thread::{Promise, PromisedHandle, Threads};
 
-/// What came of a worker: what it did, and its source as it left it.
+/// What a worker returns: what it did, and its source as it left it.
 #[derive(Drop)]
 pub(crate) struct Worked<Q> {
     pub(crate) done: Done,
     pub(crate) source: Q,
 }
 
-/// What a worker begins with. What comes of it is known by that.
+/// What a worker begins with, which determines what it may return.
 #[derive(Drop)]
 pub(crate) struct Work<Q> {
     pub(crate) pass: Snapshot<Pass>,
@@ -35,15 +35,16 @@ impl<Q: Source> Promise<Worked<Q>> for Work<Q> {
     ghost kept_by = { λ w r. IsWorked Q.gives w.pass.value w.source.value r };
 }
 
-/// A worker that was started on a thread, or one that couldn't be had, and what came of it.
+/// A worker that was started on a thread, or one that couldn't be started, with what it returned.
 #[derive(Drop)]
 pub(crate) enum Worker<Q: Source + Drop> {
     Started(PromisedHandle<Worked<Q>, Work<Q>>),
     Absent(Worked<Q>),
 }
 
-/// Starts a worker on a thread of its own. Where no thread is to be had the worker is marked as absent, by its
-/// place, and called here: so it hands back what it was given, and serves nothing.
+/// Starts a worker on a thread of its own. If no thread can be started, the worker is marked as
+/// absent, by its place, and called on this thread. It then serves nothing, and returns what it was
+/// given.
 pub(crate) fn start<
     's,
     E,
@@ -71,7 +72,7 @@ pub(crate) fn start<
     }
 }
 
-/// The work of a worker: to serve what its source gives, unless it is marked as absent.
+/// The work of a worker: serves what its source returns, unless the worker is marked as absent.
 fn attend<H: Hall, R: Wait, G: Gate, Q: Source>(
     rt: &R,
     alloc: Global,
@@ -100,7 +101,7 @@ fn attend<H: Hall, R: Wait, G: Gate, Q: Source>(
 }
 
 impl<Q: Source + Drop> Worker<Q> {
-    /// What came of it, once its thread has ended.
+    /// Waits for the worker's thread to end, and returns what the worker returned.
     pub(crate) fn join<R: Threads>(self, rt: &R) -> Worked<Q>
         ensures { (pass : Seat) (source : Q) → IsWorker Q.gives pass source self → IsWorked Q.gives pass source result }
     {

@@ -1,4 +1,4 @@
-//! What a worker does: it gives each request of its source what it asks for.
+//! What a worker does: it answers each request of its source.
 ghost use Rattle.std.specs.Prelude.{◌≡◌, List, None};
 ghost use Rattle.std.specs.Iterator.{YieldsThen};
 ghost use Rattle.escrow_statement.specs.declared.statement.Request.{Request};
@@ -13,8 +13,8 @@ use std::alloc::Global;
 use std::sync::Wait;
 use std::unreachable;
 
-/// Serves what a source gives, up to its end, in the session of a pass. Where room for the next answer isn't had
-/// the rest is taken, and not served.
+/// Serves what a source returns, up to its end, in the session of a pass. If memory for the next
+/// answer is refused, the remaining requests are taken, and not served.
 pub(crate) fn serve<H: Hall, R: Wait, G: Gate, Q: Source>(
     rt: &R,
     alloc: Global,
@@ -51,7 +51,7 @@ pub(crate) fn serve<H: Hall, R: Wait, G: Gate, Q: Source>(
     unreachable!()
 }
 
-/// Takes what a source gives, up to its end.
+/// Takes what a source returns, up to its end.
 fn skip<R: Wait, Q: Source>(rt: &R, source: &mut Q)
     ensures { (skipped : List Request) × YieldsThen Q.gives source.old skipped None source.new }
 {

@@ -1,4 +1,4 @@
--- Believed: what a call makes of its pass.
+-- Believed: how a call changes its pass.
 use Rattle.std.specs.Prelude.{◌≡◌, ◌⊎◌, ℕ, ◌∷◌, [], ◌++◌}
 use Rattle.escrow_num.specs.declared.refusal.Refusal.{Refusal}
 use Rattle.escrow_num.specs.declared.refusal.Refusal.TheVariants as refusal
@@ -12,8 +12,8 @@ use Rattle.escrow_shards.specs.Seat.{Seat}
 abbrev pub IsUnserved : Refusal → Type 0
 IsUnserved r = (r ≡ refusal.TranscriptFull) ⊎ IsFailed r
 
--- The answer to a statement. Where it was served the reply is none of 51, 52 and 60, and the pass has one receipt more,
--- with the statement and the reply that was answered; otherwise the pass is as it was.
+-- The answer to a statement. If the statement was served, the reply is none of 51, 52 and 60, and the pass has one more
+-- receipt, with the statement and this reply. Otherwise the pass is unchanged.
 abbrev pub IsAnswered : Answer → Statement → Seat → Seat → Type 0
 IsAnswered (Served reply) asked old new =
     IsAnswer reply

@@ -1,4 +1,4 @@
--- Helps: what is counted of the passes of one database.
+-- Helps: counts of the passes of one database.
 use Rattle.std.specs.Prelude.{◌≡◌, ℕ, ◌≤◌, List}
 use Rattle.escrow_shards.specs.Seat.{Seat, seats_at}
 

@@ -1,4 +1,4 @@
--- Helps: what is found on the way to a close.
+-- Helps: what a close finds on its way.
 use Rattle.std.specs.Prelude.{◌≡◌, ℕ, ◌<◌, List, length, slice_get, Some}
 use Rattle.std.specs.List.{AllByRecursion}
 use Rattle.sqlite_trees.specs.declared.store.Store.{Ghosts}
@@ -11,28 +11,28 @@ use Rattle.escrow_shards.specs.Piece.{Piece}
 use Rattle.escrow_shards.specs.Seat.{Seat, AreAllSeats}
 use Rattle.escrow_shards.specs.Whole.{AreOfSessions, HasItsReceipts, LacksPass}
 
--- a seat's database is among so many
+-- a seat's database is one of the first `databases` databases
 abbrev pub IsAmong : ℕ → Seat → Type 0
 IsAmong databases seat = seat.database < databases
 
--- all parts of a database are there, beside what its type keeps
+-- all parts of a database are there, and what its types keep holds
 pub record IsSettled {S : Type 0} (g : Ghosts S) (d : ℕ) (parts : List (Piece S)) (c : Closing S) : Type 0 where
   pub whole : HasAllParts d parts c
   pub begun : IsBegun g c.opening
   pub kept : IsKept g c.history
 
--- so it is with each database
+-- each database is settled like this
 abbrev pub AreSettled : {S : Type 0} → Ghosts S → List (Piece S) → List (Closing S) → Type 0
 AreSettled {S} g parts closed = (d : ℕ) (c : Closing S) → slice_get closed d ≡ Some c → IsSettled g d parts c
 
--- a cause tells that a session of a database has entries, and no pass
+-- a cause says that a session of a database has entries, and no pass
 abbrev pub IsOfNoPass : {S : Type 0} → ℕ → List (Piece S) → List (Closing S) → Cause → Type 0
 IsOfNoPass sessions parts closed (cause.Receipts d k) = LacksPass sessions d k parts closed
 IsOfNoPass sessions parts closed cause.Passes = ⊥
 IsOfNoPass sessions parts closed (cause.Parts d) = ⊥
 IsOfNoPass sessions parts closed cause.Memory = ⊥
 
--- all that a close finds, but which databases they are
+-- everything that a close finds, except which databases they are
 pub record AreFound {S : Type 0} (g : Ghosts S) (sessions : ℕ) (seats : List Seat) (parts : List (Piece S)) (closed : List (Closing S)) : Type 0 where
   pub all_seats : AreAllSeats (length closed) sessions seats
   pub each : (d : ℕ) (c : Closing S) → slice_get closed d ≡ Some c → IsWhole g d parts c

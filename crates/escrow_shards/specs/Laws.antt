@@ -8,24 +8,24 @@ use Rattle.escrow_shards.specs.Closing.{Closing, WasClean}
 use Rattle.escrow_shards.specs.Piece.{Piece}
 use Rattle.escrow_shards.specs.Seat.{AreAllSeats, new_seat, new_seats}
 
--- the limit of this layer, as a number
+-- the limit of this crate, as a number
 abbrev pub Limits : Type 0
 Limits = MAX_DATABASES ≡ 16
 
--- each session of each database has one of the passes that are made, and there are no others
+-- the passes that are made are one for each session of each database, and no others
 abbrev pub NewPassesAreAll : Type 0
 NewPassesAreAll = (databases sessions : ℕ) → AreAllSeats databases sessions (new_seats databases sessions)
 
--- the pass of a session, here counted from 0, of a database stands at its place among those that are made
+-- the place of a session's pass among those that are made; the session is counted from 0 here
 abbrev pub PassesHavePlaces : Type 0
 PassesHavePlaces =
     (databases sessions database before : ℕ) → database < databases → before < sessions
     → slice_get (new_seats databases sessions) (database * sessions + before) ≡ Some (new_seat database (before + 1))
 
--- whatever was done over a connection, its disk has returned what was written, as memory always does
+-- whatever was done over a connection, its disk returned what was written, as memory always does
 abbrev pub IsAlwaysClean : {S : Type 0} → Ghosts S → Type 0
 IsAlwaysClean {S} g = (connection : Held S) → HasCleanDisk (state g connection)
 
--- over such stores the run that a close finds has no premise
+-- over such stores, the run that a close finds has no premise
 abbrev pub CloseHasNoPremise : {S : Type 0} → Ghosts S → Type 0
 CloseHasNoPremise {S} g = (d : ℕ) (parts : List (Piece S)) (c : Closing S) → WasClean g d parts c

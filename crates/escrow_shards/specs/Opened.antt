@@ -8,16 +8,16 @@ use Rattle.escrow_core.specs.Seen.{Seen}
 use Rattle.escrow_machine.specs.State.{has_open}
 use Rattle.escrow_shards.specs.Begun.{Begun}
 
--- something is open in some database
+-- whether something is open in some database
 abbrev pub any_open : {S : Type 0} → List (Seen S) → Bool
 any_open databases = list_any (λ d. has_open d.state) databases
 
--- A database is the same but for its store, whose disk is clean only if it was: nothing was written.
+-- A database is unchanged but for its store: it was only read. Its disk is clean only if it was clean before.
 pub record IsRead {S : Type 0} (g : Ghosts S) (old new : Seen S) : Type 0 where
   pub unchanged : new.state ≡ old.state
   pub clean : HasCleanDisk (state g new.store) → HasCleanDisk (state g old.store)
 
--- of each of several databases was only read
+-- each of several databases was only read
 abbrev pub AreRead : {S : Type 0} → Ghosts S → List (Seen S) → List (Seen S) → Type 0
 AreRead g [] [] = Unit {0}
 AreRead g [] (n ∷ news) = ⊥

@@ -12,8 +12,8 @@ use Rattle.escrow_transcript.specs.declared.entry.Entry.{Entry}
 use Rattle.escrow_transcript.specs.Image.{started}
 use Rattle.escrow_transcript.specs.Legal.{IsLegal}
 
--- what contracts see of a part: its database, counted from 0; its number, from 1; where it begins, its
--- entries and where it ends; and the store, as it was when the part was handed out
+-- what contracts see of a part: its database, counted from 0; its number, from 1; where it begins; its entries; where
+-- it ends; and the store, as it was when the part was handed out
 pub record Piece (S : Type 0) : Type 0 where
   pub database : ℕ
   pub number : ℕ
@@ -30,8 +30,8 @@ piece_code {S} store =
     (λ p. record { database = p.0; number = p.1.0; base = p.1.1.0; entries = p.1.1.1.0; end = p.1.1.1.1.0; store = p.1.1.1.1.1 })
     (λ _. refl)
 
--- What a part keeps: where the disk had returned what was written when the part was handed out, its
--- transcript is legal, up to where it ends; and its end counts on from its base.
+-- What always holds of a part. If the disk had returned what was written when the part was handed out, its transcript
+-- is legal, up to its end. The number at its end is that at its base plus the number of its entries.
 pub record IsSound {S : Type 0} (g : Ghosts S) (p : Piece S) : Type 0 where
   pub legal : HasCleanDisk (state g p.store) → IsLegal p.base p.entries (started p.end.image)
   pub counts : p.end.before ≡ p.base.before + length p.entries

@@ -1,4 +1,4 @@
--- Believed: the receipts that entries make.
+-- Believed: the receipts of entries.
 use Rattle.std.specs.Prelude.{ℕ, ◌==◌, List, map, filter}
 use Rattle.escrow_transcript.specs.declared.entry.Entry.{Entry}
 use Rattle.escrow_shards.specs.declared.receipt.Receipt.{Receipt}

@@ -1,4 +1,4 @@
--- Believed: what is kept under the lock of a database that is watched.
+-- Believed: what always holds under the lock of a watched database.
 use Rattle.std.specs.Prelude.{◌≡◌, ℕ, ◌+◌, ◌≤◌, List, ◌++◌, length, refl}
 use Rattle.std.specs.Coded.{Coded, code_by, coded×, coded_ℕ}
 use Rattle.sqlite.specs.Held.{Held, state}
@@ -10,8 +10,8 @@ use Rattle.escrow_transcript.specs.Legal.{IsLegal}
 use Rattle.escrow_history.specs.History.{History, history_code}
 use Rattle.escrow_stats.specs.Watching.{Boarded, boarded_code, IsPrefix}
 
--- what contracts see of a database that is watched: the database with its transcript, how many parts of its history
--- were handed out, and the board
+-- what contracts see of a watched database: the database with its transcript, how many parts of its history were handed
+-- out, and the board
 pub record Viewed (S : Type 0) : Type 0 where
   pub history : History S
   pub parts : ℕ
@@ -22,7 +22,7 @@ viewed_code {S} store =
     code_by (History S × (ℕ × Boarded)) (coded× (history_code store) (coded× coded_ℕ boarded_code))
     (λ w. (w.history, (w.parts, w.board))) (λ p. record { history = p.0; parts = p.1.0; board = p.1.1 }) (λ _. refl)
 
--- the doubts of the disk below a connection: 0 while it has returned what was written (HasCleanDisk)
+-- the doubts of the disk below a connection: 0 as long as it returned what was written (HasCleanDisk)
 abbrev pub doubts_of : {S : Type 0} → Ghosts S → Held S → ℕ
 doubts_of g connection = doubt (state g connection).is_clean
 
@@ -30,10 +30,10 @@ doubts_of g connection = doubt (state g connection).is_clean
 abbrev pub EndsWith : List Entry → List Entry → Type 0
 EndsWith entries last = (earlier : List Entry) × (entries ≡ earlier ++ last)
 
--- WHAT IS KEPT. The list that the board counts is the whole history of the database: from where it begins, legal up to
--- the state found, while the disk has returned what was written; as long as the last entry's number; and it ends with
--- the transcript's entries. It begins with the list whose totals are shown, for which the disk was no more in doubt
--- than now.
+-- WHAT ALWAYS HOLDS. The board counts the whole history of the database. If the disk returned what was written, this
+-- list is legal, from where the history begins to the state found. Its length is the last entry's number, and it ends
+-- with the transcript's entries. It begins with the list whose totals are shown, for which the disk was no more in
+-- doubt than now.
 pub record IsShown {S : Type 0} (g : Ghosts S) (h : History S) (b : Boarded) : Type 0 where
   pub first : b.base.before ≡ 0
   pub legal : HasCleanDisk (state g h.store) → IsLegal b.base b.entries h.state

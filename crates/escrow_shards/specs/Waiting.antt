@@ -7,7 +7,7 @@ use Rattle.escrow_shards.specs.declared.waiting.Place.TheVariants as place
 use Rattle.escrow_shards.specs.declared.waiting.Turn.{Turn}
 use Rattle.escrow_shards.specs.declared.waiting.Turn.TheVariants as turn
 
--- what stands in the place of a session
+-- what is in the place of a session
 abbrev pub at : List Place → ℕ → Place
 at places session = get_or places (session - 1) place.Free
 
@@ -15,14 +15,14 @@ at places session = get_or places (session - 1) place.Free
 abbrev pub with_place : List Place → ℕ → Place → List Place
 with_place places session new = slice_set places (session - 1) new
 
--- what became of a COMMIT that left its place
+-- what happened to a COMMIT that left its place
 abbrev pub turn_in : Place → Turn
 turn_in place.Free = turn.Alone
 turn_in place.Asked = turn.Alone
 turn_in place.Leads = turn.Leads
 turn_in (place.Answered outcome) = turn.Answered outcome
 
--- the sessions whose COMMITs wait, in order; so many places stood before these
+-- the sessions whose COMMITs wait, in order; `before` places come before these
 abbrev pub asking : ℕ → List Place → List ℕ
 asking before [] = []
 asking before (place.Free ∷ places) = asking (before + 1) places
@@ -30,7 +30,7 @@ asking before (place.Asked ∷ places) = (before + 1) ∷ asking (before + 1) pl
 asking before (place.Leads ∷ places) = asking (before + 1) places
 asking before (place.Answered outcome ∷ places) = asking (before + 1) places
 
--- places, once outcomes were left in those of their sessions
+-- places, after outcomes were left in the places of their sessions
 abbrev pub answered : List ℕ → List (Result Committed Failure) → List Place → List Place
 answered (session ∷ sessions) (outcome ∷ outcomes) places = answered sessions outcomes (with_place places session (place.Answered outcome))
 answered [] outcomes places = places

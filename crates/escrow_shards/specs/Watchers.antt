@@ -1,4 +1,4 @@
--- Believed: boards and watchers of databases that are shared, as they are made; and why databases aren't shared.
+-- Believed: new boards and watchers of shared databases; and why databases aren't shared.
 use Rattle.std.specs.Prelude.{◌≡◌, ◌⊎◌, ℕ, List, [], ◌∷◌, ◌++◌, length, All}
 use Rattle.escrow_num.specs.declared.refusal.Refusal.TheVariants as refusal
 use Rattle.escrow_history.specs.Calls.{IsNotBegun}
@@ -7,11 +7,11 @@ use Rattle.escrow_shards.specs.Begun.{Begun}
 use Rattle.escrow_shards.specs.declared.cause.Unshared.{Unshared}
 use Rattle.escrow_shards.specs.declared.cause.Unshared.TheVariants as unshared
 
--- the board of an opening, of which nothing was served
+-- the board of an opening, before anything was served
 abbrev pub new_board : {S : Type 0} → Begun S → Boarded
 new_board o = record { base = o.base; entries = []; shown = []; doubts = 0 }
 
--- so many watchers that have read nothing for each opening, in the openings' order
+-- `count` watchers that have read nothing for each opening, in order of the openings
 abbrev pub AreNewWatchers : {S : Type 0} → ℕ → List (Begun S) → List Watching → Type 0
 AreNewWatchers count [] watchers = watchers ≡ []
 AreNewWatchers count (o ∷ openings) watchers =
@@ -21,14 +21,14 @@ AreNewWatchers count (o ∷ openings) watchers =
 abbrev pub IsUnwatched : Unshared → Type 0
 IsUnwatched cause = (cause ≡ unshared.Refused refusal.Memory) ⊎ (cause ≡ unshared.NoPlace)
 
--- why databases aren't shared that nobody is to watch: 26, 51 or 60
+-- why databases without watchers aren't shared: 26, 51 or 60
 abbrev pub IsRefused : Unshared → Type 0
 IsRefused (unshared.Refused r) = IsNotBegun r
 IsRefused unshared.TooManyWatchers = ⊥
 IsRefused unshared.NoPlace = ⊥
 
--- why databases aren't shared that are to be watched: as of those that aren't; more watchers are asked than there may
--- be; or no place to read at
+-- why databases with watchers aren't shared: for the same reasons; because more watchers are asked for than there may
+-- be; or because a watcher has no place to read at
 abbrev pub IsUnshared : Unshared → Type 0
 IsUnshared (unshared.Refused r) = IsNotBegun r
 IsUnshared unshared.TooManyWatchers = Unit {0}

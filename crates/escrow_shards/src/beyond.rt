@@ -13,7 +13,7 @@ use escrow_num::Session;
 use escrow_transcript::Entry;
 use sqlite::Alter;
 
-/// The session of the first entry that is of none of the first so many.
+/// Returns the session of the first entry that belongs to none of the first `sessions` sessions.
 fn beyond(sessions: u8, entries: &[Entry]) -> Option<Session>
     ensures none { IfNone result (AllByRecursion (IsOfSessions sessions) entries.now) }
     ensures some { IfSome result (λ k. (sessions < k) × (receipts_of k entries.now ≡ [] → ⊥)) }
@@ -27,7 +27,7 @@ fn beyond(sessions: u8, entries: &[Entry]) -> Option<Session>
     None
 }
 
-/// The same of the entries in the parts of a database.
+/// Returns what [`beyond`] does, for the entries in the parts of a database.
 fn beyond_in_parts<S: Alter>(database: usize, sessions: u8, parts: &[Part<S>]) -> Option<Session>
     ensures none { IfNone result (AllByRecursion (IsOfSessions sessions) (entries_of (parts_of database parts.now))) }
     ensures some { IfSome result (λ k. (sessions < k) × (receipts_of k (entries_of (parts_of database parts.now)) ≡ [] → ⊥)) }
@@ -43,7 +43,8 @@ fn beyond_in_parts<S: Alter>(database: usize, sessions: u8, parts: &[Part<S>]) -
     None
 }
 
-/// The same of the entries in the parts of a database, and then in a last transcript.
+/// Returns what [`beyond`] does, for the entries in the parts of a database and then in a last
+/// transcript.
 pub(crate) fn beyond_in_all<S: Alter>(
     database: usize,
     sessions: u8,
@@ -59,7 +60,8 @@ pub(crate) fn beyond_in_all<S: Alter>(
     beyond(sessions, last)
 }
 
-/// The first database that has an entry of none of the first so many sessions, with the session of that entry, as a cause.
+/// Finds the first database with an entry that belongs to none of the first `sessions` sessions.
+/// Returns it with the session of that entry, as a cause.
 pub(crate) fn lacks_pass<S: Alter>(
     closed: &[Closed<S>],
     sessions: u8,

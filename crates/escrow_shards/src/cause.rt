@@ -5,27 +5,28 @@ use escrow_core::Database;
 use escrow_num::{Refusal, Session};
 use sqlite::Alter;
 
-/// Why databases aren't shared. It hands the databases back.
+/// The error if databases can't be shared: it returns the databases, with the cause.
 #[derive(Drop)]
 pub struct MakeFault<S: Alter> {
     /// The databases, in their order.
     pub databases: Vec<Database<S>>,
-    /// Why they aren't shared.
+    /// Why they can't be shared.
     pub cause: Unshared,
 }
 
-/// The cause of a [`MakeFault`]. Where nobody is to watch the databases it is `Refused`.
+/// The cause of a [`MakeFault`]. If no watchers were asked for, it is `Refused`.
 #[derive(Debug, Drop)]
 pub enum Unshared {
-    /// 26, 51 or 60.
+    /// Something is open (26), memory was refused (51), or the store refused a call (60).
     Refused(Refusal),
-    /// More watchers of each are asked than [`MAX_WATCHERS`](escrow_stats::MAX_WATCHERS).
+    /// More watchers of each database were asked for than
+    /// [`MAX_WATCHERS`](escrow_stats::MAX_WATCHERS).
     TooManyWatchers,
     /// A watcher has no place to read at.
     NoPlace,
 }
 
-/// What a close finds where all fits together.
+/// What a close returns if everything fits together.
 #[derive(Drop)]
 pub struct Audit<S: Alter> {
     /// The databases with their last transcripts, in order.
@@ -34,7 +35,7 @@ pub struct Audit<S: Alter> {
     pub parts: Vec<Part<S>>,
 }
 
-/// What a close hands back where something doesn't fit: everything, with the cause.
+/// What a close returns if something doesn't fit: everything that it was given, with the cause.
 #[derive(Drop)]
 pub struct Mismatch<S: Alter> {
     /// The databases out of their locks, with their last transcripts, in order.
@@ -57,13 +58,14 @@ pub enum Cause {
         /// The database.
         database: usize,
     },
-    /// The receipts of a session of a database aren't just its entries. It may have entries and no pass.
+    /// The receipts of a session of a database aren't exactly its entries. The session may have
+    /// entries and no pass.
     Receipts {
         /// The database.
         database: usize,
         /// The session.
         session: Session,
     },
-    /// Out of memory, which a close takes none of: it never comes.
+    /// Memory was refused. This never happens, since a close takes no memory.
     Memory,
 }

@@ -11,8 +11,8 @@ use escrow_transcript::{Base, Entry, Transcript};
 use sqlite::Alter;
 use std::marker::Model;
 
-/// A database that came out of its lock, with its last transcript: what was served since its last part
-/// was handed out.
+/// A database that came out of its lock, with its last transcript: what was served since its last
+/// part was handed out.
 #[derive(Drop)]
 pub struct Closed<S: Alter> {
     opening: Opening<S>,
@@ -39,7 +39,7 @@ impl<S: Alter> Closed<S> {
     ghost use Rattle.escrow_shards.specs.Receipts.{receipts_of};
     ghost use Rattle.escrow_shards.specs.Whole.{IsOfSessions};
 
-    /// A database that came out of its lock, of which so many parts were handed out.
+    /// Returns a database that came out of its lock, after this many parts were handed out.
     pub(crate) fn new(opening: Opening<S>, audited: Audited<S>, parts: u64) -> Self
         ensures { result ≡ record { opening = opening; history = audited; parts = parts } }
     {
@@ -50,15 +50,15 @@ impl<S: Alter> Closed<S> {
         }
     }
 
-    /// Where the history of the database begins.
+    /// Returns the opening, where the history of the database begins.
     pub fn opening(&self) -> &Opening<S>
         ensures { result.now ≡ self.now.opening }
     {
         &self.opening
     }
 
-    /// Where its last transcript begins. While the disk has returned what was written that transcript is
-    /// legal, up to the state of the database.
+    /// Returns the base where its last transcript begins. If the disk returned what was written,
+    /// that transcript is legal, up to the state of the database.
     pub fn base(&self) -> &Base
         ensures base { result.now ≡ self.now.history.base }
         ensures kept { IsKept S.Store self.now.history }
@@ -66,14 +66,14 @@ impl<S: Alter> Closed<S> {
         self.audited.base()
     }
 
-    /// The entries of its last transcript, in order.
+    /// Returns the entries of its last transcript, in order.
     pub fn entries(&self) -> &[Entry]
         ensures { result.now ≡ self.now.history.entries }
     {
         self.audited.entries()
     }
 
-    /// The database and its last transcript.
+    /// Returns the database and its last transcript.
     pub fn into_parts(self) -> (Database<S>, Transcript)
         ensures store { result.0.store ≡ self.history.store }
         ensures state { result.0.state ≡ self.history.state }
@@ -83,7 +83,7 @@ impl<S: Alter> Closed<S> {
         self.audited.into_parts()
     }
 
-    /// Whether all parts of its history are there, in order.
+    /// Returns whether all parts of its history are there, in order.
     pub(crate) fn has_all_parts(&self, database: usize, parts: &[Part<S>]) -> bool
         ensures whole { IsTrue result ↔ HasAllParts database parts.now self.now }
         ensures begun { IsBegun S.Store self.now.opening }
@@ -98,7 +98,7 @@ impl<S: Alter> Closed<S> {
         )
     }
 
-    /// Whether the receipts of a pass are just the entries of its session, in their order.
+    /// Returns whether the receipts of a pass are exactly the entries of its session, in order.
     pub(crate) fn matches(&self, parts: &[Part<S>], pass: &Pass) -> bool
         ensures { IsTrue result ↔ (pass.now.receipts ≡ receipts_of pass.now.session (all_entries pass.now.database parts.now self.now)) }
     {
@@ -111,7 +111,8 @@ impl<S: Alter> Closed<S> {
         )
     }
 
-    /// The session of the first entry that is of none of the first so many.
+    /// Returns the session of the first entry that belongs to none of the first `sessions`
+    /// sessions.
     pub(crate) fn session_beyond(
         &self,
         database: usize,

@@ -12,8 +12,8 @@ use crate::pass::Pass;
 use crate::seats::are_all_seats;
 use sqlite::Alter;
 
-/// The first cause of a mismatch: passes first, then parts, then receipts, those of sessions without a pass last.
-/// `None` where all fits together.
+/// Returns the first cause of a mismatch, or `None` if everything fits together. It tests passes,
+/// then parts, then receipts, and last the entries of sessions without a pass.
 pub(crate) fn cause_of<S: Alter>(
     closed: &[Closed<S>],
     sessions: u8,
@@ -39,7 +39,7 @@ pub(crate) fn cause_of<S: Alter>(
     lacks_pass(closed, sessions, parts)
 }
 
-/// The first database whose parts aren't all there, in order.
+/// Returns the first database whose parts aren't all there, in order.
 fn lacks_parts<S: Alter>(closed: &[Closed<S>], parts: &[Part<S>]) -> Option<usize>
     ensures none { IfNone result (AreSettled S.Store parts.now closed.now) }
     ensures some { IfSome result (λ database. LacksParts database parts.now closed.now) }
@@ -52,7 +52,7 @@ fn lacks_parts<S: Alter>(closed: &[Closed<S>], parts: &[Part<S>]) -> Option<usiz
     None
 }
 
-/// The first pass whose receipts aren't just the entries of its session.
+/// Returns the first pass whose receipts aren't exactly the entries of its session.
 fn lacks_receipts<'a, S: Alter>(
     closed: &[Closed<S>],
     parts: &[Part<S>],
@@ -70,7 +70,7 @@ fn lacks_receipts<'a, S: Alter>(
     None
 }
 
-/// Whether the receipts of a pass are just the entries of its session.
+/// Returns whether the receipts of a pass are exactly the entries of its session.
 fn has_its_receipts<S: Alter>(closed: &[Closed<S>], parts: &[Part<S>], pass: &Pass) -> bool
     requires { IsAmong (length closed.now) pass.now }
     ensures { IsTrue result ↔ HasItsReceipts parts.now closed.now pass.now }

@@ -7,7 +7,8 @@ use crate::part::Part;
 use escrow_transcript::Base;
 use sqlite::Alter;
 
-/// Whether the parts of a database are all there, in order: so many, from a first base up to a last one.
+/// Returns whether the parts of a database are all there, in order: `count` of them, from a first
+/// base to a last one.
 pub(crate) fn parts_follow<'a, S: Alter>(
     database: usize,
     first: &'a Base,
@@ -32,7 +33,7 @@ pub(crate) fn parts_follow<'a, S: Alter>(
     number == count && base.is_same(last)
 }
 
-/// What the type of parts knows of each of them.
+/// Gives the proof what the type of parts says of each of them.
 pub(crate) fn tell_parts<S: Alter>(parts: &[Part<S>])
     ensures { AllByRecursion (IsSound S.Store) parts.now }
 {

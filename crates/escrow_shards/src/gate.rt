@@ -1,16 +1,17 @@
 use escrow_num::Session;
 use std::sync::Wait;
 
-/// What is called beside a call: so a test can fix who comes first. `n` is one more than the number of the
-/// receipts that the pass has.
+/// Hooks before and inside a call, by which a test fixes the order of calls. `n` is one more than
+/// the number of receipts of the pass.
 pub trait Gate {
-    /// Before a call. It is for whoever calls with a gate: a call itself doesn't ask for it.
+    /// Called before a call, by the test itself. A call never calls it.
     fn before<R: Wait>(&self, rt: &R, database: usize, session: Session, n: u64);
 
-    /// Within a call, while its lock is held, before the statement is served.
+    /// Called inside a call, while its lock is held, before the statement is served.
     fn inside<R: Wait>(&self, rt: &R, database: usize, session: Session, n: u64);
 
-    /// Whether it does nothing. Then a COMMIT that waits may be served by another call, with its own.
+    /// Returns whether the gate does nothing. If so, another call may serve a COMMIT that waits,
+    /// together with its own.
     fn is_idle(&self) -> bool {
         false
     }

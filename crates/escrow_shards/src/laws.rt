@@ -1,5 +1,4 @@
-//! Laws of what threads share: facts about its definitions, each the contract of a function that does
-//! nothing.
+//! Laws of databases that threads share. Each is the contract of a function that does nothing.
 ghost use Rattle.escrow_shards.specs.Laws.{Limits, NewPassesAreAll, PassesHavePlaces, IsAlwaysClean, CloseHasNoPremise};
 
 use sqlite::Alter;
@@ -9,20 +8,20 @@ pub fn limits()
     ensures { Limits }
 {}
 
-/// Of the passes that are made each session of each database has one, and there are no others: handed
-/// back as they were given they pass the close.
+/// The passes that are made are one for each session of each database, and no others. If they are
+/// handed back as they were given, the close finds each pass exactly once.
 pub fn new_passes_are_all()
     ensures { NewPassesAreAll }
 {}
 
-/// A pass stands at the place that its database and its session tell: those of the first database come
-/// first, by session.
+/// The place of a pass follows from its database and its session: the passes of the first database
+/// come first, in order of session.
 pub fn passes_have_places()
     ensures { PassesHavePlaces }
 {}
 
-/// Over stores whose disk always returns what was written, as memory does, a close has no premise: the
-/// history of each database is one run of the machine.
+/// If the disk of a store always returns what was written, as memory does, a close has no premise:
+/// the history of each database is one run of the machine.
 pub fn close_has_no_premise<S: Alter>()
     requires { IsAlwaysClean S.Store }
     ensures { CloseHasNoPremise S.Store }

@@ -1,9 +1,14 @@
-//! Databases that threads share, each under a lock of its own: calls, and a close that puts together
-//! what was served.
+//! Databases that threads share, each under its own lock. Threads serve statements with passes, and
+//! a close compares the passes with the histories.
 //!
-//! Its one contract: [`Shared::close`] answers, of each database, one list of entries that is a legal
-//! run of the machine, from the state that was handed in to the state that is handed back, with each
-//! session's calls in it, each once, in its order; or a cause why it can't, which is true.
+//! Its main contract is that of [`Shared::close`]: it returns a legal run of the machine for each
+//! database, from its state at the beginning to its state now. The run has each call of each
+//! session once, in the session's order. This holds as long as the disk returned what was written.
+//! If the close can't return such runs, it returns a true cause.
+//!
+//! Begin with [`Shared::make`], which puts databases under locks and makes the passes. Then read
+//! [`Shared::call`], [`Shared::drain`] and [`Shared::close`]. [`Shared::make_watched`] also makes
+//! watchers, which read totals while calls are served.
 #![tactic(auto)]
 
 mod answer;

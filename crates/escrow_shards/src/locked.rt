@@ -10,9 +10,9 @@ use sqlite::Alter;
 use std::alloc::Global;
 use std::sync::Wait;
 
-/// What lies under a lock: a database with its transcript, and how many parts of its history were handed
-/// out. Whenever the lock is got, the transcript is legal up to the state found, while the disk has
-/// returned what was written.
+/// What is under a lock: a database with its transcript, and the number of parts of its history
+/// that were handed out. Whenever the lock is taken, the transcript is legal up to the state found,
+/// as long as the disk returned what was written.
 #[derive(Drop)]
 pub struct Locked<S: Alter> {
     pub(crate) audited: Audited<S>,
@@ -28,7 +28,7 @@ impl<S: Alter> Locked<S> {
     ghost use Rattle.escrow_history.specs.Calls.{Appends, Stays, IsNotDrained};
     ghost use Rattle.escrow_history.specs.Commits.{Commits};
 
-    /// A database of whose history no part was handed out.
+    /// Returns a database with its transcript, before any part was handed out.
     pub(crate) fn new(audited: Audited<S>) -> Self
         ensures { result ≡ record { audited = audited; parts = 0 } }
     {
@@ -66,12 +66,14 @@ impl<S: Alter> Locked<S> {
         self.audited.commit_all(alloc, sessions)
     }
 
-    /// Hands out the next part of the history: the transcript, which begins again where the part ends.
+    /// Hands out the next part of the history: the transcript. A new transcript begins where the
+    /// part ends.
     ///
     /// # Errors
     ///
-    /// [`Refusal::TranscriptFull`] where the last part has the greatest number, and then those of
-    /// [`Audited::drain`]: [`Refusal::TransactionOpen`] just where something is open. Nothing has changed then.
+    /// Fails with [`Refusal::TranscriptFull`] if the last part has the greatest number. Otherwise
+    /// fails as [`Audited::drain`] does: with [`Refusal::TransactionOpen`] exactly if something is
+    /// open. After an error nothing has changed.
     pub(crate) fn drain(&mut self, alloc: Global, database: usize) -> Result<Part<S>, Refusal>
         ensures part { IfOk result (λ p. (p.database ≡ database) × ((p.number ≡ self.old.parts + 1) × ((p.base ≡ self.old.audited.base) × (p.entries ≡ self.old.audited.entries)))) }
         ensures begun { IfOk result (λ p. (self.new.audited.base ≡ p.end) × ((self.new.audited.entries ≡ []) × (self.new.parts ≡ p.number))) }
@@ -92,7 +94,7 @@ impl<S: Alter> Locked<S> {
         Ok(Part::new(database, self.parts, transcript, end, &self.audited))
     }
 
-    /// The database out of its lock.
+    /// Returns the database out of its lock.
     pub(crate) fn close(self, opening: Opening<S>) -> Closed<S>
         ensures { result ≡ record { opening = opening; history = self.audited; parts = self.parts } }
     {

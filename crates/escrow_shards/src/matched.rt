@@ -9,14 +9,15 @@ use escrow_num::Session;
 use escrow_transcript::Entry;
 use sqlite::Alter;
 
-/// Whether an entry is of a session.
+/// Returns whether an entry is of a session.
 fn is_of(entry: &Entry, session: Session) -> bool
     ensures { result ≡ (entry.now.session == session) }
 {
     entry.session.get() == session.get()
 }
 
-/// Whether the receipts from a place on begin with those of a session's entries: the place behind them.
+/// Tests whether the receipts from a place on begin with those of a session's entries. If they do,
+/// returns the place after these.
 pub(crate) fn matched(
     session: Session,
     receipts: &[Receipt],
@@ -43,8 +44,8 @@ pub(crate) fn matched(
     Some(next)
 }
 
-/// Whether receipts begin with those of a session's entries in the parts of a database: the place behind
-/// them.
+/// Tests whether receipts begin with those of a session's entries in the parts of a database. If
+/// they do, returns the place after these.
 fn matched_parts<S: Alter>(
     database: usize,
     session: Session,
@@ -64,8 +65,8 @@ fn matched_parts<S: Alter>(
     Some(next)
 }
 
-/// Whether receipts are just those of a session's entries: in the parts of a database, and then in a last
-/// transcript.
+/// Returns whether receipts are exactly those of a session's entries: in the parts of a database,
+/// and then in a last transcript.
 pub(crate) fn all_matched<S: Alter>(
     database: usize,
     session: Session,

@@ -4,12 +4,12 @@ use sqlite::Alter;
 use std::marker::Model;
 use std::snapshot::Snapshot;
 
-/// The opening of a database that threads share: the base where its history begins. It remembers the
-/// database as it then was, for clauses alone.
+/// The opening of a database that threads share: the base where its history begins. For contracts
+/// only, it remembers the database as it was then.
 #[derive(Drop)]
 pub struct Opening<S: Alter> {
     base: Base,
-    // The database as it was: it has no bytes.
+    // The database as it was. It takes no bytes.
     was: Snapshot<Database<S>>,
 }
 
@@ -32,7 +32,7 @@ impl<S: Alter> Opening<S> {
     ghost use Rattle.escrow_transcript.specs.Image.{started};
     ghost use Rattle.escrow_shards.specs.Begun.{IsBegun};
 
-    /// The opening of a database as it is, at a base.
+    /// Returns the opening of a database as it is, at a base.
     pub(crate) fn new(base: Base, database: &Database<S>) -> Self
         requires first { base.before ≡ 0 }
         requires whole { HasCleanDisk (state S.Store database.now.store) → database.now.state ≡ started base.image }
@@ -44,8 +44,8 @@ impl<S: Alter> Opening<S> {
         }
     }
 
-    /// The base where the history of the database begins. Where the disk had returned what was written, it
-    /// is all of the state.
+    /// Returns the base where the history of the database begins. If the disk returned what was
+    /// written, the base is the whole state of the database.
     pub fn base(&self) -> &Base
         ensures base { result.now ≡ self.now.base }
         ensures begun { IsBegun S.Store self.now }

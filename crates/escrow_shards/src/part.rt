@@ -4,15 +4,15 @@ use sqlite::Alter;
 use std::marker::Model;
 use std::snapshot::Snapshot;
 
-/// A part of the history of a database: what was served from its base up to its end. It remembers the
-/// store as it was when the part was handed out, for clauses alone.
+/// A part of the history of a database: what was served from its base to its end. For contracts
+/// only, it remembers the store as it was when the part was handed out.
 #[derive(Drop)]
 pub struct Part<S: Alter> {
     database: usize,
     number: u64,
     transcript: Transcript,
     end: Base,
-    // The database as it was when the part was handed out: it has no bytes.
+    // The database as it was when the part was handed out. It takes no bytes.
     was: Snapshot<Audited<S>>,
 }
 
@@ -36,7 +36,7 @@ impl<S: Alter> Part<S> {
     ghost use Rattle.escrow_transcript.specs.Legal.{IsLegal};
     ghost use Rattle.escrow_shards.specs.Piece.{IsSound};
 
-    /// A part that was handed out of a database just now.
+    /// Returns a part that was just handed out of a database.
     pub(crate) fn new(
         database: usize,
         number: u64,
@@ -57,8 +57,8 @@ impl<S: Alter> Part<S> {
         }
     }
 
-    /// The database that it is of, counted from 0. Where the disk had returned what was written when the
-    /// part was handed out, its transcript is legal.
+    /// Returns the database of the part, counted from 0. If the disk returned what was written
+    /// until the part was handed out, the transcript of the part is legal.
     pub fn database(&self) -> usize
         ensures database { result ≡ self.now.database }
         ensures sound { IsSound S.Store self.now }
@@ -66,35 +66,35 @@ impl<S: Alter> Part<S> {
         self.database
     }
 
-    /// Its number among the parts of its database, from 1.
+    /// Returns its number among the parts of its database, from 1.
     pub fn number(&self) -> u64
         ensures { result ≡ self.now.number }
     {
         self.number
     }
 
-    /// Where it begins.
+    /// Returns the base where it begins.
     pub fn base(&self) -> &Base
         ensures { result.now ≡ self.now.base }
     {
         &self.transcript.base
     }
 
-    /// Its entries, in order.
+    /// Returns its entries, in order.
     pub fn entries(&self) -> &[Entry]
         ensures { result.now ≡ self.now.entries }
     {
         self.transcript.entries.as_slice()
     }
 
-    /// Where it ends.
+    /// Returns the base where it ends.
     pub fn end(&self) -> &Base
         ensures { result.now ≡ self.now.end }
     {
         &self.end
     }
 
-    /// Its transcript, and where it ends.
+    /// Returns its transcript, and the base where it ends.
     pub fn into_parts(self) -> (Transcript, Base)
         ensures base { result.0.base ≡ self.base }
         ensures entries { result.0.entries ≡ self.entries }
@@ -103,14 +103,14 @@ impl<S: Alter> Part<S> {
         (self.transcript, self.end)
     }
 
-    /// Whether it is of a database.
+    /// Returns whether it is of a database.
     pub(crate) fn is_of(&self, database: usize) -> bool
         ensures { result ≡ (self.now.database == database) }
     {
         self.database == database
     }
 
-    /// Whether it is the next behind the part of a number that ends at a base.
+    /// Returns whether it comes right after a part with this number that ends at this base.
     pub(crate) fn is_next(&self, number: u64, base: &Base) -> bool
         ensures { IsTrue result ↔ ((self.now.number ≡ number + 1) × (self.now.base ≡ base.now)) }
     {

@@ -3,8 +3,8 @@ use escrow_num::Session;
 use std::alloc::{AllocError, Global};
 use std::marker::Model;
 
-/// The pass of a session of a database: its token for calls, with a receipt for each call of it that was
-/// served. It is used with the databases that it was made with.
+/// The pass of a session of a database: its token for calls, with a receipt for each of its calls
+/// that was served. Use it only with the databases with which it was made.
 #[derive(Debug)]
 pub struct Pass {
     pub(crate) database: usize,
@@ -12,7 +12,7 @@ pub struct Pass {
     pub(crate) receipts: Vec<Receipt>,
 }
 
-// It is written out, so that no crate above proves again how each part is dropped.
+// Written out, so that crates above need not prove again how its parts are dropped.
 impl Drop for Pass {
     fn drop(self) {
         let Pass {
@@ -36,7 +36,7 @@ impl Pass {
     ghost use Rattle.escrow_num.specs.Session.{IsSession};
     ghost use Rattle.escrow_shards.specs.Seat.{is_at, IsSeat, new_seat};
 
-    /// A pass without receipts, which takes no memory.
+    /// Returns a pass without receipts. Takes no memory.
     pub(crate) fn new(alloc: Global, database: usize, session: Session) -> Self
         ensures { result ≡ new_seat database session }
     {
@@ -47,14 +47,14 @@ impl Pass {
         }
     }
 
-    /// The database that it is for, counted from 0.
+    /// Returns the database of the pass, counted from 0.
     pub fn database(&self) -> usize
         ensures { result ≡ self.now.database }
     {
         self.database
     }
 
-    /// The session that it is for.
+    /// Returns the session of the pass.
     pub fn session(&self) -> Session
         ensures session { result ≡ self.now.session }
         ensures within { IsSession result }
@@ -63,21 +63,22 @@ impl Pass {
         self.session
     }
 
-    /// The receipts, in order: one for each call that was served.
+    /// Returns the receipts, in order: one for each call that was served.
     pub fn receipts(&self) -> &[Receipt]
         ensures { result.now ≡ self.now.receipts }
     {
         self.receipts.as_slice()
     }
 
-    /// Whether it is for a session of a database.
+    /// Returns whether the pass is for a session of a database.
     pub(crate) fn is_at(&self, database: usize, session: usize) -> bool
         ensures { result ≡ is_at database session self.now }
     {
         self.database == database && usize::from(self.session.get()) == session
     }
 
-    /// Whether it is for one of so many databases, and one of so many sessions.
+    /// Returns whether the pass is for one of the first `databases` databases and one of the first
+    /// `sessions` sessions.
     pub(crate) fn is_seat(&self, databases: usize, sessions: u8) -> bool
         ensures { IsTrue result ↔ IsSeat databases sessions self.now }
     {

@@ -10,13 +10,13 @@ use escrow_transcript::Entry;
 pub struct Receipt {
     /// The number of its entry.
     pub number: u64,
-    /// What the session asked.
+    /// The statement.
     pub statement: Statement,
-    /// What it was answered.
+    /// The reply to it.
     pub reply: Reply,
 }
 
-/// Whether a receipt is that of an entry: its number, its statement and its reply.
+/// Returns whether a receipt is that of an entry: it has the entry's number, statement and reply.
 pub(crate) fn is_receipt_of(receipt: &Receipt, entry: &Entry) -> bool
     ensures { IsTrue result ↔ (receipt.now ≡ receipt_of entry.now) }
 {

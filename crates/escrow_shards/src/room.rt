@@ -7,7 +7,7 @@ use crate::shared::MAX_DATABASES;
 use sqlite::Alter;
 use std::alloc::{AllocError, Global};
 
-/// Room for what a close hands back, which is taken when the sharing begins.
+/// Room for what a close returns. It is taken when the sharing begins.
 #[derive(Drop)]
 pub(crate) struct Room<S: Alter> {
     pub(crate) closed: Vec<Closed<S>>,
@@ -16,7 +16,7 @@ pub(crate) struct Room<S: Alter> {
 }
 
 impl<S: Alter> Room<S> {
-    /// Room for as many databases as may be shared. Out of memory is the only error.
+    /// Takes room for as many databases as may be shared. Fails only if memory is refused.
     pub(crate) fn new(alloc: Global) -> Result<Self, AllocError> {
         Ok(Room {
             closed: Vec::with_capacity(alloc, MAX_DATABASES)?,

@@ -5,14 +5,14 @@ ghost use Rattle.escrow_shards.specs.Counted.{AreOnce};
 
 use crate::pass::Pass;
 
-/// Whether each session of each database has one pass, and there are no others.
+/// Returns whether each session of each database has one pass, and there are no others.
 pub(crate) fn are_all_seats(databases: usize, sessions: u8, passes: &[Pass]) -> bool
     ensures { IsTrue result ↔ AreAllSeats databases sessions passes.now }
 {
     are_seats(databases, sessions, passes) && are_each_once(databases, sessions, passes)
 }
 
-/// Whether each pass is for one of so many databases and sessions.
+/// Returns whether each pass is for one of these databases and sessions.
 fn are_seats(databases: usize, sessions: u8, passes: &[Pass]) -> bool
     ensures { IsTrue result ↔ AllByRecursion (IsSeat databases sessions) passes.now }
 {
@@ -24,7 +24,7 @@ fn are_seats(databases: usize, sessions: u8, passes: &[Pass]) -> bool
     true
 }
 
-/// Whether each session of each database has one pass.
+/// Returns whether each session of each database has one pass.
 fn are_each_once(databases: usize, sessions: u8, passes: &[Pass]) -> bool
     ensures { IsTrue result ↔ ((d : ℕ) → d < databases → AreOnce d sessions passes.now) }
 {
@@ -36,7 +36,7 @@ fn are_each_once(databases: usize, sessions: u8, passes: &[Pass]) -> bool
     true
 }
 
-/// Whether each session of a database has one pass.
+/// Returns whether each session of a database has one pass.
 fn are_once(database: usize, sessions: u8, passes: &[Pass]) -> bool
     ensures { IsTrue result ↔ AreOnce database sessions passes.now }
 {
@@ -48,7 +48,7 @@ fn are_once(database: usize, sessions: u8, passes: &[Pass]) -> bool
     true
 }
 
-/// How many passes are for a session of a database.
+/// Returns how many passes are for a session of a database.
 fn count_at(database: usize, session: usize, passes: &[Pass]) -> usize
     ensures { result ≡ seats_at database session passes.now }
 {

@@ -14,14 +14,14 @@ use std::alloc::Global;
 use std::marker::Model;
 use std::sync::{Condvar, Mutex, Wait};
 
-/// A database under its lock, with its opening beside it. Contracts see the opening alone.
+/// A database under its lock, with its opening beside it. Contracts see only the opening.
 #[derive(Drop)]
 pub(crate) struct Shard<S: Alter, L> {
     lock: Mutex<L>,
-    // The COMMITs that wait while another one is served. This lock is held for moments, and the one above is never asked
-    // for under it.
+    // The COMMITs that wait while another one is served. This lock is held only for moments, and
+    // nobody asks for the lock above while holding it.
     waiting: Mutex<Waiting>,
-    // Those that wait are told here that something became of them.
+    // Wakes the calls that wait, once their COMMITs have an outcome or one of them leads.
     told: Condvar,
     opening: Opening<S>,
 }
@@ -41,7 +41,7 @@ impl<S: Alter, L: UnderLock<S>> Shard<S, L> {
     ghost use Rattle.escrow_history.specs.Calls.{IsAnswer, IsNotDrained};
     ghost use Rattle.escrow_machine.specs.Reply.{failure_of};
 
-    /// A database that goes under its lock.
+    /// Puts a database under its lock.
     pub(crate) fn new(locked: L, opening: Opening<S>) -> Self
         ensures { result ≡ opening }
     {
@@ -53,7 +53,7 @@ impl<S: Alter, L: UnderLock<S>> Shard<S, L> {
         }
     }
 
-    /// Serves one statement of a session under the lock. It may wait.
+    /// Serves one statement of a session under the lock. May wait.
     pub(crate) fn serve<R: Wait, G: Gate>(
         &self,
         rt: &R,
@@ -78,7 +78,7 @@ impl<S: Alter, L: UnderLock<S>> Shard<S, L> {
         locked.serve_locked(rt, alloc, session, statement)
     }
 
-    /// Hands out the next part of the history under the lock. It may wait.
+    /// Hands out the next part of the history under the lock. May wait.
     pub(crate) fn drain<R: Wait>(
         &self,
         rt: &R,
@@ -91,7 +91,7 @@ impl<S: Alter, L: UnderLock<S>> Shard<S, L> {
         self.lock.lock(rt).drain_locked(alloc, database)
     }
 
-    /// The database out of its lock.
+    /// Returns the database out of its lock.
     pub(crate) fn close(self) -> Closed<S>
         ensures { result.opening ≡ self }
     {

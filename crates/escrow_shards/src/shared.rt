@@ -15,8 +15,8 @@ use std::sync::Mutex;
 /// The most databases that are shared together.
 pub const MAX_DATABASES: usize = 16;
 
-/// Databases that threads share, each under a lock of its own, with its opening beside it. Under the locks lie plain
-/// databases, or such as are watched ([`Watched`]).
+/// Databases that threads share, each under its own lock, with its opening beside it. A lock holds
+/// a plain database, or one that is watched ([`Watched`]).
 ///
 /// [`Watched`]: crate::Watched
 #[derive(Drop)]
@@ -44,21 +44,21 @@ impl<S: Alter, L: UnderLock<S>> Shared<S, L> {
     ghost use Rattle.std.specs.Prelude.{◌≡◌, ◌↔◌, length, IsTrue};
     ghost use Rattle.escrow_shards.specs.Sharing.{HasSeat};
 
-    /// How many databases are shared. They are counted from 0.
+    /// Returns how many databases are shared. They are counted from 0.
     pub fn databases(&self) -> usize
         ensures { result ≡ length self.now.openings }
     {
         self.shards.len()
     }
 
-    /// How many sessions each of them has. They are counted from 1.
+    /// Returns how many sessions each database has. They are counted from 1.
     pub fn sessions(&self) -> u8
         ensures { result ≡ self.now.sessions }
     {
         self.sessions
     }
 
-    /// Whether a pass is for one of these databases and sessions, as calls with it ask.
+    /// Returns whether a pass is for one of these databases and sessions, as calls require.
     pub fn has_seat(&self, pass: &Pass) -> bool
         ensures { IsTrue result ↔ HasSeat self.now pass.now }
     {

@@ -11,8 +11,8 @@ use std::alloc::{AllocError, Global};
 use std::marker::Model;
 use std::sync::Wait;
 
-/// What a database needs to be shared: its opening, and the base of its first transcript. Contracts see the
-/// opening alone.
+/// What a database needs to be shared: its opening, and the base of its first transcript. Contracts
+/// see only the opening.
 #[derive(Drop)]
 pub(crate) struct Start<S: Alter> {
     opening: Opening<S>,
@@ -40,7 +40,8 @@ impl<S: Alter> Start<S> {
     ghost use Rattle.escrow_stats.specs.Watching.{IsNewBoard};
     ghost use Rattle.escrow_shards.specs.Opened.{seen_at};
 
-    /// What a database needs that is as it is, at a base. Want of memory is the only error.
+    /// Makes what a database needs to be shared as it is, at a base. Fails only if memory is
+    /// refused.
     pub(crate) fn new(alloc: Global, base: Base, database: &Database<S>) -> Result<Self, AllocError>
         requires first { base.before ≡ 0 }
         requires whole { HasCleanDisk (state S.Store database.now.store) → database.now.state ≡ started base.image }
@@ -53,25 +54,25 @@ impl<S: Alter> Start<S> {
         })
     }
 
-    /// The database goes under its lock. Takes no memory, and makes no store call.
+    /// Puts the database under its lock. Takes no memory, and makes no store call.
     pub(crate) fn begin(self, alloc: Global, database: Database<S>) -> Shard<S, Locked<S>>
         requires { seen_at self ≡ database }
         ensures { result ≡ self }
     {
-        // What its type knows of the opening is told where its base is asked.
+        // The contract of `base` says what the type of openings keeps.
         let _ = self.opening.base();
         let audited = Audited::begin(alloc, database, self.base);
         Shard::new(Locked::new(audited), self.opening)
     }
 
-    /// The base where the history of the database begins.
+    /// Returns the base where the history of the database begins.
     pub(crate) fn base(&self) -> &Base
         ensures { result.now ≡ self.now.base }
     {
         self.opening.base()
     }
 
-    /// The same as [`Start::begin`], with a board.
+    /// Puts the database under its lock as [`Start::begin`] does, with a board.
     pub(crate) fn begin_watched<R: Wait + Drop>(
         self,
         alloc: Global,
@@ -82,7 +83,7 @@ impl<S: Alter> Start<S> {
         requires board { IsNewBoard self.base board }
         ensures { result ≡ self }
     {
-        // What its type knows of the opening is told where its base is asked.
+        // The contract of `base` says what the type of openings keeps.
         let _ = self.opening.base();
         let audited = Audited::begin(alloc, database, self.base);
         Shard::new(Watched::new(audited, board), self.opening)

@@ -7,8 +7,8 @@ use sqlite::Alter;
 use std::alloc::Global;
 use std::sync::Wait;
 
-/// What lies under the lock of a database: the database with its transcript ([`Locked`]), and a board beside it where
-/// it is watched ([`Watched`]).
+/// What is under the lock of a database: the database with its transcript ([`Locked`]), and a board
+/// beside it if it is watched ([`Watched`]).
 ///
 /// [`Watched`]: crate::Watched
 pub trait UnderLock<S: Alter> {
@@ -16,7 +16,7 @@ pub trait UnderLock<S: Alter> {
     ghost use Rattle.escrow_history.specs.Calls.{IsAnswer, IsNotDrained};
     ghost use Rattle.escrow_machine.specs.Reply.{failure_of};
 
-    /// Serves one statement of a session, and adds its entry to the transcript. It may wait.
+    /// Serves one statement of a session, and adds its entry to the transcript. May wait.
     fn serve_locked<R: Wait>(
         &mut self,
         rt: &R,
@@ -28,8 +28,8 @@ pub trait UnderLock<S: Alter> {
         ensures succeeds { IfOk result (λ r. failure_of r.reply ≡ None) }
         ensures answers { IfOk result (λ r. IsAnswer r.reply) };
 
-    /// Serves COMMITs of sessions together, and adds the entries of those that are served. Answers of each session
-    /// whether its COMMIT was. It may wait.
+    /// Serves COMMITs of sessions together, and adds the entries of those that are served. Returns
+    /// for each session whether its COMMIT was. May wait.
     fn commit_locked<R: Wait>(
         &mut self,
         rt: &R,
@@ -43,6 +43,6 @@ pub trait UnderLock<S: Alter> {
         ensures part { IfOk result (λ p. p.database ≡ database) }
         ensures only { IfErr result IsNotDrained };
 
-    /// The database and its transcript out of their lock.
+    /// Returns the database and its transcript out of their lock.
     fn into_locked(self) -> Locked<S>;
 }

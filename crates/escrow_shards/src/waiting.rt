@@ -5,13 +5,14 @@ use escrow_num::{Failure, Session};
 use std::alloc::{AllocError, Global};
 use std::marker::Model;
 
-/// The COMMITs that wait while another one of their database is served, each in the place of its session; and whether a
-/// call leads: it serves them with its own once it has the lock, leaves in each place what came of it, and then has
-/// one of those lead that came meanwhile.
+/// The COMMITs that wait while another one of their database is served, each in the place of its
+/// session; and whether a call leads. The call that leads takes the lock, then serves its own
+/// COMMIT together with those that wait. It leaves each outcome in its place. Then it lets a call
+/// lead that came meanwhile.
 #[derive(Drop)]
 pub(crate) struct Waiting {
     places: [Place; Waiting::COUNT],
-    // How many calls are in a place: so a COMMIT without company looks into none.
+    // How many calls are in a place. If there are none, a COMMIT need not look into the places.
     count: usize,
     is_led: bool,
 }
@@ -19,24 +20,26 @@ pub(crate) struct Waiting {
 /// The place of a session.
 #[derive(Clone, Copy)]
 pub(crate) enum Place {
-    /// No COMMIT of it waits.
+    /// No COMMIT of the session waits.
     Free,
     /// Its COMMIT waits.
     Asked,
-    /// The call that asked its COMMIT has yet to take that it leads from now on.
+    /// The call that asked for its COMMIT leads from now on, and has yet to notice.
     Leads,
-    /// Its COMMIT was served, or wasn't, and the call that asked it has yet to take that.
+    /// Its COMMIT was served, or wasn't, and the call that asked for it has yet to take the
+    /// outcome.
     Answered(Result<Committed, Failure>),
 }
 
-/// What becomes of a COMMIT that was asked.
+/// What happens to a COMMIT after it was asked for.
 #[derive(Clone, Copy)]
 pub(crate) enum Turn {
     /// The call leads.
     Leads,
     /// It waits for the call that leads.
     Waits,
-    /// Another call is in its place, as one with a pass of the same session of other databases may be.
+    /// Another call is in its place. This may be one with a pass of the same session of other
+    /// databases.
     Alone,
     /// It was served, or wasn't.
     Answered(Result<Committed, Failure>),
@@ -58,10 +61,10 @@ impl Waiting {
     ghost use Rattle.std.specs.Prelude.{◌≡◌, ◌⊎◌, ◌∷◌, ◌↔◌, IfOk, IsTrue};
     ghost use Rattle.escrow_shards.specs.Waiting.{answered, asking, at, turn_in, with_place};
 
-    /// How many places there are: one for each session that a database can have.
+    /// The number of places: one for each session that a database can have.
     pub const COUNT: usize = Session::MAX as usize;
 
-    /// No COMMIT waits, and no call leads.
+    /// Returns places in which no COMMIT waits. No call leads.
     pub(crate) fn new() -> Self {
         Waiting {
             places: [Place::Free; Self::COUNT],
@@ -70,7 +73,7 @@ impl Waiting {
         }
     }
 
-    /// Asks the COMMIT of a session: its call leads if none does, or waits.
+    /// Enters the COMMIT of a session: its call leads if none does, or else waits.
     pub(crate) fn ask(&mut self, session: Session) -> Turn
         ensures waits { result ≡ Turn.Waits → (at self.old session ≡ Place.Free) × (self.new ≡ with_place self.old session Place.Asked) }
         ensures same { (result ≡ Turn.Leads) ⊎ (result ≡ Turn.Alone) → self.new ≡ self.old }
@@ -88,14 +91,14 @@ impl Waiting {
         Turn::Waits
     }
 
-    /// Whether the COMMIT of a session waits.
+    /// Returns whether the COMMIT of a session waits.
     pub(crate) fn waits(&self, session: Session) -> bool
         ensures { IsTrue result ↔ (at self.now session ≡ Place.Asked) }
     {
         matches!(self.places[usize::from(session.get()) - 1], Place::Asked)
     }
 
-    /// Takes what became of the COMMIT of a session out of its place.
+    /// Takes the outcome of a session's COMMIT out of its place.
     pub(crate) fn take(&mut self, session: Session) -> Turn
         ensures turn { result ≡ turn_in (at self.old session) }
         ensures free { self.new ≡ with_place self.old session Place.Free }
@@ -111,12 +114,12 @@ impl Waiting {
         }
     }
 
-    /// Whether no call is in a place.
+    /// Returns whether no call is in a place.
     pub(crate) fn is_empty(&self) -> bool {
         self.count == 0
     }
 
-    /// A session, and then those whose COMMITs wait. Want of memory is the only error.
+    /// Returns a session, and then those whose COMMITs wait. Fails only if memory is refused.
     pub(crate) fn with_those(
         &self,
         alloc: Global,
@@ -137,7 +140,7 @@ impl Waiting {
         Ok(sessions)
     }
 
-    /// Leaves in the places of sessions what came of their COMMITs.
+    /// Leaves the outcomes of sessions' COMMITs in their places.
     pub(crate) fn answer(&mut self, sessions: &[Session], outcomes: &[Result<Committed, Failure>])
         ensures { self.new ≡ answered sessions.now outcomes.now self.old }
     {
@@ -146,7 +149,8 @@ impl Waiting {
         }
     }
 
-    /// Ends the lead of a call: the next session behind its own whose COMMIT waits leads, or none does.
+    /// Ends the lead of a call. The next session after its own whose COMMIT waits leads, or none
+    /// does.
     pub(crate) fn pass_on(&mut self, from: Session) {
         self.is_led = false;
         if self.is_empty() {

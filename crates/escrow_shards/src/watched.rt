@@ -19,9 +19,10 @@ use std::alloc::Global;
 use std::marker::Model;
 use std::sync::Wait;
 
-/// What lies under the lock of a database that is watched: besides, a board with the totals of its whole history.
-/// Whenever the lock is got, the entries that the board counted are legal from its base up to the state found, while
-/// the disk has returned what was written, and end with those of the transcript.
+/// What is under the lock of a watched database: the database with its transcript, and a board with
+/// the totals of its whole history. Whenever the lock is taken, the entries that the board counted
+/// end with those of the transcript. As long as the disk returned what was written, they are legal
+/// from the board's base to the state found.
 #[derive(Drop)]
 pub struct Watched<S: Alter, R: Wait + Drop> {
     locked: Locked<S>,
@@ -44,13 +45,13 @@ impl<S: Alter, R: Wait + Drop> Watched<S, R> {
     ghost use Rattle.std.specs.Prelude.{◌≡◌, []};
     ghost use Rattle.escrow_stats.specs.Watching.{IsNewBoard};
 
-    /// A database of which nothing was served, with a board of its history.
+    /// Returns a database that has served nothing, with a board of its history.
     pub(crate) fn new(audited: Audited<S>, board: Board<S, R>) -> Self
         requires first { audited.base.before ≡ 0 }
         requires unserved { audited.entries ≡ [] }
         requires board { IsNewBoard audited.base board }
     {
-        // What its type knows of the transcript is told where its base is asked.
+        // The contract of `base` says what the type of transcripts keeps.
         let _ = audited.base();
         Watched {
             locked: Locked::new(audited),
@@ -60,7 +61,8 @@ impl<S: Alter, R: Wait + Drop> Watched<S, R> {
 }
 
 impl<S: Alter, R: Wait + Drop> UnderLock<S> for Watched<S, R> {
-    /// Serves one statement, and shows the totals with its entry. It may wait for a watcher that is reading.
+    /// Serves one statement, and shows the totals with its entry. May wait for a watcher that is
+    /// reading.
     fn serve_locked<T: Wait>(
         &mut self,
         rt: &T,
@@ -77,7 +79,8 @@ impl<S: Alter, R: Wait + Drop> UnderLock<S> for Watched<S, R> {
         Ok(served)
     }
 
-    /// Serves COMMITs, and shows the totals with each entry. It may wait for a watcher that is reading.
+    /// Serves COMMITs, and shows the totals with each entry. May wait for a watcher that is
+    /// reading.
     fn commit_locked<T: Wait>(
         &mut self,
         rt: &T,
@@ -95,7 +98,7 @@ impl<S: Alter, R: Wait + Drop> UnderLock<S> for Watched<S, R> {
         self.locked.drain(alloc, database)
     }
 
-    /// Ends the board. It may wait for a watcher that is reading.
+    /// Ends the board. May wait for a watcher that is reading.
     fn into_locked(self) -> Locked<S> {
         let Watched { locked, board } = self;
         drop(board);
@@ -103,7 +106,8 @@ impl<S: Alter, R: Wait + Drop> UnderLock<S> for Watched<S, R> {
     }
 }
 
-/// Shows the totals with each of further entries, behind which a database is as it is. It may wait.
+/// Shows the totals with each of these further entries, after which the database is as it is now.
+/// May wait.
 fn show_all<S: Alter, R: Wait + Drop, T: Wait>(
     board: &mut Board<S, R>,
     rt: &T,
@@ -125,7 +129,7 @@ fn show_all<S: Alter, R: Wait + Drop, T: Wait>(
     }
 }
 
-/// Shows the totals with an entry, which a database has. It may wait.
+/// Shows the totals with an entry of a database. May wait.
 fn show<S: Alter, R: Wait + Drop, T: Wait>(
     board: &mut Board<S, R>,
     rt: &T,
@@ -143,7 +147,7 @@ fn show<S: Alter, R: Wait + Drop, T: Wait>(
     show_as(board, rt, entry, audited);
 }
 
-/// The same, with the doubts of its disk.
+/// Shows the totals as [`show`] does, with the doubts of the database's disk.
 fn show_as<S: Alter, R: Wait + Drop, T: Wait>(
     board: &mut Board<S, R>,
     rt: &T,

@@ -1,5 +1,5 @@
--- Believed for one law alone (`FactoringKeepsSentences`): the grammar of requests, with SHOW, which begins four of its
--- alternatives, taken out before them.
+-- Believed for one law alone (`FactoringKeepsSentences`): the grammar of requests with SHOW, which begins four of its
+-- alternatives, moved before them.
 use Rattle.std.specs.Prelude.{Some, None}
 use Rattle.escrow_statement.specs.declared.statement.Request.{Request}
 use Rattle.escrow_statement.specs.declared.statement.Request.TheVariants as requests

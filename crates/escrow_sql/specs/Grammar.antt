@@ -1,11 +1,11 @@
--- Believed: grammars, their sentences, and where tokens that are no sentence first go wrong.
+-- Believed: grammars, their sentences, and the first fault of tokens that are no sentence.
 use Rattle.std.specs.Prelude.{◌≡◌, ℕ, ◌+◌, ◌<◌, ◌≤◌, ◌⊎◌, List, [], ◌∷◌, ◌++◌, length, take}
 use Rattle.escrow_sql.specs.declared.token.Kind.{Kind}
 use Rattle.escrow_sql.specs.declared.token.Token.{Token}
 use Rattle.escrow_sql.specs.Token.{class_of}
 
--- a grammar whose sentences mean a V: a token, which means what its kind says (the kind that is named
--- stands for all of its class); nothing; two grammars in sequence; either of two; any number of one
+-- a grammar whose sentences mean a V: a token, which means what its kind says (the kind that is named represents its
+-- whole class); nothing; two grammars in sequence; either of two; any number of one
 pub data Grammar : Type 0 → Type 1 where
   token : {V : Type 0} → Kind → (Kind → V) → Grammar V
   nothing : {V : Type 0} → V → Grammar V
@@ -31,8 +31,8 @@ Sentence (many {A} a f) tokens v = (xs : List A) × Repeats (Sentence a) tokens 
 abbrev pub Begins : {V : Type 0} → Grammar V → List Token → Type 0
 Begins {V} g tokens = (rest : List Token) × (v : V) × Sentence g (tokens ++ rest) v
 
--- the first fault of tokens that are no sentence is at the k-th, from 0: some sentence begins with those
--- before it and none with it too, or it is where the tokens end and they alone are no sentence
+-- the first fault of tokens that are no sentence is at the k-th, from 0. Some sentence begins with the tokens before
+-- it, and none with it too. If it is at the end of the tokens, they alone are no sentence
 pub record IsFirstFault {V : Type 0} (g : Grammar V) (tokens : List Token) (k : ℕ) : Type 0 where
   pub within : k ≤ length tokens
   pub begins : Begins g (take k tokens)

@@ -16,13 +16,12 @@ pub record EachIsLexedOnce : Type 0 where
   pub lexed : (text : List ℕ) → (r : Result (List Token) ℕ) × IsLexed text r
   pub once : (text : List ℕ) (r q : Result (List Token) ℕ) → IsLexed text r → IsLexed text q → r ≡ q
 
--- a text alone is a number that means the millionths that it spells; where it spells none its fault is at its first
--- byte
+-- a text alone is a number that means the millionths that it spells. If it spells none, its fault is at its first byte
 pub record IsReadAsSpelled (text : List ℕ) : Type 0 where
   pub read : (millionths : ℤ) → decimal_spelled text ≡ Some millionths → (tokens : List Token) × IsLexed text (Ok tokens) × Sentence number tokens millionths
   pub fault : decimal_spelled text ≡ None → IsLexed text (Err 1)
 
--- so it is with digits, and with digits, a point and digits
+-- this holds for digits, and for digits, a point and digits
 pub record NumbersAreReadAsSpelled : Type 0 where
   pub whole : (digits : List ℕ) → is_numeral digits ≡ true → length digits ≤ MAX_TEXT → IsReadAsSpelled digits
   pub pointed : (front behind : List ℕ) → is_numeral front ≡ true → is_numeral behind ≡ true → length (front ++ 46 ∷ behind) ≤ MAX_TEXT → IsReadAsSpelled (front ++ 46 ∷ behind)
@@ -34,12 +33,12 @@ pub record EachIsAnsweredOnce : Type 0 where
   pub one_column : (text : List ℕ) (c d : ℕ) → IsFaultColumn text c → IsFaultColumn text d → c ≡ d
   pub not_both : (text : List ℕ) (r : Request) (column : ℕ) → Asks text r → IsFaultColumn text column → ⊥
 
--- the grammar that is read, with SHOW taken out, has the sentences of the grammar of requests, with the
--- same meanings, and the same first faults
+-- the grammar that is read, with SHOW moved out, has the sentences of the grammar of requests, with the same meanings
+-- and the same first faults
 pub record FactoringKeepsSentences : Type 0 where
   pub sentences : (tokens : List Token) (r : Request) → Sentence request tokens r ↔ Sentence factored_request tokens r
   pub faults : (tokens : List Token) (k : ℕ) → IsFirstFault request tokens k ↔ IsFirstFault factored_request tokens k
 
--- a text has 65,536 bytes at most
+-- a text has at most 65,536 bytes
 abbrev pub Limits : Type 0
 Limits = MAX_TEXT ≡ 65536

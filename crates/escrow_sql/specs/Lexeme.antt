@@ -1,4 +1,4 @@
--- Helps: what was scanned of a text, as a piece. Contracts of public calls rest on Lex.
+-- Helps: what was scanned of a text, as a piece. The contracts of public calls use Lex instead.
 use Rattle.escrow_sql.specs.declared.lexer.piece.Piece.{Piece}
 use Rattle.escrow_sql.specs.declared.lexer.piece.Piece.TheVariants as piece
 use Rattle.escrow_sql.specs.declared.lexer.scan.Scan.{Scan}

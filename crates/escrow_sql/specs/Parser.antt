@@ -9,12 +9,12 @@ use Rattle.escrow_sql.specs.Lex.{IsLexed}
 use Rattle.escrow_sql.specs.Grammar.{Sentence, IsFirstFault}
 use Rattle.escrow_sql.specs.Statement.{request}
 
--- the text asks this: its tokens are a sentence of the grammar that means it
+-- the text asks this: its tokens are a sentence of the grammar, with this meaning
 abbrev pub Asks : List ℕ → Request → Type 0
 Asks text r = (tokens : List Token) × IsLexed text (Ok tokens) × Sentence request tokens r
 
--- the column is that of the text's first fault: of the leftmost lexing fault, or else of the first token
--- such that no sentence begins with the tokens up to it, or the one behind a text that ends too early
+-- the column is that of the text's first fault: the leftmost lexing fault, if there is one; else the first token such
+-- that no sentence begins with the tokens up to it, or the column after a text that ends too early
 abbrev pub IsFaultColumn : List ℕ → ℕ → Type 0
 IsFaultColumn text column =
     IsLexed text (Err column)

@@ -1,4 +1,4 @@
--- Helps: what a statement may have any number of is never nothing.
+-- Helps: a part that a statement may repeat is never empty.
 use Rattle.std.specs.Prelude.{◌≡◌, refl, false}
 use Rattle.escrow_sql.specs.Predictive.{may_be_empty}
 use Rattle.escrow_sql.specs.Statement.{sign, constraint, check, signed_term, mark}

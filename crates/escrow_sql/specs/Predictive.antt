@@ -1,5 +1,5 @@
--- Helps: reading a grammar's sentences from left to right, with one token in hand. Contracts of public
--- calls rest on Grammar.
+-- Helps: reading a grammar's sentences from left to right, looking at one token. The contracts of public calls use
+-- Grammar instead.
 use Rattle.std.specs.Prelude.{ℕ, zero, suc, ◌==◌, Bool, true, false, not, ◌&&◌, ◌||◌, if◌then◌else◌, Result, Ok, Err, List, [], ◌∷◌, ◌++◌, length}
 use Rattle.escrow_sql.specs.Grammar.{Grammar, token, nothing, sequence, either, many}
 use Rattle.escrow_sql.specs.declared.token.Token.{Token}
@@ -15,7 +15,7 @@ abbrev pub starts : List ℕ → List Token → Bool
 starts classes [] = false
 starts classes (t ∷ ts) = has classes (class_number t.kind)
 
--- nothing is a sentence
+-- whether no tokens are a sentence
 abbrev pub may_be_empty : {V : Type 0} → Grammar V → Bool
 may_be_empty (token like f) = false
 may_be_empty (nothing d) = true
@@ -31,7 +31,7 @@ first (sequence a b f) = first a ++ (if may_be_empty a then first b else [])
 first (either a b) = first a ++ first b
 first (many a f) = first a
 
--- the classes of tokens with which a sentence can go on where it could also end
+-- the classes of tokens with which a sentence can continue where it could also end
 abbrev pub more : {V : Type 0} → Grammar V → List ℕ
 more (token like f) = []
 more (nothing d) = []
@@ -44,7 +44,7 @@ abbrev pub apart : List ℕ → List ℕ → Bool
 apart [] ds = true
 apart (c ∷ cs) ds = not (has ds c) && apart cs ds
 
--- one token in hand tells each time how to go on
+-- whether looking at one token decides each time how to continue
 abbrev pub is_predictive : {V : Type 0} → Grammar V → Bool
 is_predictive (token like f) = true
 is_predictive (nothing d) = true
@@ -52,12 +52,12 @@ is_predictive (sequence a b f) = is_predictive a && (is_predictive b && apart (m
 is_predictive (either a b) = is_predictive a && (is_predictive b && (not (may_be_empty a) && apart (first a) (first b)))
 is_predictive (many a f) = is_predictive a && (not (may_be_empty a) && apart (more a) (first a))
 
--- what was read, and then more
+-- what was read, and then what more is read
 abbrev pub and_then : {A B : Type 0} → Result (A × List Token) (List Token) → (A → List Token → Result (B × List Token) (List Token)) → Result (B × List Token) (List Token)
 and_then (Ok read) f = f read.0 read.1
 and_then (Err rest) f = Err rest
 
--- as many as there are
+-- reads one as long as one comes next
 abbrev pub run_many : {A : Type 0} → List ℕ → (List Token → Result (A × List Token) (List Token)) → ℕ → List Token → Result (List A × List Token) (List Token)
 run_many classes read zero tokens = Ok ([], tokens)
 run_many classes read (suc n) tokens =
@@ -65,7 +65,7 @@ run_many classes read (suc n) tokens =
     then and_then (read tokens) (λ x rest. and_then (run_many classes read n rest) (λ xs end. Ok (x ∷ xs, end)))
     else Ok ([], tokens)
 
--- reading from the left with one token in hand: the value and the tokens behind it, or the tokens from the fault on
+-- reading from the left, looking at one token: the value and the tokens after it, or the tokens from the fault on
 abbrev pub run : {V : Type 0} → Grammar V → List Token → Result (V × List Token) (List Token)
 run (token like f) [] = Err []
 run (token like f) (t ∷ ts) = if class_number t.kind == class_number like then Ok (f t.kind, ts) else Err (t ∷ ts)

@@ -1,4 +1,4 @@
--- Helps: what a lexeme's fields are as the kind of a token. Contracts of public calls rest on Lex.
+-- Helps: the kind of a token that a lexeme's fields mean. The contracts of public calls use Lex instead.
 use Rattle.std.specs.Prelude.{◌≡◌, ℕ, ℤ, pos, ◌-◌, ◌==◌, nat_lt, if◌then◌else◌, false, List, map, get_or}
 use Rattle.std.specs.Char.{to_ascii_uppercase}
 use Rattle.std.specs.Option.{IsSome, unwrap_or}
@@ -13,7 +13,7 @@ use Rattle.escrow_sql.specs.declared.token.TheConstants.{SYMBOLS}
 use Rattle.escrow_statement.specs.declared.word.Word.TheVariants as word
 use Rattle.escrow_statement.specs.declared.words.TheConstants.{WORDS}
 
--- the kind of the class of this number that these bytes write or that means this number
+-- the kind of this class that these bytes write or that means this number
 abbrev pub kind_at : ℕ → List ℕ → ℤ → Kind
 kind_at class bytes number =
     if class == 0 then kind.Name (map to_ascii_uppercase bytes)
@@ -23,7 +23,7 @@ kind_at class bytes number =
     else if nat_lt (class - 4) 12 then kind.Symbol (get_or SYMBOLS.now (class - 4) symbol.Open)
     else kind.Word (get_or WORDS.now (class - 4 - 12) word.Add)
 
--- a kind is of the class of this number, and its bytes, where they count, write it
+-- a kind is of this class, and its bytes, if they count, write it
 pub record IsSort (class : ℕ) (bytes : List ℕ) (number : ℤ) : Type 0 where
   pub numbered : class_number (kind_at class bytes number) ≡ class
   pub name : class ≡ 0 → IsName (map to_ascii_uppercase bytes)

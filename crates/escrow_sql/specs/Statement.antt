@@ -53,15 +53,15 @@ word w = token (kind.Word w) (λ k. tt)
 abbrev pub symbol : Symbol → Grammar (Unit {0})
 symbol s = token (kind.Symbol s) (λ k. tt)
 
--- one and then the other, which has the meaning
+-- one and then the other; the meaning is that of the second
 abbrev pub ◌then◌ : {V : Type 0} → Grammar (Unit {0}) → Grammar V → Grammar V
 a then b = sequence a b (λ x y. y)
 
--- one and then the other, where the first has the meaning
+-- one and then the other; the meaning is that of the first
 abbrev pub before : {V : Type 0} → Grammar V → Grammar (Unit {0}) → Grammar V
 before a b = sequence a b (λ x y. x)
 
--- one and then the other, which both have a meaning
+-- one and then the other; the meaning is a pair of both
 abbrev pub both : {A B : Type 0} → Grammar A → Grammar B → Grammar (A × B)
 both a b = sequence a b (λ x y. (x, y))
 
@@ -73,7 +73,7 @@ a or b = either a b
 abbrev pub optional : {V : Type 0} → V → Grammar V → Grammar V
 optional d a = either a (nothing d)
 
--- what it means is made of what a means
+-- its meaning is computed from the meaning of a
 abbrev pub meaning : {A V : Type 0} → (A → V) → Grammar A → Grammar V
 meaning f a = sequence a (nothing (tt {0})) (λ x y. f x)
 
@@ -89,22 +89,22 @@ list a = separated (symbol symbols.Comma) a
 abbrev pub in_parentheses : {V : Type 0} → Grammar V → Grammar V
 in_parentheses a = symbol symbols.Open then before a (symbol symbols.Close)
 
--- the name that a token holds, if it is one
+-- the name that a token holds, if it is a name
 abbrev pub name_in : Kind → List ℕ
 name_in (kind.Name n) = n
 name_in other = []
 
--- the number that a token holds, if it is one that is written without a point
+-- the number that a token holds, if it is a number without a point
 abbrev pub whole_in : Kind → ℤ
 whole_in (kind.Number n) = n
 whole_in other = pos 0
 
--- the millionths that a token holds, if it is a number that is written with a point
+-- the millionths that a token holds, if it is a number with a point
 abbrev pub point_in : Kind → ℤ
 point_in (kind.Decimal d) = d
 point_in other = pos 0
 
--- the text that a token holds, if it is one, without its quotes
+-- the text that a token holds, without its quotes, if it is a text
 abbrev pub text_in : Kind → List ℕ
 text_in (kind.Text t) = t
 text_in other = []
@@ -113,11 +113,11 @@ text_in other = []
 abbrev pub name : Grammar (List ℕ)
 name = token (kind.Name []) name_in
 
--- a number that is written without a point; it means itself
+-- a number without a point, which means itself
 abbrev pub whole : Grammar ℤ
 whole = token (kind.Number (pos 0)) whole_in
 
--- a number that is written with a point; it means its millionths
+-- a number with a point, which means its millionths
 abbrev pub point : Grammar ℤ
 point = token (kind.Decimal (pos 0)) point_in
 
@@ -125,7 +125,7 @@ point = token (kind.Decimal (pos 0)) point_in
 abbrev pub text : Grammar (List ℕ)
 text = token (kind.Text []) text_in
 
--- the millionths that a whole number is
+-- the millionths of a whole number
 abbrev pub millionths : ℤ → ℤ
 millionths n = n *ℤ pos (unit_at 0)
 
@@ -198,7 +198,7 @@ comparison =
     or meaning (λ s. comparisons.AtLeast) (symbol symbols.AtLeast)
     or meaning (λ s. comparisons.Equal) (symbol symbols.Equal)
 
--- a whole number by itself, which counts in millionths, or times the column behind it
+-- a whole number by itself, in millionths, or times the column that follows
 abbrev pub times : ℤ → Option (List ℕ) → Term
 times n None = terms.Number (millionths n)
 times n (Some column) = terms.Column n column
@@ -249,7 +249,7 @@ mark =
     or meaning (λ k. marks.NotNull) (word words.Not then word words.Null)
     or meaning marks.Check check
 
--- size = whole [ "," whole ], the digits of a NUMBER and how many of them stand behind the point
+-- size = whole [ "," whole ], the digits of a NUMBER and how many of them are after the point
 unfoldable pub size : Grammar NumberSize
 size = sequence whole (optional None (meaning (λ s. Some s) (symbol symbols.Comma then whole))) (λ p s. record { digits = p; scale = s })
 
@@ -339,7 +339,7 @@ body =
     or meaning requests.Statement ending
     or show
 
--- request = body [ ";" ]. A number means its millionths; but the factor of a column and the size of a type, each a
--- `whole` (a number that is written without a point), mean themselves.
+-- request = body [ ";" ]. A number means its millionths. The factor of a column and the size of a type are each a
+-- `whole` (a number without a point), and mean themselves.
 unfoldable pub request : Grammar Request
 request = before body (optional tt (symbol symbols.Semicolon))

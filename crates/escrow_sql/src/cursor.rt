@@ -13,16 +13,16 @@ use escrow_num::{Amount, Decimal, Name, Text};
 use escrow_statement::Word;
 use std::alloc::Global;
 
-/// A place among the tokens of a text. Each method that reads leaves it behind what was read, or at
-/// the token that no sentence goes on with.
+/// A place among the tokens of a text. Each method that reads moves it past what was read, or
+/// leaves it at the first token that no sentence continues with.
 #[derive(Drop)]
 pub(crate) struct Cursor<'a> {
-    /// The tokens that are not read yet.
+    /// The tokens that are left to read.
     pub(crate) tokens: &'a [Lexeme<'a>],
 }
 
 impl<'a> Cursor<'a> {
-    /// Whether a token of the class of this number comes next.
+    /// Returns whether a token of the class of this number comes next.
     fn is_at(&self, class: usize) -> bool
         ensures { result ≡ starts (class ∷ []) self.now.tokens.now }
     {
@@ -32,49 +32,49 @@ impl<'a> Cursor<'a> {
         }
     }
 
-    /// Whether a reserved word comes next.
+    /// Returns whether a reserved word comes next.
     pub(crate) fn is_at_word(&self, expected: Word) -> bool
         ensures { result ≡ starts (class_number (kind.Word expected) ∷ []) self.now.tokens.now }
     {
         self.is_at(Kind::Word(expected).class())
     }
 
-    /// Whether a symbol comes next.
+    /// Returns whether a symbol comes next.
     pub(crate) fn is_at_symbol(&self, expected: Symbol) -> bool
         ensures { result ≡ starts (class_number (kind.Symbol expected) ∷ []) self.now.tokens.now }
     {
         self.is_at(Kind::Symbol(expected).class())
     }
 
-    /// Whether a name comes next.
+    /// Returns whether a name comes next.
     pub(crate) fn is_at_name(&self) -> bool
         ensures { result ≡ starts (class_number (kind.Name []) ∷ []) self.now.tokens.now }
     {
         self.is_at(Kind::NAME)
     }
 
-    /// Whether a number without a point comes next.
+    /// Returns whether a number without a point comes next.
     pub(crate) fn is_at_whole(&self) -> bool
         ensures { result ≡ starts (class_number (kind.Number (pos 0)) ∷ []) self.now.tokens.now }
     {
         self.is_at(Kind::NUMBER)
     }
 
-    /// Whether a number with a point comes next.
+    /// Returns whether a number with a point comes next.
     pub(crate) fn is_at_point(&self) -> bool
         ensures { result ≡ starts (class_number (kind.Decimal (pos 0)) ∷ []) self.now.tokens.now }
     {
         self.is_at(Kind::DECIMAL)
     }
 
-    /// Whether a text comes next.
+    /// Returns whether a text comes next.
     pub(crate) fn is_at_text(&self) -> bool
         ensures { result ≡ starts (class_number (kind.Text []) ∷ []) self.now.tokens.now }
     {
         self.is_at(Kind::TEXT)
     }
 
-    /// Passes over a token of the class of `expected` if one comes next, and says whether it did.
+    /// Skips a token of the class of `expected` if one comes next. Returns whether it did.
     pub(crate) fn takes(&mut self, expected: &Kind) -> bool
         ensures { MatchBool result (run (bare expected.now) self.old.tokens.now ≡ Ok (tt, self.new.tokens.now))
             ((starts (class_number expected.now ∷ []) self.old.tokens.now ≡ false) × (self.new.tokens.now ≡ self.old.tokens.now)) }
@@ -131,7 +131,7 @@ impl<'a> Cursor<'a> {
         self.expect(&Kind::Symbol(expected))
     }
 
-    /// Reads a name, and answers it as it is written.
+    /// Reads a name and returns it as written.
     pub(crate) fn written_name(&mut self) -> Result<WrittenName<'a>, Halt>
         ensures { Advances self.new.tokens.now result (run name self.old.tokens.now) }
     {
@@ -187,7 +187,7 @@ impl<'a> Cursor<'a> {
         }
     }
 
-    /// Reads a text, and answers a copy of it.
+    /// Reads a text and returns a copy of it.
     pub(crate) fn text(&mut self, alloc: Global) -> Result<Text, Halt>
         ensures { Advances self.new.tokens.now result (run text self.old.tokens.now) }
     {

@@ -6,7 +6,7 @@ use std::alloc::{AllocError, AllocFailed};
 /// Why a text has no tokens, or no request.
 #[derive(Clone, Copy, Debug, PartialEq, Eq)]
 pub enum ParseFault {
-    /// The text is no sentence of the grammar; the column, in bytes from 1, is that of the first
+    /// The text is no sentence of the grammar. The column, in bytes from 1, is that of the first
     /// fault.
     Syntax { column: u32 },
     /// Memory was refused.

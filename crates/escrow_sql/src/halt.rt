@@ -8,7 +8,7 @@ use std::alloc::{AllocError, AllocFailed};
 pub(crate) enum Halt {
     /// Memory was refused.
     Memory,
-    /// No sentence goes on with the token that the cursor stands at.
+    /// No sentence continues with the token at the cursor.
     Syntax,
 }
 

@@ -1,31 +1,32 @@
-//! Laws of the definitions: facts about them, each the contract of a function that does nothing.
+//! Laws of the definitions. Each is the contract of a function that does nothing.
 
 ghost use Rattle.escrow_sql.specs.Laws.{EachIsAnsweredOnce, EachIsLexedOnce, FactoringKeepsSentences, Limits, NumbersAreReadAsSpelled};
 
-/// What is lexed of a text stands fast: tokens, or the column of a fault, and never two answers.
+/// Each text has tokens or the column of a fault, and never two answers.
 pub fn each_is_lexed_once()
     ensures { EachIsLexedOnce }
 {}
 
 /// A number of a statement, with a point or without one, means the millionths that `Decimal::read`
-/// reads of its text; where that reads none, the text's fault is at its first digit.
+/// reads from its text. If that reads none, the text's fault is at its first digit.
 pub fn numbers_are_read_as_spelled()
     ensures { NumbersAreReadAsSpelled }
 {}
 
-/// A text asks one thing, since the grammar is unambiguous, or it has its fault at one column, and
-/// never both.
+/// A text asks one thing, since the grammar is unambiguous, or it has its fault at one column. It
+/// never has both.
 pub fn each_is_answered_once()
     ensures { EachIsAnsweredOnce }
 {}
 
-/// The parser reads a grammar in which SHOW stands once, before what may follow it. Its sentences are
-/// those of the grammar of requests and mean the same, and where one goes wrong the other does.
+/// The parser reads a grammar in which SHOW occurs once, before its alternatives. This grammar has
+/// the sentences of the grammar of requests, with the same meanings, and its first faults are the
+/// same.
 pub fn factoring_keeps_sentences()
     ensures { FactoringKeepsSentences }
 {}
 
-/// A text has 65,536 bytes at most.
+/// A text has at most 65,536 bytes.
 pub fn limits()
     ensures { Limits }
 {}

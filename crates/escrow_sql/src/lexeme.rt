@@ -11,15 +11,16 @@ use escrow_statement::WORDS;
 use std::alloc::{AllocError, Global};
 use std::marker::Model;
 
-/// What a lexeme is, with what it holds: its class says which of the fields count. Contracts see it
+/// What a lexeme is, with what it holds. Its class says which of the fields count. Contracts see it
 /// as the kind of a token.
 #[derive(Debug, Drop)]
 pub(crate) struct Sort<'a> {
     /// The number of its class.
     class: usize,
-    /// The bytes that write a name, a number with a point or a text. They stay in the statement's text.
+    /// The bytes of a name, of a number with a point or of a text. They are borrowed from the
+    /// statement.
     bytes: &'a [u8],
-    /// The number that is written without a point.
+    /// The number, if it is written without a point.
     number: Amount,
 }
 
@@ -41,7 +42,7 @@ impl<'a> Sort<'a> {
     ghost use Rattle.escrow_num.specs.Name.{IsName};
     ghost use Rattle.escrow_sql.specs.Scan.{point_millionths, undoubled};
 
-    /// A symbol or a reserved word.
+    /// Returns a symbol or a reserved word.
     pub(crate) fn bare(kind: &Kind) -> Self
         requires { 4 ≤ class_number kind.now }
         ensures { result ≡ kind.now }
@@ -53,7 +54,7 @@ impl<'a> Sort<'a> {
         }
     }
 
-    /// The name that the bytes write.
+    /// Returns the name that the bytes write.
     pub(crate) fn name(bytes: &'a [u8]) -> Self
         requires { IsName (map to_ascii_uppercase bytes.now) }
         ensures { result ≡ kind.Name (map to_ascii_uppercase bytes.now) }
@@ -65,7 +66,7 @@ impl<'a> Sort<'a> {
         }
     }
 
-    /// A number without a point. It is not negative.
+    /// Returns a number without a point. It is not negative.
     pub(crate) fn number(number: Amount) -> Self
         ensures { result ≡ kind.Number number }
     {
@@ -76,7 +77,7 @@ impl<'a> Sort<'a> {
         }
     }
 
-    /// The number with a point at the front of the bytes.
+    /// Returns the number with a point at the front of the bytes.
     pub(crate) fn decimal(bytes: &'a [u8]) -> Self
         requires { IsSome (point_millionths bytes.now) }
         ensures { result ≡ kind.Decimal (unwrap_or (point_millionths bytes.now) (pos 0)) }
@@ -88,7 +89,7 @@ impl<'a> Sort<'a> {
         }
     }
 
-    /// The text that stands so between its quotes.
+    /// Returns the text with this spelling between its quotes.
     pub(crate) fn text(raw: &'a str) -> Self
         ensures { result ≡ kind.Text (undoubled false raw.now) }
     {
@@ -100,8 +101,8 @@ impl<'a> Sort<'a> {
     }
 }
 
-/// A token of a text that borrows the text's bytes: it takes no memory of its own, and is small.
-/// Contracts see it as the [`Token`] that it is.
+/// A token that borrows the text's bytes: it is small and takes no memory of its own. Contracts see
+/// it as the [`Token`].
 #[derive(Debug, Drop)]
 pub(crate) struct Lexeme<'a> {
     sort: Sort<'a>,
@@ -118,28 +119,28 @@ impl<'a> Model for Lexeme<'a> {
 }
 
 impl<'a> Lexeme<'a> {
-    /// The lexeme of this sort that takes the bytes from `start` to `end`.
+    /// Returns the lexeme of this sort that takes the bytes from `start` to `end`.
     pub(crate) fn new(sort: Sort<'a>, start: usize, end: usize) -> Self
         ensures { result ≡ record { kind = sort.entry; start = start; end = end } }
     {
         Lexeme { sort, start, end }
     }
 
-    /// Where its first byte is, from 0.
+    /// Returns the place of its first byte, from 0.
     pub(crate) fn start(&self) -> usize
         ensures { result ≡ self.now.start }
     {
         self.start
     }
 
-    /// The number of its class.
+    /// Returns the number of its class.
     pub(crate) fn class(&self) -> usize
         ensures { result ≡ class_number self.now.kind }
     {
         self.sort.class
     }
 
-    /// The name that it is, if it is one.
+    /// Returns its name, if it is a name.
     pub(crate) fn name(&self) -> Option<WrittenName<'a>>
         ensures { MatchOption result ((class_number self.now.kind == 0) ≡ false) (λ n. self.now.kind ≡ kind.Name n) }
     {
@@ -149,7 +150,7 @@ impl<'a> Lexeme<'a> {
         Some(WrittenName::new(self.sort.bytes))
     }
 
-    /// The number without a point that it is, if it is one.
+    /// Returns its number, if it is one without a point.
     pub(crate) fn number(&self) -> Option<Amount>
         ensures { MatchOption result ((class_number self.now.kind == 1) ≡ false) (λ n. self.now.kind ≡ kind.Number n) }
     {
@@ -159,7 +160,7 @@ impl<'a> Lexeme<'a> {
         Some(self.sort.number)
     }
 
-    /// The number with a point that it is, if it is one.
+    /// Returns its number, if it is one with a point.
     pub(crate) fn decimal(&self) -> Option<Decimal>
         ensures { MatchOption result ((class_number self.now.kind == 2) ≡ false) (λ d. self.now.kind ≡ kind.Decimal d) }
     {
@@ -169,7 +170,7 @@ impl<'a> Lexeme<'a> {
         number::decimal_of(self.sort.bytes)
     }
 
-    /// A copy of the text that it is, if it is one.
+    /// Returns a copy of its text, if it is a text.
     pub(crate) fn text(&self, alloc: Global) -> Result<Option<Text>, AllocError>
         ensures { IfOk result (λ o. MatchOption o ((class_number self.now.kind == 3) ≡ false) (λ t. self.now.kind ≡ kind.Text t)) }
     {
@@ -182,7 +183,7 @@ impl<'a> Lexeme<'a> {
         }
     }
 
-    /// The token itself, which holds what it is.
+    /// Returns the token, which owns what it holds.
     pub(crate) fn token(&self, alloc: Global) -> Result<Token, AllocError>
         ensures { IfOk result (λ t. t ≡ self.now) }
     {
@@ -204,7 +205,7 @@ impl<'a> Lexeme<'a> {
         })
     }
 
-    /// The symbol or the reserved word that it is.
+    /// Returns its symbol or reserved word.
     fn bare_kind(&self) -> Kind
         requires { 4 ≤ class_number self.now.kind }
         ensures { result ≡ self.now.kind }

@@ -21,17 +21,17 @@ use crate::token::Token;
 use escrow_num::Seq;
 use std::alloc::{AllocError, Global};
 
-/// The most bytes of a text that is looked into.
+/// The most bytes of a text that the lexer reads.
 pub const MAX_TEXT: usize = 65_536;
 
-/// Whether the byte is a blank.
+/// Returns whether the byte is a blank.
 fn is_blank(byte: u8) -> bool
     ensures { result ≡ is_blank byte }
 {
     byte == b' ' || byte == b'\t' || byte == b'\r' || byte == b'\n'
 }
 
-/// What the text begins with from a place on.
+/// Reads what the text begins with from a place on.
 #[tactic(auto, unfolding(crate::specs::Lex::plain_piece))]
 fn read_piece(text: &str, at: usize) -> Scan<'_>
     requires { at < length text.now }
@@ -59,7 +59,7 @@ fn read_piece(text: &str, at: usize) -> Scan<'_>
     symbol::read_symbol(first, next)
 }
 
-/// How many bytes a comment takes: all up to the line's end.
+/// Returns how many bytes a comment takes: all bytes up to the end of the line.
 fn comment_len(bytes: &[u8]) -> usize
     ensures { result ≡ prefix_len (λ b. not (b == 10)) bytes.now }
 {
@@ -75,7 +75,7 @@ fn piece_at(text: &str, at: usize) -> Scan<'_>
     read_piece(text, at)
 }
 
-/// The lexemes of a text: its tokens, as [`lex`] answers them, that borrow what they hold.
+/// Returns the lexemes of a text: the tokens that [`lex`] returns, which borrow what they hold.
 pub(crate) fn lexemes(alloc: Global, text: &str) -> Result<Seq<Lexeme<'_>>, ParseFault>
     ensures found { IfOk result (λ tokens. IsLexed text.now (Ok tokens)) }
     ensures spans { IfOk result (AreInOrder 0 (length text.now)) }
@@ -88,7 +88,7 @@ pub(crate) fn lexemes(alloc: Global, text: &str) -> Result<Seq<Lexeme<'_>>, Pars
             column: MAX_TEXT as u32 + 1,
         });
     }
-    // Of a statement each token takes some four bytes, so that the list seldom has to grow.
+    // A token of a statement takes about four bytes, so the list seldom has to grow.
     let mut lexemes = Seq::from_vec(Vec::with_capacity(alloc, text.len() / 4 + 1)?);
     let mut at = 0;
     while at < text.len() {
@@ -108,7 +108,7 @@ pub(crate) fn lexemes(alloc: Global, text: &str) -> Result<Seq<Lexeme<'_>>, Pars
     Ok(lexemes)
 }
 
-/// The tokens that lexemes are.
+/// Returns the tokens of lexemes.
 fn tokens_of(alloc: Global, lexemes: &[Lexeme]) -> Result<Seq<Token>, AllocError>
     ensures { IfOk result (λ tokens. tokens ≡ lexemes.now) }
 {
@@ -119,16 +119,17 @@ fn tokens_of(alloc: Global, lexemes: &[Lexeme]) -> Result<Seq<Token>, AllocError
     Ok(tokens)
 }
 
-/// The tokens of a text, in order, each with the bytes that it takes. `Syntax` has the column of
-/// the leftmost fault; of a text past [`MAX_TEXT`] that is the column behind them.
+/// Returns the tokens of a text, in order, each with its place. `Syntax` has the column of the
+/// leftmost fault. For a text longer than [`MAX_TEXT`] that is the column after the first
+/// `MAX_TEXT` bytes.
 pub fn lex(alloc: Global, text: &str) -> Result<Seq<Token>, ParseFault>
-    // What is answered are the tokens of the text.
+    // The tokens that are returned are those of the text.
     ensures found { IfOk result (λ tokens. IsLexed text.now (Ok tokens)) }
     ensures spans { IfOk result (AreInOrder 0 (length text.now)) }
     ensures slices { IfOk result (AllByRecursion (IsItsSlice text.now)) }
     ensures fault { IfErr result (IsLexFault text.now) }
 
-    // The tokens of a text are answered, unless memory runs out.
+    // If a text has tokens, they are returned, unless memory runs out.
     ensures only { (tokens : List Token) → IsLexed text.now (Ok tokens) → MatchResult result (λ x. x ≡ tokens) (λ e. e ≡ Memory) }
 {
     let lexemes = lexemes(alloc, text)?;

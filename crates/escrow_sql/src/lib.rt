@@ -1,7 +1,9 @@
-//! The text of statements: tokens, the grammar, and what a text asks.
+//! From the text of a statement to what it asks: tokens, the grammar, and the parser.
 //!
-//! Its one contract: [`parse`] accepts exactly the grammar, and a refusal names the exact column of
-//! the first fault.
+//! Its main contract is that of [`parse`]: it accepts exactly the sentences of the grammar. For any
+//! other text it names the exact column of the first fault.
+//!
+//! Begin with [`parse`]. The grammar is in specs/Statement.antt.
 #![tactic(auto)]
 
 mod cursor;

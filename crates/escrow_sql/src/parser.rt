@@ -28,7 +28,7 @@ use escrow_statement::{Request, Statement, Word};
 use std::alloc::Global;
 
 impl Cursor<'_> {
-    /// A reserved word that may be left out.
+    /// Reads a reserved word that may be left out.
     fn optional_word(&mut self, expected: Word) -> Result<(), Halt>
         ensures { Advances self.new.tokens.now result (run (optional tt (word expected)) self.old.tokens.now) }
     {
@@ -60,7 +60,7 @@ impl Cursor<'_> {
         Ok(Statement::Alter(self.alter(alloc)?))
     }
 
-    /// Whether a statement of a whole table comes next.
+    /// Returns whether a statement of a whole table comes next.
     #[tactic(auto, unfolding(crate::specs::Statement::table_statement, crate::specs::Statement::create, crate::specs::Statement::drop, crate::specs::Statement::alter))]
     fn is_at_table_statement(&self) -> bool
         ensures { result ≡ starts (first table_statement) self.now.tokens.now }
@@ -85,7 +85,7 @@ impl Cursor<'_> {
         Ok(Statement::Select(self.select(alloc)?))
     }
 
-    /// Whether a statement of rows comes next.
+    /// Returns whether a statement of rows comes next.
     #[tactic(auto, unfolding(crate::specs::Statement::row_statement, crate::specs::Statement::insert, crate::specs::Statement::update, crate::specs::Statement::delete, crate::specs::Statement::select))]
     fn is_at_row_statement(&self) -> bool
         ensures { result ≡ starts (first row_statement) self.now.tokens.now }
@@ -140,7 +140,7 @@ impl Cursor<'_> {
         Ok(Statement::Savepoint(self.savepoint()?))
     }
 
-    /// Whether a statement of the transaction itself comes next.
+    /// Returns whether a statement of the transaction itself comes next.
     #[tactic(auto, unfolding(crate::specs::Statement::ending))]
     fn is_at_ending(&self) -> bool
         ensures { result ≡ starts (first ending) self.now.tokens.now }
@@ -199,7 +199,7 @@ impl Cursor<'_> {
         Ok(body)
     }
 
-    /// A request, and nothing behind it.
+    /// Reads a request with nothing after it.
     fn whole(&mut self, alloc: Global) -> Result<Request, Halt>
         ensures { Ends self.new.tokens.now result (run_whole factored_request self.old.tokens.now) }
     {
@@ -211,7 +211,8 @@ impl Cursor<'_> {
     }
 }
 
-/// The column of the first of the tokens that are left, or behind a text of so many bytes.
+/// Returns the column of the first of the tokens that are left, or the column after the text if
+/// none is. The text has `len` bytes.
 fn column_of(rest: &[Lexeme], len: usize) -> u32
     requires { column_at rest.now len ≤ MAX_TEXT + 1 }
     ensures { result ≡ column_at rest.now len }
@@ -222,14 +223,14 @@ fn column_of(rest: &[Lexeme], len: usize) -> u32
     }
 }
 
-/// What a text asks. `Syntax` has the column of the first fault: that of the leftmost lexing fault,
-/// or else that of the first token such that no sentence begins with the tokens up to it, or the
-/// text's length plus 1 where the text ends too early.
+/// Returns what a text asks. `Syntax` has the column of the first fault. That is the leftmost
+/// lexing fault, if there is one; else the first token such that no sentence begins with the tokens
+/// up to it; or the text's length plus 1 if the text ends too early.
 pub fn parse(alloc: Global, text: &str) -> Result<Request, ParseFault>
-    // What is answered is what the text asks.
+    // The request that is returned is what the text asks.
     ensures found { IfOk result (Asks text.now) }
 
-    // What a text asks is answered, unless memory runs out.
+    // If a text asks something, it is returned, unless memory runs out.
     ensures only { (r : Request) → Asks text.now r → MatchResult result (λ x. x ≡ r) (λ e. e ≡ Memory) }
 
     ensures fault { IfErr result (IsFaultIn text.now) }

@@ -39,11 +39,11 @@ pub enum Kind {
     Word(Word),
     /// A name, in upper case.
     Name(Name),
-    /// A number that is written without a point. It is not negative.
+    /// A number without a point. It is not negative.
     Number(Amount),
-    /// A number that is written with a point, in millionths. It is not negative.
+    /// A number with a point, in millionths. It is not negative.
     Decimal(Decimal),
-    /// A text, without its quotes, each quote inside it once.
+    /// A text without its quotes. A doubled quote inside it counts once.
     Text(Text),
     /// A symbol.
     Symbol(Symbol),
@@ -68,7 +68,7 @@ pub(crate) const SYMBOLS: &[Symbol] = &[
 impl Symbol {
     ghost use Rattle.escrow_sql.specs.Classes.{symbol_number};
 
-    /// The symbol's place in the list above, from 0.
+    /// Returns the symbol's place in the list above, from 0.
     pub(crate) fn number(self) -> u8
         ensures { result ≡ symbol_number self }
     {
@@ -91,7 +91,7 @@ impl Kind {
     /// The class of texts.
     pub(crate) const TEXT: usize = 3;
 
-    /// The number of the token's class: what it is, without what it holds.
+    /// Returns the number of the token's class: what it is, without what it holds.
     pub(crate) fn class(&self) -> usize
         ensures { result ≡ class_number self.now }
     {
@@ -106,13 +106,13 @@ impl Kind {
     }
 }
 
-/// A token of a text, and the bytes that it takes there.
+/// A token of a text, and its place there.
 #[derive(Debug, Drop)]
 pub struct Token {
     /// What it is.
     pub kind: Kind,
     /// Where its first byte is, from 0.
     pub start: usize,
-    /// Where the first byte behind it is.
+    /// Where the first byte after it is.
     pub end: usize,
 }

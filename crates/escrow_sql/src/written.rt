@@ -26,7 +26,7 @@ impl<'a> Model for WrittenName<'a> {
 }
 
 impl<'a> WrittenName<'a> {
-    /// The name that the bytes write.
+    /// Returns the name that the bytes write.
     pub(crate) fn new(bytes: &'a [u8]) -> Self
         requires { IsName (map to_ascii_uppercase bytes.now) }
         ensures { result ≡ map to_ascii_uppercase bytes.now }
@@ -34,14 +34,14 @@ impl<'a> WrittenName<'a> {
         WrittenName { bytes }
     }
 
-    /// The same name, which borrows the text alone.
+    /// Returns a copy of the name, which borrows from the text.
     pub(crate) fn copied(&self) -> Self
         ensures { result ≡ self.now }
     {
         WrittenName { bytes: self.bytes }
     }
 
-    /// The name itself.
+    /// Returns the name itself.
     pub(crate) fn name(&self) -> Name
         ensures { result ≡ self.now }
     {
@@ -49,7 +49,7 @@ impl<'a> WrittenName<'a> {
     }
 }
 
-/// The text that stands so between its quotes, each quote in it twice.
+/// Returns the text that is spelled like this between its quotes, with each quote in it doubled.
 pub(crate) fn text_of(alloc: Global, raw: &str) -> Result<Text, AllocError>
     ensures { IfOk result (λ t. t ≡ undoubled false raw.now) }
 {
@@ -57,7 +57,7 @@ pub(crate) fn text_of(alloc: Global, raw: &str) -> Result<Text, AllocError>
     Ok(Text::from_string(copy))
 }
 
-/// A copy of the text, each doubled quote once.
+/// Returns a copy of the text with each doubled quote once.
 fn copy_undoubled(alloc: Global, raw: &str) -> Result<String, AllocError>
     ensures { IfOk result (λ s. string_bytes s ≡ undoubled false raw.now) }
 {

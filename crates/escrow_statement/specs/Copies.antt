@@ -8,22 +8,22 @@ use Rattle.escrow_statement.specs.declared.statement.TableChange.{TableChange}
 use Rattle.escrow_statement.specs.declared.statement.TableChange.TheVariants as table_change
 use Rattle.escrow_statement.specs.declared.statement.WhereText.{WhereText}
 
--- a literal holds memory, which a copy of it takes too: a text does
+-- whether a literal holds memory, which a copy takes too: a text does
 abbrev pub literal_holds_memory : Literal → Bool
 literal_holds_memory (literal.Number number) = false
 literal_holds_memory (literal.Text text) = true
 
--- what stands behind WHERE, if it does, holds memory: its literal does
+-- whether the condition after WHERE, if there is one, holds memory: its literal may
 abbrev pub row_holds_memory : Option WhereText → Bool
 row_holds_memory None = false
 row_holds_memory (Some row) = literal_holds_memory row.literal
 
--- a change of a table holds memory: a CHECK's list of conditions does
+-- whether a change of a table holds memory: a CHECK's list of conditions does
 abbrev pub change_holds_memory : TableChange → Bool
 change_holds_memory (table_change.Add text) = true
 change_holds_memory (table_change.Drop name) = false
 
--- a statement holds memory: a list does, and a literal that is a text
+-- whether a statement holds memory: a list does, and a literal that is a text
 abbrev pub holds_memory : Statement → Bool
 holds_memory (statement.Create text) = true
 holds_memory (statement.Drop table) = false

@@ -3,7 +3,7 @@ use Rattle.std.specs.Prelude.{ℕ}
 use Rattle.escrow_statement.specs.declared.word.Word.{Word}
 use Rattle.escrow_statement.specs.declared.word.Word.TheVariants as word
 
--- the place of a reserved word in the alphabet's order, from 0
+-- the place of a reserved word in alphabetical order, from 0
 abbrev pub number_of : Word → ℕ
 number_of word.Add = 0
 number_of word.Alter = 1

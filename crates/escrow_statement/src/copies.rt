@@ -11,7 +11,7 @@ use escrow_num::{Copied, Name, Seq, are_same, copy_all};
 use std::alloc::{AllocError, Global};
 
 impl Literal {
-    /// A copy of the literal. Only a text takes memory.
+    /// Returns a copy of the literal. Only a text takes memory.
     fn copied(&self, alloc: Global) -> Result<Literal, AllocError>
         ensures same { IfOk result (λ l. l ≡ self.now) }
         ensures succeeds { literal_holds_memory self.now ≡ false → IsOk result }
@@ -107,7 +107,7 @@ impl Copied for CreateText {
 }
 
 impl TableChange {
-    /// A copy of the change. Only a CHECK takes memory.
+    /// Returns a copy of the change. Only a CHECK takes memory.
     fn copy(&self, alloc: Global) -> Result<TableChange, AllocError>
         ensures same { IfOk result (λ t. t ≡ self.now) }
         ensures succeeds { change_holds_memory self.now ≡ false → IsOk result }
@@ -118,7 +118,7 @@ impl TableChange {
         }
     }
 
-    /// Whether two changes are the same.
+    /// Returns whether two changes are equal.
     fn is_same(&self, other: &TableChange) -> bool
         ensures { IsTrue result ↔ (self.now ≡ other.now) }
     {
@@ -131,7 +131,7 @@ impl TableChange {
 }
 
 impl AlterText {
-    /// A copy of the ALTER TABLE. Only a CHECK takes memory.
+    /// Returns a copy of the ALTER TABLE. Only a CHECK takes memory.
     fn copy(&self, alloc: Global) -> Result<AlterText, AllocError>
         ensures same { IfOk result (λ t. t ≡ self.now) }
         ensures succeeds { change_holds_memory self.now.change ≡ false → IsOk result }
@@ -142,7 +142,7 @@ impl AlterText {
         })
     }
 
-    /// Whether two ALTER TABLEs are the same.
+    /// Returns whether two ALTER TABLEs are equal.
     fn is_same(&self, other: &AlterText) -> bool
         ensures { IsTrue result ↔ (self.now ≡ other.now) }
     {
@@ -150,7 +150,8 @@ impl AlterText {
     }
 }
 
-/// A copy of the columns that an INSERT names, if it names any. Want of memory is the only error.
+/// Returns a copy of the columns that an INSERT names, if it names any. Fails only if memory is
+/// refused.
 fn copy_columns(alloc: Global, columns: &Option<Seq<Name>>) -> Result<Option<Seq<Name>>, AllocError>
     ensures { IfOk result (λ copied. copied ≡ columns.now) }
 {
@@ -160,7 +161,7 @@ fn copy_columns(alloc: Global, columns: &Option<Seq<Name>>) -> Result<Option<Seq
     }
 }
 
-/// Whether two INSERTs name the same columns, in the same order, or both name none.
+/// Returns whether two INSERTs name the same columns, in the same order, or both name none.
 fn are_same_columns(columns: &Option<Seq<Name>>, others: &Option<Seq<Name>>) -> bool
     ensures { IsTrue result ↔ (columns.now ≡ others.now) }
 {
@@ -227,7 +228,7 @@ impl Copied for Assign {
 }
 
 impl WhereText {
-    /// A copy of the condition. Only a text takes memory.
+    /// Returns a copy of the condition. Only a text takes memory.
     fn copy(&self, alloc: Global) -> Result<WhereText, AllocError>
         ensures same { IfOk result (λ t. t ≡ self.now) }
         ensures succeeds { literal_holds_memory self.now.literal ≡ false → IsOk result }
@@ -238,7 +239,7 @@ impl WhereText {
         })
     }
 
-    /// Whether two conditions are the same.
+    /// Returns whether two conditions are equal.
     fn is_same(&self, other: &WhereText) -> bool
         ensures { IsTrue result ↔ (self.now ≡ other.now) }
     {
@@ -263,7 +264,7 @@ impl Copied for UpdateText {
 }
 
 impl RowText {
-    /// A copy of the row's text. Only a text in its WHERE takes memory.
+    /// Returns a copy of the row's text. Only a text in its WHERE takes memory.
     fn copy(&self, alloc: Global) -> Result<RowText, AllocError>
         ensures same { IfOk result (λ t. t ≡ self.now) }
         ensures succeeds { literal_holds_memory self.now.row.literal ≡ false → IsOk result }
@@ -274,7 +275,7 @@ impl RowText {
         })
     }
 
-    /// Whether two name the same row.
+    /// Returns whether two texts name the same row.
     fn is_same(&self, other: &RowText) -> bool
         ensures { IsTrue result ↔ (self.now ≡ other.now) }
     {
@@ -283,7 +284,7 @@ impl RowText {
 }
 
 impl SelectText {
-    /// A copy of the SELECT. Only a text in its WHERE takes memory.
+    /// Returns a copy of the SELECT. Only a text in its WHERE takes memory.
     fn copy(&self, alloc: Global) -> Result<SelectText, AllocError>
         ensures same { IfOk result (λ t. t ≡ self.now) }
         ensures succeeds { row_holds_memory self.now.row ≡ false → IsOk result }
@@ -298,7 +299,7 @@ impl SelectText {
         })
     }
 
-    /// Whether two SELECTs are the same.
+    /// Returns whether two SELECTs are equal.
     fn is_same(&self, other: &SelectText) -> bool
         ensures { IsTrue result ↔ (self.now ≡ other.now) }
     {
@@ -314,8 +315,8 @@ impl SelectText {
 }
 
 impl Statement {
-    /// A copy of the statement. Want of memory is the only error; a statement without a list and
-    /// without a text takes none.
+    /// Returns a copy of the statement. Fails only if memory is refused. A statement without a list
+    /// and without a text takes no memory.
     pub fn copy(&self, alloc: Global) -> Result<Statement, AllocError>
         ensures same { IfOk result (λ t. t ≡ self.now) }
         ensures succeeds { holds_memory self.now ≡ false → IsOk result }
@@ -338,8 +339,8 @@ impl Statement {
         }
     }
 
-    /// Whether two statements ask the same: each name, number, text and mark of the one stands in
-    /// the other, in the same order.
+    /// Returns whether two statements ask the same: they have the same names, numbers, texts and
+    /// marks, in the same order.
     pub fn is_same(&self, other: &Statement) -> bool
         ensures { IsTrue result ↔ (self.now ≡ other.now) }
     {

@@ -1,7 +1,9 @@
 //! Statements as their texts say them, with nothing looked up yet, and the reserved words.
 //!
-//! Its one contract: [`Word::written`] is the reserved word that bytes write, in any case of their
-//! letters, and there is none exactly where they write none.
+//! Its main contract is that of [`Word::written`]: it returns the reserved word that bytes write,
+//! in upper or lower case, and `None` exactly if they write none.
+//!
+//! Begin with [`Statement`], which has a variant for each statement.
 #![tactic(auto)]
 
 mod copies;

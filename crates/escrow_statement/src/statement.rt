@@ -5,7 +5,7 @@ use escrow_num::{Amount, Decimal, Name, Seq, Text};
 pub enum Request {
     /// A statement of a database.
     Statement(Statement),
-    /// `SHOW STATISTICS`: the totals of the asking session, which no database keeps.
+    /// `SHOW STATISTICS`: the totals of the session that asks. No database keeps them.
     Statistics,
 }
 
@@ -28,7 +28,7 @@ pub enum Statement {
     Select(SelectText),
     /// `SHOW TABLE name`, with the table's name.
     ShowTable(Name),
-    /// `SHOW JOURNAL [name]`, with the name of a table where one is written.
+    /// `SHOW JOURNAL [name]`, with the name of a table if one is written.
     ShowJournal(Option<Name>),
     /// `SHOW BOUNDS name WHERE ..`
     ShowBounds(RowText),
@@ -42,7 +42,7 @@ pub enum Statement {
     Savepoint(Name),
 }
 
-// It is written out, so that no crate above proves again how each part is dropped.
+// Written out, so that crates above need not prove again how its parts are dropped.
 impl Drop for Statement {
     fn drop(self) {
         match self {
@@ -64,7 +64,7 @@ impl Drop for Statement {
 pub struct CreateText {
     /// The table's name.
     pub table: Name,
-    /// What stands in its parentheses, in order.
+    /// The items in its parentheses, in order.
     pub items: Seq<Item>,
 }
 
@@ -86,7 +86,7 @@ pub struct ColumnText {
     pub name: Name,
     /// Its type.
     pub kind: TypeText,
-    /// What stands behind its type, in order.
+    /// The marks after its type, in order.
     pub marks: Seq<ColumnMark>,
 }
 
@@ -95,7 +95,7 @@ pub struct ColumnText {
 pub struct AlterText {
     /// The table's name.
     pub table: Name,
-    /// What is changed of it.
+    /// What it changes.
     pub change: TableChange,
 }
 
@@ -119,24 +119,24 @@ pub enum TypeText {
     Varchar2(Amount),
 }
 
-/// What stands in the parentheses of a `NUMBER(p)` or `NUMBER(p, s)`, as written: neither number is
-/// judged yet.
+/// The numbers in the parentheses of a `NUMBER(p)` or `NUMBER(p, s)`, as written: neither is judged
+/// yet.
 #[derive(Clone, Copy, Debug, PartialEq, Eq)]
 pub struct NumberSize {
     /// The p: how many digits a value may have in all.
     pub digits: Amount,
-    /// The s, if it is written: how many of the digits stand behind the point.
+    /// The s, if it is written: how many of the digits are after the point.
     pub scale: Option<Amount>,
 }
 
-/// What may stand behind a column's type.
+/// A mark that may follow a column's type.
 #[derive(Debug, Drop)]
 pub enum ColumnMark {
     /// `PRIMARY KEY`
     PrimaryKey,
     /// `RESERVABLE`
     Reservable,
-    /// `NOT NULL`, which every column is.
+    /// `NOT NULL`, which holds of every column anyway.
     NotNull,
     /// `[CONSTRAINT name] CHECK (..)`
     Check(CheckText),
@@ -145,7 +145,7 @@ pub enum ColumnMark {
 /// The text of a CHECK.
 #[derive(Debug, Drop)]
 pub struct CheckText {
-    /// The name that is written behind CONSTRAINT, if one is.
+    /// The name after CONSTRAINT, if one is written.
     pub name: Option<Name>,
     /// The conditions in its parentheses, in order, with AND between two.
     pub conditions: Seq<Condition>,
@@ -156,21 +156,21 @@ pub struct CheckText {
 pub struct Condition {
     /// The terms of the sum on its left, in order.
     pub sum: Seq<Term>,
-    /// What it asks of that sum.
+    /// The test of that sum.
     pub test: Test,
 }
 
 /// What a condition asks of a sum.
 #[derive(Debug, Drop)]
 pub enum Test {
-    /// `comparison sum`: that it compares so with another sum.
+    /// `comparison sum`: the sum compares this way with another sum.
     Compare {
         /// How they are compared.
         comparison: Comparison,
-        /// The terms of the sum on the right, in order.
+        /// The terms of the sum on its right, in order.
         sum: Seq<Term>,
     },
-    /// `BETWEEN low AND high`: that it is one of the numbers from the one to the other.
+    /// `BETWEEN low AND high`: the sum is at least the one number and at most the other.
     Between {
         /// The least number.
         low: Decimal,
@@ -179,14 +179,14 @@ pub enum Test {
     },
 }
 
-/// A term of a sum, where a minus before it makes its number negative.
+/// A term of a sum. A minus before it makes its number negative.
 #[derive(Clone, Copy, Debug, PartialEq, Eq)]
 pub enum Term {
     /// A number by itself.
     Number(Decimal),
-    /// A whole number times a column; a column by itself is taken once.
+    /// A whole number times a column. A column by itself is taken once.
     Column {
-        /// The whole number, which is written without a point.
+        /// The whole number, written without a point.
         coefficient: Amount,
         /// The column.
         column: Name,
@@ -213,7 +213,7 @@ pub enum Comparison {
 pub struct InsertText {
     /// The table's name.
     pub table: Name,
-    /// The columns that are named in front of VALUES, in order, if they are.
+    /// The columns that are named before VALUES, in order, if any are.
     pub columns: Option<Seq<Name>>,
     /// The literals, in order.
     pub values: Seq<Literal>,
@@ -224,9 +224,9 @@ pub struct InsertText {
 pub struct UpdateText {
     /// The table's name.
     pub table: Name,
-    /// What stands behind SET, in order.
+    /// The assignments after SET, in order.
     pub assigns: Seq<Assign>,
-    /// What stands behind WHERE.
+    /// The condition after WHERE.
     pub row: WhereText,
 }
 
@@ -239,12 +239,12 @@ pub struct Assign {
     pub value: Assigned,
 }
 
-/// What an assignment has on its right.
+/// The right side of an assignment.
 #[derive(Debug, Drop)]
 pub enum Assigned {
     /// A literal.
     Literal(Literal),
-    /// `source + change`, where a minus makes the change negative.
+    /// `source + change`. A minus makes the change negative.
     Change {
         /// The column that is changed.
         source: Name,
@@ -258,7 +258,7 @@ pub enum Assigned {
 pub struct RowText {
     /// The table's name.
     pub table: Name,
-    /// What stands behind WHERE.
+    /// The condition after WHERE.
     pub row: WhereText,
 }
 
@@ -267,7 +267,7 @@ pub struct RowText {
 pub struct SelectText {
     /// The table's name.
     pub table: Name,
-    /// What stands behind WHERE, if it does.
+    /// The condition after WHERE, if there is one.
     pub row: Option<WhereText>,
 }
 
@@ -280,7 +280,7 @@ pub struct WhereText {
     pub literal: Literal,
 }
 
-/// A literal, as written: it is a value only once it is known to fit a column.
+/// A literal, as written. It becomes a value once it is known to fit a column.
 #[derive(Debug, Drop)]
 pub enum Literal {
     /// A number, in millionths.

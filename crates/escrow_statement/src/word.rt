@@ -3,7 +3,7 @@ ghost use Rattle.std.specs.Char.{to_ascii_uppercase};
 
 use crate::words::WORDS;
 
-/// A reserved word: no name may be one, in any case of its letters.
+/// A reserved word. No name may be one, in upper or lower case.
 #[derive(Clone, Copy, Debug, PartialEq, Eq)]
 pub enum Word {
     /// `ADD`
@@ -78,7 +78,8 @@ pub enum Word {
     Work,
 }
 
-/// At the place of each reserved word its number among [`WORDS`], and past the last elsewhere.
+/// The number of each reserved word in [`WORDS`], at the place that [`Word::candidate`] computes.
+/// Every other place has the number after the last.
 const NUMBERS: [u8; 128] = [
     35, 35, 35, 35, 35, 35, 35, 35, 35, 18, 35, 19, 35, 20, 35, 22, 33, 35, 35, 29, 0, 35, 35, 35,
     35, 35, 35, 35, 35, 35, 35, 30, 3, 35, 35, 35, 34, 27, 35, 35, 35, 9, 35, 35, 5, 35, 1, 35, 35,
@@ -92,7 +93,7 @@ impl Word {
     ghost use Rattle.escrow_statement.specs.Word.{spelling, reserved};
     ghost use Rattle.escrow_statement.specs.WordNumber.{number_of};
 
-    /// The word as it is spelled, in upper case.
+    /// Returns the word as it is spelled, in upper case.
     pub fn spelling(self) -> &'static str
         ensures { result.now ≡ spelling self }
     {
@@ -135,15 +136,16 @@ impl Word {
         }
     }
 
-    /// The word's place in the alphabet's order, from 0.
+    /// Returns the word's place in alphabetical order, from 0.
     pub fn number(self) -> u8
         ensures { result ≡ number_of self }
     {
         self as u8
     }
 
-    /// The reserved word that the bytes may be, in any case of their letters: the only one whose
-    /// first two letters and length lead to the same place. Modulo 32 the case doesn't count.
+    /// Returns the only reserved word that the bytes can be, in upper or lower case: the one whose
+    /// first two letters and length lead to the same place. Modulo 32, a letter's case doesn't
+    /// count.
     fn candidate(text: &[u8]) -> Option<Self>
         ensures { (w : Word) → map to_ascii_uppercase text.now ≡ spelling w → result ≡ Some w }
     {
@@ -161,7 +163,7 @@ impl Word {
         }
     }
 
-    /// Whether the bytes write the word, in any case of their letters.
+    /// Returns whether the bytes write the word, in upper or lower case.
     #[tactic(auto, using(crate::proofs::AnyCase::is_another))]
     fn is_written(self, text: &[u8]) -> bool
         ensures { result ≡ bytes_eq (spelling self) (map to_ascii_uppercase text.now) }
@@ -173,7 +175,7 @@ impl Word {
         spelling == text || spelling.eq_ignore_ascii_case(text)
     }
 
-    /// The reserved word that is written so, in any case of its letters, if one is.
+    /// Returns the reserved word that the bytes write, in upper or lower case, if they write one.
     pub fn written(text: &[u8]) -> Option<Self>
         ensures { result ≡ reserved (map to_ascii_uppercase text.now) }
     {
@@ -185,7 +187,7 @@ impl Word {
         }
     }
 
-    /// The reserved word that is spelled so, in upper case, if one is.
+    /// Returns the reserved word that the bytes spell in upper case, if they spell one.
     pub fn of(text: &[u8]) -> Option<Self>
         ensures { result ≡ reserved text.now }
     {

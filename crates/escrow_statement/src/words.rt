@@ -1,6 +1,6 @@
 use crate::word::Word;
 
-/// The reserved words, in the alphabet's order.
+/// The reserved words, in alphabetical order.
 pub const WORDS: &[Word] = &[
     Word::Add,
     Word::Alter,

@@ -16,16 +16,16 @@ NothingIsZero = tally_of [] ≡ record {
   queries = 0;
 }
 
--- one reply more is one more of its kind
+-- one more reply is one more of its kind
 abbrev pub OneMoreIsWithOne : Type 0
 OneMoreIsWithOne = (replies : List Reply) (r : Reply) → length replies < 2 ^ 64 - 1
     → tally_of (replies ++ r ∷ []) ≡ with_one (tally_of replies) (kind_of r)
 
--- two lists, one behind the other, have the sum of their tallies
+-- two lists, one after another, have the sum of their tallies
 abbrev pub ListsAdd : Type 0
 ListsAdd = (before after : List Reply) → tally_of (before ++ after) ≡ sum_of (tally_of before) (tally_of after)
 
--- all totals but served come to no more than served, and that to no more than there are replies
+-- the sum of all totals but served is at most served, which is at most the number of replies
 pub record PartsAreWithin : Type 0 where
   pub parts : (replies : List Reply) → let t = tally_of replies in
       t.granted + t.broken + t.refused + t.commits + t.rollbacks + t.writes + t.queries ≤ t.served

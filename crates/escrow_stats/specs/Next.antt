@@ -1,4 +1,4 @@
--- Helps: an entry that stands where none is picked.
+-- Helps: an entry to use if none is picked.
 use Rattle.escrow_statement.specs.declared.statement.Statement.TheVariants as statement
 use Rattle.escrow_machine.specs.declared.reply.Reply.TheVariants as reply
 use Rattle.escrow_transcript.specs.declared.entry.Entry.{Entry}

@@ -12,7 +12,7 @@ use Rattle.escrow_stats.specs.declared.tally.Tally.{Tally}
 use Rattle.escrow_stats.specs.Tally.{tally_of}
 use Rattle.escrow_stats.specs.Watching.{IsAlwaysClean, IsPrefix, IsLegalFrom, replies_of}
 
--- what is known at an end that is new
+-- what is known at a new end
 abbrev pub newcomer : Known
 newcomer = record { base = None; shown = []; doubts = 0; entries = [] }
 
@@ -22,8 +22,8 @@ pub record IsPostOf (start : Base) (all : List Entry) (p : Post) : Type 0 where
   pub totals : p.totals ≡ tally_of (replies_of all)
   pub count : p.count ≡ length all
 
--- What is known at an end is true, where a board shows these entries, from a base, with so many doubts of the disk: the
--- base, and a prefix of the entries, for which there were no more doubts. An end that knows all entries knows all
+-- What is known at an end is true, if a board shows these entries, from a base, with these doubts of the disk. The end
+-- knows the base, and a prefix of the entries, which had no more doubts. An end that knows all entries knows all
 -- doubts.
 pub record Holds (start : Base) (all : List Entry) (doubts : ℕ) (v : Known) : Type 0 where
   pub named : IfSome v.base (λ b. b ≡ start)
@@ -31,8 +31,8 @@ pub record Holds (start : Base) (all : List Entry) (doubts : ℕ) (v : Known) : 
   pub fewer : v.doubts ≤ doubts
   pub last : length v.shown ≡ length all → doubts ≤ v.doubts
 
--- THE RULE. A board shows the totals of a list of entries, which is legal unless there are doubts of the disk; and what
--- is known at each end is true of these.
+-- THE RULE. A board shows the totals of a list of entries, which is legal unless there are doubts of the disk. What is
+-- known at each end is true of these.
 pub record Keeps {S : Type 0} (g : Ghosts S) (x : Shown) (views : List Known) : Type 0 where
   pub base : Base
   pub entries : List Entry
@@ -44,13 +44,13 @@ pub record Keeps {S : Type 0} (g : Ghosts S) (x : Shown) (views : List Known) : 
   pub fresh : entries ≡ [] → doubts ≡ 0
   pub each : (seat : ℕ) (v : Known) → get_elem? views seat ≡ some v → Holds base entries doubts v
 
--- WHAT A STEP TELLS
+-- WHAT A STEP SHOWS
 
--- where the history begins is known from now on
+-- from now on it is known where the history begins
 abbrev pub IsNamed : Known → Shown → Shown → Known → Type 0
 IsNamed v x y w = w ≡ record { base = Some y.post.value.base.value.value; shown = v.shown; doubts = v.doubts; entries = v.entries }
 
--- one entry more is known at the end that writes, and a prefix of all is shown
+-- the end that writes knows one more entry, and a prefix of all is shown
 pub record IsPublished (more : Entry) (doubts : ℕ) (v : Known) (x y : Shown) (w : Known) : Type 0 where
   pub named : w.base ≡ v.base
   pub entries : w.entries ≡ v.entries ++ more ∷ []
@@ -58,8 +58,8 @@ pub record IsPublished (more : Entry) (doubts : ℕ) (v : Known) (x y : Shown) (
   pub begins : IsPrefix w.shown w.entries
   pub fewer : w.doubts ≤ doubts
 
--- what is shown was read: the totals of a list that begins with what had been seen, and is legal unless there are
--- doubts, of which there are no fewer than before
+-- what is shown was read: the totals of a list that begins with what had been seen. It is legal unless there are
+-- doubts, and the doubts are no fewer than before
 pub record IsRead {S : Type 0} (g : Ghosts S) (v : Known) (x y : Shown) (w : Known) : Type 0 where
   pub named : w.base ≡ v.base
   pub totals : y.totals ≡ tally_of (replies_of w.shown)
@@ -68,16 +68,16 @@ pub record IsRead {S : Type 0} (g : Ghosts S) (v : Known) (x y : Shown) (w : Kno
   pub longer : IsPrefix v.shown w.shown
   pub more : v.doubts ≤ w.doubts
 
--- what the end that writes tells a new one, and what that then knows
+-- what the end that writes tells a new one, which then knows this
 abbrev pub introduced : Known → Known
 introduced v = record { base = v.base; shown = []; doubts = 0; entries = [] }
 
 abbrev pub acquainted : Known → Known → Known
 acquainted v w = record { base = w.base; shown = v.shown; doubts = v.doubts; entries = v.entries }
 
--- WHAT IS KEPT AT THE ENDS
+-- WHAT THE ENDS KEEP
 
--- at the end that writes: the base; all entries, and a prefix of them, as long as the list whose totals are shown
+-- at the end that writes: the base, all entries, and a prefix of them, as long as the list whose totals are shown
 pub record Writes (start : Base) (x : Shown) (v : Known) : Type 0 where
   pub named : v.base ≡ Some start
   pub shows : x.post.value.base.value.value ≡ start
@@ -88,7 +88,7 @@ pub record Writes (start : Base) (x : Shown) (v : Known) : Type 0 where
 abbrev pub IsPosted : Base → List Entry → List Post → Type 0
 IsPosted start all pending = (pending ≡ []) ⊎ ((p : Post) × ((pending ≡ p ∷ []) × IsPostOf start all p))
 
--- entries may be shown, with so many doubts of the disk
+-- entries may be shown, with these doubts of the disk
 pub record MayShow {S : Type 0} (g : Ghosts S) (start : Base) (all : List Entry) (doubts : ℕ) (v : Known) : Type 0 where
   pub legal : doubts ≡ 0 → IsLegalFrom start all
   pub always : IsAlwaysClean g → doubts ≡ 0

@@ -10,7 +10,7 @@ use Rattle.escrow_stats.specs.declared.tally.Tally.{Tally}
 
 -- THE KIND OF A REPLY
 
--- the kind of a refusal: that nothing was served (51, 52, 60), that a check could be broken (41), or any other
+-- the kind of a refusal: nothing was served (51, 52, 60), a check could be broken (41), or any other
 abbrev pub kind_of_refusal : Refusal → Kind
 kind_of_refusal refusal.Memory = kind.Unserved
 kind_of_refusal refusal.TranscriptFull = kind.Unserved
@@ -18,7 +18,7 @@ kind_of_refusal refusal.Store = kind.Unserved
 kind_of_refusal (refusal.Check violation) = kind.Broken
 kind_of_refusal _ = kind.Refused
 
--- the kind of any reply. No session is answered a restart, 12, 61 or 62, so no session's tally meets these
+-- the kind of any reply. No session gets the reply to a restart, 12, 61 or 62, so these are in no session's tally
 abbrev pub kind_of : Reply → Kind
 kind_of (reply.Refused r) = kind_of_refusal r
 kind_of (reply.Created name) = kind.ServedAlone
@@ -40,42 +40,42 @@ kind_of (reply.Journal entries) = kind.Query
 
 -- THE TALLY OF A LIST
 
--- kinds that count as served: all but that of 51, 52 and 60
+-- whether a kind counts as served: all but that of 51, 52 and 60
 abbrev pub is_served : Kind → Bool
 is_served kind.Unserved = false
 is_served _ = true
 
--- the kind that counts as granted: a reservation was granted
+-- whether a kind counts as granted: a reservation was granted
 abbrev pub is_granted : Kind → Bool
 is_granted kind.Granted = true
 is_granted _ = false
 
--- the kind that counts as broken: a check could be broken (41)
+-- whether a kind counts as broken: a check could be broken (41)
 abbrev pub is_broken : Kind → Bool
 is_broken kind.Broken = true
 is_broken _ = false
 
--- the kind that counts as refused: any other refusal that counts as served
+-- whether a kind counts as refused: any other refusal that counts as served
 abbrev pub is_refused : Kind → Bool
 is_refused kind.Refused = true
 is_refused _ = false
 
--- the kind that counts in the commits: a transaction was committed
+-- whether a kind counts in the commits: a transaction was committed
 abbrev pub is_commit : Kind → Bool
 is_commit kind.Commit = true
 is_commit _ = false
 
--- the kind that counts in the rollbacks: a transaction was rolled back, to a savepoint too
+-- whether a kind counts in the rollbacks: a transaction was rolled back, wholly or to a savepoint
 abbrev pub is_rollback : Kind → Bool
 is_rollback kind.Rollback = true
 is_rollback _ = false
 
--- the kind that counts in the writes: a row was inserted or deleted, or plain values of one replaced
+-- whether a kind counts in the writes: a row was inserted or deleted, or plain values of a row were replaced
 abbrev pub is_write : Kind → Bool
 is_write kind.Write = true
 is_write _ = false
 
--- the kind that counts in the queries: rows, a table, bounds or open reservations were shown
+-- whether a kind counts in the queries: rows, a table, bounds or open reservations were shown
 abbrev pub is_query : Kind → Bool
 is_query kind.Query = true
 is_query _ = false
@@ -84,7 +84,7 @@ is_query _ = false
 abbrev pub count_of : (Kind → Bool) → List Reply → ℕ
 count_of test replies = count_by (λ r. test (kind_of r)) replies
 
--- the tally of a list of replies: of each total, how many count in it
+-- the tally of a list of replies: for each total, how many count in it
 unfoldable pub tally_of : List Reply → Tally
 tally_of replies = record {
   served = count_of is_served replies;
@@ -99,7 +99,7 @@ tally_of replies = record {
 
 -- ONE MORE
 
--- the number behind a total, as far as 64 bits go
+-- the next value of a total, which stops at the greatest of 64 bits
 abbrev pub next_total : ℕ → ℕ
 next_total n = min (n + 1) (2 ^ 64 - 1)
 

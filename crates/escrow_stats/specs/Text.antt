@@ -9,7 +9,7 @@ outcomes_text t =
     codes "served " ++ decimal t.served ++ codes " granted " ++ decimal t.granted
     ++ codes " broken " ++ decimal t.broken ++ codes " refused " ++ decimal t.refused
 
--- the other four: how many of those that were done ended a transaction, wrote, and showed something
+-- the other four: how many ended a transaction, wrote, and showed something
 unfoldable pub done_text : Tally → List ℕ
 done_text t =
     codes " commits " ++ decimal t.commits ++ codes " rollbacks " ++ decimal t.rollbacks
@@ -19,6 +19,6 @@ done_text t =
 abbrev pub totals_lines : Tally → List (List ℕ)
 totals_lines t = (outcomes_text t ++ done_text t) ∷ codes "OK statistics" ∷ []
 
--- a tally that is shown to a session, as it is written: two lines, to the byte
+-- a tally shown to a session, as it is written: two lines, to the byte
 abbrev pub rendered_totals : List ℕ → ℕ → Tally → List ℕ
 rendered_totals database session t = with_prefix (prefix_of database session) (totals_lines t)

@@ -16,7 +16,7 @@ use Rattle.escrow_transcript.specs.Legal.{IsLegal}
 abbrev pub replies_of : List Entry → List Reply
 replies_of entries = map (λ e. e.reply) entries
 
--- entries that begin others: a prefix of them, which may be all or nothing
+-- entries that begin others: a prefix of them, possibly all or none
 abbrev pub IsPrefix : List Entry → List Entry → Type 0
 IsPrefix front entries = (rest : List Entry) × (entries ≡ front ++ rest)
 
@@ -24,12 +24,12 @@ IsPrefix front entries = (rest : List Entry) × (entries ≡ front ++ rest)
 abbrev pub IsLegalFrom : Base → List Entry → Type 0
 IsLegalFrom start entries = (end : State) × IsLegal start entries end
 
--- whatever was done over a connection, its disk has returned what was written, as memory always does
+-- whatever was done over a connection, its disk returned what was written, as memory always does
 abbrev pub IsAlwaysClean : {S : Type 0} → Ghosts S → Type 0
 IsAlwaysClean {S} g = (connection : Held S) → HasCleanDisk (state g connection)
 
 -- What contracts see of a watcher: the base where the history of its database begins; the entries whose totals it read
--- last; and the doubts of the disk when these were shown: 0 while it had returned what was written.
+-- last; and the doubts of the disk when these were shown, 0 as long as it returned what was written.
 pub record Watching : Type 0 where
   pub base : Base
   pub entries : List Entry
@@ -40,20 +40,20 @@ watching_code =
     code_by (Base × (List Entry × ℕ)) (coded× base_row.the_row.coded (coded× (coded_list entry_row.the_row.coded) coded_ℕ))
     (λ w. (w.base, (w.entries, w.doubts))) (λ p. record { base = p.0; entries = p.1.0; doubts = p.1.1 }) (λ _. refl)
 
--- What a watcher keeps: where the disk had returned what was written, its entries are a legal transcript from the base.
--- A store whose disk always does leaves no doubt.
+-- What always holds of a watcher: if the disk returned what was written, its entries are a legal transcript from the
+-- base. A store whose disk always does leaves no doubt.
 pub record IsSound {S : Type 0} (g : Ghosts S) (w : Watching) : Type 0 where
   pub legal : w.doubts ≡ 0 → IsLegalFrom w.base w.entries
   pub always : IsAlwaysClean g → w.doubts ≡ 0
 
--- a watcher of a history from a base that has read nothing, and knows of no doubt
+-- a watcher of a history from a base. It has read nothing, and knows of no doubt
 pub record IsNewWatcher (start : Base) (w : Watching) : Type 0 where
   pub begins : w.base ≡ start
   pub unread : w.entries ≡ []
   pub sure : w.doubts ≡ 0
 
 -- What contracts see of a board: the base where the history of its database begins; all entries since, and a prefix of
--- them, whose totals it shows; and the doubts of the disk when these were shown.
+-- them whose totals it shows; and the doubts of the disk when these were shown.
 pub record Boarded : Type 0 where
   pub base : Base
   pub entries : List Entry
@@ -66,7 +66,7 @@ boarded_code =
     (coded× base_row.the_row.coded (coded× (coded_list entry_row.the_row.coded) (coded× (coded_list entry_row.the_row.coded) coded_ℕ)))
     (λ b. (b.base, (b.entries, (b.shown, b.doubts)))) (λ p. record { base = p.0; entries = p.1.0; shown = p.1.1.0; doubts = p.1.1.1 }) (λ _. refl)
 
--- a board of a history from a base of which nothing was served
+-- a board of a history from a base, with nothing served yet
 pub record IsNewBoard (start : Base) (b : Boarded) : Type 0 where
   pub begins : b.base ≡ start
   pub unserved : b.entries ≡ []

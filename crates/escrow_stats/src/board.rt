@@ -17,11 +17,11 @@ use std::sync::Wait;
 /// The most watchers of a board.
 pub const MAX_WATCHERS: usize = 8;
 
-/// Where totals of the history of a database are shown to watchers, whom it never holds up. It waits where it is
-/// dropped, until none of them reads.
+/// Shows totals of the history of a database to watchers, and never makes them wait. When it is
+/// dropped, it waits until none of them is reading.
 pub struct Board<S: Alter, R: Wait + Drop> {
     writer: Writing<S>,
-    // Where the history begins: without bytes.
+    // The base where the history begins. It takes no bytes.
     base: Snapshot<Base>,
     totals: Tally,
     rt: R,
@@ -64,12 +64,13 @@ impl<S: Alter, R: Wait + Drop> Board<S, R> {
     ghost use Rattle.escrow_stats.specs.Prefixes.{IsPosted, IsPublished, MayShow, Writes};
     ghost use Rattle.escrow_stats.specs.Watching.{IsAlwaysClean, IsPrefix, IsLegalFrom, IsNewBoard, IsNewWatcher};
 
-    /// A board of a history that begins at a base, and so many watchers. It shows that nothing was served.
+    /// Returns a board of a history that begins at a base, with this many watchers. It shows that
+    /// nothing was served yet.
     ///
     /// # Errors
     ///
-    /// [`BoardFault::TooMany`] just where more than [`MAX_WATCHERS`] are asked; [`BoardFault::Memory`], and
-    /// [`BoardFault::NoPlace`].
+    /// Fails with [`BoardFault::TooMany`] exactly if more than [`MAX_WATCHERS`] are asked for. It
+    /// may also fail with [`BoardFault::Memory`] and [`BoardFault::NoPlace`].
     pub fn make(
         rt: R,
         alloc: Global,
@@ -94,8 +95,8 @@ impl<S: Alter, R: Wait + Drop> Board<S, R> {
         Ok((board, made))
     }
 
-    /// A board that shows that nothing was served, with places for so many watchers. Want of memory is the only
-    /// error.
+    /// Returns a board that shows that nothing was served yet, with places for this many watchers.
+    /// Fails only if memory is refused.
     fn begin(rt: R, alloc: Global, base: &Base, watchers: usize) -> Result<Self, BoardFault>
         requires { watchers ≤ MAX_WATCHERS }
         ensures board { IfOk result (IsNewBoard base.now) }
@@ -119,7 +120,8 @@ impl<S: Alter, R: Wait + Drop> Board<S, R> {
         })
     }
 
-    /// A further watcher, where nothing was served yet: it gets a place to read at, or there is none.
+    /// Returns one more watcher, before anything is served. Fails if there is no place for it to
+    /// read at.
     fn watcher(&mut self) -> Result<Watcher<S>, BoardFault>
         ensures same { self.new ≡ self.old }
         ensures watcher { IfOk result (IsNewWatcher self.old.base) }
@@ -132,10 +134,11 @@ impl<S: Alter, R: Wait + Drop> Board<S, R> {
         Ok(Watcher::new(reader, &self.base))
     }
 
-    /// Counts one entry more, and shows the totals with it. Where memory is refused the board goes on showing what it
-    /// shows, and the next entry makes that good. It may wait for a watcher that is reading.
+    /// Counts one more entry, and shows the totals with it. If memory is refused, the board keeps
+    /// showing what it shows, and the next entry makes up for it. It may wait for a watcher that is
+    /// reading.
     pub fn post<T: Wait>(&mut self, rt: &T, entry: &Entry)
-        // The doubts of the disk of the database: 0 while it has returned what was written.
+        // The doubts of the database's disk: 0 as long as it returned what was written.
         ghost doubts: { ℕ }
         requires number { (entry.now.number ≡ length self.old.entries + 1) × (entry.now.number ≤ MAX_NUMBER) }
         requires legal { doubts ≡ 0 → IsLegalFrom self.old.base (self.old.entries ++ entry.now ∷ []) }
@@ -149,7 +152,7 @@ impl<S: Alter, R: Wait + Drop> Board<S, R> {
         self.post_as::<Brand, T>(rt, entry);
     }
 
-    /// The same, for the entry and the doubts that are picked.
+    /// [`Board::post`], for the entry and the doubts that are picked.
     fn post_as<N: Next, T: Wait>(&mut self, rt: &T, entry: &Entry)
         requires picked { entry.now ≡ N.more }
         requires number { (entry.now.number ≡ length self.old.entries + 1) × (entry.now.number ≤ MAX_NUMBER) }
@@ -188,7 +191,7 @@ impl<S: Alter, R: Wait + Drop> Board<S, R> {
     }
 }
 
-/// What is shown at first: this post.
+/// Returns what is shown at first: this post.
 fn first(post: &Post) -> Shown
     ensures totals { result.totals ≡ post.now.totals }
     ensures post { result.post.value ≡ post.now }

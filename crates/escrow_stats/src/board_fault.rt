@@ -1,7 +1,7 @@
-/// Why there is no board.
+/// Why a board can't be made.
 #[derive(Clone, Copy, Debug, PartialEq, Eq)]
 pub enum BoardFault {
-    /// More than 8 watchers are asked.
+    /// More than 8 watchers are asked for.
     TooMany,
     /// Out of memory.
     Memory,

@@ -4,11 +4,11 @@ ghost use Rattle.escrow_stats.specs.Tally.{kind_of, kind_of_refusal};
 use escrow_machine::Reply;
 use escrow_num::Refusal;
 
-/// Which totals a reply counts in.
+/// The totals in which a reply counts.
 #[derive(Clone, Copy, Debug, PartialEq, Eq)]
 pub enum Kind {
-    /// None: nothing was served, for want of memory (51), of room in the transcript (52), or by the
-    /// store (60).
+    /// None: nothing was served, because memory (51) or room in the transcript (52) was missing, or
+    /// by the store's refusal (60).
     Unserved,
     /// Served alone: a table was created, dropped or altered, or a savepoint made.
     ServedAlone,
@@ -20,16 +20,16 @@ pub enum Kind {
     Refused,
     /// Served and commits: a transaction was committed.
     Commit,
-    /// Served and rollbacks: a transaction was rolled back, to a savepoint too.
+    /// Served and rollbacks: a transaction was rolled back, wholly or to a savepoint.
     Rollback,
-    /// Served and writes: a row was inserted or deleted, or plain values of one replaced.
+    /// Served and writes: a row was inserted or deleted, or plain values of a row were replaced.
     Write,
     /// Served and queries: rows, a table, bounds or open reservations were shown.
     Query,
 }
 
 impl Kind {
-    /// The kind of a reply.
+    /// Returns the kind of a reply.
     pub fn of(reply: &Reply) -> Kind
         ensures { result ≡ kind_of reply.now }
     {
@@ -46,7 +46,7 @@ impl Kind {
         }
     }
 
-    /// The kind of a refusal.
+    /// Returns the kind of a refusal.
     fn of_refusal(refusal: &Refusal) -> Kind
         ensures { result ≡ kind_of_refusal refusal.now }
     {

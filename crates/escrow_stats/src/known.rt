@@ -1,4 +1,4 @@
-//! What is known at the ends of a board, and its rule.
+//! What is known at the ends of a board, and the board's rule.
 use crate::shown::Shown;
 use atomic_table::{Join, Split};
 use crossbeam_utils::rule::{Outcome, Protocol};
@@ -8,9 +8,9 @@ use std::collections::LinkedList;
 use std::marker::{Brand, PhantomData};
 use std::snapshot::Snapshot;
 
-/// What is known at an end of a board: where the history begins, once that is known there; the entries whose totals
-/// are shown, as far as that end has seen; how often the disk had then been found not to return what was written; and,
-/// at the end that writes, all entries. No value of it is made.
+/// What is known at an end of a board: where the history begins, once this end knows it; the
+/// entries whose totals this end has seen last; how often the disk had failed to return what was
+/// written, by then; and, at the end that writes, all entries. No value of it exists at run time.
 pub struct Known {
     pub base: Option<Base>,
     pub shown: LinkedList<Entry>,
@@ -18,8 +18,8 @@ pub struct Known {
     pub entries: LinkedList<Entry>,
 }
 
-/// The rule of a board: what it shows are the totals of a list of entries, which is a legal history while the disk had
-/// returned what was written, and begins with what each end has seen.
+/// The rule of a board. It shows the totals of a list of entries. The list begins with what each
+/// end has seen. It is a legal history as long as the disk returned what was written.
 pub struct Prefixes<S> {
     of: Snapshot<S>,
 }
@@ -32,7 +32,7 @@ impl<S: Alter> Protocol<Shown, Known> for Prefixes<S> {
     ghost first = { newcomer };
 }
 
-/// What a call picks: the entry that comes to a history, and the doubts of the disk behind it.
+/// What a call picks: the entry that is added to a history, and the doubts of the disk after it.
 pub trait Next {
     ghost use Rattle.std.specs.Prelude.{ℕ};
     ghost use Rattle.escrow_transcript.specs.declared.entry.Entry.{Entry};
@@ -51,7 +51,7 @@ impl Next for Brand {
     ghost doubts = { 0 };
 }
 
-/// Where the history begins is known from now on.
+/// From now on it is known where the history begins.
 pub struct Names;
 
 impl Outcome<Shown, Known> for Names {
@@ -60,7 +60,7 @@ impl Outcome<Shown, Known> for Names {
     ghost then = { IsNamed };
 }
 
-/// One entry more is known at the end that writes, and the last post is shown.
+/// The end that writes knows one more entry, and the last post is shown.
 pub struct Publishes<N> {
     of: PhantomData<N>,
 }
@@ -71,7 +71,7 @@ impl<N: Next> Outcome<Shown, Known> for Publishes<N> {
     ghost then = { IsPublished N.more N.doubts };
 }
 
-/// What is shown is read.
+/// A watcher reads what is shown.
 pub struct Reads<S> {
     of: Snapshot<S>,
 }

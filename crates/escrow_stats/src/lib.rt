@@ -1,13 +1,14 @@
-//! Totals over replies: how many statements a session had served, and what became of them.
+//! Totals over replies: how many statements of a session were served, and with which outcome.
 //!
-//! Its one contract: each total of a list's tally is the number of its replies that count in it, by
-//! the kind of each ([`Kind::of`]); the tally of one reply more is made of the tally so far alone
-//! ([`Tally::with`]); and the lines that show a tally are exact to the byte ([`Tally::render`]).
+//! Its main contract is that of [`Tally::with`]: from the tally of a list of replies it computes
+//! that of the list with one more. Each total is the number of replies that count in it, by the
+//! kind of each ([`Kind::of`]). [`Tally::render`] returns the lines that show a tally, exact to the
+//! byte.
 //!
-//! A [`Board`] shows the totals of a history that grows to watchers whom it never holds up, at most
-//! [`MAX_WATCHERS`]. What a [`Watcher`] reads is the tally of a list of entries that begins with the
-//! one it read before, and is a legal history while the disk had returned what was written
-//! ([`Watcher::read`]).
+//! Begin with [`Tally`] and [`Kind`]. Then read [`Board`], which shows the totals of a growing
+//! history to at most [`MAX_WATCHERS`] watchers and never makes them wait. A [`Watcher`] reads the
+//! tally of a list of entries that begins with the list it read before. The list is a legal history
+//! as long as the disk returned what was written ([`Watcher::read`]).
 #![tactic(auto)]
 
 mod board;

@@ -6,8 +6,8 @@ use escrow_num::Session;
 use std::alloc::{AllocError, Global};
 
 impl Tally {
-    /// The lines that show the tally, each behind the database and the session that it is for, and
-    /// before a line feed.
+    /// Returns the lines that show the tally, each after the database and the session that it is
+    /// for, and before a line feed.
     pub fn render(
         &self,
         alloc: Global,
@@ -24,7 +24,7 @@ impl Tally {
         Ok(lines.into_bytes())
     }
 
-    /// How many statements were served, granted a reservation, and refused.
+    /// Returns the text of how many statements were served, granted a reservation, and refused.
     fn outcomes_text(&self, alloc: Global) -> Result<String, AllocError>
         ensures { IfOk result (λ text. string_bytes text ≡ outcomes_text self.now) }
     {
@@ -38,7 +38,7 @@ impl Tally {
         format!(in alloc; "served {served} granted {granted} broken {broken} refused {refused}")
     }
 
-    /// How many of those that were done ended a transaction, wrote, and showed something.
+    /// Returns the text of how many ended a transaction, wrote, and showed something.
     fn done_text(&self, alloc: Global) -> Result<String, AllocError>
         ensures { IfOk result (λ text. string_bytes text ≡ done_text self.now) }
     {

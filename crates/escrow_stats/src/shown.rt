@@ -5,12 +5,13 @@ use left_right::Absorb;
 use std::alloc::AllocError;
 use std::snapshot::Snapshot;
 
-/// What is posted: the totals of the first so many entries of the history of a database, and where that begins.
+/// What is posted: the totals of the first `count` entries of a database's history, and where the
+/// history begins.
 #[derive(Drop)]
 pub(crate) struct Post {
     pub(crate) totals: Tally,
     pub(crate) count: u64,
-    // Without bytes.
+    // The base where the history begins. It takes no bytes.
     pub(crate) base: Snapshot<Snapshot<Base>>,
 }
 
@@ -18,7 +19,7 @@ pub(crate) struct Post {
 #[derive(Drop)]
 pub(crate) struct Shown {
     pub(crate) totals: Tally,
-    // The post, without bytes.
+    // The post itself. It takes no bytes.
     pub(crate) post: Snapshot<Post>,
 }
 

@@ -8,26 +8,26 @@ use escrow_machine::Reply;
 /// How many replies count in each total.
 #[derive(Clone, Copy, Debug, PartialEq, Eq)]
 pub struct Tally {
-    /// Statements that were served: all but those that were answered 51, 52 or 60.
+    /// Statements that were served: all but those answered 51, 52 or 60.
     pub served: u64,
     /// Reservations that were granted.
     pub granted: u64,
-    /// Statements that were refused since a check could be broken (41).
+    /// Statements that were refused because a check could be broken (41).
     pub broken: u64,
     /// Statements that were refused for any other reason.
     pub refused: u64,
     /// Transactions that were committed.
     pub commits: u64,
-    /// Transactions that were rolled back, to a savepoint too.
+    /// Transactions that were rolled back, wholly or to a savepoint.
     pub rollbacks: u64,
-    /// Rows that were inserted or deleted, and those whose plain values were replaced.
+    /// Rows that were inserted, deleted, or had plain values replaced.
     pub writes: u64,
     /// Queries that were answered: SELECT and SHOW.
     pub queries: u64,
 }
 
 impl Tally {
-    /// The tally of no replies: all totals are zero.
+    /// Returns the tally of no replies: all totals are zero.
     pub fn new() -> Self
         ensures { result ≡ tally_of [] }
     {
@@ -43,17 +43,17 @@ impl Tally {
         }
     }
 
-    /// The tally with one reply more. A total that is at its maximum, 2^64 - 1, stays there.
+    /// Returns the tally with one more reply. A total at its maximum, 2^64 - 1, stays there.
     pub fn with(self, reply: &Reply) -> Self
         ensures one_more { result ≡ with_one self (kind_of reply.now) }
 
-        // Where the tally is that of a list of replies, it becomes that of the list with this one.
+        // If the tally is that of a list of replies, it becomes that of the list with this one.
         ensures tally { (replies : List Reply) → self ≡ tally_of replies → length replies < 2 ^ 64 - 1 → result ≡ tally_of (replies ++ reply.now ∷ []) }
     {
         self.with_kind(Kind::of(reply))
     }
 
-    /// The tally with one more of a kind.
+    /// Returns the tally with one more reply of a kind.
     fn with_kind(mut self, kind: Kind) -> Self
         ensures { result ≡ with_one self kind }
     {
@@ -74,7 +74,7 @@ impl Tally {
     }
 }
 
-/// Counts one more in a total, unless it is at its maximum.
+/// Adds one to a total, unless it is at its maximum.
 fn count(total: &mut u64)
     ensures { total.new ≡ next_total total.old }
 {

@@ -13,12 +13,12 @@ use sqlite::Alter;
 use std::marker::Model;
 use std::snapshot::Snapshot;
 
-/// Reads totals of what was served in a database, and waits for nobody.
+/// Reads totals of what was served in a database, and never waits.
 #[derive(Drop)]
 pub struct Watcher<S: Alter> {
     reader: Reading<S>,
     totals: Tally,
-    // Where the history begins: without bytes.
+    // The base where the history begins. It takes no bytes.
     base: Snapshot<Snapshot<Base>>,
 }
 
@@ -44,7 +44,7 @@ impl<S: Alter> Watcher<S> {
     ghost use Rattle.escrow_stats.specs.Tally.{tally_of};
     ghost use Rattle.escrow_stats.specs.Watching.{IsPrefix, IsNewWatcher, IsSound, replies_of};
 
-    /// A watcher that has read nothing, of a history that begins at a base.
+    /// Returns a watcher of a history that begins at a base. It has read nothing yet.
     pub(crate) fn new(reader: Reading<S>, base: &Snapshot<Base>) -> Self
         requires named { (view reader.place).base ≡ Some base.now.value }
         requires unread { ((view reader.place).shown ≡ []) × ((view reader.place).doubts ≡ 0) }
@@ -57,9 +57,10 @@ impl<S: Alter> Watcher<S> {
         }
     }
 
-    /// The totals of what the board shows: of a list of entries that begins with the one that was read before, and
-    /// is legal from where the history begins while the disk had returned what was written. Where the board is gone,
-    /// those that were read last. It waits for nobody.
+    /// Returns the totals that the board shows. They are those of a list of entries that begins
+    /// with the one that was read before. The list is legal, from where the history begins, as long
+    /// as the disk returned what was written. If the board no longer exists, returns the totals
+    /// that were read last. Never waits.
     pub fn read(&mut self) -> Tally
         ensures totals { result ≡ tally_of (replies_of self.new.entries) }
         ensures rises { IsPrefix self.old.entries self.new.entries }
@@ -74,7 +75,7 @@ impl<S: Alter> Watcher<S> {
     }
 }
 
-/// Looks at what the board shows, unless that is gone.
+/// Reads what the board shows, if it still exists.
 fn look<S: Alter>(reader: Reading<S>, _: ()) -> (Reading<S>, Option<Tally>)
     ensures seen { IfSome result.1 (λ totals. (y : Shown) × (IsRead S.Store (view reader.place) y y (view result.0.place) × (y.totals ≡ totals))) }
     ensures gone { IfNone result.1 (view result.0.place ≡ view reader.place) }

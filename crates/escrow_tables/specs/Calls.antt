@@ -1,4 +1,4 @@
--- Believed: what calls make of the tables of a database.
+-- Believed: how calls change the tables of a database.
 use Rattle.std.specs.Prelude.{◌≡◌, ℤ, Bool, true, false, is_some, if◌then◌else◌, Some, option_map, List, map, IsTrue}
 use Rattle.sqlite.specs.Held.{state}
 use Rattle.sqlite.specs.State.{HasCleanDisk, Survives}
@@ -11,18 +11,18 @@ use Rattle.escrow_schema.specs.Rows.{row_named, with_row}
 use Rattle.escrow_rows.specs.Answers.{IsUsable}
 use Rattle.escrow_tables.specs.Committed.{Committed, AreHeld}
 
--- a call reads: tables and rows stay, a store that a fault has shut stays shut, and a crash leaves what it might have
--- left before
+-- a call reads: tables and rows are unchanged, a store that a fault has shut stays shut, and a crash leaves what it
+-- might have left before
 pub record Reads {S : Type 0} (g : Ghosts S) (old new : Committed S) : Type 0 where
   pub catalog : new.catalog ≡ old.catalog
   pub rows : new.rows ≡ old.rows
   pub usable : IsUsable (state g new.store) → IsUsable (state g old.store)
   pub survives : Survives (state g old.store) (state g new.store) (λ _. ⊥)
 
--- A call writes, in one transaction: where it is done there are then these tables and, where the disk has
--- returned what was written, these rows; the store is open, and a crash leaves both. Else both stay.
--- Whatever comes of it, a crash leaves what it might have left before, or, where the store was open, these tables and
--- rows: a store that a fault has shut is written no more.
+-- A call writes, in one transaction. If it is done, there are then these tables and, if the disk returned what was
+-- written, these rows; the store is open, and a crash leaves both. Otherwise both are unchanged. Whatever happens, a
+-- crash leaves what it might have left before, or, if the store was open, these tables and rows. After a fault has shut
+-- a store, nothing more is written to it.
 pub record Writes {S : Type 0} (g : Ghosts S) (old new : Committed S) (is_done : Bool) (catalog : List TableDef) (rows : List Row) : Type 0 where
   pub done_catalog : is_done ≡ true → new.catalog ≡ catalog
   pub done_rows : is_done ≡ true → HasCleanDisk (state g new.store) → new.rows ≡ rows
@@ -33,10 +33,10 @@ pub record Writes {S : Type 0} (g : Ghosts S) (old new : Committed S) (is_done :
   pub usable : IsUsable (state g new.store) → IsUsable (state g old.store)
   pub survives : Survives (state g old.store) (state g new.store) (λ trees. IsTrue (state g old.store).is_open × AreHeld catalog rows trees)
 
--- what COMMIT is given: the amounts are those that the row of each reservation has, and each of the rows is there
+-- what COMMIT is given: the amounts that the row of each reservation has; and each of these rows exists
 abbrev pub AreGiven : List Row → List Reservation → List (List ℤ) → Type 0
 AreGiven rows reservations before = map (λ r. option_map (λ row. row.amounts) (row_named rows r.row)) reservations ≡ map Some before
 
--- the rows with a new one put among them, unless one has its name
+-- the rows with a new one added, unless one has its name
 abbrev pub with_new : Row → List Row → List Row
 with_new row rows = if is_some (row_named rows row.name) then rows else with_row row rows

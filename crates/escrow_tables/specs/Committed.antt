@@ -8,9 +8,8 @@ use Rattle.escrow_schema.specs.contracts.table.TableDef as table
 use Rattle.escrow_schema.specs.declared.table.TableDef.{TableDef}
 pub use Rattle.escrow_recover.specs.Holds.{Holds, AreHeld}
 
--- What contracts see: the connection to the store, the tables in order of name, and their rows in order of
--- table and key. These are the committed rows whatever has become of the store: a fault that shuts it takes
--- nothing from them.
+-- What contracts see: the connection to the store, the tables in order of name, and their rows in order of table and
+-- key. These are the committed rows whatever has happened to the store: a fault that shuts it takes nothing from them.
 pub record Committed (S : Type 0) : Type 0 where
   pub store : Held S
   pub catalog : List TableDef

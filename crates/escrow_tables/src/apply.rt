@@ -21,9 +21,9 @@ use std::alloc::{AllocError, Global};
 use std::snapshot::Snapshot;
 
 impl<S: Alter> Tables<S> {
-    /// COMMIT: adds the changes of reservations to the amounts of their rows, in one transaction. The amounts
-    /// that the row of each reservation has are given beside it, so no row is read; each amount that changes
-    /// is written once.
+    /// COMMIT: adds the changes of reservations to the amounts of their rows, in one transaction.
+    /// The caller also gives the amounts that each reservation's row has, so no row is read. Each
+    /// amount that changes is written once.
     pub fn apply(
         &mut self,
         alloc: Global,
@@ -41,8 +41,9 @@ impl<S: Alter> Tables<S> {
     }
 }
 
-/// The new amounts of each row that one of the reservations is of; the amounts that the row of each has are
-/// given beside it. A row's first reservation gives it those of all, since none before is of it.
+/// Returns the new amounts of each row that has one of the reservations. The caller also gives the
+/// amounts that each reservation's row has. A row's first reservation brings the new amounts by all
+/// of them, since no earlier one is of that row.
 fn news_by<'a>(
     alloc: Global,
     tables: &'a [CountedTable],
@@ -64,8 +65,8 @@ fn news_by<'a>(
     Ok(news)
 }
 
-/// The new amounts that reservations give to the row of a name, which has these. A table that isn't there, or
-/// a sum that is no amount, is a store that was changed by others.
+/// Returns the new amounts that reservations give to the row of a name, which has these amounts. If
+/// its table isn't there, or a sum is no amount, somebody else has changed the store.
 fn new_of<'a>(
     alloc: Global,
     tables: &'a [CountedTable],
@@ -87,14 +88,15 @@ fn new_of<'a>(
     })
 }
 
-/// Whether one of the reservations is of the row of a name.
+/// Returns whether one of the reservations is of the row of a name.
 fn is_named(reservations: &[&Reservation], row: &RowName) -> bool
     ensures { result ≡ list_any (λ r. same_row r.now.row row.now) reservations.now }
 {
     reservations.iter().any(|r| r.row.is_same(row))
 }
 
-/// The new amounts that reservations give to the row of a name, which has these; none where one stays.
+/// Returns the new amounts that reservations give to the row of a name, which has these amounts;
+/// `None` for an amount that stays.
 fn new_amounts(
     alloc: Global,
     name: &RowName,
@@ -112,7 +114,7 @@ fn new_amounts(
     Ok(differing(alloc, before, after.as_slice())?)
 }
 
-/// A copy of amounts.
+/// Returns a copy of amounts.
 fn copied(alloc: Global, amounts: &[Amount]) -> Result<Seq<Amount>, AllocError>
     ensures { IfOk result (λ copy. copy ≡ amounts.now) }
 {
@@ -121,7 +123,7 @@ fn copied(alloc: Global, amounts: &[Amount]) -> Result<Seq<Amount>, AllocError>
     Ok(Seq::from_vec(copy))
 }
 
-/// Adds changes to amounts, column by column. Fails where a sum is no amount.
+/// Adds changes to amounts, column by column. Fails if a sum is no amount.
 fn add_changes(amounts: &mut Seq<Amount>, changes: &[Option<Amount>]) -> Result<(), Failure>
     ensures { OnOk result (amounts.new ≡ changed amounts.old (deltas changes.now)) }
 {
@@ -136,14 +138,14 @@ fn add_changes(amounts: &mut Seq<Amount>, changes: &[Option<Amount>]) -> Result<
     Ok(())
 }
 
-/// The sum of two amounts, where it is one.
+/// Returns the sum of two amounts, if it is an amount.
 fn sum(a: Amount, b: Amount) -> Option<Amount>
     ensures { IfSome result (λ sum. sum ≡ a +ℤ b) }
 {
     Amount::new(a.get() + b.get())
 }
 
-/// The amounts that differ from those before, none where one is the same.
+/// Returns the amounts that differ from those before; `None` for an amount that is the same.
 fn differing(alloc: Global, before: &[Amount], after: &[Amount]) -> Result<Changes, AllocError>
     ensures { IfOk result (λ news. length before.now ≡ length after.now → replaced news before.now ≡ after.now) }
 {

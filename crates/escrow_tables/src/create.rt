@@ -18,8 +18,8 @@ impl<S: Alter> Tables<S> {
     ghost use Rattle.escrow_schema.specs.Rows.{without_rows_of};
     ghost use Rattle.escrow_tables.specs.Calls.{Writes};
 
-    /// CREATE TABLE: puts a new table, without rows. It is put into the catalog before the store is asked, so
-    /// that room for it is taken first, and taken out again if the store refuses.
+    /// CREATE TABLE: adds a new table, without rows. The table is added to the catalog before the
+    /// store is asked, since this takes memory. It is removed again if the store refuses.
     pub fn create(&mut self, alloc: Global, table: TableDef) -> Result<(), Failure>
         requires table { IsTable table }
         requires new { table_named self.old.catalog table.name ≡ None }
@@ -42,7 +42,7 @@ impl<S: Alter> Tables<S> {
         Ok(())
     }
 
-    /// DROP TABLE: takes out the table at a place, and its rows. Takes no memory of its own.
+    /// DROP TABLE: deletes the table at a place, and its rows. Takes no memory of its own.
     pub fn drop_table(&mut self, place: usize) -> Result<(), Failure>
         requires { (name : List ℕ) × (place_named self.old.catalog name ≡ Some place) }
         ensures { (name : List ℕ) → place_named self.old.catalog name ≡ Some place → Writes S.Store self.old self.new (is_ok result) (without_table name self.old.catalog) (without_rows_of name self.old.rows) }
@@ -56,15 +56,15 @@ impl<S: Alter> Tables<S> {
     }
 }
 
-/// The least number from 1 on that no table has. One of the first 33 is free, since there are 32 tables at
-/// most.
+/// Returns the least number from 1 on that no table has. One of the first 33 is free, since there
+/// are at most 32 tables.
 fn free_number(tables: &[CountedTable]) -> Option<i64>
     ensures { IfSome result (λ id. IsTrue (int_le (pos 1) id) × AllByRecursion (λ (c : Kept). c.stored.id ≢ id) tables.now) }
 {
     (1..=33).find(|id| !has_number(tables, *id))
 }
 
-/// Whether a table has a number.
+/// Returns whether a table has a number.
 fn has_number(tables: &[CountedTable], id: i64) -> bool
     ensures { result ≡ list_any (λ (c : Kept). int_eq c.stored.id id) tables.now }
 {

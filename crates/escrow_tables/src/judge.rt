@@ -1,4 +1,4 @@
-//! What judges the rows of a table.
+//! Judges for the rows of a table.
 ghost use Rattle.std.specs.Prelude.{◌≡◌, Option};
 ghost use Rattle.escrow_num.specs.declared.refusal.Violation.{Violation as Broken};
 ghost use Rattle.escrow_num.specs.declared.row.Row.{Row as Held};
@@ -15,7 +15,7 @@ pub trait RowJudge {
     // What a row breaks, if anything.
     ghost violation: { Self → Held → Option Broken };
 
-    /// What a row of the table breaks, if anything. Takes no memory.
+    /// Returns what a row of the table breaks, if anything. Takes no memory.
     fn violation(&self, row: &Row) -> Option<Violation>
         requires { IsRowOf (table self.now) row.now }
         ensures { result ≡ violation self.now row.now };

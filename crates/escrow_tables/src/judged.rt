@@ -21,8 +21,9 @@ impl<S: Alter> Tables<S> {
     ghost use Rattle.escrow_schema.specs.Rows.{rows_of};
     ghost use Rattle.escrow_tables.specs.Calls.{Reads};
 
-    /// What the rows of the table of a name break, in order of key: what the first that breaks something
-    /// does. The table stands at a place. One row is kept at a time.
+    /// Judges the rows of the table of a name, in order of key. Returns what the first row that
+    /// breaks something breaks, or `None` if no row does. The table is at this place. Keeps one row
+    /// at a time.
     pub fn first_violation<J: RowJudge>(
         &mut self,
         alloc: Global,
@@ -49,7 +50,7 @@ impl<S: Alter> Tables<S> {
     }
 }
 
-/// A table, and what judges its rows.
+/// A table, and the judge of its rows.
 #[derive(Drop)]
 struct JudgedTable<'a, J: RowJudge> {
     table: &'a TableDef,
@@ -67,7 +68,7 @@ impl<'a, J: RowJudge> Model for JudgedTable<'a, J> {
 }
 
 impl<'a, J: RowJudge> JudgedTable<'a, J> {
-    /// A table, and what judges its rows.
+    /// Returns a table, with the judge of its rows.
     fn new(table: &'a TableDef, judge: &'a J) -> Self
         requires defined { IsTable table.now }
         requires own { table.now ≡ J.table judge.now }
@@ -76,7 +77,8 @@ impl<'a, J: RowJudge> JudgedTable<'a, J> {
         JudgedTable { table, judge }
     }
 
-    /// What the row that values make breaks, if anything. Values that make no row of the table are refused.
+    /// Returns what the row that values make breaks, if anything. Fails if values make no row of
+    /// the table.
     fn violation(&self, alloc: Global, values: &[Value]) -> Result<Option<Violation>, Failure>
         ensures { IfOk result (λ found. found ≡ first_violation (J.violation self.now) (rows_with (J.table self.now) (values.now ∷ []))) }
     {
@@ -85,12 +87,12 @@ impl<'a, J: RowJudge> JudgedTable<'a, J> {
     }
 }
 
-/// Judges the rows of a table as they are read, until one breaks something. It keeps none.
+/// Judges the rows of a table as they are read, until one breaks something. Keeps none.
 #[derive(Drop)]
 struct RowsJudged<'a, J: RowJudge> {
     alloc: Global,
     judged: JudgedTable<'a, J>,
-    /// What the first row that breaks something does, if one did.
+    /// What the first row that breaks something breaks, if there was one.
     found: Option<Violation>,
 }
 

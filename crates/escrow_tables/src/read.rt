@@ -13,8 +13,8 @@ impl<S: Alter> Tables<S> {
     ghost use Rattle.escrow_schema.specs.Rows.{row_named, rows_of};
     ghost use Rattle.escrow_tables.specs.Calls.{Reads};
 
-    /// The amounts of the committed row of a name, one for each RESERVABLE column in column order, or `None`
-    /// where there is no such row; the place is that of its table.
+    /// Returns the amounts of the committed row of a name, one for each RESERVABLE column in column
+    /// order, or `None` if there is no such row. `place` is that of its table.
     pub fn amounts(
         &mut self,
         alloc: Global,
@@ -31,8 +31,8 @@ impl<S: Alter> Tables<S> {
             .amounts(alloc, &self.catalog.at(place).stored, &name.key)
     }
 
-    /// The values of the committed row of a name, in column order, or `None` where there is no such row; the
-    /// place is that of its table.
+    /// Returns the values of the committed row of a name, in column order, or `None` if there is no
+    /// such row. `place` is that of its table.
     pub fn values(
         &mut self,
         alloc: Global,
@@ -48,7 +48,8 @@ impl<S: Alter> Tables<S> {
             .values(alloc, &self.catalog.at(place).stored, &name.key)
     }
 
-    /// Whether the committed row of a name stands; the place is that of its table. Takes no memory of its own.
+    /// Returns whether the committed row of a name exists. `place` is that of its table. Takes no
+    /// memory of its own.
     pub fn stands(&mut self, place: usize, name: &RowName) -> Result<bool, Failure>
         requires { place_named self.old.catalog name.now.table ≡ Some place }
         ensures told { HasCleanDisk (state S.Store self.new.store) → IfOk result (λ stands. stands ≡ is_some (row_named self.old.rows name.now)) }
@@ -58,8 +59,8 @@ impl<S: Alter> Tables<S> {
         self.store.stands(&self.catalog.at(place).stored, &name.key)
     }
 
-    /// Whether the store still answers: once a fault has shut it, it doesn't. Looks for the row of a name.
-    /// Takes no memory of its own.
+    /// Returns whether the store still answers, by looking for the row of a name. Once a fault has
+    /// shut it, it doesn't. Takes no memory of its own.
     pub fn answers(&mut self, name: &RowName) -> bool
         ensures reads { Reads S.Store self.old self.new }
         ensures open { HasCleanDisk (state S.Store self.new.store) → IsTrue result → IsTrue (state S.Store self.new.store).is_open }
@@ -70,8 +71,8 @@ impl<S: Alter> Tables<S> {
         }
     }
 
-    /// The values of each committed row of the table of a name, which stands at a place: in column order, the
-    /// rows in order of key.
+    /// Returns the values of each committed row of the table of a name, which is at this place. The
+    /// values are in column order, the rows in order of key.
     pub fn all_values(
         &mut self,
         alloc: Global,

@@ -13,8 +13,8 @@ impl<S: Alter> Tables<S> {
     ghost use Rattle.escrow_schema.specs.declared.table.TableDef.{TableDef as Table};
     ghost use Rattle.escrow_tables.specs.Calls.{Writes};
 
-    /// ALTER TABLE: puts a table over other checks in the place of the one of its name; its rows stay,
-    /// whether they meet the checks or not. In one transaction.
+    /// ALTER TABLE: replaces the table of the same name by one with other checks, in one
+    /// transaction. Its rows stay, whether they meet the checks or not.
     pub fn redefine(&mut self, alloc: Global, place: usize, table: TableDef) -> Result<(), Failure>
         requires table { IsTable table }
         requires place { place_named self.old.catalog table.name ≡ Some place }

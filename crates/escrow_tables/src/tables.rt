@@ -7,13 +7,13 @@ use std::alloc::Global;
 use std::marker::Model;
 use std::snapshot::Snapshot;
 
-/// The tables of a database and their committed rows, in a store that SQLite writes to. How many rows a
-/// table has is kept beside the store. The rows are those that the store held when it was last written,
-/// also where a fault has shut it since.
+/// The tables of a database and their committed rows, in a store that SQLite writes. The number of
+/// rows of each table is kept beside the store. The rows are those that the store held when it was
+/// last written, even if a fault has shut it since.
 #[derive(Drop)]
 pub struct Tables<S: Alter> {
     pub(crate) store: RowStore<S>,
-    // The store as it was when it was last written, for clauses alone: it has no bytes.
+    // The store as it was when it was last written, for contracts only. It takes no bytes.
     pub(crate) last: Snapshot<RowStore<S>>,
     pub(crate) catalog: Catalog,
 }
@@ -47,7 +47,7 @@ impl<S: Alter> Tables<S> {
     ghost use Rattle.escrow_recover.specs.Opened.{IsOpened, Stores};
     ghost use Rattle.escrow_tables.specs.Committed.{AreHeld};
 
-    /// The tables of a store that is opened. Makes no store call, and takes no memory.
+    /// Returns the tables of a store that is opened. Makes no store call, and takes no memory.
     pub fn over(opened: Opened<S>) -> Self
         requires { HasCleanDisk (state S.Store opened.store) → IsOpened (state S.Store opened.store) opened.catalog }
         ensures store { result.store ≡ opened.store }
@@ -59,7 +59,7 @@ impl<S: Alter> Tables<S> {
             catalog,
             migrated: _,
         } = opened;
-        // What is known of the catalog is told where its tables are read.
+        // The contract of `tables` says what always holds of the catalog.
         let _ = catalog.tables();
         Tables {
             last: Snapshot::of(&store),
@@ -68,7 +68,7 @@ impl<S: Alter> Tables<S> {
         }
     }
 
-    /// The connection to the store. Makes no store call.
+    /// Returns the connection to the store. Makes no store call.
     pub fn into_connection(self) -> Connection<S>
         ensures same { result ≡ self.store }
         ensures outside { result.in_transaction ≡ false }
@@ -76,9 +76,9 @@ impl<S: Alter> Tables<S> {
         self.store.into_connection()
     }
 
-    /// How many tables there are. Makes no store call. The catalog is one at any time, and the rows are
-    /// its rows while the disk has returned what was written; where the store can be used a crash leaves
-    /// just these.
+    /// Returns how many tables there are. Makes no store call. The catalog is valid at any time. If
+    /// the disk returned what was written, the rows are rows of it. If the store can be used, a
+    /// crash leaves exactly these tables and rows.
     pub fn len(&self) -> usize
         ensures len { result ≡ length self.now.catalog }
         ensures catalog { IsCatalog self.now.catalog }
@@ -89,14 +89,14 @@ impl<S: Alter> Tables<S> {
         self.catalog.tables().len()
     }
 
-    /// Whether there are no tables. Makes no store call.
+    /// Returns whether there are no tables. Makes no store call.
     pub fn is_empty(&self) -> bool
         ensures { IsTrue result ↔ (self.now.catalog ≡ []) }
     {
         self.catalog.tables().is_empty()
     }
 
-    /// The place of the table of a name among all, in order of name. Makes no store call.
+    /// Returns the place of the table of a name among all, in order of name. Makes no store call.
     pub fn place(&self, name: Name) -> Option<usize>
         ensures place { result ≡ place_named self.now.catalog name }
         ensures there { is_some result ≡ is_some (table_named self.now.catalog name) }
@@ -104,7 +104,7 @@ impl<S: Alter> Tables<S> {
         self.catalog.place(name)
     }
 
-    /// The table at a place. Makes no store call.
+    /// Returns the table at a place. Makes no store call.
     pub fn table(&self, place: usize) -> &TableDef
         requires { place < length self.now.catalog }
         ensures named { (name : List ℕ) → place_named self.now.catalog name ≡ Some place → table_named self.now.catalog name ≡ Some result.now }
@@ -113,7 +113,7 @@ impl<S: Alter> Tables<S> {
         &self.catalog.at(place).stored.table
     }
 
-    /// The table of a name. Makes no store call.
+    /// Returns the table of a name. Makes no store call.
     pub fn find(&self, name: Name) -> Option<&TableDef>
         ensures found { option_copied result ≡ table_named self.now.catalog name }
         ensures table { IfSome result (λ table. IsTable table.now) }
@@ -121,7 +121,7 @@ impl<S: Alter> Tables<S> {
         self.catalog.find(name)
     }
 
-    /// How many rows the table at a place has. Makes no store call.
+    /// Returns how many rows the table at a place has. Makes no store call.
     pub fn count(&self, place: usize) -> usize
         requires { place < length self.now.catalog }
         ensures { HasCleanDisk (state S.Store self.now.store) → (name : List ℕ) → place_named self.now.catalog name ≡ Some place → result ≡ length (rows_of self.now.rows name) }
@@ -129,8 +129,8 @@ impl<S: Alter> Tables<S> {
         self.catalog.at(place).rows
     }
 
-    /// Limits the steps that a statement of the store may take; with `None` there is no limit. A call
-    /// that would take more fails with [`Failure::Store`](crate::Failure::Store), and changes nothing.
+    /// Limits the steps that a statement of the store may take; `None` means no limit. A call that
+    /// would take more fails with [`Failure::Store`](crate::Failure::Store), and changes nothing.
     pub fn set_step_limit(&mut self, limit: Option<u64>)
         ensures store { self.new.store ≡ record self.old.store { step_limit = limit } }
         ensures catalog { self.new.catalog ≡ self.old.catalog }

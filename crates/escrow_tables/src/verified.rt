@@ -12,13 +12,14 @@ impl<S: Alter> Tables<S> {
     ghost use Rattle.escrow_schema.specs.Rows.{MeetsChecks};
     ghost use Rattle.escrow_tables.specs.Calls.{Reads};
 
-    /// Reads all that is stored again and tests it: afterwards each row is known to meet the checks of its
-    /// table. A store that has become none, or one of another format, was changed by others.
+    /// Reads and tests everything that is stored, once more. Afterwards each row is known to meet
+    /// the checks of its table. If the store is no longer a store, or has another format, somebody
+    /// else has changed it.
     ///
     /// # Errors
     ///
-    /// [`Failure::Memory`] for want of memory; [`Failure::Store`] where the store refuses a call or holds
-    /// anything else.
+    /// Fails with [`Failure::Memory`] if memory is refused. Fails with [`Failure::Store`] if the
+    /// store refuses a call or holds anything else.
     pub fn verify(&mut self, alloc: Global) -> Result<(), Failure>
         ensures meet { HasCleanDisk (state S.Store self.new.store) → OnOk result (AllByRecursion (MeetsChecks self.new.catalog) self.new.rows) }
         ensures reads { Reads S.Store self.old self.new }

@@ -16,15 +16,16 @@ impl<S: Alter> Tables<S> {
     ghost use Rattle.escrow_tables.specs.Calls.{Reads};
     ghost use Rattle.escrow_tables.specs.Whole.{rows_by_table};
 
-    /// A copy of the definitions of all tables, in order of name. Makes no store call; want of memory is the
-    /// only error.
+    /// Returns a copy of the definitions of all tables, in order of name. Makes no store call.
+    /// Fails only if memory is refused.
     pub fn catalog(&self, alloc: Global) -> Result<Seq<TableDef>, AllocError>
         ensures { IfOk result (λ catalog. catalog ≡ self.now.catalog) }
     {
         definitions(alloc, self.catalog.tables())
     }
 
-    /// The committed rows of all tables, in order of table and key. They are read one table after another.
+    /// Returns the committed rows of all tables, in order of table and key. Reads one table after
+    /// another.
     pub fn all_rows(&mut self, alloc: Global) -> Result<Seq<Row>, Failure>
         ensures told { HasCleanDisk (state S.Store self.new.store) → IfOk result (λ rows. rows ≡ self.old.rows) }
         ensures reads { Reads S.Store self.old self.new }
@@ -42,7 +43,7 @@ impl<S: Alter> Tables<S> {
         ensures told { HasCleanDisk (state S.Store self.new.store) → OnOk result (rows.new.items ++ rows_by_table self.old.rows (drop (place + 1) self.old.catalog) ≡ rows.old.items ++ rows_by_table self.old.rows (drop place self.old.catalog)) }
         ensures reads { Reads S.Store self.old self.new }
     {
-        // What is known of the tables is told where they are counted.
+        // The contract of `len` says what always holds of the tables.
         let _ = self.len();
         let name = self.table(place).name;
         let mut more = self.rows_at(alloc, place, name)?.into_vec();
@@ -50,7 +51,7 @@ impl<S: Alter> Tables<S> {
         Ok(())
     }
 
-    /// The committed rows of the table of a name, which stands at a place, in order of key.
+    /// Returns the committed rows of the table of a name, which is at this place, in order of key.
     fn rows_at(&mut self, alloc: Global, place: usize, name: Name) -> Result<Seq<Row>, Failure>
         requires { place_named self.old.catalog name ≡ Some place }
         ensures told { HasCleanDisk (state S.Store self.new.store) → IfOk result (λ rows. rows ≡ rows_of self.old.rows name) }
@@ -60,7 +61,7 @@ impl<S: Alter> Tables<S> {
     }
 }
 
-/// A copy of the definitions of tables.
+/// Returns a copy of the definitions of tables.
 fn definitions(alloc: Global, tables: &[CountedTable]) -> Result<Seq<TableDef>, AllocError>
     ensures { IfOk result (λ catalog. catalog ≡ catalog_of tables.now) }
 {

@@ -15,8 +15,9 @@ impl<S: Alter> Tables<S> {
     ghost use Rattle.escrow_rows.specs.Answers.{was_done};
     ghost use Rattle.escrow_tables.specs.Calls.{Writes, with_new};
 
-    /// INSERT: puts a new row of the table at a place among the rows, unless the store finds that this breaks a
-    /// constraint, as where a row of its name stands. Answers whether it is put.
+    /// INSERT: adds a new row to the table at a place, unless the store finds that this breaks a
+    /// constraint, for example because a row of its name exists. Returns whether the row is
+    /// inserted.
     pub fn insert(&mut self, alloc: Global, place: usize, row: &Row) -> Result<bool, Failure>
         requires place { place_named self.old.catalog row.now.name.table ≡ Some place }
         requires fits { HasTable self.old.catalog row.now }
@@ -34,8 +35,8 @@ impl<S: Alter> Tables<S> {
         Ok(true)
     }
 
-    /// UPDATE of plain columns: replaces plain values of the row of a name, whose table is at a place, if the row
-    /// stands. Answers whether it does. Fails where no value is new.
+    /// UPDATE of plain columns: replaces plain values of the row of a name, whose table is at this
+    /// place, if the row exists. Returns whether it does. Fails if no value is new.
     pub fn set_plain(
         &mut self,
         alloc: Global,
@@ -58,8 +59,8 @@ impl<S: Alter> Tables<S> {
         Ok(true)
     }
 
-    /// DELETE: takes out the row of a name, whose table is at a place, if it stands. Answers whether it did. Takes
-    /// no memory of its own.
+    /// DELETE: deletes the row of a name, whose table is at this place, if the row exists. Returns
+    /// whether it did. Takes no memory of its own.
     pub fn delete(&mut self, place: usize, name: &RowName) -> Result<bool, Failure>
         requires { place_named self.old.catalog name.now.table ≡ Some place }
         ensures writes { Writes S.Store self.old self.new (was_done result) self.old.catalog (without_row name.now self.old.rows) }

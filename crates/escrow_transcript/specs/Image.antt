@@ -3,7 +3,7 @@ use Rattle.std.specs.Prelude.{[]}
 use Rattle.escrow_machine.specs.State.{State}
 use Rattle.escrow_transcript.specs.declared.image.Image.{Image}
 
--- what a state holds beside what is open: tables, rows and the next id
+-- what a state holds apart from what is open: tables, rows and the next id
 abbrev pub image_of : State → Image
 image_of s = record { catalog = s.catalog; rows = s.rows; next_id = s.next_id }
 

@@ -23,8 +23,7 @@ pub record Limits : Type 0 where
 
 -- IMAGES
 
--- a state in which nothing is open is the one that its image starts, and an image is that of the state
--- that it starts
+-- if nothing is open in a state, its image starts that state; and the state that an image starts has that image
 pub record ImagesAreWhole : Type 0 where
   pub of_states : (s : State) → has_open s ≡ false → started (image_of s) ≡ s
   pub of_starts : (image : Image) → image_of (started image) ≡ image
@@ -35,36 +34,36 @@ pub record ImagesAreWhole : Type 0 where
 abbrev pub NothingIsLegal : Type 0
 NothingIsLegal = (base : Base) → IsLegal base [] (started base.image)
 
--- a legal transcript stays legal with an entry more, which is a step of the machine and has the next number
+-- a legal transcript stays legal with one more entry, which is a step of the machine and has the next number
 abbrev pub OneMoreIsLegal : Type 0
 OneMoreIsLegal = (base : Base) (entries : List Entry) (mid end : State) (e : Entry) → IsLegal base entries mid
     → failure_of e.reply ≡ None → IsStep mid e.session e.statement e.reply end → e.number ≡ base.before + length entries + 1
     → IsLegal base (entries ++ e ∷ []) end
 
--- two legal transcripts are one, where the second begins at the state and the number where the first ends
+-- two legal transcripts are one, if the second begins at the state and the number where the first ends
 abbrev pub LegalsJoin : Type 0
 LegalsJoin = (base next : Base) (entries more : List Entry) (end : State)
     → IsLegal base entries (started next.image) → next.before ≡ base.before + length entries → IsLegal next more end
     → IsLegal base (entries ++ more) end
 
--- and a legal transcript is two, wherever it is cut: its prefix is legal up to some state, from which on
--- the rest are the machine's steps
+-- wherever a legal transcript is cut, its front is legal up to some state, and the rest is the machine's steps from
+-- there
 abbrev pub LegalsPart : Type 0
 LegalsPart = (base : Base) (front rest : List Entry) (end : State) → IsLegal base (front ++ rest) end
     → (mid : State) × (IsLegal base front mid × AreSteps mid rest end)
 
--- WHAT A LEGAL TRANSCRIPT TELLS
+-- WHAT A LEGAL TRANSCRIPT DETERMINES
 
--- the entry of each place has the number of that place
+-- the entry at each place has the number of that place
 abbrev pub NumbersTellPlaces : Type 0
 NumbersTellPlaces = (base : Base) (entries : List Entry) (end : State) (i : ℕ) (e : Entry) → IsLegal base entries end
     → slice_get entries i ≡ Some e → e.number ≡ base.before + i + 1
 
--- what an entry's session asked, as an event of the machine
+-- the statement of an entry, as an event of the machine
 abbrev pub event_of : Entry → Event
 event_of e = event.Statement e.session e.statement
 
--- its entries are a run of the machine: what was asked are the events, and the replies their answers
+-- its entries are a run of the machine: the events are its statements, and the answers its replies
 abbrev pub LegalsAreRuns : Type 0
 LegalsAreRuns = (base : Base) (entries : List Entry) (end : State) → IsLegal base entries end
     → IsRun (started base.image) (map event_of entries) (map (λ e. e.reply) entries) end
@@ -78,8 +77,8 @@ EndsAreValid = (base : Base) (entries : List Entry) (end : State) → IsLegal ba
 abbrev pub call_of : Entry → ℕ × Statement
 call_of e = (e.session, e.statement)
 
--- the calls tell all else: of two legal transcripts with equal bases and equal calls the entries are equal,
--- replies and numbers too, and so are the states where they end
+-- the calls determine the rest. Two legal transcripts with equal bases and equal calls have equal entries, with replies
+-- and numbers, and end in equal states
 abbrev pub CallsTellAll : Type 0
 CallsTellAll = (base : Base) (entries others : List Entry) (end other : State) → IsLegal base entries end → IsLegal base others other
     → map call_of entries ≡ map call_of others → (entries ≡ others) × (end ≡ other)

@@ -3,17 +3,18 @@ ghost use Rattle.std.specs.Prelude.{◌≡◌, ◌↔◌, IfOk, IsTrue};
 use crate::image::Image;
 use std::alloc::{AllocError, Global};
 
-/// Where a transcript begins.
+/// The state in which a transcript begins.
 #[derive(Debug, Drop)]
 pub struct Base {
-    /// What the database then holds. Nothing is open.
+    /// What the database holds then. Nothing is open.
     pub image: Image,
-    /// How many entries come before it in the history of its database: the number of the last one.
+    /// How many entries come before it in the history of its database, which is the number of the
+    /// last of them.
     pub before: u64,
 }
 
 impl Base {
-    /// A copy of the base. Want of memory is the only error.
+    /// Returns a copy of the base. Fails only if memory is refused.
     pub fn copy(&self, alloc: Global) -> Result<Base, AllocError>
         ensures { IfOk result (λ b. b ≡ self.now) }
     {
@@ -23,7 +24,7 @@ impl Base {
         })
     }
 
-    /// Whether two bases are the same: the image, and the number of entries before it.
+    /// Returns whether two bases are equal: in the image, and in the number of entries before it.
     pub fn is_same(&self, other: &Base) -> bool
         ensures { IsTrue result ↔ (self.now ≡ other.now) }
     {

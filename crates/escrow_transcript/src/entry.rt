@@ -12,14 +12,14 @@ pub struct Entry {
     pub number: u64,
     /// The session that asked.
     pub session: Session,
-    /// What it asked.
+    /// The statement.
     pub statement: Statement,
-    /// What it was answered.
+    /// The reply.
     pub reply: Reply,
 }
 
 impl Entry {
-    /// A copy of the entry. Want of memory is the only error.
+    /// Returns a copy of the entry. Fails only if memory is refused.
     pub fn copy(&self, alloc: Global) -> Result<Entry, AllocError>
         ensures { IfOk result (λ e. e ≡ self.now) }
     {
@@ -31,7 +31,7 @@ impl Entry {
         })
     }
 
-    /// Whether two entries are the same: the number, the session, the statement and the reply.
+    /// Returns whether two entries are equal: in number, session, statement and reply.
     pub fn is_same(&self, other: &Entry) -> bool
         ensures { IsTrue result ↔ (self.now ≡ other.now) }
     {

@@ -4,8 +4,8 @@ use escrow_num::{Row, Seq, are_same, copy_all};
 use escrow_schema::TableDef;
 use std::alloc::{AllocError, Global};
 
-/// What a database holds beside what is open: its tables, its committed rows and the next id. Where
-/// nothing is open that is all.
+/// What a database holds apart from what is open: its tables, its committed rows and the next id.
+/// If nothing is open, that is all.
 #[derive(Debug, Drop)]
 pub struct Image {
     /// The definitions of its tables, in order of name.
@@ -17,7 +17,7 @@ pub struct Image {
 }
 
 impl Image {
-    /// A copy of the image. Want of memory is the only error.
+    /// Returns a copy of the image. Fails only if memory is refused.
     pub fn copy(&self, alloc: Global) -> Result<Image, AllocError>
         ensures { IfOk result (λ i. i ≡ self.now) }
     {
@@ -28,7 +28,7 @@ impl Image {
         })
     }
 
-    /// Whether two images are the same: the tables, the rows and the next id.
+    /// Returns whether two images are equal: in tables, rows and next id.
     pub fn is_same(&self, other: &Image) -> bool
         ensures { IsTrue result ↔ (self.now ≡ other.now) }
     {

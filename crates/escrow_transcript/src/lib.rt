@@ -1,9 +1,11 @@
-//! Transcripts: what a database held where one begins, an entry for each statement that was served,
-//! and when such a list is legal. Nothing here stores a row or serves a statement: a history that
-//! keeps its transcript legal stands beside a database, in a layer above.
+//! Transcripts: what a database held at the beginning, then an entry for each statement that was
+//! served; and when such a list is legal. Nothing here stores a row or serves a statement. A layer
+//! above keeps a history beside a database, with a legal transcript.
 //!
-//! Its one contract: two legal transcripts, of which the second begins where the first ends, are one
-//! ([`laws::legals_join`]).
+//! Its main contract is the law [`laws::legals_join`]: two legal transcripts, of which the second
+//! begins where the first ends, are one.
+//!
+//! Begin with [`Transcript`], then read [`laws`].
 #![tactic(auto)]
 
 mod base;

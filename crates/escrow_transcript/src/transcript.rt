@@ -2,10 +2,10 @@ use crate::base::Base;
 use crate::entry::Entry;
 use escrow_num::Seq;
 
-/// What a database was asked from a base on, and what it answered.
+/// What a database was asked, from a base on, and what it replied.
 #[derive(Debug, Drop)]
 pub struct Transcript {
-    /// Where it begins.
+    /// The state in which it begins.
     pub base: Base,
     /// An entry for each statement that was served, in order.
     pub entries: Seq<Entry>,

@@ -7,7 +7,7 @@ use Rattle.escrow_num.specs.declared.session.TheConstants.Session.{MAX}
 use Rattle.escrow_journal.specs.Log.{Log, IsLog, empty_log}
 use Rattle.escrow_journal.specs.Open.{Open}
 
--- a reservation put among others, in order of id
+-- the reservations, in order of id, with one added
 abbrev pub put : Reservation → List Reservation → List Reservation
 put r [] = r ∷ []
 put r (x ∷ xs) = if nat_lt x.id r.id then x ∷ put r xs else r ∷ x ∷ xs
@@ -17,7 +17,7 @@ abbrev pub by_id : List Reservation → List Reservation
 by_id [] = []
 by_id (r ∷ rest) = put r (by_id rest)
 
--- the id of the one isn't above that of the other
+-- whether one reservation's id isn't above another's
 abbrev pub in_order : Reservation → Reservation → Bool
 in_order a b = nat_le a.id b.id
 
@@ -29,11 +29,11 @@ opened logs next = record {
   next_id = next;
 }
 
--- a journal holds a reservation or a savepoint
+-- whether a journal holds a reservation or a savepoint
 abbrev pub holds_any : Log → Bool
 holds_any log = nat_lt 0 (length log.reservations) || nat_lt 0 (length log.savepoints)
 
--- journals are of sessions with numbers from the first on
+-- journals are of consecutive sessions, from the first on
 abbrev pub AreNumbered : ℕ → List Log → Type 0
 AreNumbered first [] = Unit {0}
 AreNumbered first (log ∷ logs) = (log.session ≡ first) × AreNumbered (1 + first) logs
@@ -42,13 +42,13 @@ AreNumbered first (log ∷ logs) = (log.session ≡ first) × AreNumbered (1 + f
 abbrev pub IsBelow : ℕ → Log → Type 0
 IsBelow next log = AllByRecursion (λ r. IsTrue (nat_lt r.id next)) log.reservations
 
--- there is a journal for each of the first n sessions, and none holds anything
+-- there is an empty journal for each of the first n sessions
 pub record AreEmpty (n : ℕ) (logs : List Log) : Type 0 where
   pub count : length logs ≡ n
   pub numbered : AreNumbered 1 logs
   pub each : AllByRecursion (λ log. log ≡ empty_log log.session) logs
 
--- there is a journal for each session, each is one, and the ids in them are below the next one
+-- there is a valid journal for each session, and the ids in them are below the next one
 pub record AreJournals (logs : List Log) (next : ℕ) : Type 0 where
   pub count : length logs ≡ MAX
   pub numbered : AreNumbered 1 logs

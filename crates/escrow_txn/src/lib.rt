@@ -1,7 +1,9 @@
-//! The open transactions of the sessions of a database, a journal for each, and the next id.
+//! The open transactions of a database's sessions: a journal for each, and the next id.
 //!
-//! Its one contract: the journals together are one list of open reservations, in order of grant
-//! ([`TxnTable`]).
+//! Its main contract is that of [`TxnTable`]: the journals together are one list of open
+//! reservations, in order of grant.
+//!
+//! Begin with [`TxnTable`].
 #![tactic(auto)]
 
 mod merge;

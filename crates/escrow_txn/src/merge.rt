@@ -1,4 +1,4 @@
-//! The reservations of several journals in order of id.
+//! The reservations of several journals, in order of id.
 ghost use Rattle.std.specs.Prelude.{◌≡◌, ◌++◌, IfOk, flat_map, map};
 ghost use Rattle.std.specs.List.{AllByRecursion};
 ghost use Rattle.escrow_num.specs.Ascending.{IsAscending};
@@ -9,8 +9,8 @@ use escrow_journal::Journal;
 use escrow_num::Reservation;
 use std::alloc::{AllocError, Global};
 
-/// The reservations of journals of different sessions, in order of id: those of each half of the
-/// journals, and then both. Want of memory is the only error.
+/// Returns the reservations of journals of different sessions, in order of id. It merges each half
+/// of the journals, then the two halves. Fails only if memory is refused.
 pub(crate) fn merged(alloc: Global, journals: &[Journal]) -> Result<Vec<&Reservation>, AllocError>
     requires { AllByRecursion IsLog journals.now }
     ensures { IfOk result (λ all. map (λ r. r.now) all.items ≡ by_id (flat_map (λ log. log.reservations) journals.now)) }
@@ -25,14 +25,14 @@ pub(crate) fn merged(alloc: Global, journals: &[Journal]) -> Result<Vec<&Reserva
     }
 }
 
-/// A reference to each of the reservations.
+/// Returns a reference to each of the reservations.
 fn references(alloc: Global, reservations: &[Reservation]) -> Result<Vec<&Reservation>, AllocError>
     ensures { IfOk result (λ all. map (λ r. r.now) all.items ≡ reservations.now) }
 {
     reservations.iter().collect(alloc)
 }
 
-/// Two lists in order of id as one.
+/// Merges two lists in order of id.
 fn merge<'a>(
     alloc: Global,
     front: &[&'a Reservation],

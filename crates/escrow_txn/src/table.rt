@@ -13,15 +13,15 @@ use std::alloc::{AllocError, Global};
 use std::marker::Model;
 
 /// The open transactions of a database: a journal for each of its 64 sessions, and the id that the
-/// next reservation takes. Contracts see the journals as one list of reservations in order of grant,
-/// and one of savepoints.
+/// next reservation takes. Contracts see the journals as one list of reservations in order of
+/// grant, and one list of savepoints.
 #[derive(Debug)]
 pub struct TxnTable {
     journals: Vec<Journal>,
     next_id: u64,
 }
 
-// It is written out, so that no crate above proves again how each part is dropped.
+// Written out, so that crates above need not prove again how its parts are dropped.
 impl Drop for TxnTable {
     fn drop(self) {
         let TxnTable {
@@ -49,7 +49,8 @@ impl TxnTable {
     ghost use Rattle.escrow_journal.specs.Savepoints.{savepoint_of, after};
     ghost use Rattle.escrow_journal.specs.Open.{nothing_open, is_open, has_open, id_left, grant_refusal, granted, savepoint_refusal, saved, released, cut_back, ended};
 
-    /// A table in which nothing is open and the next id is 1. Out of memory is the only error.
+    /// Returns a table in which nothing is open and the next id is 1. Fails only if memory is
+    /// refused.
     pub fn new(alloc: Global) -> Result<Self, AllocError>
         ensures { IfOk result (λ t. t ≡ nothing_open) }
     {
@@ -59,21 +60,21 @@ impl TxnTable {
         })
     }
 
-    /// Whether a session's transaction is open: it holds a reservation or a savepoint.
+    /// Returns whether a session's transaction is open: it holds a reservation or a savepoint.
     pub fn is_open(&self, session: Session) -> bool
         ensures { result ≡ is_open session self.now }
     {
         holds_any(self.journal(session))
     }
 
-    /// Whether something is open: a reservation or a savepoint of any session.
+    /// Returns whether anything is open: a reservation or a savepoint of any session.
     pub fn has_open(&self) -> bool
         ensures { result ≡ has_open self.now }
     {
         any_holds(&self.journals)
     }
 
-    /// The journal of a session: of all that is open, what it holds.
+    /// Returns the journal of a session, which holds all that is open in this session.
     pub fn journal(&self, session: Session) -> &Journal
         ensures session { result.now.session ≡ session }
         ensures reservations { result.now.reservations ≡ own session self.now.reservations }
@@ -82,7 +83,7 @@ impl TxnTable {
         &self.journals[place_of_session(session)]
     }
 
-    /// The id that the next reservation takes, or `None` where there are no more ids.
+    /// Returns the id that the next reservation takes, or `None` if there are no more ids.
     pub fn next_id(&self) -> Option<u64>
         ensures { result ≡ id_left self.now.next_id }
     {
@@ -93,8 +94,8 @@ impl TxnTable {
         }
     }
 
-    /// Why a session gets no reservation, if it gets none, but for memory: it holds as many as it
-    /// may, or there are no more ids.
+    /// Returns why a session can't get a reservation, memory aside: it holds as many as it may, or
+    /// there are no more ids.
     pub fn grant_refusal(&self, session: Session) -> Option<Refusal>
         ensures { result ≡ grant_refusal session self.now }
     {
@@ -107,10 +108,10 @@ impl TxnTable {
         None
     }
 
-    /// Grants a session a reservation of changes of a row: it takes the next id, and is the last of the
-    /// open ones. Answers its id. Refused where the session holds as many as it may, or else where there
-    /// are no more ids, however little memory there is; otherwise want of memory is the only error. Where
-    /// it is refused nothing changes, and no id is taken.
+    /// Grants a session a reservation of changes of a row. The reservation takes the next id, and
+    /// is the last of the open ones. Returns its id. Fails if the session holds as many as it may,
+    /// or else if there are no more ids, however little memory there is. Otherwise it fails only if
+    /// memory is refused. After an error nothing has changed, and no id was taken.
     pub fn grant(
         &mut self,
         session: Session,
@@ -138,9 +139,9 @@ impl TxnTable {
         Ok(id)
     }
 
-    /// Makes a savepoint of a session. An earlier one of that name is taken out (Oracle's rule), and
-    /// doesn't count. Memory is only taken, and wanted, where no refusal applies. Where it is refused
-    /// nothing changes.
+    /// Makes a savepoint of a session. An earlier one of that name is removed (Oracle's rule), and
+    /// doesn't count. Takes memory only if no other refusal applies. After an error nothing has
+    /// changed.
     pub fn mark(&mut self, session: Session, name: Name) -> Result<(), Refusal>
         ensures saved { OnOk result (self.new ≡ saved session name self.old) }
         ensures unchanged { OnErr result (self.new ≡ self.old) }
@@ -151,9 +152,9 @@ impl TxnTable {
         self.journals[place_of_session(session)].mark(name, id)
     }
 
-    /// Takes a session back to its savepoint of a name: what it reserved after it is dropped, and so
-    /// are the savepoints that it made after it. Answers how many reservations were dropped, or
-    /// `None`, exactly where there is no such savepoint, and then nothing changes. Takes no memory.
+    /// Takes a session back to its savepoint of a name: drops what it reserved after it, and the
+    /// savepoints that it made after it. Returns how many reservations were dropped. Returns `None`
+    /// exactly if there is no such savepoint, and then nothing changes. Takes no memory.
     pub fn cut(&mut self, session: Session, name: Name) -> Option<u32>
         ensures count { result ≡ released session name self.old }
         ensures cut { self.new ≡ cut_back session name self.old }
@@ -161,16 +162,17 @@ impl TxnTable {
         self.journals[place_of_session(session)].cut(name)
     }
 
-    /// The reservations of a session after its savepoint of a name, in order of grant: those that
-    /// [`TxnTable::cut`] would take out. `None` exactly where there is no such savepoint.
+    /// Returns the reservations of a session after its savepoint of a name, in order of grant:
+    /// those that [`TxnTable::cut`] would drop. Returns `None` exactly if there is no such
+    /// savepoint.
     pub fn after(&self, session: Session, name: Name) -> Option<&[Reservation]>
         ensures { option_copied result ≡ option_map (λ p. after p self.now.reservations) (savepoint_of session name self.now.savepoints) }
     {
         self.journals[place_of_session(session)].after(name)
     }
 
-    /// Ends a session's transaction: hands out its reservations, in order of grant, and leaves
-    /// neither reservation nor savepoint of it. Takes no memory.
+    /// Ends a session's transaction: returns its reservations, in order of grant, and leaves it
+    /// without reservations and savepoints. Takes no memory.
     pub fn take_all(&mut self, session: Session) -> SmallVec<Reservation, 4>
         ensures all { result.items ≡ own session self.old.reservations }
         ensures ended { self.new ≡ ended session self.old }
@@ -178,7 +180,7 @@ impl TxnTable {
         self.journals[place_of_session(session)].take_all()
     }
 
-    /// Drops all reservations and savepoints; the next id is 1. Takes no memory.
+    /// Drops all reservations and savepoints, and sets the next id to 1. Takes no memory.
     pub fn clear(&mut self)
         ensures { self.new ≡ nothing_open }
     {
@@ -186,8 +188,8 @@ impl TxnTable {
         self.next_id = 1;
     }
 
-    /// The open reservations of all sessions, in order of id, which is the order of grant. Want of
-    /// memory is the only error.
+    /// Returns the open reservations of all sessions, in order of id, which is the order of grant.
+    /// Fails only if memory is refused.
     pub fn all_in_order(&self, alloc: Global) -> Result<Vec<&Reservation>, AllocError>
         ensures { IfOk result (λ all. map (λ r. r.now) all.items ≡ self.now.reservations) }
     {
@@ -195,7 +197,7 @@ impl TxnTable {
     }
 }
 
-/// The place of a session's journal among all.
+/// Returns the place of a session's journal among all.
 fn place_of_session(session: Session) -> usize
     ensures place { result + 1 ≡ session }
     ensures within { IsSession session }
@@ -203,21 +205,21 @@ fn place_of_session(session: Session) -> usize
     session.get() as usize - 1
 }
 
-/// Whether a journal holds a reservation or a savepoint.
+/// Returns whether a journal holds a reservation or a savepoint.
 fn holds_any(journal: &Journal) -> bool
     ensures { result ≡ holds_any journal.now }
 {
     !journal.all().is_empty() || !journal.savepoints().is_empty()
 }
 
-/// Whether one of the journals holds a reservation or a savepoint.
+/// Returns whether one of the journals holds a reservation or a savepoint.
 fn any_holds(journals: &[Journal]) -> bool
     ensures { result ≡ list_any holds_any journals.now }
 {
     journals.iter().any(|journal| holds_any(journal))
 }
 
-/// A journal that holds nothing for each session, in order of their numbers.
+/// Returns an empty journal for each session, in order of their numbers.
 fn empty_journals(alloc: Global) -> Result<Vec<Journal>, AllocError>
     ensures { IfOk result (λ journals. AreEmpty MAX journals.items) }
 {

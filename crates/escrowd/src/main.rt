@@ -7,7 +7,7 @@ use std::io::{IsTerminal, Stderr};
 use std::process::ExitCode;
 use std::time::Duration;
 
-/// How many milliseconds there are before how far a phase is is shown again.
+/// The pause, in milliseconds, before the progress of a phase is shown again.
 const PAUSE: u64 = 500;
 
 fn main(rt: HostRuntime) -> ExitCode {
@@ -22,10 +22,11 @@ fn main(rt: HostRuntime) -> ExitCode {
     )
 }
 
-/// How many rows a terminal is taken to have that doesn't tell: no call of the kit asks it, and few have less.
+/// The assumed number of a terminal's rows, if LINES doesn't give it. The kit has no call that asks
+/// the terminal, and few terminals have fewer.
 const ROWS: usize = 10;
 
-/// Standard error, where it is a terminal that moves its cursor as it is told.
+/// Returns standard error, if it is a terminal that obeys codes which move its cursor.
 fn terminal(rt: HostRuntime) -> Option<Terminal<HostRuntime, Stderr>> {
     let writer = rt.stderr();
     if !writer.is_terminal() || !moves_cursor(&rt) {
@@ -41,7 +42,8 @@ fn terminal(rt: HostRuntime) -> Option<Terminal<HostRuntime, Stderr>> {
     })
 }
 
-/// Whether the terminal has a name, in TERM, and isn't called dumb, as one that shows codes in place of obeying them.
+/// Returns whether the terminal has a name, in TERM, other than `dumb`. A dumb terminal shows codes
+/// instead of obeying them.
 fn moves_cursor(rt: &HostRuntime) -> bool {
     match env::var(rt, "TERM") {
         Ok(name) => !name.is_empty() && name.as_str() != "dumb",
@@ -49,7 +51,7 @@ fn moves_cursor(rt: &HostRuntime) -> bool {
     }
 }
 
-/// How many rows the terminal has, as LINES tells if it is a number.
+/// Returns the number of the terminal's rows: LINES, if it is a number.
 fn rows(rt: &HostRuntime) -> usize {
     match env::var(rt, "LINES") {
         Ok(rows) => rows.as_str().parse::<usize>().unwrap_or(ROWS),

@@ -9,14 +9,14 @@ use crate::place::Place;
 use escrow_num::{RowName, Violation};
 use std::marker::Model;
 
-/// Places of the reserved rows of a table over the checks that it is to have, beside those that
-/// there are: what [`Bounds::prepare`] makes and [`Bounds::adopt`] takes.
+/// Places of a table's reserved rows over the checks that the table will have, beside the current
+/// places. [`Bounds::prepare`] makes an addition, and [`Bounds::adopt`] puts it to use.
 #[derive(Debug)]
 pub struct Addition {
     bounds: Bounds,
 }
 
-// It is written out, so that no crate above proves again how its part is dropped.
+// Written out, so that crates above need not prove again how its parts are dropped.
 impl Drop for Addition {
     fn drop(self) {
         let Addition { bounds: _ } = self;
@@ -32,24 +32,25 @@ impl Model for Addition {
 }
 
 impl Addition {
-    /// The addition with these places.
+    /// Returns the addition with these places.
     pub(super) fn new(bounds: Bounds) -> Addition
         ensures { result ≡ bounds }
     {
         Addition { bounds }
     }
 
-    /// Whether a row has a place: it is of the table, and has an open reservation.
+    /// Returns whether a row has a place here, which means that it is of the table and has an open
+    /// reservation.
     pub fn has_place(&self, row: &RowName) -> bool
         ensures { result ≡ is_some (place_at self.now row.now) }
     {
         self.bounds.has_place(row)
     }
 
-    /// What a row's open reservations could break, some of them or none, of some checks that stand
-    /// one behind another: of the first, in the table's order, that they can break. `None` where
-    /// there is none. The checks are given by the index of the first among those of the table, and
-    /// their number.
+    /// Returns what a row's open reservations, any choice of them, could break of some consecutive
+    /// checks: of the first check, in the table's order, that they can break. Returns `None` if
+    /// there is none. `first` is the index of the first of these checks among those of the table,
+    /// and `count` is their number.
     pub fn violation(&self, row: &RowName, first: usize, count: usize) -> Option<Violation>
         requires placed { IsSome (place_at self.now row.now) }
         requires checks { (place : Kept) → place_at self.now row.now ≡ Some place → first + count ≤ length place.checks }
@@ -59,7 +60,7 @@ impl Addition {
         self.bounds.place(row).violation(first, count)
     }
 
-    /// Takes the last place out.
+    /// Removes the last place and returns it.
     pub(super) fn pop(&mut self) -> Option<(RowName, Place)>
         ensures last { self.old ≡ self.new ++ option_to_list result }
         ensures none { IfNone result (self.old ≡ []) }

@@ -1,4 +1,4 @@
-//! Places when the checks of their table are altered.
+//! Places whose table's checks are altered.
 ghost use Rattle.std.specs.Prelude.{◌≡◌, ℕ, List, [], ◌∷◌, ◌++◌, ◌<◌, ◌≤◌, IfOk, IfErr, OnOk, IsSome, Some, true, false, length, map, bytes_eq, option_map};
 ghost use Rattle.std.specs.List.{AllByRecursion};
 ghost use Rattle.escrow_num.specs.declared.reservation.Reservation.{Reservation};
@@ -21,9 +21,9 @@ use escrow_num::{Name, Refusal, Reservation, RowName};
 use std::alloc::AllocError;
 
 impl Bounds {
-    /// Makes places for the reserved rows of a table over all checks that it is to have, beside
-    /// those that there are: they count the open reservations, which are given, at most 16,384, each
-    /// with at most 10 changes. Want of memory is the only error (51).
+    /// Makes places for a table's reserved rows over all checks that the table will have, beside
+    /// the current places. They count the open reservations, which are given: at most 16,384, each
+    /// with at most 10 changes. Fails only if memory is refused (51).
     pub fn prepare(
         &self,
         table: Name,
@@ -48,7 +48,7 @@ impl Bounds {
         Ok(Addition::new(filled))
     }
 
-    /// Puts the places of an addition where there is one of their rows. Takes no memory.
+    /// Replaces places by those that an addition has for their rows. Takes no memory.
     pub fn adopt(&mut self, mut addition: Addition)
         ensures { Adopts addition self.old self.new }
     {
@@ -57,8 +57,8 @@ impl Bounds {
         }
     }
 
-    /// Takes the check at an index out of each place of a table. Where it has no check there, all
-    /// stays. Takes no memory.
+    /// Removes the check at an index from each place of a table. A place without such a check stays
+    /// as it is. Takes no memory.
     pub fn drop_check(&mut self, table: Name, index: usize)
         ensures { TableGoes table (λ row. IsWithout index) self.old self.new }
     {
@@ -68,8 +68,9 @@ impl Bounds {
         }
     }
 
-    /// Counts a reservation, if it is of a table, in the place of its row: where there is none it
-    /// is made, over checks, with the amounts that the row's place has among others.
+    /// Counts a reservation, if it is of a table, in the place of its row. If the row has no place
+    /// yet, one is made over the checks, with the amounts that the row's place among other places
+    /// has.
     fn take_over(
         &mut self,
         placed: &Bounds,
@@ -96,7 +97,7 @@ impl Bounds {
         Ok(())
     }
 
-    /// Puts a place in that of the one that a row has. Where it has none, it is let go.
+    /// Replaces a row's place. If the row has none, the new place is dropped.
     fn put(&mut self, row: &RowName, place: Place)
         ensures own { place_at self.new row.now ≡ option_map (λ _. place) (place_at self.old row.now) }
         ensures others { OthersStay row.now self.old self.new }
@@ -107,7 +108,7 @@ impl Bounds {
     }
 }
 
-/// Takes the check at an index out of a row's place, if the row is of a table.
+/// Removes the check at an index from a row's place, if the row is of a table.
 fn drop_check_of(row: &RowName, place: &mut Place, table: Name, index: usize)
     ensures own { bytes_eq row.now.table table ≡ true → IsWithout index place.old place.new }
     ensures others { bytes_eq row.now.table table ≡ false → place.new ≡ place.old }

@@ -9,8 +9,8 @@ use super::sums::number_sum;
 use escrow_num::{Amount, Scale, Span, Wide};
 use escrow_statement::{Comparison, Condition, Test};
 
-/// The limits of a condition, in units of a scale, or `None` where one isn't a whole number of them
-/// or has more than 15 digits, or the low one is greater than the high one.
+/// Returns the limits of a condition, in units of a scale. Returns `None` if one isn't a whole
+/// number of units or has more than 15 digits, or if the low one is greater than the high one.
 pub(super) fn limits_of(condition: &Condition, scale: Scale) -> Option<Span>
     ensures { result ≡ (if has_good_limits scale condition.now then Some (condition_limits scale condition.now) else None) }
 {
@@ -28,7 +28,7 @@ pub(super) fn limits_of(condition: &Condition, scale: Scale) -> Option<Span>
     }
 }
 
-/// The limits that a comparison with a number of units sets.
+/// Returns the limits that a comparison with a number of units sets.
 fn span_of(comparison: Comparison, units: i128) -> Option<Span>
     requires { is_near units ≡ true }
     ensures { let span = span_of comparison units in
@@ -43,7 +43,7 @@ fn span_of(comparison: Comparison, units: i128) -> Option<Span>
     }
 }
 
-/// The span of two limits, where they are good.
+/// Returns the span of two limits, if they are good.
 fn good_span(lo: Option<i128>, hi: Option<i128>) -> Option<Span>
     ensures { result ≡ (if is_limit lo && is_limit hi && in_order lo hi then Some (record { lo = lo; hi = hi }) else None) }
 {
@@ -57,7 +57,7 @@ fn good_span(lo: Option<i128>, hi: Option<i128>) -> Option<Span>
     }
 }
 
-/// Whether a limit, if it is there, has at most 15 digits.
+/// Returns whether a limit has at most 15 digits. A missing limit passes.
 fn is_limit(number: Option<i128>) -> bool
     ensures { result ≡ is_limit number }
 {
@@ -68,7 +68,7 @@ fn is_limit(number: Option<i128>) -> bool
     }
 }
 
-/// Whether the low limit isn't greater than the high one.
+/// Returns whether the low limit isn't greater than the high one.
 fn in_order(lo: Option<i128>, hi: Option<i128>) -> bool
     ensures { result ≡ in_order lo hi }
 {
@@ -78,7 +78,7 @@ fn in_order(lo: Option<i128>, hi: Option<i128>) -> bool
     }
 }
 
-/// A limit of at most 15 digits.
+/// Returns a limit of at most 15 digits.
 fn limit(number: Option<i128>) -> Option<Wide>
     requires { is_limit number ≡ true }
     ensures { result ≡ number }

@@ -9,8 +9,8 @@ use super::MAX_CHECKS;
 use escrow_num::Name;
 use escrow_statement::Word;
 
-/// The name of a CHECK's condition, its `k`-th and the `n`-th of the table's, or `None` where no
-/// statement can write it.
+/// Returns the name of a CHECK's condition, which is the `k`-th of the CHECK and the `n`-th of the
+/// table. Returns `None` if no statement can write this name.
 pub(super) fn name_of(name: Option<Name>, k: usize, n: usize) -> Option<Name>
     requires in_check { k ≤ MAX_CHECKS }
     requires in_table { n ≤ MAX_CHECKS }
@@ -29,7 +29,7 @@ pub(super) fn name_of(name: Option<Name>, k: usize, n: usize) -> Option<Name>
     }
 }
 
-/// A name, where a statement can write it.
+/// Returns the name, if a statement can write it.
 fn written(name: Name) -> Option<Name>
     ensures { result ≡ (if is_written_name name then Some name else None) }
 {
@@ -40,7 +40,7 @@ fn written(name: Name) -> Option<Name>
     }
 }
 
-/// A text with `_` and a number behind it, as a name that a statement can write.
+/// Returns a text followed by `_` and a number, as a name that a statement can write.
 fn numbered(text: &[u8], number: usize) -> Option<Name>
     requires { number ≤ MAX_CHECKS }
     ensures { let name = text.now ++ codes "_" ++ decimal number in
@@ -55,7 +55,7 @@ fn numbered(text: &[u8], number: usize) -> Option<Name>
     }
 }
 
-/// One text behind another, as a name that a statement can write.
+/// Returns one text followed by another, as a name that a statement can write.
 fn joined(front: &[u8], back: &[u8]) -> Option<Name>
     ensures { let name = front.now ++ back.now in
         result ≡ (if is_written_name name then Some name else None) }
@@ -70,8 +70,8 @@ fn joined(front: &[u8], back: &[u8]) -> Option<Name>
     written(Name::new(&text[..len])?)
 }
 
-/// Whether a statement can write the name: it has at most [`Name::MAX_WRITTEN`] bytes, and is no
-/// reserved word. A name is spelled as one.
+/// Returns whether a statement can write the name: it has at most [`Name::MAX_WRITTEN`] bytes, and
+/// is no reserved word. A name is spelled as one.
 #[tactic(auto, unfolding(crate::specs::WrittenName::is_written_name))]
 pub fn is_written_name(name: &Name) -> bool
     ensures { result ≡ is_written_name name.now }

@@ -1,5 +1,5 @@
-//! Numbers in millionths. A sum may have so many that it leaves 128 bits: so the wholes and the
-//! millionths beside them are summed apart, and joined only where the sum is small enough.
+//! Numbers in millionths. A sum of many terms may be too great for 128 bits. So wholes and
+//! millionths are summed apart, and joined only if the sum is small enough.
 
 ghost use Rattle.std.specs.Prelude.{◌≡◌, ◌+ℤ◌, ◌-ℤ◌, ◌≤ℤ◌, pos, neg_ℤ, ◌&&◌, ◌^◌, ◌↔◌, if◌then◌else◌, IsTrue, IsNone, IfSome, Some, None};
 ghost use Rattle.escrow_checks.specs.Checks.{is_whole, units_in};
@@ -8,13 +8,14 @@ ghost use Rattle.escrow_checks.specs.Parts.{AreDifferences, AreFew, AreTermSums,
 
 use escrow_num::{Amount, Decimal, Scale};
 
-/// How many millionths a whole has.
+/// How many millionths are in a whole.
 const MILLION: i128 = 1_000_000;
 
-/// The most wholes of a number that is joined: one with more is past every limit, at any scale.
+/// The most wholes of a number that is joined. A number with more is past every limit, at any
+/// scale.
 const MAX_WHOLES: i128 = 10_000_000_000_000_000;
 
-/// The most units that may make a limit: one more than an amount has.
+/// The most units that may make a limit: one more than the greatest amount.
 const MAX_UNITS: i128 = 1_000_000_000_000_000;
 
 /// The two parts of a number: its wholes, and the millionths beside them.
@@ -22,12 +23,12 @@ const MAX_UNITS: i128 = 1_000_000_000_000_000;
 pub(super) struct Parts {
     /// The wholes.
     pub(super) whole: i128,
-    /// The millionths, of which there may be more than a whole has.
+    /// The millionths. There may be more of them than a whole has.
     pub(super) rest: i128,
 }
 
 impl Parts {
-    /// The parts of a number.
+    /// Returns the parts of a number.
     pub(super) fn of(number: Decimal) -> Parts
         ensures value { millionths result ≡ number }
         ensures within { AreTermSums result }
@@ -38,7 +39,7 @@ impl Parts {
         }
     }
 
-    /// The parts of a sum less another.
+    /// Returns this sum less another.
     pub(super) fn less(self, other: Parts) -> Parts
         requires sum { AreTermSums self }
         requires other { AreTermSums other }
@@ -51,8 +52,8 @@ impl Parts {
         }
     }
 
-    /// The units of a scale that the number is, where it is a whole number of them, and these are an
-    /// amount or one unit more or less. Nothing is rounded.
+    /// Returns the number in units of a scale, if it is a whole number of units, and these are an
+    /// amount or one unit past one. Nothing is rounded.
     pub(super) fn units(self, scale: Scale) -> Option<i128>
         requires { AreDifferences self }
         ensures { let z = millionths self in
@@ -61,7 +62,7 @@ impl Parts {
         units_of(self.joined()?, scale)
     }
 
-    /// The number, or `None` past [`MAX_WHOLES`].
+    /// Returns the number, or `None` past [`MAX_WHOLES`].
     fn joined(self) -> Option<i128>
         requires { AreDifferences self }
         ensures some { IfSome result (λ z. (z ≡ millionths self) × IsJoined z) }
@@ -76,21 +77,21 @@ impl Parts {
     }
 }
 
-/// The wholes of a number, without the millionths beside them.
+/// Returns the wholes of a number, without the millionths beside them.
 pub(super) fn wholes_of(number: Decimal) -> Amount
     ensures { result ≡ wholes number }
 {
     Amount::new((number.get() / MILLION) as i64).unwrap()
 }
 
-/// The millionths beside the wholes of a number.
+/// Returns the millionths beside the wholes of a number.
 pub(super) fn rest_of(number: Decimal) -> Amount
     ensures { result ≡ rest number }
 {
     Amount::new((number.get() % MILLION) as i64).unwrap()
 }
 
-/// A sum of parts less another.
+/// Returns a sum of parts less another.
 pub(super) fn less(sum: i128, other: i128) -> i128
     requires sum { IsTermSum sum }
     requires other { IsTermSum other }
@@ -100,7 +101,7 @@ pub(super) fn less(sum: i128, other: i128) -> i128
     sum - other
 }
 
-/// Wholes, and those that millionths make up.
+/// Returns the wholes, with those that the millionths make up.
 fn carried(whole: i128, millionths: i128) -> i128
     requires whole { IsDifference whole }
     requires rest { IsDifference millionths }
@@ -109,7 +110,7 @@ fn carried(whole: i128, millionths: i128) -> i128
     whole + millionths / MILLION
 }
 
-/// What millionths leave beside the wholes that they make up.
+/// Returns the millionths that are left when those that make up wholes are taken away.
 fn left(millionths: i128) -> i128
     requires { IsDifference millionths }
     ensures { result ≡ rest millionths }
@@ -117,14 +118,14 @@ fn left(millionths: i128) -> i128
     millionths % MILLION
 }
 
-/// Whether wholes are few enough to be joined with the millionths beside them.
+/// Returns whether wholes are few enough to be joined with the millionths beside them.
 fn are_few(whole: i128) -> bool
     ensures { IsTrue result ↔ AreFew whole }
 {
     -MAX_WHOLES <= whole && whole <= MAX_WHOLES
 }
 
-/// The number of wholes and less than one more.
+/// Returns the number of these wholes and less than one whole more.
 fn together(whole: i128, rest: i128) -> i128
     requires whole { AreFew whole }
     requires rest { (neg_ℤ (pos (10 ^ 6)) ≤ℤ rest) × (rest ≤ℤ pos (10 ^ 6)) }
@@ -133,7 +134,8 @@ fn together(whole: i128, rest: i128) -> i128
     whole * MILLION + rest
 }
 
-/// The units of a scale that a number is, where it is a whole number of them and they are near.
+/// Returns a number in units of a scale, if it is a whole number of units, near the range of
+/// amounts.
 fn units_of(number: i128, scale: Scale) -> Option<i128>
     requires { IsJoined number }
     ensures { result ≡ (if is_whole scale number && is_near (units_in scale number) then Some (units_in scale number) else None) }
@@ -145,7 +147,7 @@ fn units_of(number: i128, scale: Scale) -> Option<i128>
     }
 }
 
-/// Whether a number is a whole number of units of a scale.
+/// Returns whether a number is a whole number of units of a scale.
 fn is_whole(number: i128, scale: Scale) -> bool
     requires { IsJoined number }
     ensures { result ≡ is_whole scale number }
@@ -153,7 +155,7 @@ fn is_whole(number: i128, scale: Scale) -> bool
     number % i128::from(scale.unit()) == 0
 }
 
-/// How many units of a scale a number is.
+/// Returns how many units of a scale a number is.
 fn quotient(number: i128, scale: Scale) -> i128
     requires { IsJoined number }
     ensures { result ≡ units_in scale number }
@@ -161,7 +163,7 @@ fn quotient(number: i128, scale: Scale) -> i128
     number / i128::from(scale.unit())
 }
 
-/// A number of units, where it is an amount or one more or less than one.
+/// Returns a number of units, if it is an amount or one past an amount.
 fn near(units: i128) -> Option<i128>
     ensures { result ≡ (if is_near units then Some units else None) }
 {

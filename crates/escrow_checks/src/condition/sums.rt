@@ -1,5 +1,4 @@
-//! What the terms of a condition add up to. A list of terms may be long, so that the sums are
-//! taken in 128 bits.
+//! The sums of a condition's terms. A list of terms may be long, so they are computed in 128 bits.
 
 ghost use Rattle.std.specs.Prelude.{◌≡◌, ◌+ℤ◌, if◌then◌else◌, Some, None};
 ghost use Rattle.escrow_num.specs.Amount.{IsAmount};
@@ -13,8 +12,8 @@ use super::parts::{Parts, less, rest_of, wholes_of};
 use escrow_num::{Amount, Name};
 use escrow_statement::{Condition, Term, Test};
 
-/// A column's coefficient in a condition: the sum of those on the left less the sum of those on
-/// the right. `None` where its magnitude is past [`MAX_COEFFICIENT`].
+/// Returns a column's coefficient in a condition: the sum of those on the left less the sum of
+/// those on the right. Returns `None` if its magnitude is past [`MAX_COEFFICIENT`].
 pub(crate) fn coefficient_of(condition: &Condition, column: &Name) -> Option<Amount>
     ensures { let c = coefficient_of condition.now column.now in
         result ≡ (if is_coefficient c then Some c else None) }
@@ -29,7 +28,7 @@ pub(crate) fn coefficient_of(condition: &Condition, column: &Name) -> Option<Amo
     }
 }
 
-/// The terms on the right of a condition: BETWEEN has none.
+/// Returns the terms on the right of a condition. BETWEEN has none.
 pub(super) fn right_of(test: &Test) -> &[Term]
     ensures { result.now ≡ right_of test.now }
 {
@@ -39,7 +38,7 @@ pub(super) fn right_of(test: &Test) -> &[Term]
     }
 }
 
-/// The sum of the coefficients that terms have of a column.
+/// Returns the sum of the column's coefficients in the terms.
 fn coefficient_sum(terms: &[Term], column: &Name) -> i128
     ensures value { result ≡ total (coefficient_in column.now) terms.now }
     ensures within { IsTermSum result }
@@ -51,7 +50,7 @@ fn coefficient_sum(terms: &[Term], column: &Name) -> i128
     sum
 }
 
-/// The parts of the sum of the numbers that stand by themselves among terms.
+/// Returns the sum, in parts, of the terms that are numbers by themselves.
 pub(super) fn number_sum(terms: &[Term]) -> Parts
     ensures value { millionths result ≡ total number_in terms.now }
     ensures within { AreTermSums result }
@@ -65,7 +64,7 @@ pub(super) fn number_sum(terms: &[Term]) -> Parts
     Parts { whole, rest }
 }
 
-/// What a term adds to the coefficient of a column.
+/// Returns what a term adds to the coefficient of a column.
 fn coefficient_in(term: &Term, name: &Name) -> Amount
     ensures { result ≡ coefficient_in name.now term.now }
 {
@@ -84,7 +83,7 @@ fn coefficient_in(term: &Term, name: &Name) -> Amount
     }
 }
 
-/// The wholes that a term adds to the numbers of a sum.
+/// Returns the wholes that a term adds to the numbers of a sum.
 fn wholes_in(term: &Term) -> Amount
     ensures { result ≡ wholes_in term.now }
 {
@@ -94,7 +93,7 @@ fn wholes_in(term: &Term) -> Amount
     }
 }
 
-/// The millionths that a term adds beside these wholes.
+/// Returns the millionths that a term adds beside those wholes.
 fn rest_in(term: &Term) -> Amount
     ensures { result ≡ rest_in term.now }
 {
@@ -104,7 +103,7 @@ fn rest_in(term: &Term) -> Amount
     }
 }
 
-/// A sum of terms, and one amount more.
+/// Returns a sum of terms plus one amount.
 fn plus(sum: i128, amount: Amount) -> i128
     requires { IsTermSum sum }
     ensures { result ≡ sum +ℤ amount }

@@ -11,10 +11,10 @@ use escrow_schema::{Column, TableDef};
 use escrow_tables::RowJudge;
 use std::marker::Model;
 
-/// A table with the checks of one more CHECK, which stand one behind another.
+/// A table with the checks of one more CHECK, which are consecutive.
 #[derive(Debug, Drop)]
 pub(crate) struct AddedChecks {
-    /// The table with them.
+    /// The table with these checks.
     pub(crate) table: TableDef,
     /// The index of the first of them among its checks.
     pub(crate) first: usize,
@@ -23,8 +23,8 @@ pub(crate) struct AddedChecks {
 }
 
 impl AddedChecks {
-    /// The checks that a table has besides those of an old one: they stand behind its declared
-    /// ones.
+    /// Returns the checks that a table has in addition to those of an old one. They must come after
+    /// its declared checks.
     pub(crate) fn new(old: &TableDef, table: TableDef) -> Self
         requires old { IsTable old.now }
         requires more { length old.now.checks ≤ length table.checks }
@@ -42,7 +42,7 @@ impl AddedChecks {
     }
 }
 
-/// How many of columns are RESERVABLE.
+/// Returns how many of the columns are RESERVABLE.
 fn count_reservable(columns: &[Column]) -> usize
     ensures { result ≡ length (reservables columns.now) }
 {
@@ -71,7 +71,8 @@ impl<'a> Model for AddedJudge<'a> {
 impl<'a> AddedJudge<'a> {
     ghost use Rattle.escrow_core.specs.Altering.{CanJudge};
 
-    /// The judge by these checks, where an addition was prepared over all checks of their table.
+    /// Returns the judge by these checks. The addition must be prepared over all checks of their
+    /// table.
     pub(crate) fn new(
         added: &'a AddedChecks,
         reserved: &'a Reserved,

@@ -16,8 +16,7 @@ impl<S: Alter> Database<S> {
     ghost use Rattle.escrow_core.specs.Serving.{Answers, IsEarly};
     ghost use Rattle.escrow_machine.specs.Accepted.{IsRefusal, PassesEarly};
 
-    /// ALTER TABLE: checks are added to a table, or one is taken out of it, whatever is open of its
-    /// rows.
+    /// ALTER TABLE: adds checks to a table, or removes one from it, whatever is open on its rows.
     pub(crate) fn alter(&mut self, alloc: Global, session: Session, text: &AlterText) -> Answer
         ensures { Answers S.Store session (Statement.Alter text.now) self.old result self.new }
     {
@@ -27,9 +26,9 @@ impl<S: Alter> Database<S> {
         }
     }
 
-    /// ADD: a table gets the checks of one more CHECK, unless some choice of the open reservations
-    /// would break one in a row of it. The places of its rows are made, and its rows are judged,
-    /// before the store is written; nothing fails behind the write.
+    /// ADD: gives a table the checks of one more CHECK, unless some choice of the open reservations
+    /// would break one in a row of the table. The places of the rows are made, and the rows are
+    /// judged, before the store is written. Nothing can fail after the write.
     fn add_check(
         &mut self,
         alloc: Global,
@@ -52,8 +51,7 @@ impl<S: Alter> Database<S> {
         Ok(Reply::Altered(table))
     }
 
-    /// DROP CONSTRAINT: a declared check is taken out of a table, and out of the places of its
-    /// rows.
+    /// DROP CONSTRAINT: removes a declared check from a table, and from the places of its rows.
     fn drop_check(&mut self, alloc: Global, session: Session, table: Name, name: Name) -> Answer
         ensures { Answers S.Store session (drops table name) self.old result self.new }
     {
@@ -64,7 +62,8 @@ impl<S: Alter> Database<S> {
         Ok(Reply::Altered(table))
     }
 
-    /// The place of the table of an ADD, and the table with its checks; or why there is none.
+    /// Returns the place of the table of an ADD, and the table with the checks added; or why there
+    /// is none.
     #[tactic(auto, unfolding(escrow_machine::specs::Transition::transition_of))]
     fn plan_add(
         &self,
@@ -86,8 +85,8 @@ impl<S: Alter> Database<S> {
         }
     }
 
-    /// The place of the table of a DROP CONSTRAINT, and that of the check among the table's; or why
-    /// it is refused.
+    /// Returns the place of the table of a DROP CONSTRAINT, and the place of the check among the
+    /// table's; or why the statement is refused.
     #[tactic(auto, unfolding(escrow_machine::specs::Transition::transition_of))]
     fn plan_drop(
         &self,
@@ -106,7 +105,8 @@ impl<S: Alter> Database<S> {
         }
     }
 
-    /// The place of the table of an ALTER TABLE, or why it is refused whatever it asks.
+    /// Returns the place of the table of an ALTER TABLE, or why the statement is refused whatever
+    /// it changes.
     fn check_alter(&self, session: Session, table: Name) -> Result<usize, Refusal>
         ensures place { IfOk result (λ place. place_named self.now.state.catalog table ≡ Some place) }
         ensures early { result_err result ≡ alter_refusal session table self.now.state }

@@ -24,8 +24,9 @@ impl<S: Alter> Database<S> {
     ghost use Rattle.escrow_core.specs.Beside.{AreAllSettled, Joins};
     ghost use Rattle.escrow_core.specs.Serves.{AreHeldOf};
 
-    /// Serves an event while COMMITs are held back, or holds it back as well. `place` is where its reply
-    /// goes. Returns the reply, or `None` if the COMMITs have to be written first; then nothing changed.
+    /// Serves an event while COMMITs are held back, or holds it back as well. `place` is where its
+    /// reply goes. Returns the reply. Returns `None` if the COMMITs must be written first, and then
+    /// nothing has changed.
     pub(crate) fn serve_beside(
         &mut self,
         alloc: Global,
@@ -70,8 +71,8 @@ impl<S: Alter> Database<S> {
         journal.all().len() as u32
     }
 
-    /// Serves a statement that commutes with the COMMITs of other sessions. Returns `None` if it isn't known
-    /// to, or is refused; then nothing changed.
+    /// Serves a statement that commutes with the COMMITs of other sessions. Returns `None` if the
+    /// statement isn't known to, or is refused, and then nothing has changed.
     fn pass(&mut self, alloc: Global, session: Session, statement: &Statement) -> Option<Reply>
         requires { statement.now ≡ Statement.Commit → holds self.old.state session ≡ false }
         ensures beside { HasCleanDisk (state S.Store self.new.store) → IfSome result (λ reply. IsServedBeside session statement.now reply self.old.state self.new.state) }
@@ -88,8 +89,8 @@ impl<S: Alter> Database<S> {
         }
     }
 
-    /// Writes the COMMITs of a plan, whose replies stand at `places`. If one fails, its reply becomes the
-    /// refusal, and those behind it are written all the same.
+    /// Writes the COMMITs of a plan, whose replies are at `places`. If one fails, its reply becomes
+    /// the refusal, and the later ones are still written.
     pub(crate) fn settle_all(
         &mut self,
         alloc: Global,
@@ -116,8 +117,9 @@ impl<S: Alter> Database<S> {
     }
 }
 
-/// Returns whether a statement commutes with the COMMITs of other sessions unless it is refused. It goes by
-/// what its own session has open, or it is an UPDATE that changes an amount.
+/// Returns whether a statement commutes with the COMMITs of other sessions unless it is refused.
+/// Such a statement depends only on what its own session has open, or is an UPDATE that changes an
+/// amount.
 fn may_pass(statement: &Statement) -> bool
     ensures { result ≡ is_passing statement.now }
 {
@@ -131,21 +133,21 @@ fn may_pass(statement: &Statement) -> bool
     }
 }
 
-/// Returns whether an assignment adds to a column.
+/// Returns whether one of the assignments adds to its column.
 fn has_change(assigns: &[Assign]) -> bool
     ensures { result ≡ list_any (λ assign. not (is_literal assign.value)) assigns.now }
 {
     assigns.iter().any(|assign| is_change(assign))
 }
 
-/// Returns whether this assignment adds to its column.
+/// Returns whether an assignment adds to its column.
 fn is_change(assign: &Assign) -> bool
     ensures { result ≡ not (is_literal assign.now.value) }
 {
     matches!(assign.value, Assigned::Change { .. })
 }
 
-/// Puts a refusal in the place of a reply.
+/// Replaces a reply by a refusal.
 fn refuse(replies: &mut Vec<Reply>, place: usize, cause: Failure)
     requires { place < vec_len replies.old }
     ensures items { replies.new.items ≡ slice_set replies.old.items place (Reply.Refused (refusal_for cause)) }

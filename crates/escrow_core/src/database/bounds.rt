@@ -9,8 +9,8 @@ impl<S: Alter> Database<S> {
     ghost use Rattle.std.specs.Prelude.{ℕ};
     ghost use Rattle.escrow_core.specs.Serving.{Answers};
 
-    /// SHOW BOUNDS: how far the open reservations of all sessions can move the RESERVABLE columns and the
-    /// declared checks of a row. Nothing changes.
+    /// SHOW BOUNDS: returns how far the open reservations of all sessions can move the RESERVABLE
+    /// columns and the declared checks of a row. Nothing changes.
     pub(crate) fn show_bounds(&mut self, alloc: Global, text: &RowText) -> Answer
         ensures { (session : ℕ) → Answers S.Store session (Statement.ShowBounds text.now) self.old result self.new }
     {

@@ -14,10 +14,12 @@ impl<S: Alter> Database<S> {
     ghost use Rattle.escrow_core.specs.Serving.{OnlyReads};
     ghost use Rattle.escrow_machine.specs.Settle.{after_ends};
 
-    /// Commits the transactions of sessions, each named once: applies their open reservations to the committed
-    /// rows, in one write, and ends the transactions once the store has agreed. Answers how many reservations
-    /// there were. No row is read: the places of the rows have their amounts. Each reservation was granted over
-    /// every choice of the open ones, so no check is tested here. After an error nothing has changed.
+    /// Commits the transactions of sessions, each named once. Applies their open reservations to
+    /// the committed rows, in one write, and ends the transactions if the write succeeds. Returns
+    /// how many reservations there were. After an error nothing has changed.
+    ///
+    /// No row is read: the places of the rows have their amounts. No check is tested: each
+    /// reservation was granted over every choice of the open ones.
     pub(crate) fn commit_all(
         &mut self,
         alloc: Global,
@@ -47,8 +49,8 @@ impl<S: Alter> Database<S> {
         }
     }
 
-    /// Whether the store still answers: once a fault has shut it, it doesn't. Looks for a row that a session
-    /// reserved.
+    /// Returns whether the store still answers. It doesn't once a fault has shut it. Looks for a
+    /// row that a session reserved.
     pub(crate) fn store_answers(&mut self, session: Session) -> bool
         ensures reads { OnlyReads S.Store self.old self.new }
         ensures open { HasCleanDisk (state S.Store self.new.store) → IsTrue result → IsTrue (state S.Store self.new.store).is_open }

@@ -12,8 +12,8 @@ impl<S: Alter> Database<S> {
     ghost use Rattle.escrow_core.specs.Serving.{Answers};
     ghost use Rattle.escrow_machine.specs.Accepted.{IsRefusal, PassesEarly};
 
-    /// CREATE TABLE: the table that the text defines is put into the catalog, unless there are as many as
-    /// there may be.
+    /// CREATE TABLE: adds the table that the text defines to the catalog, unless there are already
+    /// as many as there may be.
     pub(crate) fn create(&mut self, alloc: Global, session: Session, text: &CreateText) -> Answer
         ensures { Answers S.Store session (Statement.Create text.now) self.old result self.new }
     {
@@ -25,7 +25,7 @@ impl<S: Alter> Database<S> {
         Ok(Reply::Created(text.table))
     }
 
-    /// The table that a CREATE TABLE makes, or why it makes none.
+    /// Returns the table that a CREATE TABLE makes, or why it makes none.
     #[tactic(auto, unfolding(escrow_machine::specs::Transition::transition_of))]
     fn plan_create(
         &self,

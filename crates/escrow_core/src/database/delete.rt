@@ -11,8 +11,8 @@ impl<S: Alter> Database<S> {
     ghost use Rattle.escrow_core.specs.Serving.{Answers, IsEarly};
     ghost use Rattle.escrow_machine.specs.Asked.{key_refusal_of};
 
-    /// DELETE: the row is taken out, unless a session holds a reservation of it; such a row stands. Whether another
-    /// does the write tells.
+    /// DELETE: removes the row, unless a session holds a reservation of it. A reserved row exists.
+    /// Whether any other row exists is known from the write.
     pub(crate) fn delete(&mut self, alloc: Global, session: Session, text: &RowText) -> Answer
         ensures { Answers S.Store session (Statement.Delete text.now) self.old result self.new }
     {
@@ -28,7 +28,8 @@ impl<S: Alter> Database<S> {
         Ok(Reply::Deleted)
     }
 
-    /// The place of the table of a DELETE, or why it is refused before its row is looked for.
+    /// Returns the place of the table of a DELETE, or why the statement is refused before its row
+    /// is looked for.
     #[tactic(auto, unfolding(escrow_machine::specs::Transition::transition_of))]
     fn check_delete(&self, session: Session, text: &RowText) -> Result<usize, Refusal>
         ensures place { IfOk result (λ place. place_named self.now.state.catalog text.now.table ≡ Some place) }

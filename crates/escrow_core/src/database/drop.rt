@@ -9,7 +9,7 @@ impl<S: Alter> Database<S> {
     ghost use Rattle.escrow_schema.specs.Catalog.{place_named};
     ghost use Rattle.escrow_core.specs.Serving.{Answers, IsEarly};
 
-    /// DROP TABLE: the table and its rows are taken out.
+    /// DROP TABLE: removes the table and its rows.
     pub(crate) fn drop_table(&mut self, session: Session, name: Name) -> Answer
         ensures { Answers S.Store session (Statement.Drop name) self.old result self.new }
     {
@@ -19,7 +19,7 @@ impl<S: Alter> Database<S> {
         Ok(Reply::Dropped(name))
     }
 
-    /// The place of the table of a DROP TABLE, or why it is refused.
+    /// Returns the place of the table of a DROP TABLE, or why the statement is refused.
     #[tactic(auto, unfolding(escrow_machine::specs::Transition::transition_of))]
     fn check_drop(&self, session: Session, name: Name) -> Result<usize, Refusal>
         ensures place { IfOk result (λ place. place_named self.now.state.catalog name ≡ Some place) }

@@ -20,7 +20,7 @@ impl<S: Alter> Database<S> {
     ghost use Rattle.escrow_machine.specs.Settle.{after_end};
     ghost use Rattle.escrow_machine.specs.Transition.{after_rollback};
 
-    /// COMMIT.
+    /// COMMIT: ends the session's transaction, and replies how many reservations it held.
     pub(crate) fn commit(&mut self, alloc: Global, session: Session) -> Answer
         ensures { Answers S.Store session Statement.Commit self.old result self.new }
     {
@@ -28,7 +28,8 @@ impl<S: Alter> Database<S> {
         Ok(Reply::Committed { count })
     }
 
-    /// Ends a session's transaction. Answers how many reservations it held. Only a COMMIT of some fails.
+    /// Ends a session's transaction. Returns how many reservations it held. Only a COMMIT of one or
+    /// more can fail.
     pub(crate) fn finish(
         &mut self,
         alloc: Global,
@@ -51,8 +52,8 @@ impl<S: Alter> Database<S> {
         }
     }
 
-    /// Ends a session's transaction by COMMIT, in one write ([`Database::commit_all`]). Answers how many reservations
-    /// it held. Where there are none the store isn't asked.
+    /// Ends a session's transaction by COMMIT, in one write ([`Database::commit_all`]). Returns how
+    /// many reservations it held. If there are none, the store isn't asked.
     fn apply(&mut self, alloc: Global, session: Session) -> Result<u32, Failure>
         ensures done { IfOk result (λ count. Serves S.Store session Statement.Commit self.old (Reply.Committed count) self.new) }
         ensures failed { IfErr result (λ f. Serves S.Store session Statement.Commit self.old (Reply.Refused (refusal_for f)) self.new) }
@@ -67,7 +68,7 @@ impl<S: Alter> Database<S> {
         self.commit_all(alloc, &[(session, End::Commit)])
     }
 
-    /// ROLLBACK: drops the open reservations and the savepoints of a session. Answers how many
+    /// ROLLBACK: drops the open reservations and the savepoints of a session. Returns how many
     /// reservations there were. Takes no memory, and makes no store call.
     pub fn rollback(&mut self, session: Session) -> u32
         ensures count { result ≡ length (own session self.old.state.reservations) }

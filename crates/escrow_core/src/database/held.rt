@@ -4,8 +4,8 @@ ghost use Rattle.std.specs.List.{list_any};
 use escrow_num::{End, Session};
 use std::marker::Model;
 
-/// COMMITs that are held back, in the order in which they were asked: the plan that writes them, and
-/// the places of their replies.
+/// COMMITs that are held back, in the order in which they were asked: the plan that writes them,
+/// and the places of their replies.
 #[derive(Drop)]
 pub(crate) struct Held {
     plan: [(Session, End); Held::MAX],
@@ -29,10 +29,10 @@ impl Held {
     ghost use Rattle.std.specs.Prelude.{OnSome, IfNone};
     ghost use Rattle.escrow_core.specs.Beside.{none_held, with_held};
 
-    /// The most that are held back: one of each session.
+    /// The most COMMITs that are held back: one of each session.
     pub const MAX: usize = Session::MAX as usize;
 
-    /// Holds nothing back.
+    /// Returns a list that holds nothing back.
     pub fn new() -> Self
         ensures { result ≡ none_held }
     {
@@ -50,7 +50,7 @@ impl Held {
         &self.plan[..self.count]
     }
 
-    /// Returns the places of their replies.
+    /// Returns the places of the replies.
     pub fn places(&self) -> &[usize]
         ensures value { result.now ≡ self.now.places }
         ensures pairs { length self.now.plan ≡ length self.now.places }
@@ -65,8 +65,8 @@ impl Held {
         self.plan().iter().any(|(other, _)| *other == session)
     }
 
-    /// Holds back the COMMIT of a session, whose reply has a place. Returns `None` if there is no room, and
-    /// then nothing changes.
+    /// Holds back the COMMIT of a session. `place` is where its reply goes. Returns `None` if there
+    /// is no room, and then nothing changes.
     pub fn push(&mut self, session: Session, place: usize) -> Option<()>
         ensures held { OnSome result (self.new ≡ with_held self.old session place) }
         ensures full { IfNone result (self.new ≡ self.old) }
@@ -80,7 +80,7 @@ impl Held {
         Some(())
     }
 
-    /// Forgets the COMMITs, which were written.
+    /// Forgets the COMMITs, after they were written.
     pub fn clear(&mut self)
         ensures { self.new ≡ none_held }
     {

@@ -10,8 +10,9 @@ impl<S: Alter> Database<S> {
     ghost use Rattle.sqlite.specs.State.{HasCleanDisk, Survives};
     ghost use Rattle.escrow_transcript.specs.Image.{image_of};
 
-    /// What the database holds beside what is open: its tables, its committed rows and the next id. The rows
-    /// are read from the store, and nothing changes. Fails for want of memory, or where the store refuses.
+    /// Returns what the database holds apart from what is open: its tables, its committed rows and
+    /// the next id. Reads the rows from the store, and changes nothing. Fails only if memory is
+    /// refused, or if the store refuses.
     pub fn image(&mut self, alloc: Global) -> Result<Image, Failure>
         ensures image { HasCleanDisk (state S.Store self.new.store) → IfOk result (λ i. i ≡ image_of self.old.state) }
         ensures state { self.new.state ≡ self.old.state }
@@ -30,8 +31,8 @@ impl<S: Alter> Database<S> {
         })
     }
 
-    /// The id that comes next: that of the next reservation, or the one past the greatest where there are no
-    /// more.
+    /// Returns the id that comes next: that of the next reservation, or the one after the greatest
+    /// if there are no more.
     fn raised_id(&self) -> u64
         ensures { result ≡ self.now.state.next_id }
     {

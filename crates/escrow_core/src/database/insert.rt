@@ -24,8 +24,8 @@ impl<S: Alter> Database<S> {
     ghost use Rattle.escrow_core.specs.Serving.{Answers, IsFailure, OnlyReads, unless_stands};
     ghost use Rattle.escrow_machine.specs.Accepted.{IsRefusal, PassesEarly};
 
-    /// INSERT: the row that the values make is put among the committed rows. Whether its key is free the write
-    /// tells: it is looked for where the row isn't put.
+    /// INSERT: adds the row that the values make to the committed rows. Whether its key is free is
+    /// known from the write. The key is looked for only if the row isn't added.
     pub(crate) fn insert(&mut self, alloc: Global, session: Session, text: &InsertText) -> Answer
         ensures { Answers S.Store session (Statement.Insert text.now) self.old result self.new }
     {
@@ -43,8 +43,8 @@ impl<S: Alter> Database<S> {
         Err(self.row_exists_or(place, &row.name, Refusal::Store))
     }
 
-    /// Why a new row isn't put: a row has its name, or else for another reason. The store is asked unless the row is
-    /// kept, and may fail.
+    /// Returns why a new row isn't added: a row has its name, or else another reason. Asks the
+    /// store unless the row is kept; the store may fail.
     fn row_exists_or(&mut self, place: usize, name: &RowName, other: Refusal) -> Refusal
         requires { place_named self.old.state.catalog name.now.table ≡ Some place }
         ensures told { IsFailure result ⊎ (HasCleanDisk (state S.Store self.new.store) → result ≡ unless_stands (row_named self.old.state.rows name.now) other) }
@@ -57,7 +57,8 @@ impl<S: Alter> Database<S> {
         }
     }
 
-    /// The place of the table of an INSERT, and the row that it makes; or why it makes none.
+    /// Returns the place of the table of an INSERT, and the row that it makes; or why it makes
+    /// none.
     #[tactic(auto, unfolding(escrow_machine::specs::Transition::transition_of))]
     fn plan_insert(
         &self,
@@ -80,8 +81,8 @@ impl<S: Alter> Database<S> {
     }
 }
 
-/// Why a new row isn't put: its table, which has so many rows, is full, or it breaks a check. It is judged
-/// with no open reservation.
+/// Returns why a new row isn't added: its table, which has this many rows, is full, or the row
+/// breaks a check. The row is judged with no open reservation.
 fn row_refusal(table: &TableDef, count: usize, row: &Row) -> Option<Refusal>
     requires table { IsTable table.now }
     requires fits { IsRowOf table.now row.now }

@@ -14,8 +14,8 @@ impl<S: Alter> Database<S> {
     ghost use Rattle.std.specs.Prelude.{ℕ, ◌≡◌};
     ghost use Rattle.escrow_core.specs.Serving.{Answers, is_known};
 
-    /// SHOW JOURNAL: the open reservations of all sessions, or those of the rows of a table, in order of
-    /// id. Nothing changes, and the store isn't asked.
+    /// SHOW JOURNAL: returns the open reservations of all sessions, or those of the rows of a
+    /// table, in order of id. Nothing changes, and the store isn't asked.
     pub(crate) fn show_journal(&self, alloc: Global, table: Option<Name>) -> Answer
         ensures { (session : ℕ) → Answers S.Store session (Statement.ShowJournal table) self.now result self.now }
     {
@@ -26,7 +26,7 @@ impl<S: Alter> Database<S> {
         Ok(Reply::Journal(entries))
     }
 
-    /// Whether the table that is named is there; true where none is named.
+    /// Returns whether the named table exists, or true if none is named.
     fn is_known(&self, table: &Option<Name>) -> bool
         ensures { result ≡ is_known self.now.state table.now }
     {
@@ -37,8 +37,8 @@ impl<S: Alter> Database<S> {
     }
 }
 
-/// The open reservations of all sessions as they are shown, or those of the rows of a table, in
-/// order of id. Want of memory is the only error.
+/// Returns the open reservations of all sessions as they are shown, or those of the rows of a
+/// table, in order of id. Fails only if memory is refused.
 fn journal_entries<S: Alter>(
     alloc: Global,
     tables: &Tables<S>,
@@ -54,7 +54,8 @@ fn journal_entries<S: Alter>(
     Ok(entries)
 }
 
-/// Adds a reservation as it is shown, if it is: one of the rows of the table, if one is named.
+/// Adds a reservation as it is shown, if it is shown: if a table is named, it must be of a row of
+/// this table.
 fn push_entry<S: Alter>(
     alloc: Global,
     entries: &mut Seq<JournalEntry>,

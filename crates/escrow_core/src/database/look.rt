@@ -20,8 +20,8 @@ impl<S: Alter> Database<S> {
     ghost use Rattle.escrow_core.specs.Serving.{IsEarly, OnlyReads, row_refusal};
     ghost use Rattle.escrow_schema.specs.Rows.{row_named, rows_of, row_before};
 
-    /// The place of the table of a row that a text names, or why that row isn't looked for: so a SHOW BOUNDS
-    /// is refused early, and a DELETE where nothing is open.
+    /// Returns the place of the table of the row that a text names, or why that row isn't looked
+    /// for. These are the early refusals of a SHOW BOUNDS, and of a DELETE if nothing is open.
     #[tactic(auto, unfolding(escrow_machine::specs::Transition::transition_of))]
     pub(crate) fn check_row(&self, text: &RowText) -> Result<usize, Refusal>
         ensures place { IfOk result (λ place. place_named self.now.state.catalog text.now.table ≡ Some place) }
@@ -36,8 +36,8 @@ impl<S: Alter> Database<S> {
         Ok(place)
     }
 
-    /// The name of the row that a WHERE names in the table of a name, which stands at a place; the WHERE isn't
-    /// refused. Want of memory is the only error, and the store isn't asked.
+    /// Returns the name of the row that a WHERE names in a table. `place` is that of the table. The
+    /// WHERE must not be refused. Fails only if memory is refused, and doesn't ask the store.
     pub(crate) fn named_by(
         &self,
         alloc: Global,
@@ -54,9 +54,9 @@ impl<S: Alter> Database<S> {
         Ok(RowName { table, key })
     }
 
-    /// The amounts of the committed row of a name, one for each RESERVABLE column in column order, if there is
-    /// such a row. The place is that of its table. The store is asked unless they are kept; what it answers is then
-    /// kept.
+    /// Returns the amounts of the committed row of a name, one for each RESERVABLE column in column
+    /// order, if there is such a row. `place` is that of its table. Asks the store unless the
+    /// amounts are kept, and then keeps what it returns.
     pub(crate) fn amounts(
         &mut self,
         alloc: Global,
@@ -75,13 +75,13 @@ impl<S: Alter> Database<S> {
         let Some(amounts) = self.tables.amounts(alloc, place, name)? else {
             return Ok(None);
         };
-        // Where memory is refused the row is read again.
+        // If memory is refused, the row will be read again.
         let _ = self.recent.remember(name, amounts.as_slice());
         Ok(Some(amounts))
     }
 
-    /// Whether the committed row of a name stands. The place is that of its table. The store is asked unless its
-    /// amounts are kept.
+    /// Returns whether the committed row of a name exists. `place` is that of its table. Asks the
+    /// store unless the row's amounts are kept.
     pub(crate) fn stands(&mut self, place: usize, name: &RowName) -> Result<bool, Failure>
         requires { place_named self.old.state.catalog name.now.table ≡ Some place }
         ensures told { HasCleanDisk (state S.Store self.new.store) → IfOk result (λ stands. stands ≡ is_some (row_named self.old.state.rows name.now)) }
@@ -94,8 +94,8 @@ impl<S: Alter> Database<S> {
         self.tables.stands(place, name)
     }
 
-    /// The values of the committed row of a name, in column order, if there is one; all rows are in order. The
-    /// place is that of its table.
+    /// Returns the values of the committed row of a name, in column order, if there is one. The
+    /// rows of the state are in order. `place` is that of the row's table.
     pub(crate) fn values(
         &mut self,
         alloc: Global,
@@ -111,8 +111,8 @@ impl<S: Alter> Database<S> {
         self.tables.values(alloc, place, name)
     }
 
-    /// The values of each committed row of the table of a name, which stands at a place: in column order, the
-    /// rows in order of key.
+    /// Returns the values of each committed row of a table: in column order, the rows in order of
+    /// key. `place` is that of the table.
     pub(crate) fn all_values(
         &mut self,
         alloc: Global,
@@ -128,7 +128,7 @@ impl<S: Alter> Database<S> {
     }
 }
 
-/// A copy of amounts. Want of memory is the only error.
+/// Returns a copy of amounts. Fails only if memory is refused.
 fn copied(alloc: Global, amounts: &[Amount]) -> Result<Seq<Amount>, AllocError>
     ensures { IfOk result (λ copy. copy ≡ amounts.now) }
 {

@@ -5,16 +5,16 @@ use crate::database::Database;
 use escrow_num::{End, Session};
 use sqlite::Alter;
 
-/// The most reservations that are written together. To gather those of each row takes time in the square of their
-/// number.
+/// The most reservations that are written together. The time to gather those of each row grows with
+/// the square of their number.
 const MAX_TOGETHER: usize = 1024;
 
 impl<S: Alter> Database<S> {
     ghost use Rattle.std.specs.Prelude.{◌<◌, ◌≤◌, length, take};
     ghost use Rattle.escrow_core.specs.Ends.{AreCommits, IsGroup};
 
-    /// How many first entries of a plan, which has some, are settled together: those that can be written at once,
-    /// or one.
+    /// Returns how many of a plan's first entries are settled together: those that can be written
+    /// at once, or one. The plan must have an entry.
     pub(crate) fn part_len(&self, plan: &[(Session, End)]) -> usize
         requires { 0 < length plan.now }
         ensures some { 0 < result }
@@ -28,8 +28,8 @@ impl<S: Alter> Database<S> {
         self.run_len(plan).max(1)
     }
 
-    /// How many first entries of a plan are COMMITs of sessions that are named once. They don't hold too many
-    /// reservations to be written together.
+    /// Returns how many of a plan's first entries are COMMITs of sessions that are named once, and
+    /// hold few enough reservations to be written together.
     fn run_len(&self, plan: &[(Session, End)]) -> usize
         ensures within { result ≤ length plan.now }
         ensures commits { AreCommits (take result plan.now) }
@@ -46,7 +46,7 @@ impl<S: Alter> Database<S> {
     }
 }
 
-/// Whether a plan names a session.
+/// Returns whether a plan names a session.
 fn is_named(plan: &[(Session, End)], session: Session) -> bool
     ensures { result ≡ list_any (λ entry. entry.0 == session) plan.now }
 {

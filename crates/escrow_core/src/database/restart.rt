@@ -13,15 +13,17 @@ impl<S: Alter> Database<S> {
     ghost use Rattle.escrow_machine.specs.State.{opened};
     ghost use Rattle.escrow_machine.specs.Step.{IsServed};
 
-    /// Restarts the database: verifies its store, and then drops all reservations and savepoints; the next
-    /// id is 1. Catalog and rows stay. Refused by 51 for want of memory, and by 60 where the store refuses or
-    /// doesn't hold the tables any more; then nothing changes.
+    /// Restarts the database: verifies its store, then drops all reservations and savepoints, and
+    /// sets the next id to 1. Catalog and rows stay as they are. Fails with 51 if memory is
+    /// refused, and with 60 if the store refuses or no longer holds the tables. After an error
+    /// nothing has changed.
     pub fn restart(&mut self, alloc: Global) -> Result<(), Refusal>
         ensures event { HasCleanDisk (state S.Store self.new.store) → IsServed self.old.state event.Restart (restart_reply result) self.new.state }
         ensures open { HasCleanDisk (state S.Store self.new.store) → OnOk result (IsTrue (state S.Store self.new.store).is_open) }
         ensures usable { IsUsable (state S.Store self.new.store) → IsUsable (state S.Store self.old.store) }
 
-        // Whatever the store is like, nothing is open after it, or all that was; catalog and rows stay.
+        // Whatever the store is like, either nothing is open after the call, or all that was.
+        // Catalog and rows stay as they are.
         ensures done { OnOk result (self.new.state ≡ opened self.old.state.catalog self.old.state.rows) }
         ensures refused { OnErr result (self.new.state ≡ self.old.state) }
         ensures only { IfErr result (λ e. (e ≡ Refusal.Memory) ⊎ (e ≡ Refusal.Store)) }

@@ -21,15 +21,15 @@ impl<S: Alter> Database<S> {
     ghost use Rattle.escrow_core.specs.Left.{AreAfterSome};
     ghost use Rattle.escrow_core.specs.Serves.{AreHeldOf};
 
-    /// Serves events, one after another, and answers their replies. Room for the replies is taken
-    /// first: where it is refused, nothing was served.
+    /// Serves events, one after another, and returns their replies. Takes room for the replies
+    /// first. If this is refused, no event was served.
     pub fn run(&mut self, alloc: Global, events: &[Event]) -> Result<Vec<Reply>, AllocError>
         ensures served { HasCleanDisk (state S.Store self.new.store) → IfOk result (λ replies. IsRun self.old.state events.now replies.items self.new.state) }
         ensures clean { HasCleanDisk (state S.Store self.new.store) → HasCleanDisk (state S.Store self.old.store) }
         ensures refused { OnErr result (self.new ≡ self.old) }
 
-        // A crash leaves what it might have left before, or, where the store was open, the tables and rows after some
-        // first events.
+        // After a crash the disk has what it might have had before, or the tables and rows after
+        // some first events, if the store was open.
         ensures usable { IsUsable (state S.Store self.new.store) → IsUsable (state S.Store self.old.store) }
         ensures crash { IfOk result (λ replies. Survives (state S.Store self.old.store) (state S.Store self.new.store) (λ trees. IsTrue (state S.Store self.old.store).is_open × AreAfterSome self.old.state events.now replies.items trees)) }
     {
@@ -38,18 +38,20 @@ impl<S: Alter> Database<S> {
         Ok(replies)
     }
 
-    /// Serves events, one after another, and adds their replies to others, for which there is room. COMMITs
-    /// are held back while further events are served that they commute with, and are then written together.
+    /// Serves events, one after another, and adds their replies to others, for which there must be
+    /// room. A COMMIT is held back while later events that commute with it are served. COMMITs that
+    /// are held back are then written together.
     pub fn run_into(&mut self, alloc: Global, events: &[Event], replies: &mut Vec<Reply>)
         requires room { vec_len replies.old + length events.now ≤ vec_capacity replies.old }
         ensures served { (answers : List Reply) × (length answers ≡ length events.now) × (replies.new.items ≡ replies.old.items ++ answers) × (HasCleanDisk (state S.Store self.new.store) → IsRun self.old.state events.now answers self.new.state) }
         ensures clean { HasCleanDisk (state S.Store self.new.store) → HasCleanDisk (state S.Store self.old.store) }
         ensures capacity { vec_capacity replies.new ≡ vec_capacity replies.old }
 
-        // Where the store can be used, a crash leaves just the tables and rows after the events. Only a fault shuts
-        // the store: a crash then leaves what it might have left before, or, where the store was open, the tables and
-        // rows after some first events, of which those that failed may count as served. A store that a fault has shut
-        // stays shut, and is written no more; the limit of steps stays.
+        // If the store can be used, a crash leaves exactly the tables and rows after the events.
+        // Only a fault shuts the store. Then after a crash the disk has what it might have had
+        // before, or the tables and rows after some first events, if the store was open. Events
+        // that failed may count as served. A store that a fault has shut stays shut, and is not
+        // written again. The limit of steps stays as it is.
         ensures left { IsUsable (state S.Store self.new.store) → (trees : Trees) → (state S.Store self.new.store).may_leave trees → AreHeldOf self.new.state trees }
         ensures usable { IsUsable (state S.Store self.new.store) → IsUsable (state S.Store self.old.store) }
         ensures crash { Survives (state S.Store self.old.store) (state S.Store self.new.store) (λ trees. IsTrue (state S.Store self.old.store).is_open × AreAfterSome self.old.state events.now (drop (length replies.old.items) replies.new.items) trees) }
@@ -60,12 +62,12 @@ impl<S: Alter> Database<S> {
             self.serve_next(alloc, event, are_shared, &mut held, replies);
         }
         self.settle_all(alloc, held.plan(), held.places(), replies);
-        // What a crash leaves is told with the next id.
+        // Gives the proof what a crash leaves.
         let _ = self.next_id();
     }
 
-    /// Serves the next event, before the COMMITs that are held back are written or behind them. None is held back
-    /// where all events are of one session.
+    /// Serves the next event, before or after the COMMITs that are held back are written. No COMMIT
+    /// is held back if all events are of one session.
     fn serve_next(
         &mut self,
         alloc: Global,
@@ -104,8 +106,8 @@ impl<S: Alter> Database<S> {
     }
 }
 
-/// Keeps a reply, for which there is room. A reply can hold a refusal, whose type the prover finds
-/// here only by its name.
+/// Adds a reply, for which there must be room. A reply can hold a refusal, whose type the prover
+/// finds here only by its name.
 fn keep(replies: &mut Vec<Reply>, reply: Reply)
     requires { vec_len replies.old < vec_capacity replies.old }
     ensures items { replies.new.items ≡ replies.old.items ++ reply ∷ [] }
@@ -116,8 +118,8 @@ fn keep(replies: &mut Vec<Reply>, reply: Reply)
     replies.push_reserved(reply);
 }
 
-/// Returns whether events are of more than one session, so that COMMITs can share a write. Those behind a restart
-/// that comes first aren't looked at.
+/// Returns whether events are of more than one session, so that COMMITs can share a write. Events
+/// after a restart that comes first aren't looked at.
 fn are_shared(events: &[Event]) -> bool {
     match events.first() {
         Some(Event::Statement { session, .. }) => events

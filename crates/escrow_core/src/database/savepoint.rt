@@ -11,20 +11,20 @@ impl<S: Alter> Database<S> {
     ghost use Rattle.escrow_journal.specs.Open.{released};
     ghost use Rattle.escrow_machine.specs.Transition.{after_rollback_to};
 
-    /// SAVEPOINT: makes a savepoint of the session. An earlier one of its name is taken out.
+    /// SAVEPOINT: makes a savepoint of the session. An earlier one of its name is removed.
     pub(crate) fn savepoint(&mut self, session: Session, name: Name) -> Answer
         ensures { Answers S.Store session (Statement.Savepoint name) self.old result self.new }
     {
-        // What its type knows of a session's number is told where the number is read.
+        // Gives the proof the range of the number.
         let _ = session.get();
         self.reserved.mark(session, name)?;
         Ok(Reply::Savepoint(name))
     }
 
-    /// ROLLBACK TO: drops the open reservations of a session that came after its savepoint of a name, and
-    /// the savepoints that it made after it. Answers how many reservations there were, or `None`, exactly
-    /// where there is no such savepoint, and then nothing changes. Takes no memory, and makes no store
-    /// call.
+    /// ROLLBACK TO: drops the open reservations of a session that came after its savepoint of a
+    /// name, and the savepoints that the session made after it. Returns how many reservations there
+    /// were. Returns `None` exactly if there is no such savepoint, and then nothing changes. Takes
+    /// no memory, and makes no store call.
     pub fn rollback_to(&mut self, session: Session, name: Name) -> Option<u32>
         ensures count { result ≡ released session name (open_in self.old.state) }
         ensures state { self.new.state ≡ after_rollback_to self.old.state session name }

@@ -18,7 +18,8 @@ impl<S: Alter> Database<S> {
     ghost use Rattle.escrow_machine.specs.Asked.{heading_of, is_shown, key_refusal_of, select_refusal_of};
     ghost use Rattle.escrow_core.specs.Serving.{Answers, IsEarly, OnlyReads};
 
-    /// SELECT: the committed rows of a table, or the one of a key, in order of key. Nothing changes.
+    /// SELECT: returns the committed rows of a table, or the one of a key, in order of key. Nothing
+    /// changes.
     pub(crate) fn select(&mut self, alloc: Global, text: &SelectText) -> Answer
         ensures { (session : ℕ) → Answers S.Store session (Statement.Select text.now) self.old result self.new }
     {
@@ -28,7 +29,7 @@ impl<S: Alter> Database<S> {
         Ok(Reply::Rows { columns, rows })
     }
 
-    /// The place of the table of a SELECT, or why it is refused.
+    /// Returns the place of the table of a SELECT, or why the statement is refused.
     #[tactic(auto, unfolding(escrow_machine::specs::Transition::transition_of))]
     fn check_select(&self, text: &SelectText) -> Result<usize, Refusal>
         ensures place { IfOk result (λ place. place_named self.now.state.catalog text.now.table ≡ Some place) }
@@ -44,7 +45,7 @@ impl<S: Alter> Database<S> {
         Ok(place)
     }
 
-    /// The headings of the columns of the table at a place.
+    /// Returns the headings of the columns of the table at a place.
     fn headings(&self, alloc: Global, place: usize) -> Result<Seq<Heading>, AllocError>
         requires { place < length self.now.state.catalog }
         ensures { IfOk result (λ headings. (name : List ℕ) → place_named self.now.state.catalog name ≡ Some place
@@ -54,7 +55,7 @@ impl<S: Alter> Database<S> {
         Ok(Seq::from_vec(headings_of(alloc, columns)?))
     }
 
-    /// The values of each row that a SELECT shows.
+    /// Returns the values of each row that a SELECT shows.
     fn shown_values(
         &mut self,
         alloc: Global,
@@ -73,7 +74,7 @@ impl<S: Alter> Database<S> {
         }
     }
 
-    /// The values of the row of the key that a WHERE names, if it stands.
+    /// Returns the values of the row of the key that a WHERE names, if it exists.
     fn keyed(
         &mut self,
         alloc: Global,
@@ -93,7 +94,7 @@ impl<S: Alter> Database<S> {
     }
 }
 
-/// The headings of columns, in order. Want of memory is the only error.
+/// Returns the headings of columns, in order. Fails only if memory is refused.
 fn headings_of(alloc: Global, columns: &[Column]) -> Result<Vec<Heading>, AllocError>
     ensures { IfOk result (λ headings. headings.items ≡ map heading_of columns.now) }
 {
@@ -103,7 +104,7 @@ fn headings_of(alloc: Global, columns: &[Column]) -> Result<Vec<Heading>, AllocE
         .collect(alloc)
 }
 
-/// What stands over the values of a column.
+/// Returns the heading over the values of a column.
 fn heading_of(column: &Column) -> Heading
     ensures { result ≡ heading_of column.now }
 {
@@ -113,7 +114,7 @@ fn heading_of(column: &Column) -> Heading
     }
 }
 
-/// The values of a row, if there is one, as a list of rows.
+/// Returns the values of a row, if there is one, as a list of rows.
 fn listed(alloc: Global, found: Option<Seq<Value>>) -> Result<Seq<Seq<Value>>, AllocError>
     ensures { IfOk result (λ rows. rows ≡ option_to_list found) }
 {

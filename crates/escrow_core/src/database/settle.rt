@@ -18,20 +18,23 @@ impl<S: Alter> Database<S> {
     ghost use Rattle.escrow_core.specs.Serves.{AreAfterEnds};
 
     /// Ends the transactions of sessions, in the order of a plan. A session that is named again has
-    /// nothing left to end: its first entry decides. Stops at the first COMMIT that fails, for want of
-    /// memory or refused by the store: what stands before it in the plan is done, and its session and
-    /// those after it are untouched. COMMITs that follow each other are written together.
+    /// nothing left to end: its first entry decides. COMMITs that follow each other are written
+    /// together.
+    ///
+    /// Stops at the first COMMIT that fails, because memory is refused or the store refuses. The
+    /// entries before it in the plan are done. Its session and those after it are unchanged.
     pub fn settle(&mut self, alloc: Global, plan: &[(Session, End)]) -> Result<Settled, Stop>
         ensures ok { HasCleanDisk (state S.Store self.new.store) → OnOk result (self.new.state ≡ settled plan.now self.old.state) }
         ensures counts { IfOk result (λ done. AreCounts plan.now self.old.state.reservations done) }
         ensures stop { HasCleanDisk (state S.Store self.new.store) → IfErr result (λ stop. IsStop plan.now self.old.state stop self.new.state) }
 
-        // A crash leaves what it might have left before, or, where the store was open, what some first entries of
-        // the plan make; a store that a fault has shut stays shut, and is written no more; the limit of steps stays.
+        // After a crash the disk has what it might have had before, or what some first entries of
+        // the plan make, if the store was open. A store that a fault has shut stays shut, and is
+        // not written again. The limit of steps stays as it is.
         ensures usable { IsUsable (state S.Store self.new.store) → IsUsable (state S.Store self.old.store) }
         ensures crash { Survives (state S.Store self.old.store) (state S.Store self.new.store) (λ trees. IsTrue (state S.Store self.old.store).is_open × AreAfterEnds plan.now self.old.state trees) }
     {
-        // That there are few enough reservations to be counted is told with the next id.
+        // Gives the proof that there are few enough reservations to be counted.
         let _ = self.next_id();
         let mut settled = Settled {
             committed: 0,
@@ -55,8 +58,9 @@ impl<S: Alter> Database<S> {
         Ok(settled)
     }
 
-    /// Settles a part of a plan: by one write where it has several entries, which then are COMMITs; and entry by entry
-    /// where it has one, or where that write fails, so that the plan stops at the first COMMIT that fails by itself.
+    /// Settles a part of a plan. If the part has several entries, they are COMMITs, and one write
+    /// does them all. If that write fails, or the part has one entry, it is settled entry by entry.
+    /// So the plan stops at the first COMMIT that fails by itself.
     fn settle_part(&mut self, alloc: Global, part: &[(Session, End)]) -> Result<Settled, Stop>
         requires { 1 < length part.now → IsGroup self.old.state.reservations part.now }
         ensures { Settles S.Store part.now self.old result self.new }
@@ -70,7 +74,7 @@ impl<S: Alter> Database<S> {
                     });
                 }
                 Err(cause) => {
-                    // Where a fault has shut the store, the first COMMIT fails too.
+                    // If a fault has shut the store, the first COMMIT fails too.
                     if !self.store_answers(part[0].0) {
                         return Err(Stop { place: 0, cause });
                     }
@@ -84,7 +88,7 @@ impl<S: Alter> Database<S> {
     fn settle_each(&mut self, alloc: Global, plan: &[(Session, End)]) -> Result<Settled, Stop>
         ensures { Settles S.Store plan.now self.old result self.new }
     {
-        // That there are few enough reservations to be counted is told with the next id.
+        // Gives the proof that there are few enough reservations to be counted.
         let _ = self.next_id();
         let mut settled = Settled {
             committed: 0,
@@ -100,7 +104,7 @@ impl<S: Alter> Database<S> {
     }
 }
 
-/// Counts the reservations of one more transaction, which ended so.
+/// Counts the reservations of one more transaction, by how it ended.
 fn add(done: &mut Settled, end: End, count: u32)
     requires { done.old.committed + done.old.released + count ≤ MAX_OPEN }
     ensures { done.new ≡ counted_end end count done.old }

@@ -10,7 +10,8 @@ impl<S: Alter> Database<S> {
     ghost use Rattle.std.specs.Prelude.{ℕ};
     ghost use Rattle.escrow_core.specs.Serving.{Answers};
 
-    /// SHOW TABLE: the text that defines the table. Nothing changes, and the store isn't asked.
+    /// SHOW TABLE: returns the text that defines the table. Nothing changes, and the store isn't
+    /// asked.
     pub(crate) fn show_table(&self, alloc: Global, name: Name) -> Answer
         ensures { (session : ℕ) → Answers S.Store session (Statement.ShowTable name) self.now result self.now }
     {

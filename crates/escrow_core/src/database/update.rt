@@ -14,7 +14,7 @@ impl<S: Alter> Database<S> {
     ghost use Rattle.escrow_machine.specs.Accepted.{IsRefusal};
     ghost use Rattle.escrow_machine.specs.State.{is_reserved};
 
-    /// UPDATE, of RESERVABLE columns or of plain ones, by its plan.
+    /// UPDATE: reserves changes of RESERVABLE columns, or replaces plain values, by its plan.
     pub(crate) fn update(&mut self, alloc: Global, session: Session, text: &UpdateText) -> Answer
         ensures { Answers S.Store session (Statement.Update text.now) self.old result self.new }
     {
@@ -27,7 +27,7 @@ impl<S: Alter> Database<S> {
         }
     }
 
-    /// The place of the table of an UPDATE, and what it asks of a row; or why it can't be planned.
+    /// Returns the place of the table of an UPDATE, and the plan; or why it can't be planned.
     #[tactic(auto, unfolding(escrow_machine::specs::Transition::transition_of))]
     fn plan(&self, alloc: Global, text: &UpdateText) -> Result<(usize, Plan), Refusal>
         ensures place { IfOk result (λ planned. place_named self.now.state.catalog text.now.table ≡ Some planned.0) }
@@ -43,8 +43,9 @@ impl<S: Alter> Database<S> {
         }
     }
 
-    /// A reservation of changes of the row of a key, if it stands. The committed row stays as it is. Where the
-    /// row has an open reservation the store isn't asked: its place keeps the amounts.
+    /// Reserves changes of the row of a key, if it exists. The committed row stays as it is. If the
+    /// row has an open reservation, the store isn't asked, because the row's place keeps the
+    /// amounts.
     fn reserve(
         &mut self,
         alloc: Global,
@@ -65,13 +66,13 @@ impl<S: Alter> Database<S> {
         let Some(at) = self.reserved.find(&name) else {
             return self.reserve_first(alloc, session, text, place, name, changes);
         };
-        // What its type knows of a session's number is told where the number is read.
+        // Gives the proof the range of the number.
         let _ = session.get();
         let id = self.reserved.grant(session, name, at, changes)?;
         Ok(Reply::Reserved { id })
     }
 
-    /// The first open reservation of a row, by the amounts that are read of it.
+    /// Makes the first open reservation of a row, by the amounts that are read of it.
     fn reserve_first(
         &mut self,
         alloc: Global,
@@ -90,7 +91,7 @@ impl<S: Alter> Database<S> {
         let Some(amounts) = self.amounts(alloc, place, &name)? else {
             return Err(Refusal::NoSuchRow);
         };
-        // What its type knows of a session's number is told where the number is read.
+        // Gives the proof the range of the number.
         let _ = session.get();
         let checks = self.tables.table(place).checks.as_slice();
         let id = self
@@ -99,8 +100,9 @@ impl<S: Alter> Database<S> {
         Ok(Reply::Reserved { id })
     }
 
-    /// Plain values of the row of a key are replaced, if it stands, which the write tells, and the session's
-    /// transaction isn't open. Its amounts stay, and so do the reservations of it.
+    /// Replaces plain values of the row of a key, if the row exists and the session's transaction
+    /// isn't open. Whether the row exists is known from the write. The row's amounts and its
+    /// reservations stay as they are.
     fn replace(
         &mut self,
         alloc: Global,

@@ -14,19 +14,19 @@ use escrow_rows::{KeyedRow, RowTaker};
 use escrow_schema::{TableDef, row_of};
 use std::alloc::{AllocError, Global};
 
-/// Counts the rows of a table, and tests each one. It keeps none.
+/// Counts the rows of a table, and tests each one. Keeps none.
 #[derive(Drop)]
 pub(crate) struct RowCounter<'a> {
     pub(crate) alloc: Global,
     pub(crate) table: DefinedTable<'a>,
-    /// How many rows there are.
+    /// The number of rows.
     pub(crate) rows: usize,
     /// Whether each row so far is one that the table may have.
     pub(crate) sound: bool,
 }
 
 impl RowCounter<'_> {
-    /// Counts a row, if it is one that the table may have. Whether it is.
+    /// Counts a row, if the table may have it. Returns whether it may.
     fn count(&mut self, row: &KeyedRow) -> Result<bool, AllocError>
         ensures done { IfOk result (λ done. IsTrue done → (self.old.rows < MAX_ROWS) × (made : HeldRow) × IsRowWith self.old.table row.now made × (self.new ≡ record self.old { rows = self.old.rows + 1 })) }
         ensures other { result ≡ Ok false → (self.new ≡ self.old) × (self.old.rows < MAX_ROWS → (made : HeldRow) → IsRowWith self.old.table row.now made → ⊥) }
@@ -55,7 +55,7 @@ impl RowTaker for RowCounter<'_> {
     }
 }
 
-/// Whether a row is one of a table, under its key, that meets the table's checks.
+/// Returns whether a row belongs to a table, under its key, and meets the table's checks.
 fn is_row(alloc: Global, table: &TableDef, row: &KeyedRow) -> Result<bool, AllocError>
     requires { IsTable table.now }
     ensures { IfOk result (λ is. IsTrue is ↔ ((made : HeldRow) × IsRowWith table.now row.now made)) }
@@ -69,7 +69,7 @@ fn is_row(alloc: Global, table: &TableDef, row: &KeyedRow) -> Result<bool, Alloc
     Ok(meets_all(table.checks.as_slice(), made.amounts.as_slice()))
 }
 
-/// Whether the amounts of a row meet checks.
+/// Returns whether the amounts of a row meet checks.
 fn meets_all(checks: &[Check], amounts: &[Amount]) -> bool
     ensures { IsTrue result ↔ AllByRecursion (λ check. Meets check amounts.now) checks.now }
 {

@@ -22,7 +22,7 @@ impl<'a> DefinedTable<'a> {
     ghost use Rattle.std.specs.Prelude.{◌≡◌};
     ghost use Rattle.escrow_schema.specs.Definition.{IsTable};
 
-    /// The table, which some text defines.
+    /// Returns the table, which some text defines.
     pub(crate) fn new(table: &'a TableDef) -> Self
         requires { IsTable table.now }
         ensures { result ≡ table.now }
@@ -30,7 +30,7 @@ impl<'a> DefinedTable<'a> {
         DefinedTable { table }
     }
 
-    /// The table itself.
+    /// Returns the table itself.
     pub(crate) fn get(&self) -> &TableDef
         ensures value { result.now ≡ self.now }
         ensures defined { IsTable result.now }

@@ -21,7 +21,7 @@ use sqlite::Row;
 use sqlite::types::ValueRef;
 use std::alloc::Global;
 
-/// What a row of TAB has.
+/// The columns of a row of TAB.
 #[derive(Clone, Copy)]
 struct Tab<'a> {
     id: i64,
@@ -29,7 +29,7 @@ struct Tab<'a> {
     text: &'a str,
 }
 
-/// The table of a row of TAB: the one of which the text is the canonical one, under its own name.
+/// Returns the table of a row of TAB: the one whose canonical text this is, under its own name.
 pub(super) fn table_of(alloc: Global, row: &Row) -> Result<StoredTable, PartFault>
     ensures table { IfOk result (λ s. CanStand s × (row.now ≡ tab_row s)) }
     ensures foreign { result ≡ Err Foreign → IsTab row.now → ⊥ }
@@ -44,7 +44,7 @@ pub(super) fn table_of(alloc: Global, row: &Row) -> Result<StoredTable, PartFaul
     Ok(StoredTable { id: tab.id, table })
 }
 
-/// What a row of TAB has, or `None` where a column has what TAB never has there.
+/// Returns the columns of a row of TAB, or `None` if a column has a value that TAB never has there.
 fn tab_of(row: &Row) -> Option<Tab<'_>>
     ensures some { IfSome result (λ tab. row.now ≡ tab_with tab.id tab.name.now tab.text.now) }
     ensures none { result ≡ None → (id : ℤ) (name text : List ℕ) → IsUtf8 name → IsUtf8 text → row.now ≢ tab_with id name text }
@@ -59,7 +59,7 @@ fn tab_of(row: &Row) -> Option<Tab<'_>>
     })
 }
 
-/// The number at a place.
+/// Returns the number at a place.
 fn number_at(row: &Row, place: usize) -> Option<i64>
     requires { place < length row.now }
     ensures some { IfSome result (λ n. column row.now place ≡ sql.Int n) }
@@ -71,7 +71,7 @@ fn number_at(row: &Row, place: usize) -> Option<i64>
     }
 }
 
-/// The text at a place, if it is one in UTF-8.
+/// Returns the text at a place, if it is one in UTF-8.
 fn text_at(row: &Row, place: usize) -> Option<&str>
     requires { place < length row.now }
     ensures some { IfSome result (λ text. column row.now place ≡ sql.Text text.now) }
@@ -83,7 +83,7 @@ fn text_at(row: &Row, place: usize) -> Option<&str>
     }
 }
 
-/// The table of which a text is the canonical one.
+/// Returns the table whose canonical text this is.
 fn defined_by(alloc: Global, text: &str) -> Result<TableDef, PartFault>
     ensures table { IfOk result (λ table. IsTable table × (text.now ≡ canonical table)) }
     ensures foreign { result ≡ Err Foreign → (table : Table) → IsTable table → text.now ≢ canonical table }
@@ -97,7 +97,7 @@ fn defined_by(alloc: Global, text: &str) -> Result<TableDef, PartFault>
     }
 }
 
-/// The table that a text defines.
+/// Returns the table that a text defines.
 fn created_by(alloc: Global, text: &str) -> Result<TableDef, PartFault>
     ensures table { IfOk result (Defines text.now) }
     ensures foreign { result ≡ Err Foreign → (table : Table) → Defines text.now table → ⊥ }
@@ -109,7 +109,7 @@ fn created_by(alloc: Global, text: &str) -> Result<TableDef, PartFault>
     }
 }
 
-/// The table that a request defines.
+/// Returns the table that a request defines.
 fn defined_in(alloc: Global, request: &Request) -> Result<TableDef, PartFault>
     ensures table { IfOk result (λ table. (create : Create) × (request.now ≡ requests.Statement (statements.Create create)) × (definition_of create ≡ Some table)) }
     ensures foreign { result ≡ Err Foreign → (create : Create) → request.now ≡ requests.Statement (statements.Create create) → definition_of create ≡ None }

@@ -1,4 +1,4 @@
-//! What is assigned to which columns.
+//! What is assigned to which column.
 ghost use Rattle.std.specs.Prelude.{◌≡◌, bytes_eq, find, map, option_copied};
 ghost use Rattle.std.specs.List.{list_any};
 ghost use Rattle.std.specs.Option.{option_and_then};
@@ -8,7 +8,7 @@ ghost use Rattle.escrow_schema.specs.Plan.{assigned_to, change_in, literal_in};
 use escrow_num::{Decimal, Name};
 use escrow_statement::{Assign, Assigned, Literal};
 
-/// The change that is assigned to a column, if one is, in millionths.
+/// Returns the change that is assigned to a column, in millionths, if there is one.
 pub(crate) fn change_to(assigns: &[Assign], column: Name) -> Option<Decimal>
     ensures { result ≡ option_and_then change_in (assigned_to assigns.now column) }
 {
@@ -18,7 +18,7 @@ pub(crate) fn change_to(assigns: &[Assign], column: Name) -> Option<Decimal>
     }
 }
 
-/// The literal that is assigned to a column, if one is.
+/// Returns the literal that is assigned to a column, if there is one.
 pub(crate) fn literal_to(assigns: &[Assign], column: Name) -> Option<&Literal>
     ensures { option_copied result ≡ option_and_then literal_in (assigned_to assigns.now column) }
 {
@@ -28,14 +28,14 @@ pub(crate) fn literal_to(assigns: &[Assign], column: Name) -> Option<&Literal>
     }
 }
 
-/// The assignment of a column.
+/// Returns the assignment of a column.
 fn assign_of(assigns: &[Assign], column: Name) -> Option<&Assign>
     ensures { option_copied result ≡ find (λ assign. bytes_eq assign.column column) assigns.now }
 {
     assigns.iter().find(|assign| assign.column == column)
 }
 
-/// Whether no two assignments are of one column.
+/// Returns whether no two assignments assign the same column.
 pub(crate) fn are_apart(assigns: &[Assign]) -> bool
     ensures { result ≡ are_distinct (map (λ assign. assign.column) assigns.now) }
 {
@@ -47,7 +47,7 @@ pub(crate) fn are_apart(assigns: &[Assign]) -> bool
     true
 }
 
-/// Whether one of assignments is of a column.
+/// Returns whether one of the assignments assigns a column.
 fn assigns_to(assigns: &[Assign], column: Name) -> bool
     ensures { result ≡ list_any (λ other. bytes_eq column other) (map (λ assign. assign.column) assigns.now) }
 {

@@ -12,28 +12,28 @@ use escrow_num::{Amount, Changes, Name, Refusal};
 use escrow_statement::{Assign, Assigned};
 use std::alloc::{AllocError, Global};
 
-/// Whether assignments change RESERVABLE columns: each does, and no two are of one column.
+/// Returns whether each assignment changes a RESERVABLE column, and no two the same one.
 pub(crate) fn are_changes(columns: &[Column], assigns: &[Assign]) -> bool
     ensures { result ≡ are_changes columns.now assigns.now }
 {
     are_apart(assigns) && all_change(columns, assigns)
 }
 
-/// Whether each assignment changes a RESERVABLE column.
+/// Returns whether each assignment changes a RESERVABLE column.
 fn all_change(columns: &[Column], assigns: &[Assign]) -> bool
     ensures { result ≡ list_all (is_change columns.now) assigns.now }
 {
     assigns.iter().all(|assign| is_change(columns, assign))
 }
 
-/// Whether an assignment is of a RESERVABLE column, to itself plus or minus a number.
+/// Returns whether an assignment sets a RESERVABLE column to itself plus or minus a number.
 fn is_change(columns: &[Column], assign: &Assign) -> bool
     ensures { result ≡ is_change columns.now assign.now }
 {
     has_reservable(columns, assign.column) && is_itself(assign.column, &assign.value)
 }
 
-/// Whether a RESERVABLE column of that name is among the columns.
+/// Returns whether one of the columns has this name and is RESERVABLE.
 fn has_reservable(columns: &[Column], name: Name) -> bool
     ensures { result ≡ list_any (λ column. column.reservable && bytes_eq column.name name) columns.now }
 {
@@ -42,7 +42,7 @@ fn has_reservable(columns: &[Column], name: Name) -> bool
         .any(|column| column.reservable && column.name == name)
 }
 
-/// Whether what is assigned to a column is the column itself plus or minus a number.
+/// Returns whether the value assigned to a column is the column itself plus or minus a number.
 fn is_itself(column: Name, value: &Assigned) -> bool
     ensures { result ≡ is_itself column value.now }
 {
@@ -52,9 +52,9 @@ fn is_itself(column: Name, value: &Assigned) -> bool
     }
 }
 
-/// The change of each RESERVABLE column, in units of its scale and in column order: `None` where it
-/// isn't assigned. A bad value where one isn't a whole number of units, or these are no amount; want
-/// of memory only where none is.
+/// Returns the change of each RESERVABLE column, in units of its scale and in column order, or
+/// `None` if the column isn't assigned. Fails with a bad value if a change isn't a whole number of
+/// units, or if these are no amount. Fails for memory only if every change is good.
 pub(crate) fn whole_changes(
     alloc: Global,
     columns: &[Column],
@@ -71,8 +71,8 @@ pub(crate) fn whole_changes(
     }
 }
 
-/// The change of each RESERVABLE column, or `None` where one isn't a whole number of its column's
-/// units, or these are no amount.
+/// Returns the change of each RESERVABLE column, or `None` if one isn't a whole number of its
+/// column's units, or these are no amount.
 fn changes_of(
     alloc: Global,
     columns: &[Column],
@@ -92,8 +92,8 @@ fn changes_of(
     Ok(Some(changes))
 }
 
-/// Whether each change that is assigned to a RESERVABLE column is a whole number of the column's
-/// units, and these are an amount. Takes no memory.
+/// Returns whether each change that is assigned to a RESERVABLE column is a whole number of the
+/// column's units, and these are an amount. Takes no memory.
 fn are_whole(columns: &[Column], assigns: &[Assign]) -> bool
     ensures { result ≡ is_some (changes_of columns.now assigns.now) }
 {
@@ -105,8 +105,8 @@ fn are_whole(columns: &[Column], assigns: &[Assign]) -> bool
     true
 }
 
-/// The change of a column, in units of its scale: `Some(None)` where none is assigned to it, and
-/// `None` where that isn't a whole number of units, or these are no amount.
+/// Returns the change of a column, in units of its scale, or `Some(None)` if no change is assigned
+/// to it. Returns `None` if the change isn't a whole number of units, or these are no amount.
 fn change_of(column: &Column, assigns: &[Assign]) -> Option<Option<Amount>>
     ensures { result ≡ change_at (scale_of column.now.kind) (option_and_then change_in (assigned_to assigns.now column.now.name)) }
 {

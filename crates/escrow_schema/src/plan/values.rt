@@ -1,4 +1,4 @@
-//! New values of plain columns, which are those that are neither RESERVABLE nor the key.
+//! New values of plain columns: those that are neither RESERVABLE nor the key.
 ghost use Rattle.std.specs.Prelude.{◌≡◌, ◌==◌, ◌||◌, not, IfOk, is_some};
 ghost use Rattle.std.specs.List.{list_all};
 ghost use Rattle.std.specs.Option.{option_and_then};
@@ -15,35 +15,35 @@ use escrow_num::{Name, Value};
 use escrow_statement::{Assign, Assigned};
 use std::alloc::{AllocError, Global};
 
-/// Whether assignments replace plain values: each does, and no two are of one column.
+/// Returns whether each assignment replaces a plain value, and no two the same one.
 pub(crate) fn are_replacements(table: &TableDef, assigns: &[Assign]) -> bool
     ensures { result ≡ are_replacements table.now assigns.now }
 {
     are_apart(assigns) && all_replace(table, assigns)
 }
 
-/// Whether each assignment replaces a plain value.
+/// Returns whether each assignment replaces a plain value.
 fn all_replace(table: &TableDef, assigns: &[Assign]) -> bool
     ensures { result ≡ list_all (is_replacement table.now) assigns.now }
 {
     assigns.iter().all(|assign| is_replacement(table, assign))
 }
 
-/// Whether an assignment is of a plain column, to a literal.
+/// Returns whether an assignment sets a plain column to a literal.
 fn is_replacement(table: &TableDef, assign: &Assign) -> bool
     ensures { result ≡ is_replacement table.now assign.now }
 {
     has_plain(table.columns.as_slice(), table.key, assign.column) && is_literal(&assign.value)
 }
 
-/// Whether what is assigned is a literal.
+/// Returns whether what is assigned is a literal.
 fn is_literal(value: &Assigned) -> bool
     ensures { result ≡ is_literal value.now }
 {
     matches!(value, Assigned::Literal(_))
 }
 
-/// Whether a plain column of that name is among the columns.
+/// Returns whether one of the columns has this name and is plain.
 fn has_plain(columns: &[Column], key: usize, name: Name) -> bool
     ensures { result ≡ has_column (plains columns.now 0 key) name }
 {
@@ -55,14 +55,14 @@ fn has_plain(columns: &[Column], key: usize, name: Name) -> bool
     false
 }
 
-/// Whether a column at a place is plain.
+/// Returns whether a column at a place is plain.
 fn is_plain(column: &Column, place: usize, key: usize) -> bool
     ensures { result ≡ not (column.now.reservable || place == key) }
 {
     !(column.reservable || place == key)
 }
 
-/// Whether each literal that is assigned to a plain column fits its type.
+/// Returns whether each literal that is assigned to a plain column fits its type.
 pub(crate) fn all_fit(columns: &[Column], key: usize, assigns: &[Assign]) -> bool
     requires { TypedColumns columns.now }
     ensures { result ≡ is_some (new_values_of (plains columns.now 0 key) assigns.now) }
@@ -75,7 +75,7 @@ pub(crate) fn all_fit(columns: &[Column], key: usize, assigns: &[Assign]) -> boo
     true
 }
 
-/// Whether the literal that is assigned to a column, if one is, fits its type.
+/// Returns whether the literal that is assigned to a column, if one is, fits its type.
 fn fits_assigned(column: &Column, assigns: &[Assign]) -> bool
     requires { IsType column.now.kind }
     ensures { result ≡ is_some (new_value column.now.kind (option_and_then literal_in (assigned_to assigns.now column.now.name))) }
@@ -86,7 +86,7 @@ fn fits_assigned(column: &Column, assigns: &[Assign]) -> bool
     }
 }
 
-/// The value, or none, that is assigned to each plain column, in column order.
+/// Returns the value that is assigned to each plain column, or none, in column order.
 pub(crate) fn new_values(
     alloc: Global,
     columns: &[Column],
@@ -104,7 +104,8 @@ pub(crate) fn new_values(
     Ok(values)
 }
 
-/// The value that is assigned to a column, if a literal is that is one at its scale.
+/// Returns the value that is assigned to a column, if a literal is assigned that is a value at the
+/// column's scale.
 fn new_value(
     alloc: Global,
     column: &Column,

@@ -14,7 +14,7 @@ pub(crate) fn push(text: &mut String, words: &str) -> Result<(), AllocError>
     text.push_str(words)
 }
 
-/// Adds words and a name behind them.
+/// Adds words and a name after them.
 pub(crate) fn push_named(text: &mut String, words: &str, name: &Name) -> Result<(), AllocError>
     ensures { OnOk result (string_bytes text.new ≡ string_bytes text.old ++ (words.now ++ name.now)) }
 {
@@ -30,7 +30,7 @@ pub(crate) fn push_number(alloc: Global, text: &mut String, number: u64) -> Resu
     push(text, digits.as_str())
 }
 
-/// Adds words and a number of units of a scale behind them, with a minus where it is negative.
+/// Adds words and a number of units of a scale after them, with a minus if it is negative.
 fn push_limit(text: &mut String, words: &str, scale: Scale, limit: Wide) -> Result<(), AllocError>
     ensures { OnOk result (string_bytes text.new ≡ string_bytes text.old ++ (words.now ++ scaled_text scale limit)) }
 {
@@ -38,7 +38,8 @@ fn push_limit(text: &mut String, words: &str, scale: Scale, limit: Wide) -> Resu
     push(text, Scaled::new(limit, scale).as_str())
 }
 
-/// Adds a form over columns of these names: each with a coefficient other than zero, in order.
+/// Adds a form over columns of these names: each column with a coefficient other than zero, in
+/// order.
 pub(crate) fn push_form(
     alloc: Global,
     text: &mut String,
@@ -57,7 +58,7 @@ pub(crate) fn push_form(
     Ok(())
 }
 
-/// Adds a term: its sign, and its column so many times.
+/// Adds a term: its sign, then its coefficient times its column.
 fn push_term(
     alloc: Global,
     text: &mut String,
@@ -72,7 +73,7 @@ fn push_term(
     push_times(alloc, text, coefficient.get().unsigned_abs(), name)
 }
 
-/// The sign of a term: the first one shows a minus alone.
+/// Returns the sign of a term. The first term only shows a minus.
 fn sign_of(is_first: bool, coefficient: Amount) -> &'static str
     ensures { result.now ≡ sign_words is_first coefficient }
 {
@@ -84,7 +85,7 @@ fn sign_of(is_first: bool, coefficient: Amount) -> &'static str
     }
 }
 
-/// Adds a column, so many times.
+/// Adds a column times a magnitude.
 fn push_times(
     alloc: Global,
     text: &mut String,
@@ -100,7 +101,7 @@ fn push_times(
     push_named(text, " * ", name)
 }
 
-/// Whether a number is zero.
+/// Returns whether a number is zero.
 fn is_zero(number: Amount) -> bool
     ensures { result ≡ int_eq number (pos 0) }
 {

@@ -1,4 +1,4 @@
-//! What a terminal is sent while the sessions of a phase run at the same time.
+//! What is sent to a terminal while the sessions of a phase run at the same time.
 use super::program::CommandLine;
 use escrow_server::{Terminal, run_program};
 use std::alloc::Global;
@@ -8,10 +8,10 @@ use std::sync::{Arc, Mutex, Wait};
 use std::thread::Threads;
 use std::time::{Clock, Duration};
 
-/// What a terminal was sent.
+/// The bytes that were sent to a terminal.
 type Sent = Arc<Mutex<Vec<u8>>, Global>;
 
-/// A terminal that keeps what it is sent: what is drawn, and the replies.
+/// A terminal that keeps what is sent to it: what is drawn, and the replies.
 #[derive(Drop)]
 struct Tape<R> {
     rt: R,
@@ -34,23 +34,24 @@ const ASKED: &str = "bank2.1: COMMIT\nbank2.2: COMMIT\n";
 
 const ANSWERED: &str = "bank2.1> OK committed 0\nbank2.2> OK committed 0\n";
 
-/// How a drawing of the first phase begins, up to how many statements of the phase were served, and one of the last.
+/// The beginning of a drawing of the first phase, up to how many statements of the phase were
+/// served; and that of the last phase.
 const FIRST: &str = "\u{1b}[?7lphase 1: ";
 
 const LAST: &str = "\u{1b}[?7lphase 2: ";
 
-/// What is behind that number, up to the first total of the second database.
+/// The text after that number, up to the first total of the second database.
 const BESIDE: &str =
     " of 10000 statements\u{1b}[K\nbank: served 0 granted 0 broken 0 commits 0\u{1b}[K\nbank2: served ";
 
-/// What is behind the line of the second database.
+/// The text after the line of the second database.
 const END: &str = "\u{1b}[K\n\u{1b}[?7h";
 
-/// How three lines are erased.
+/// The codes that erase three lines.
 const ERASED: &str = "\r\u{1b}[3A\u{1b}[J";
 
-/// Lines are drawn over and over, the last ones with totals that were taken together, and are erased before the replies.
-/// The last phase may be drawn too.
+/// Lines are drawn over and over, the last ones with totals that were read together, and are erased
+/// before the replies. The last phase may be drawn too.
 fn check_drawn<R: Abort>(rt: &R, sent: &[u8], replies: &str) {
     let sent = str::from_utf8(sent).unwrap_or_default();
     let (drawn, rest) = sent.split_once(ERASED).expect(rt, "what erases");
@@ -68,8 +69,8 @@ fn check_drawn<R: Abort>(rt: &R, sent: &[u8], replies: &str) {
     assert!(rt; before.is_empty() || is_drawn);
 }
 
-/// Lines are drawn while the sessions of a phase run at the same time. A phase may be too short to be seen, so it is tried
-/// again. If line after line is served nothing is drawn.
+/// Lines are drawn while the sessions of a phase run at the same time. A phase may be too short to
+/// be seen, so it is tried again. If lines are served one after another, nothing is drawn.
 #[test]
 fn drawn_and_erased(rt: HostRuntime) {
     let sent = Arc::new(rt.alloc(), Mutex::new(Vec::new(rt.alloc()))).expect(&rt, "memory");
@@ -95,7 +96,8 @@ fn drawn_and_erased(rt: HostRuntime) {
     assert!(rt; sent.lock(&rt).as_slice() == replies.as_bytes());
 }
 
-/// Serves a script to its end. The replies and what a screen shows, with the shortest pause, go to one terminal. It may wait.
+/// Serves a script to its end. The replies and what a screen shows, with the shortest pause, go to
+/// one terminal. May wait.
 fn serve<R: Wait + Clock + Copy + Drop + Send + 'static, T: Abort + Threads + Wait + Sync>(
     own: R,
     rt: &HostRuntime,

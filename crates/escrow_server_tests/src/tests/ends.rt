@@ -1,4 +1,5 @@
-//! Ends of transactions that one call decides, and a restart, by the calls of a database that no script makes.
+//! Ends of transactions that one call decides, and a restart, through calls of a database that no
+//! script makes.
 use super::free::databases;
 use escrow_core::{Database, Event, Failure, Reply, Settled, Stop};
 use escrow_memory::BlockStore;
@@ -10,7 +11,7 @@ use std::process::Abort;
 /// A session's number, its statement, and the lines of the reply.
 type Served = (u8, &'static str, &'static str);
 
-/// Three sessions hold a reservation each, of an account with a balance of 100.
+/// Three sessions each hold a reservation of an account with a balance of 100.
 const THREE_OPEN: [Served; 5] = [
     (
         1,
@@ -35,7 +36,7 @@ const THREE_OPEN: [Served; 5] = [
     ),
 ];
 
-/// The rows after the second session's COMMIT, and after that of the third session too.
+/// The rows after the second session's COMMIT, and after the third session's too.
 const ONE_APPLIED: [Served; 1] = [(
     9,
     "SELECT * FROM ACCOUNT",
@@ -48,14 +49,14 @@ const TWO_APPLIED: [Served; 1] = [(
     "ID | BALANCE\n1 | 87\nOK rows 1\n",
 )];
 
-/// What is open where a plan stops.
+/// What is open when a plan stops.
 const LEFT: [Served; 1] = [(
     9,
     "SHOW JOURNAL",
     "2 session 2 ACCOUNT 1 BALANCE +7\nOK reservations 1\n",
 )];
 
-/// A reservation behind those that were settled, and what is open then and after a restart.
+/// A reservation made after some were settled, and what is open then and after a restart.
 const TAKEN: [Served; 1] = [(
     1,
     "UPDATE ACCOUNT SET BALANCE = BALANCE - 30 WHERE ID = 1",
@@ -70,8 +71,8 @@ const TAKEN_LEFT: [Served; 1] = [(
 
 const NONE_LEFT: [Served; 1] = [(9, "SHOW JOURNAL", "OK reservations 0\n")];
 
-/// COMMITs with other statements between them, behind [`THREE_OPEN`], and their replies where the store does what it is
-/// asked.
+/// COMMITs with other statements between them, after [`THREE_OPEN`], and their replies if the store
+/// does what it is asked.
 const DONE: [Served; 6] = [
     (1, "COMMIT", "OK committed 1\n"),
     (
@@ -85,7 +86,7 @@ const DONE: [Served; 6] = [
     (3, "COMMIT", "OK committed 1\n"),
 ];
 
-/// The replies to the same where the store refuses each COMMIT.
+/// The replies to the same if the store refuses each COMMIT.
 const REFUSED: [Served; 6] = [
     (1, "COMMIT", "ERR 60 store\n"),
     (
@@ -99,7 +100,7 @@ const REFUSED: [Served; 6] = [
     (3, "COMMIT", "ERR 60 store\n"),
 ];
 
-/// What is open behind COMMITs that were refused. They can be asked again.
+/// What is open after COMMITs that were refused. They can be asked again.
 const ASKED_AGAIN: [Served; 5] = [
     (
         9,
@@ -112,7 +113,7 @@ const ASKED_AGAIN: [Served; 5] = [
     (4, "COMMIT", "OK committed 1\n"),
 ];
 
-/// The rows behind all COMMITs.
+/// The rows after all COMMITs.
 const ALL_APPLIED: [Served; 1] = [(
     9,
     "SELECT * FROM ACCOUNT",
@@ -125,7 +126,7 @@ const SECOND: (u8, End) = (2, End::Commit);
 
 const THIRD: (u8, End) = (3, End::Commit);
 
-/// Plans of ends: each order of three.
+/// Plans of ends: three sessions in each order.
 const ORDERS: [[(u8, End); 3]; 6] = [
     [BACK, SECOND, THIRD],
     [BACK, THIRD, SECOND],
@@ -135,7 +136,7 @@ const ORDERS: [[(u8, End); 3]; 6] = [
     [THIRD, SECOND, BACK],
 ];
 
-/// Serves statements by one call.
+/// Serves statements in one call.
 fn replies_to<R: Abort + AllocGlobal>(
     rt: &R,
     database: &mut Database<BlockStore>,
@@ -159,7 +160,7 @@ fn replies_to<R: Abort + AllocGlobal>(
     replies
 }
 
-/// Compares replies to statements with those that are wanted.
+/// Compares replies to statements with the expected ones.
 fn compare<R: Abort + AllocGlobal>(rt: &R, replies: &[Reply], cases: &[Served]) {
     for (reply, (_, text, wanted)) in replies.iter().zip(cases) {
         let lines = render_lines(rt.alloc(), "", reply).expect(rt, "memory");
@@ -167,13 +168,13 @@ fn compare<R: Abort + AllocGlobal>(rt: &R, replies: &[Reply], cases: &[Served]) 
     }
 }
 
-/// Serves statements by one call, and compares their replies.
+/// Serves statements in one call, and compares their replies.
 fn serve<R: Abort + AllocGlobal>(rt: &R, database: &mut Database<BlockStore>, cases: &[Served]) {
     let replies = replies_to(rt, database, cases);
     compare(rt, &replies, cases);
 }
 
-/// Settles a plan, each end within so many steps of the store.
+/// Settles a plan, with a limit on the store's steps for each end.
 fn settle<R: Abort + AllocGlobal>(
     rt: &R,
     database: &mut Database<BlockStore>,
@@ -211,8 +212,9 @@ fn settle_orders(rt: HostRuntime) {
     }
 }
 
-/// A plan stops at the COMMIT that takes more steps of the store than it may, and what is before it is done; with steps
-/// enough it is settled. A restart that the store refuses changes nothing, and one that it doesn't drops all that is open.
+/// A plan stops at the COMMIT that takes more steps of the store than it may, and what comes before
+/// is done. With enough steps it is settled. A restart that the store refuses changes nothing, and
+/// one that it accepts drops everything that is open.
 #[test]
 fn settle_stops(rt: HostRuntime) {
     for database in &mut databases(&rt, 1) {
@@ -246,9 +248,9 @@ fn settle_stops(rt: HostRuntime) {
     }
 }
 
-/// One call is given four COMMITs with other statements between them. If each statement may take few steps of the store,
-/// all four are refused, and the others are served as ever; with steps enough all four are done. COMMITs that were
-/// refused have changed nothing, and can be asked again.
+/// One call gets four COMMITs with other statements between them. If each statement may take few
+/// steps of the store, all four are refused, and the others are served as usual. With enough steps
+/// all four are done. COMMITs that were refused have changed nothing, and can be asked again.
 #[test]
 fn commits_stop(rt: HostRuntime) {
     let mut stops = 0u64;

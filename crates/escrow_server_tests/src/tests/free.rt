@@ -1,4 +1,4 @@
-//! Scripts whose sessions run at the same time, with their histories, and past a gate.
+//! Scripts whose sessions run at the same time, with their histories and with a gate.
 use super::runs::{BY_PHASES, THREE, THREE_REPLIES, due};
 use super::streams::{Sink, Source};
 use escrow_core::Database;
@@ -16,7 +16,7 @@ use std::sync::Wait;
 use std::sync::atomic::{AtomicU64, Ordering};
 use std::thread::{self, Threads};
 
-/// So many databases without tables, over stores in memory.
+/// Returns this many databases without tables, over stores in memory.
 pub(super) fn databases<R: Abort + AllocGlobal>(rt: &R, count: usize) -> Vec<Database<BlockStore>> {
     let mut databases = Vec::new(rt.alloc());
     for _ in 0..count {
@@ -36,7 +36,7 @@ pub(super) fn databases<R: Abort + AllocGlobal>(rt: &R, count: usize) -> Vec<Dat
     databases
 }
 
-/// Serves what a reader gives in databases, past a gate. It may wait.
+/// Serves in databases what a reader returns, with a gate. May wait.
 fn serve_in<R: Abort + AllocGlobal + Threads + Wait + Sync, I: Read, W: Write, G: Gate + Sync>(
     rt: &R,
     databases: Vec<Database<BlockStore>>,
@@ -48,11 +48,11 @@ fn serve_in<R: Abort + AllocGlobal + Threads + Wait + Sync, I: Read, W: Write, G
     serve_free(rt, rt.alloc(), databases, reader, writer, gate)
 }
 
-/// How often is looked whether the other one has come.
+/// How often a session looks whether the other one has come.
 const TURNS: u64 = 10_000_000;
 
-/// The first calls of two sessions meet: before they are made, or while they hold their locks. The first one is session 1
-/// of the first database, and the other one is given.
+/// The first calls of two sessions meet: before they are made, or while they hold their locks. One
+/// is session 1 of the first database, and the other one is given.
 #[derive(Drop)]
 struct Meeting {
     is_inside: bool,
@@ -63,7 +63,7 @@ struct Meeting {
 }
 
 impl Meeting {
-    /// A session comes, and waits for the other one.
+    /// A session arrives, and waits for the other one.
     fn come(&self, database: usize, session: Session, n: u64) {
         let place = (database, session.get());
         let is_first = place == (0, 1);
@@ -123,7 +123,7 @@ fn meet<R: Abort + AllocGlobal + Threads + Wait + Sync>(
     assert_eq!(rt; written.as_slice(), replies.as_bytes());
 }
 
-/// The sessions of a database come to their first calls together.
+/// The sessions of a database arrive at their first calls together.
 #[test]
 fn gate_before(rt: HostRuntime) {
     let script = "bank.1: COMMIT\nbank.2: COMMIT\n";
@@ -139,8 +139,8 @@ fn gate_inside(rt: HostRuntime) {
     meet(&rt, true, (1, 1), script, replies);
 }
 
-/// The replies to a phase are written before the lines of the next one are asked for, and not before it came whole, however
-/// many bytes a read gives.
+/// The replies to a phase are written before the lines of the next one are requested, and not
+/// before the phase has come completely, however many bytes a read returns.
 #[test]
 fn phase_by_phase(rt: HostRuntime) {
     for at_a_time in [1, 3, 20, 33] {
@@ -171,15 +171,16 @@ fn phase_by_phase(rt: HostRuntime) {
     }
 }
 
-/// How many sessions of a database ask, how many phases there are, and how much each session asks in one.
+/// How many sessions of a database ask statements, how many phases there are, and how many
+/// statements each session asks in one.
 const SESSIONS: u8 = 4;
 
 const PHASES: u16 = 3;
 
 const ASKED: u16 = 20;
 
-/// A history is numbered from 1 on, the statements of each session are in it in their order, all of them, and those
-/// of a phase are behind all of the phases before it.
+/// The entries of a history are numbered from 1. All statements of each session are in it, in their
+/// order, and those of a phase come after all of the phases before it.
 fn check_history<R: Abort + AllocGlobal>(rt: &R, entries: &[Entry]) {
     let mut served = [0u16; SESSIONS as usize + 1];
     let mut number = 0u64;
@@ -202,7 +203,7 @@ fn check_history<R: Abort + AllocGlobal>(rt: &R, entries: &[Entry]) {
     assert_eq!(rt; served, [0, 60, 60, 60, 60]);
 }
 
-/// Four sessions of each of two databases ask at the same time, in three phases.
+/// Four sessions of each of two databases ask statements at the same time, in three phases.
 #[test]
 fn histories(rt: HostRuntime) {
     let mut script = String::new(rt.alloc());
@@ -244,8 +245,9 @@ const COMMITTED_2: &str = "bank2.1> OK committed 0\n";
 
 const JOIN: Asked = ("@join\n", 1, "");
 
-/// A long script, and the parts that are handed out: the database of each, its number, how many entries it has, and the
-/// number of the first; then how many entries each last transcript has, and the number of the first.
+/// A long script, and the parts that are handed out: for each, its database, its number, how many
+/// entries it has, and the number of the first. Then, for each last transcript, how many entries it
+/// has, and the number of the first.
 struct Long {
     asked: &'static [Asked],
     parts: &'static [(usize, u64, usize, u64)],
@@ -265,9 +267,9 @@ const FULL: &Long = &Long {
     last: &[(1, 65_537)],
 };
 
-/// A database hands out what it served after each phase that leaves 32,768 entries or more, unless a transaction is open.
-/// So it serves more than 65,536 statements. A transaction of `bank` is open over the end of the second phase, which leaves
-/// `bank2` an entry short of a part.
+/// A database hands out what it served after each phase that leaves 32,768 entries or more, unless
+/// a transaction is open. So it serves more than 65,536 statements. A transaction of `bank` is open
+/// across the end of the second phase, which leaves `bank2` one entry short of a part.
 const DRAINED: &Long = &Long {
     asked: &[
         (COMMIT, 33_000, COMMITTED),
@@ -293,14 +295,14 @@ const DRAINED: &Long = &Long {
     last: &[(1, 66_003), (2, 65_537)],
 };
 
-/// There are so many entries, numbered from a first one on.
+/// There are this many entries, numbered from a first one on.
 fn check_entries<R: Abort>(rt: &R, entries: &[Entry], count: usize, first: u64) {
     assert_eq!(rt; entries.len(), count);
     let numbers = entries.iter().map(|entry| entry.number);
     assert!(rt; numbers.eq(first..first.saturating_add(count as u64)));
 }
 
-/// Serves a long script. It may wait.
+/// Serves a long script. May wait.
 fn check_long<R: Abort + AllocGlobal + Threads + Wait + Sync>(rt: &R, long: &Long) {
     let mut script = String::new(rt.alloc());
     let mut wanted = String::new(rt.alloc());
@@ -336,9 +338,9 @@ fn long_free(rt: HostRuntime) {
     }
 }
 
-/// The fault of a script of one line over two databases, if there is one. The second has served statements of its first
-/// session, and its store takes so many steps for a statement at most. With a fault nothing was read, and nothing written.
-/// It may wait.
+/// Returns the fault of a script of one line over two databases, if there is one. The second has
+/// served statements of its first session, and its store has a limit on the steps for a statement.
+/// If there is a fault, nothing was read or written. May wait.
 fn fault_of<R: Abort + AllocGlobal + Threads + Wait + Sync>(
     rt: &R,
     texts: &[&str],
@@ -372,8 +374,8 @@ const ROW: [&str; 2] = [
     "INSERT INTO T VALUES (1, 5)",
 ];
 
-/// Nothing may be open in a database that is handed in. Nor may a store fail when it is read at the beginning, whichever step
-/// is one too many.
+/// Nothing may be open in a database that is passed in, and its store may not fail when it is read
+/// at the beginning, whichever step is one too many.
 #[test]
 fn handed_in(rt: HostRuntime) {
     let fault = fault_of(&rt, &["SAVEPOINT A"], None);

@@ -7,7 +7,7 @@ use std::process::{Abort, ExitCode};
 use std::sync::Wait;
 use std::thread::Threads;
 
-/// A command line: the words behind the program's name, with `|` between them.
+/// A command line: the words after the program's name, with `|` between them.
 #[derive(Drop)]
 pub(super) struct CommandLine<'a>(pub(super) &'a [u8]);
 
@@ -36,15 +36,15 @@ impl Env for CommandLine<'_> {
     }
 }
 
-/// A run of the program over streams of a test's own, and what it has to show.
+/// A run of the program over streams of a test's own, and what it must show.
 #[derive(Clone, Copy)]
 pub(super) struct Run {
     /// The command line.
     pub(super) line: &'static [u8],
-    /// How many bytes of the script a read gives, and whether the reader fails behind it.
+    /// How many bytes of the script a read returns, and whether the reader fails after the script.
     pub(super) at_a_time: usize,
     pub(super) fails: bool,
-    /// How many bytes the output takes.
+    /// How many bytes the output accepts.
     pub(super) room: usize,
     pub(super) status: u8,
     pub(super) errors: &'static str,
@@ -60,8 +60,8 @@ pub(super) const SERVED: Run = Run {
     errors: "",
 };
 
-/// Runs the program over a script, and compares its status, its replies and its errors. Returns how often it wrote to the
-/// output. It may wait.
+/// Runs the program over a script, and compares its status, its replies and its errors. Returns how
+/// often it wrote to the output. May wait.
 pub(super) fn check<T: Abort + Threads + Wait + Sync>(
     rt: &HostRuntime,
     to: &T,

@@ -1,9 +1,10 @@
-//! Files of a store that is refused, which other programs change between the calls that open it and put it back.
+//! Files of a store that is refused, which other programs change between the calls that open it and
+//! those that restore it.
 use escrow_server::{InFiles, OpenStore, Outlook};
 use std::process::Abort;
 use std::{fs, io};
 
-/// A database and its log: what is written there, or has to stand there. None: nothing.
+/// A database and its log: what is written there, or must be there. `None` means no file.
 type Files = [Option<&'static str>; 2];
 
 /// The folder of the store, its files, and others that are moved to their places.
@@ -15,7 +16,8 @@ const OTHERS: [&str; 2] = ["back/file", "back/log"];
 
 const NONE: Files = [None, None];
 
-/// What is written at first, before both files are locked, and before they are put back; and what is then left.
+/// What is written at first, before both files are locked, and before they are restored; and what
+/// is left then.
 #[derive(Clone, Copy)]
 struct Left {
     before: Files,
@@ -35,11 +37,11 @@ const BOTH_MADE: Left = Left {
     left: NONE,
 };
 
-/// What the program has made is taken away. What another program made since it looked stays, and so does what was moved
-/// to the place of a file.
+/// What the program has made is removed. What another program made since it looked stays, and so
+/// does what was moved to the place of a file.
 const LEFT: [Left; 9] = [
     BOTH_MADE,
-    // another program makes the database meanwhile, or both, of which all may be in the log
+    // another program makes the database meanwhile, or both files; everything may be in the log
     Left {
         locked: [Some("store"), Some("")],
         left: [Some("store"), None],
@@ -65,7 +67,7 @@ const LEFT: [Left; 9] = [
         left: [None, Some("log")],
         ..BOTH_MADE
     },
-    // the database was there, with its log or without, and so was an empty file
+    // the database existed, with its log or without, and so did an empty file
     Left {
         before: [Some("store"), None],
         locked: [None, Some("")],
@@ -113,13 +115,13 @@ fn move_in(rt: &HostRuntime, files: Files) -> io::Result<()> {
     Ok(())
 }
 
-/// A file has this content.
+/// Asserts that a file has this content.
 fn hold<T: Abort>(rt: &HostRuntime, to: &T, path: &str, text: &str) {
     let found = fs::read(rt, path).expect(to, "a file");
     assert_eq!(to; found.as_slice(), text.as_bytes(), "{path}");
 }
 
-/// The folder has just these files.
+/// Asserts that the folder has exactly these files.
 fn stand<T: Abort>(rt: &HostRuntime, to: &T, files: Files) {
     let mut count = 0usize;
     for (path, text) in FILES.iter().zip(files.iter()) {

@@ -1,9 +1,10 @@
-//! Readers and writers that fail behind each byte, and how often the program writes, in each mode.
+//! Readers and writers that fail after each byte, and how often the program writes, in each mode.
 use super::program::{Run, SERVED, check};
 
 const READ: &str = "escrowd: the script can't be read: Input/output error (os error 5)\n";
 
-/// What is said of a writer that took so many bytes. At an even number it takes nothing more, and at an odd one it fails.
+/// Returns what is printed about a writer that accepted this many bytes. At an even number it
+/// accepts nothing more, and at an odd one it fails.
 fn write_fault(room: usize) -> &'static str {
     if room % 2 == 0 {
         "escrowd: a reply can't be written: standard output takes nothing\n"
@@ -19,14 +20,15 @@ pub(super) const THREE: &str =
 pub(super) const THREE_REPLIES: &str =
     "bank.1> OK committed 0\nbank.2> OK rolled back 0\nscript> ERR 12 line\nbank.1> OK committed 0\n";
 
-/// From how many bytes of that script on so many bytes of its replies are to be written: line by line, and phase by phase.
+/// From how many bytes of that script on, how many bytes of its replies must be written: line by
+/// line, and phase by phase.
 type Due = &'static [(usize, usize)];
 
 const BY_LINES: Due = &[(0, 0), (15, 23), (38, 48), (53, 68), (74, 91)];
 
 pub(super) const BY_PHASES: Due = &[(0, 0), (21, 23), (59, 68)];
 
-/// How many bytes of replies are to be written once so many bytes of the script were read.
+/// Returns how many bytes of replies must be written once this many bytes of the script were read.
 pub(super) fn due(due: Due, read: usize) -> usize {
     let mut written = 0;
     for (from, bytes) in due {
@@ -37,8 +39,8 @@ pub(super) fn due(due: Due, read: usize) -> usize {
     written
 }
 
-/// What is written before the fault are the replies to the lines, or the phases, that had come whole, wherever the reader
-/// fails.
+/// Wherever the reader fails, the replies to the lines, or the phases, that had come completely are
+/// written before the fault.
 #[test]
 fn failing_readers(rt: HostRuntime) {
     for (line, dues) in [
@@ -62,7 +64,8 @@ fn failing_readers(rt: HostRuntime) {
     }
 }
 
-/// An account that two sessions change, one in each of two phases, and that is shown in a third one; and the replies.
+/// An account that two sessions change, one in each of two phases, and that is shown in a third;
+/// and the replies.
 const ACCOUNT: &str =
     "bank.1: CREATE TABLE ACCOUNT (ID INTEGER PRIMARY KEY, BALANCE INTEGER RESERVABLE CONSTRAINT MINIMUM_BALANCE CHECK (BALANCE >= 50))
 bank.1: INSERT INTO ACCOUNT VALUES (1, 100)
@@ -90,7 +93,7 @@ bank.1> 2 session 2 ACCOUNT 1 BALANCE +5
 bank.1> OK reservations 2
 ";
 
-/// What is written before the fault is a prefix of the replies, wherever the writer fails.
+/// Wherever the writer fails, a prefix of the replies is written before the fault.
 #[test]
 fn failing_writers(rt: HostRuntime) {
     for line in [b"run".as_slice(), b"serve", b"free"] {
@@ -109,8 +112,8 @@ fn failing_writers(rt: HostRuntime) {
     }
 }
 
-/// A script's lines and their replies, how often they are repeated, how many bytes a read gives, and how often the program
-/// writes then.
+/// A script's lines and their replies, how often they are repeated, how many bytes a read returns,
+/// and how often the program writes then.
 type Written = (&'static str, &'static str, u16, usize, usize);
 
 const LINES: &str = "bank.1: COMMIT\nbank.2: ROLLBACK\nshop.1: COMMIT\n";
@@ -118,7 +121,7 @@ const LINES: &str = "bank.1: COMMIT\nbank.2: ROLLBACK\nshop.1: COMMIT\n";
 const LINES_REPLIES: &str =
     "bank.1> OK committed 0\nbank.2> OK rolled back 0\nscript> ERR 12 line\n";
 
-/// The last one gathers replies past 65,536 bytes, which are written though a line is in hand.
+/// The last case gathers replies past 65,536 bytes, which are written though a line is in hand.
 const WRITTEN: [Written; 6] = [
     (LINES, LINES_REPLIES, 500, 4700, 5),
     (LINES, LINES_REPLIES, 500, 470, 50),
@@ -128,8 +131,8 @@ const WRITTEN: [Written; 6] = [
     ("x\n", "script> ERR 12 line\n", 4096, 8192, 2),
 ];
 
-/// Lines that come together are answered together, by one write, and lines that come one by one, or byte by byte, are
-/// answered one by one.
+/// Lines that come together are answered together, in one write. Lines that come one by one, or
+/// byte by byte, are answered one by one.
 #[test]
 fn one_write_a_read(rt: HostRuntime) {
     for (lines, line_replies, times, at_a_time, calls) in WRITTEN {

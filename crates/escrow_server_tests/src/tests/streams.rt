@@ -1,14 +1,14 @@
-//! What gives a script, and what takes replies.
+//! A reader that returns a script, and a writer that accepts replies.
 use std::cell::Cell;
 use std::io::{self, Error, Read, Write};
 
-/// The numbers of Linux's errors of devices that fail, and of disks that are full.
+/// The numbers of Linux's errors for a device that fails, and for a full disk.
 const IO_ERROR: i32 = 5;
 
 const NO_SPACE: i32 = 28;
 
-/// Gives bytes, so many at a time, and reports the end behind them, or fails there as a device does. It notes at each read how
-/// many bytes it had given, and how many were written.
+/// Returns bytes, a number at a time, and reports the end after them, or fails there as a device
+/// does. At each read it notes how many bytes it had returned, and how many were written.
 #[derive(Drop)]
 pub(super) struct Source<'a> {
     pub(super) rest: &'a [u8],
@@ -32,7 +32,8 @@ impl Read for Source<'_> {
     }
 }
 
-/// Takes so many bytes, and then fails for want of space, or takes nothing. It counts the calls.
+/// Accepts a number of bytes, and then fails because the disk is full, or accepts nothing. It
+/// counts the calls.
 #[derive(Drop)]
 pub(super) struct Sink<'a> {
     pub(super) taken: Vec<u8>,

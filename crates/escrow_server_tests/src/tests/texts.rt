@@ -6,7 +6,7 @@ use escrow_server::{CloseFault, FreeFault, OpenFault, ServeFault, WriteFault};
 use sqlite::{Error, ErrorCode};
 use std::io;
 
-/// What is said of errors of the system's at which a store isn't opened, by their numbers.
+/// The texts of system errors with which a store can't be opened, by their numbers.
 const SYSTEM: [(i32, &str); 6] = [
     (
         13,
@@ -22,7 +22,8 @@ const SYSTEM: [(i32, &str); 6] = [
     (5, "Input/output error (os error 5)"),
 ];
 
-/// What is said of SQLite's refusals at which a store isn't opened, and at which one isn't closed.
+/// The texts of SQLite's errors with which a store can't be opened, and with which one can't be
+/// closed.
 const SQLITE: [(ErrorCode, &str, &str); 4] = [
     (ErrorCode::OutOfMemory, "out of memory", "out of memory"),
     (ErrorCode::DiskFull, "the disk is full", "the disk is full"),
@@ -38,7 +39,7 @@ const SQLITE: [(ErrorCode, &str, &str); 4] = [
     ),
 ];
 
-/// What is said of faults of scripts that no script shows.
+/// The texts of faults of scripts that no script shows.
 const SERVED: [(ServeFault, &str); 2] = [
     (ServeFault::Memory, "out of memory"),
     (
@@ -47,7 +48,7 @@ const SERVED: [(ServeFault, &str); 2] = [
     ),
 ];
 
-/// The same, where sessions run at the same time.
+/// The same, for sessions that run at the same time.
 const FREE: [(FreeFault, &str); 5] = [
     (FreeFault::Memory, "out of memory"),
     (
@@ -82,7 +83,7 @@ fn faults(rt: HostRuntime) {
     }
 }
 
-/// Refusals that no script meets, with what is answered.
+/// Refusals that no script meets, with their texts.
 const REFUSALS: [(Refusal, &str); 9] = [
     (
         Refusal::Syntax { column: 65_537 },
@@ -98,7 +99,7 @@ const REFUSALS: [(Refusal, &str); 9] = [
     (Refusal::UnknownVersion, "ERR 62 unknown version"),
 ];
 
-/// The lines of a session and those of a whole database.
+/// The lines of a session, and those of a whole database.
 #[test]
 fn refusals(rt: HostRuntime) {
     for (refusal, words) in REFUSALS {

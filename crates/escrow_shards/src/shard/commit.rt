@@ -18,8 +18,8 @@ impl<S: Alter, L: UnderLock<S>> Shard<S, L> {
     ghost use Rattle.escrow_history.specs.Calls.{IsAnswer};
     ghost use Rattle.escrow_machine.specs.Reply.{failure_of};
 
-    /// Serves the COMMIT of a session. If another call serves one, it waits, and that call or the next serves it together
-    /// with its own. It may wait.
+    /// Serves the COMMIT of a session. If another call is serving one, this call waits, and that
+    /// call or the next serves the COMMIT together with its own. May wait.
     pub(super) fn commit<R: Wait>(
         &self,
         rt: &R,
@@ -37,7 +37,7 @@ impl<S: Alter, L: UnderLock<S>> Shard<S, L> {
         }
     }
 
-    /// Asks the COMMIT of a session, and waits until its call leads or it was served.
+    /// Enters the COMMIT of a session, and waits until this call leads or the COMMIT was served.
     fn turn<R: Wait>(&self, rt: &R, session: Session) -> Turn {
         let mut waiting = self.waiting.lock(rt);
         let turn = waiting.ask(session);
@@ -50,7 +50,8 @@ impl<S: Alter, L: UnderLock<S>> Shard<S, L> {
         waiting.take(session)
     }
 
-    /// Serves the COMMIT of a session, and those that wait with it. Has another one lead then, if one waits.
+    /// Serves the COMMIT of a session, together with those that wait. Then makes another call lead,
+    /// if one waits.
     fn lead<R: Wait>(&self, rt: &R, alloc: Global, session: Session) -> Result<Served, Unserved>
         ensures kept { IfOk result (λ r. r.kept ≡ r.reply) }
         ensures succeeds { IfOk result (λ r. failure_of r.reply ≡ None) }
@@ -79,7 +80,7 @@ impl<S: Alter, L: UnderLock<S>> Shard<S, L> {
         locked.serve_locked(rt, alloc, session, &Statement::Commit)
     }
 
-    /// Serves the COMMIT of a session under the lock, together with those that wait where that can be.
+    /// Serves the COMMIT of a session under the lock, together with those that wait if possible.
     fn commit_with_those<R: Wait>(
         &self,
         rt: &R,
@@ -97,9 +98,10 @@ impl<S: Alter, L: UnderLock<S>> Shard<S, L> {
         }
     }
 
-    /// Serves the COMMITs that wait, together with that of a session, and leaves in their places what came of them.
-    /// Returns what came of the session's. `None` if none waits, or they can't be served together, for want of memory or
-    /// of room in the transcript; then none was served.
+    /// Serves the COMMITs that wait, together with that of a session, and leaves the outcomes in
+    /// their places. Returns the outcome of the session's own. Returns `None` if none waits, or if
+    /// they can't be served together because memory or room in the transcript is refused. Then none
+    /// was served.
     fn commit_together<R: Wait>(
         &self,
         rt: &R,
@@ -118,7 +120,8 @@ impl<S: Alter, L: UnderLock<S>> Shard<S, L> {
         Some(*own)
     }
 
-    /// A session, and then those whose COMMITs wait. `None` if none does, or there is no memory.
+    /// Returns a session, and then those whose COMMITs wait. Returns `None` if none waits or memory
+    /// is refused.
     fn those_with<R: Wait>(&self, rt: &R, alloc: Global, session: Session) -> Option<Vec<Session>>
         ensures { IfSome result (λ sessions. 2 ≤ vec_len sessions) }
     {
@@ -134,7 +137,7 @@ impl<S: Alter, L: UnderLock<S>> Shard<S, L> {
     }
 }
 
-/// What a COMMIT is answered that was served, or wasn't.
+/// Returns the answer to a COMMIT, by its outcome.
 fn served(outcome: Result<Committed, Failure>) -> Result<Served, Unserved>
     ensures kept { IfOk result (λ r. r.kept ≡ r.reply) }
     ensures succeeds { IfOk result (λ r. failure_of r.reply ≡ None) }

@@ -17,9 +17,9 @@ impl<S: Alter, L: UnderLock<S>> Shared<S, L> {
     ghost use Rattle.escrow_shards.specs.Answer.{IsAnswered};
     ghost use Rattle.escrow_shards.specs.Sharing.{HasSeat};
 
-    /// Serves one statement of the session of a pass, under the lock of its database. Where it is served
-    /// the pass has one receipt more; where it isn't, the pass is as it was. Room for the receipt, and its
-    /// copy of the statement, are taken before the lock. It may wait.
+    /// Serves one statement of the session of a pass, under the lock of its database. If the
+    /// statement is served, the pass has one more receipt; otherwise the pass is unchanged. Room
+    /// for the receipt and the copy of the statement in it are taken before the lock. May wait.
     pub fn call<R: Wait>(
         &self,
         rt: &R,
@@ -33,7 +33,8 @@ impl<S: Alter, L: UnderLock<S>> Shared<S, L> {
         self.call_gated(rt, alloc, pass, statement, &NoGate)
     }
 
-    /// The same, with a gate that is called while the lock is held.
+    /// Serves one statement as [`Shared::call`] does, with a gate that is called while the lock is
+    /// held.
     pub fn call_gated<R: Wait, G: Gate>(
         &self,
         rt: &R,
@@ -67,13 +68,13 @@ impl<S: Alter, L: UnderLock<S>> Shared<S, L> {
         }
     }
 
-    /// Hands out the next part of the history of a database, under its lock: what was served since the
-    /// part before, which may be nothing. It may wait.
+    /// Hands out the next part of the history of a database, under its lock: what was served since
+    /// the part before, which may be nothing. May wait.
     ///
     /// # Errors
     ///
-    /// [`Refusal::TransactionOpen`], [`Refusal::TranscriptFull`], [`Refusal::Memory`] and
-    /// [`Refusal::Store`]. No part is handed out then.
+    /// Fails with [`Refusal::TransactionOpen`], [`Refusal::TranscriptFull`], [`Refusal::Memory`] or
+    /// [`Refusal::Store`]. After an error no part is handed out.
     pub fn drain<R: Wait>(&self, rt: &R, alloc: Global, database: usize) -> Result<Part<S>, Refusal>
         requires { database < length self.now.openings }
         ensures part { IfOk result (λ p. p.database ≡ database) }

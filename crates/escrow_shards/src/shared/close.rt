@@ -18,20 +18,27 @@ impl<S: Alter + Drop, L: UnderLock<S> + Drop> Shared<S, L> {
     ghost use Rattle.escrow_shards.specs.Closing.{opening_of};
     ghost use Rattle.escrow_shards.specs.Whole.{AreWhole, IsTrueOf};
 
-    /// Ends the sharing, with all passes and all parts that were handed out. All fits together only where
-    /// each pass is handed in once, the parts of each database are all there, in order, the receipts
-    /// of each session are just its entries, in its order, each once, and no entry is of a session
-    /// without a pass. Then the entries of each database,
-    /// those of its parts and then those of its last transcript, are one legal run of the machine,
-    /// numbered from 1, from the state at its opening to the state in which it is handed back; as long as
-    /// its disk had returned what was written at its opening, whenever a part was handed out, and now.
-    /// What is compared is what passes and parts say: one of another sharing that says the same fits too.
-    /// Open transactions stay open. Takes no memory.
+    /// Ends the sharing. Takes all passes, and all parts that were handed out. Everything fits
+    /// together only if
+    ///
+    /// - each pass is handed in once,
+    /// - the parts of each database are all there, in order,
+    /// - the receipts of each session are exactly its entries, in its order, each once,
+    /// - no entry is of a session without a pass.
+    ///
+    /// Then the entries of each database, those of its parts followed by those of its last
+    /// transcript, are one legal run of the machine, numbered from 1. The run leads from the state
+    /// at the opening of the database to the state in which it is returned. This requires that its
+    /// disk returned what was written: at the opening, whenever a part was handed out, and now.
+    ///
+    /// The close compares only what passes and parts say: those of another sharing fit too if they
+    /// say the same. Open transactions stay open. Takes no memory.
     ///
     /// # Errors
     ///
-    /// The first cause that is found: passes, then parts, then receipts, those of sessions without a pass
-    /// last. Everything is handed back, the databases out of their locks.
+    /// Fails with the first cause that it finds. It tests passes, then parts, then receipts, and
+    /// last the entries of sessions without a pass. Everything is returned with the error, the
+    /// databases out of their locks.
     pub fn close(self, passes: Vec<Pass>, parts: Vec<Part<S>>) -> Result<Audit<S>, Mismatch<S>>
         ensures whole { IfOk result (λ a. AreWhole S.Store self passes.items parts.items a.closed.items) }
         ensures same { IfOk result (λ a. a.parts ≡ parts) }
@@ -53,7 +60,7 @@ impl<S: Alter + Drop, L: UnderLock<S> + Drop> Shared<S, L> {
     }
 }
 
-/// Databases out of their locks, into room that was taken for them.
+/// Takes databases out of their locks, into room that was taken for them.
 fn out_of_locks<S: Alter + Drop, L: UnderLock<S> + Drop>(
     shards: Vec<Shard<S, L>>,
     room: Room<S>,

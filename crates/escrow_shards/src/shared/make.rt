@@ -29,14 +29,15 @@ impl<S: Alter + Drop> Shared<S> {
     ghost use Rattle.escrow_shards.specs.Sharing.{HasSeat};
     ghost use Rattle.escrow_shards.specs.Watchers.{IsRefused};
 
-    /// Puts databases under locks, each with its opening beside it, and makes a pass without receipts for
-    /// each session of each database: by database, then by session. All memory that [`Shared::close`]
-    /// takes is taken here.
+    /// Puts databases under locks, each with its opening beside it. Makes a pass without receipts
+    /// for each session of each database: by database, then by session. Takes all the memory that
+    /// [`Shared::close`] needs.
     ///
     /// # Errors
     ///
-    /// [`Refusal::TransactionOpen`] just where something is open in a database; [`Refusal::Memory`] and
-    /// [`Refusal::Store`]. The databases are handed back, and nothing in them has changed.
+    /// Fails with [`Refusal::TransactionOpen`] exactly if something is open in a database.
+    /// Otherwise fails with [`Refusal::Memory`] or [`Refusal::Store`]. The databases are returned,
+    /// and nothing in them has changed.
     pub fn make(
         alloc: Global,
         mut databases: Vec<Database<S>>,
@@ -71,7 +72,7 @@ impl<S: Alter + Drop> Shared<S> {
     }
 }
 
-/// All that is read and taken before databases go under their locks.
+/// Everything that is read and taken before databases go under their locks.
 #[derive(Drop)]
 pub(super) struct Ready<S: Alter, L> {
     pub(super) starts: Vec<Start<S>>,
@@ -81,7 +82,7 @@ pub(super) struct Ready<S: Alter, L> {
     pub(super) room: Room<S>,
 }
 
-/// Reads all, and takes all memory. Nothing in the databases changes.
+/// Reads everything, and takes all memory. Nothing in the databases changes.
 pub(super) fn prepare<S: Alter + Drop, L>(
     alloc: Global,
     databases: &mut Vec<Database<S>>,
@@ -115,14 +116,14 @@ pub(super) fn prepare<S: Alter + Drop, L>(
     })
 }
 
-/// Whether something is open in some database.
+/// Returns whether something is open in some database.
 fn is_any_open<S: Alter>(databases: &[Database<S>]) -> bool
     ensures { result ≡ any_open databases.now }
 {
     databases.iter().any(|database| database.has_open())
 }
 
-/// Reads what databases hold in which nothing is open.
+/// Reads what databases hold. Nothing may be open in them.
 fn starts_of<S: Alter + Drop>(
     alloc: Global,
     databases: &mut Vec<Database<S>>,
@@ -141,7 +142,7 @@ fn starts_of<S: Alter + Drop>(
     Ok(starts)
 }
 
-/// Reads what a database holds in which nothing is open.
+/// Reads what a database holds. Nothing may be open in it.
 fn start_of<S: Alter>(alloc: Global, database: &mut Database<S>) -> Result<Start<S>, Refusal>
     requires { has_open database.old.state ≡ false }
     ensures read { IsRead S.Store database.old database.new }
@@ -153,8 +154,8 @@ fn start_of<S: Alter>(alloc: Global, database: &mut Database<S>) -> Result<Start
     Ok(start)
 }
 
-/// New passes for so many databases and sessions: by database, then by session. Want of memory is the
-/// only error.
+/// Returns new passes for this many databases and sessions: by database, then by session. Fails
+/// only if memory is refused.
 fn new_passes(alloc: Global, databases: usize, sessions: u8) -> Result<Vec<Pass>, AllocError>
     requires { IsSession sessions }
     ensures { IfOk result (λ passes. passes.items ≡ new_seats databases sessions) }
@@ -166,7 +167,7 @@ fn new_passes(alloc: Global, databases: usize, sessions: u8) -> Result<Vec<Pass>
     Ok(passes)
 }
 
-/// Adds new passes for the sessions of a database, in order. Want of memory is the only error.
+/// Adds new passes for the sessions of a database, in order. Fails only if memory is refused.
 fn add_passes(
     alloc: Global,
     passes: &mut Vec<Pass>,

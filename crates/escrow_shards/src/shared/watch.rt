@@ -27,14 +27,17 @@ impl<S: Alter + Drop, R: Wait + Copy + Drop> Shared<S, Watched<S, R>> {
     ghost use Rattle.escrow_shards.specs.Sharing.{HasSeat};
     ghost use Rattle.escrow_shards.specs.Watchers.{AreNewWatchers, IsUnshared};
 
-    /// The same as [`Shared::make`], of databases that are watched: it makes so many watchers for each, in the
-    /// databases' order. Calls show the totals of what was served, and wait for no watcher but one that is reading;
-    /// a watcher waits for nobody. What ends the sharing may wait in the same way, by the handle that is given here.
+    /// Does what [`Shared::make`] does, for databases that are watched. Also makes this many
+    /// watchers for each database, in order of the databases. Calls show the totals of what was
+    /// served. Of the watchers, a call waits only for one that is reading at that moment; a watcher
+    /// waits for nobody. Ending the sharing may wait in the same way, by the handle that is given
+    /// here.
     ///
     /// # Errors
     ///
-    /// [`Unshared::TooManyWatchers`] just where more than [`MAX_WATCHERS`] are asked; then those of
-    /// [`Shared::make`], and [`Unshared::NoPlace`]. The databases are handed back, and nothing in them has changed.
+    /// Fails with [`Unshared::TooManyWatchers`] exactly if more than [`MAX_WATCHERS`] are asked
+    /// for. Otherwise fails as [`Shared::make`] does, or with [`Unshared::NoPlace`]. The databases
+    /// are returned, and nothing in them has changed.
     pub fn make_watched(
         rt: R,
         alloc: Global,
@@ -95,7 +98,7 @@ struct Boards<S: Alter, R: Wait + Drop> {
     watchers: Vec<Watcher<S>>,
 }
 
-/// A board for each database that is to be shared, with so many watchers.
+/// Makes a board for each database that is to be shared, with this many watchers.
 fn boards_of<S: Alter + Drop, R: Wait + Copy + Drop>(
     rt: R,
     alloc: Global,

@@ -10,7 +10,7 @@ use crate::token::Kind;
 use escrow_num::Name;
 use escrow_statement::Word;
 
-/// For each byte whether a name may go on with it.
+/// For each byte, whether a name may continue with it.
 const GOES_ON: [bool; 256] = [
     false, false, false, false, false, false, false, false, false, false, false, false, false,
     false, false, false, false, false, false, false, false, false, false, false, false, false,
@@ -33,21 +33,21 @@ const GOES_ON: [bool; 256] = [
     false, false, false, false, false, false, false, false, false, false,
 ];
 
-/// Whether a name may go on with the byte.
+/// Returns whether a name may continue with the byte.
 fn goes_on(byte: u8) -> bool
     ensures { result ≡ goes_on byte }
 {
     GOES_ON[usize::from(byte)]
 }
 
-/// How many bytes at the front a name may go on with.
+/// Returns how many bytes at the front may continue a name.
 fn name_len(bytes: &[u8]) -> usize
     ensures { result ≡ prefix_len goes_on bytes.now }
 {
     bytes.iter().take_while(|byte| goes_on(**byte)).count()
 }
 
-/// The reserved word or the name at the front of the bytes, the first of which is a letter.
+/// Returns the reserved word or the name at the front of the bytes, the first of which is a letter.
 #[tactic(auto, unfolding(crate::specs::Lex::name_piece))]
 pub(super) fn read_name(bytes: &[u8]) -> Scan<'_>
     requires { is_ascii_alphabetic (slice_index bytes.now 0) ≡ true }

@@ -10,7 +10,7 @@ use crate::lexeme::Sort;
 use crate::lexer::scan::Scan;
 use escrow_num::{Amount, Decimal};
 
-/// How many digits stand at the front.
+/// Returns how many digits are at the front.
 fn digits_len(bytes: &[u8]) -> usize
     ensures { result ≡ prefix_len is_ascii_digit bytes.now }
 {
@@ -20,14 +20,14 @@ fn digits_len(bytes: &[u8]) -> usize
         .count()
 }
 
-/// The digits at the front.
+/// Returns the digits at the front.
 fn front_digits(bytes: &[u8]) -> &[u8]
     ensures { result.now ≡ front_digits bytes.now }
 {
     &bytes[..digits_len(bytes)]
 }
 
-/// The digits right behind a point at the front, where one stands there.
+/// Returns the digits right after a point at the front, if there is a point.
 fn point_digits(bytes: &[u8]) -> &[u8]
     ensures { result.now ≡ point_digits bytes.now }
 {
@@ -37,7 +37,7 @@ fn point_digits(bytes: &[u8]) -> &[u8]
     }
 }
 
-/// The number that the digits spell, or `None` past the limit of an amount.
+/// Returns the number that the digits spell, or `None` past the limit of an amount.
 fn value_of(digits: &[u8]) -> Option<Amount>
     ensures { SomeIff result (IsAmount (pos (number_of digits.now))) (pos (number_of digits.now)) }
 {
@@ -51,7 +51,7 @@ fn value_of(digits: &[u8]) -> Option<Amount>
     Amount::new(value as i64)
 }
 
-/// The number of digits without a point.
+/// Returns the number without a point of these digits.
 fn whole_number(digits: &[u8]) -> Scan<'_>
     ensures { piece_of_scan result ≡ whole_piece digits.now }
 {
@@ -61,7 +61,7 @@ fn whole_number(digits: &[u8]) -> Scan<'_>
     }
 }
 
-/// The number with a point at the front of the bytes.
+/// Returns the number with a point at the front of the bytes.
 pub(crate) fn decimal_of(bytes: &[u8]) -> Option<Decimal>
     ensures { result ≡ point_millionths bytes.now }
 {
@@ -70,7 +70,7 @@ pub(crate) fn decimal_of(bytes: &[u8]) -> Option<Decimal>
     Decimal::of_digits(front, behind)
 }
 
-/// The number with a point at the front of the bytes, which takes so many of them.
+/// Returns the number with a point at the front of the bytes. It takes `len` of them.
 fn point_number(len: usize, bytes: &[u8]) -> Scan<'_>
     ensures { piece_of_scan result ≡ point_piece len (point_millionths bytes.now) }
 {
@@ -80,7 +80,7 @@ fn point_number(len: usize, bytes: &[u8]) -> Scan<'_>
     }
 }
 
-/// The number at the front of the bytes: its point is taken only where a digit follows it.
+/// Returns the number at the front of the bytes. It has a point only if a digit follows the point.
 #[tactic(auto, unfolding(crate::specs::Lex::number_piece))]
 pub(super) fn read_number(bytes: &[u8]) -> Scan<'_>
     ensures { piece_of_scan result ≡ number_piece bytes.now }

@@ -1,12 +1,12 @@
 use crate::token::Kind;
 
-/// What the rest of a text begins with, as contracts say it: a `Scan` is seen as one.
+/// What the rest of a text begins with, as contracts say it. They see a `Scan` as a `Piece`.
 #[derive(Debug, Drop)]
 pub enum Piece {
-    /// So many bytes of blanks or of a comment.
+    /// Blanks or a comment, of this many bytes.
     Blank(usize),
-    /// A token of so many bytes.
+    /// A token of this many bytes.
     Token(Kind, usize),
-    /// A fault, so many bytes on.
+    /// A fault, after this many bytes.
     Fault(usize),
 }

@@ -1,12 +1,12 @@
 use crate::lexeme::Sort;
 
-/// What the rest of a text begins with, of which nothing is copied.
+/// What the rest of a text begins with. It borrows all that it holds.
 #[derive(Debug, Drop)]
 pub(crate) enum Scan<'a> {
-    /// So many bytes of blanks or of a comment.
+    /// Blanks or a comment, of this many bytes.
     Blank(usize),
-    /// A lexeme of so many bytes.
+    /// A lexeme of this many bytes.
     Lexeme(Sort<'a>, usize),
-    /// A fault, so many bytes on.
+    /// A fault, after this many bytes.
     Fault(usize),
 }

@@ -6,7 +6,7 @@ use crate::lexeme::Sort;
 use crate::lexer::scan::Scan;
 use crate::token::{Kind, Symbol};
 
-/// The longest symbol that begins with a byte and goes on with others.
+/// Returns the longest symbol that begins with `first` and continues with the bytes of `next`.
 #[tactic(auto, unfolding(crate::specs::Lex::symbol_piece))]
 pub(super) fn read_symbol<'a>(first: u8, next: &'a [u8]) -> Scan<'a>
     ensures { piece_of_scan result ≡ symbol_piece first next.now }
@@ -30,7 +30,7 @@ pub(super) fn read_symbol<'a>(first: u8, next: &'a [u8]) -> Scan<'a>
     Scan::Lexeme(Sort::bare(&Kind::Symbol(symbol)), len)
 }
 
-/// Whether the bytes begin with this one.
+/// Returns whether the bytes begin with this byte.
 pub(super) fn starts_with(bytes: &[u8], byte: u8) -> bool
     ensures { result ≡ begins byte bytes.now }
 {

@@ -6,7 +6,7 @@ ghost use Rattle.escrow_sql.specs.Lexeme.{piece_of_scan};
 use crate::lexeme::Sort;
 use crate::lexer::scan::Scan;
 
-/// How many bytes a text takes behind its opening quote, or `None` where it has no end.
+/// Returns how many bytes a text takes after its opening quote, or `None` if no quote closes it.
 fn quoted_len(body: &[u8]) -> Option<usize>
     ensures value { result ≡ text_rest false body.now }
     ensures within { IfSome result (λ len. (1 ≤ len) × (len ≤ length body.now)) }
@@ -23,21 +23,21 @@ fn quoted_len(body: &[u8]) -> Option<usize>
     if closing { Some(body.len()) } else { None }
 }
 
-/// Whether the byte may not stand in a text.
+/// Returns whether a text may not contain the byte.
 fn is_forbidden(byte: u8) -> bool
     ensures { result ≡ is_forbidden byte }
 {
     byte < 0x20 || byte == 0x7f
 }
 
-/// The place of the first byte that may not stand in a text, if there is one.
+/// Returns the place of the first byte that a text may not contain, if there is one.
 fn forbidden_place(bytes: &[u8]) -> Option<usize>
     ensures { result ≡ position is_forbidden bytes.now }
 {
     bytes.iter().position(|byte| is_forbidden(*byte))
 }
 
-/// The text whose opening quote stands right before `body`.
+/// Returns the text whose opening quote comes right before `body`.
 pub(super) fn read_text(body: &str) -> Scan<'_>
     ensures { piece_of_scan result ≡ text_piece body.now }
 {

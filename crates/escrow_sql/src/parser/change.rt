@@ -12,7 +12,7 @@ use escrow_num::Decimal;
 use escrow_statement::{Assign, Assigned, Literal, UpdateText, WhereText, Word};
 use std::alloc::Global;
 
-/// The number, made negative by a minus.
+/// Returns the number, negated if there is a minus.
 pub(super) fn apply_sign(minus: bool, number: Decimal) -> Decimal
     ensures { result ≡ with_sign minus number }
 {
@@ -20,7 +20,7 @@ pub(super) fn apply_sign(minus: bool, number: Decimal) -> Decimal
 }
 
 impl Cursor<'_> {
-    /// Whether a sign comes next.
+    /// Returns whether a sign comes next.
     #[tactic(auto, unfolding(crate::specs::Statement::sign))]
     pub(super) fn is_at_sign(&self) -> bool
         ensures { result ≡ starts (first sign) self.now.tokens.now }
@@ -50,7 +50,7 @@ impl Cursor<'_> {
         Ok(false)
     }
 
-    /// Whether a number comes next.
+    /// Returns whether a number comes next.
     #[tactic(auto, unfolding(crate::specs::Statement::number))]
     fn is_at_number(&self) -> bool
         ensures { result ≡ starts (first number) self.now.tokens.now }
@@ -80,7 +80,7 @@ impl Cursor<'_> {
         Ok(apply_sign(minus, number))
     }
 
-    /// Whether a signed number comes next.
+    /// Returns whether a signed number comes next.
     #[tactic(auto, unfolding(crate::specs::Statement::signed_number, crate::specs::Statement::sign, crate::specs::Statement::number))]
     fn is_at_signed_number(&self) -> bool
         ensures { result ≡ starts (first signed_number) self.now.tokens.now }
@@ -88,7 +88,7 @@ impl Cursor<'_> {
         self.is_at_sign() || self.is_at_number()
     }
 
-    /// Whether a literal comes next.
+    /// Returns whether a literal comes next.
     #[tactic(auto, unfolding(crate::specs::Statement::literal, crate::specs::Statement::signed_number, crate::specs::Statement::sign, crate::specs::Statement::number))]
     fn is_at_literal(&self) -> bool
         ensures { result ≡ starts (first literal) self.now.tokens.now }

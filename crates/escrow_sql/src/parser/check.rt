@@ -18,7 +18,7 @@ use escrow_num::{Amount, Decimal, Name, Seq};
 use escrow_statement::{CheckText, Comparison, Condition, Term, Test, Word};
 use std::alloc::Global;
 
-/// The coefficient, made negative by a minus.
+/// Returns the coefficient, negated if there is a minus.
 fn sign_coefficient(minus: bool, coefficient: Amount) -> Amount
     ensures { result ≡ with_sign minus coefficient }
 {
@@ -29,7 +29,7 @@ fn sign_coefficient(minus: bool, coefficient: Amount) -> Amount
     }
 }
 
-/// The term, its number made negative by a minus.
+/// Returns the term, with its number negated if there is a minus.
 fn apply_sign(minus: bool, term: Term) -> Term
     ensures { result ≡ signed minus term }
 {
@@ -181,7 +181,7 @@ impl Cursor<'_> {
         Ok(CheckText { name, conditions })
     }
 
-    /// Whether a CHECK comes next.
+    /// Returns whether a CHECK comes next.
     #[tactic(auto, unfolding(crate::specs::Statement::check, crate::specs::Statement::constraint))]
     pub(super) fn is_at_check(&self) -> bool
         ensures { result ≡ starts (first check) self.now.tokens.now }

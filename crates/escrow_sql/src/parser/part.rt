@@ -10,7 +10,7 @@ use crate::token::{Kind, Symbol};
 use escrow_num::Seq;
 use std::alloc::Global;
 
-/// What a list of a statement is made of.
+/// An item of a list in a statement.
 pub(crate) trait Part: Drop {
     ghost grammar: { Grammar Self };
 
@@ -19,16 +19,17 @@ pub(crate) trait Part: Drop {
         ensures { Advances cursor.new.tokens.now result (run grammar cursor.old.tokens.now) };
 }
 
-/// A part that a statement may have any number of, with nothing between them. So it is never nothing.
+/// A part that a statement may repeat any number of times, with nothing in between. It is never
+/// empty.
 pub(crate) trait Repeated: Part {
-    /// Whether one comes next.
+    /// Returns whether one comes next.
     fn is_next(cursor: &Cursor) -> bool
         ensures { result ≡ starts (first Self.grammar) cursor.now.tokens.now };
 
     ghost not_empty: { may_be_empty Self.Part.grammar ≡ false };
 }
 
-/// Reads one or more parts, with a separator between two: a token of its class.
+/// Reads one or more parts, with a separator between two: a token of the class of `separator`.
 pub(crate) fn read_separated<P: Part>(
     alloc: Global,
     cursor: &mut Cursor,
@@ -63,7 +64,7 @@ pub(crate) fn read_listed<P: Part>(alloc: Global, cursor: &mut Cursor) -> Result
     Ok(parts)
 }
 
-/// Reads as many parts as there are, behind those that are given.
+/// Reads parts as long as one comes next, and adds them to those that are given.
 pub(crate) fn read_more<P: Repeated>(
     alloc: Global,
     cursor: &mut Cursor,
@@ -78,7 +79,7 @@ pub(crate) fn read_more<P: Repeated>(
     Ok(parts)
 }
 
-/// Reads as many parts as there are.
+/// Reads parts as long as one comes next.
 pub(crate) fn read_all<P: Repeated>(alloc: Global, cursor: &mut Cursor) -> Result<Seq<P>, Halt>
     ensures { Advances cursor.new.tokens.now result (run (many P.grammar (λ xs. xs)) cursor.old.tokens.now) }
 {

@@ -1,4 +1,4 @@
-//! Copies of CHECKs, of their conditions and of what these are made of.
+//! Copies of CHECKs, of their conditions and of the parts of these.
 
 use crate::statement::{CheckText, Condition, Term, Test};
 use escrow_num::{Copied, are_same, copy_all};

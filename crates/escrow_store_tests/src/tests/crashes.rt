@@ -13,12 +13,13 @@ struct Trial<'a> {
     plan: &'a Plan,
     /// The database file at first. The log is empty.
     file: &'a [u8],
-    /// What the queries show: first of the files as they are, then after no statement, after one, and so on.
+    /// What the queries show: first for the files as they are, then after no statement, after one,
+    /// and so on.
     found: &'a [String],
     frames: usize,
 }
 
-/// Returns what the queries show, and before it whether the store was migrated.
+/// Returns what the queries show, preceded by whether the store was migrated.
 fn shown<R: Abort + AllocGlobal, B: Bank>(
     rt: &R,
     bank: &mut B,
@@ -103,7 +104,7 @@ struct Left {
 }
 
 impl Left {
-    /// Tells whether a log and a database file are among what is left at a place.
+    /// Returns whether a log and a database file are among those left at a place.
     fn has(&self, place: usize, log: &Vec<u8>, db: &Vec<u8>) -> bool {
         self.place == place
             && (self.logs[0] == *log || self.logs[1] == *log)
@@ -130,8 +131,8 @@ fn distinct(files: &[Vec<u8>; 2]) -> &[Vec<u8>] {
     }
 }
 
-/// Opens what a crash leaves, unless the crash before left it too. A store that was closed is whole in its database
-/// file.
+/// Opens what a crash leaves, unless the crash before left the same. A closed store is completely
+/// in its database file.
 fn check_left<R: Abort + AllocGlobal, B: Bank>(
     rt: &R,
     trial: &Trial<'_>,
@@ -156,8 +157,8 @@ fn check_left<R: Abort + AllocGlobal, B: Bank>(
     Ok(())
 }
 
-/// Opens files, and tests that they show what is shown at a place or at the next one; or at any later one, if the
-/// place is among the statements that are given at once.
+/// Opens files, and tests that they show what is shown at a place or at the next one. If the place
+/// is among the statements that are given at once, any later place is also accepted.
 fn check<R: Abort + AllocGlobal, B: Bank>(
     rt: &R,
     trial: &Trial<'_>,
@@ -233,8 +234,9 @@ fn stop_at_each<R: Abort + AllocGlobal, B: Bank>(rt: &R, plan: &Plan) -> Result<
     Ok(())
 }
 
-/// Whichever call of the log or of the database file is the last one, the store has the rows from before the stopped
-/// statement, or from after it; if COMMITs are given at once, those after the first ones of them.
+/// Whichever call of the log or of the database file is the last one, the store has the rows from
+/// before the stopped statement, or from after it. If COMMITs are given at once, it has the rows
+/// after some first ones of them.
 #[test]
 fn stopped_at_each_call(rt: HostRuntime) -> Result<(), Fail> {
     for plan in [&MADE, &INSERTED, &COMMITTED, &TOGETHER] {
@@ -243,20 +245,20 @@ fn stopped_at_each_call(rt: HostRuntime) -> Result<(), Fail> {
     Ok(())
 }
 
-/// A stopped ALTER TABLE leaves the table as it was or as it makes it, and leaves its row.
+/// A stopped ALTER TABLE leaves the table as it was or as altered, and leaves its row.
 #[test]
 fn alter_stopped_at_each_call(rt: HostRuntime) -> Result<(), Fail> {
     stop_at_each::<_, OverFiles>(&rt, &ALTERED)
 }
 
-/// A stopped migration leaves the store in the format before or in the known one. Once `migrate` has returned, the
-/// format is the known one.
+/// A stopped migration leaves the store in the previous format or in the known one. Once `migrate`
+/// has returned, the format is the known one.
 #[test]
 fn a_migration_stops_at_each_call(rt: HostRuntime) -> Result<(), Fail> {
     stop_at_each::<_, OverFiles>(&rt, &MIGRATED)
 }
 
-/// The same holds where statements divide pages, and where a COMMIT changes several.
+/// The same holds when statements divide pages, and when a COMMIT changes several.
 #[test]
 fn stopped_over_many_rows(rt: HostRuntime) -> Result<(), Fail> {
     stop_at_each::<_, OverFiles>(&rt, &LARGE)

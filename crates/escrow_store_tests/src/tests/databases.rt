@@ -1,5 +1,5 @@
-//! Databases over files in memory that stop after so many calls. No function here has a clause, so the proof of a test
-//! does not carry the state of each call.
+//! Databases over files in memory that stop after a number of calls. No function here has a clause,
+//! so the proof of a test does not carry the state of each call.
 use escrow_core::{Database, Event};
 use escrow_machine::Reply;
 use escrow_num::{Refusal, Session};
@@ -30,7 +30,7 @@ pub(super) struct Disks {
 }
 
 impl Disks {
-    /// Returns files with these bytes, which are synced. Each stops after so many calls.
+    /// Returns files with these bytes, already synced. Each stops after a number of calls.
     pub(super) fn new(
         alloc: Global,
         [log, db]: [&[u8]; 2],
@@ -48,7 +48,7 @@ impl Disks {
     }
 }
 
-/// Returns a file with these bytes, which are synced.
+/// Returns a file with these bytes, already synced.
 fn file_of(alloc: Global, bytes: &[u8]) -> io::Result<Memory> {
     let mut file = Memory::new(alloc);
     file.write_at(0, bytes)?;
@@ -56,15 +56,15 @@ fn file_of(alloc: Global, bytes: &[u8]) -> io::Result<Memory> {
     Ok(file)
 }
 
-/// A database that a test opens, asks and closes. The tests' functions take any: the proof of one that names a store's
-/// type takes ten times as long.
+/// A database that a test opens, asks and closes. The tests' functions are generic over it: the
+/// proof of one that names a store's type takes ten times as long.
 pub(super) trait Bank: Drop {
-    /// Opens a store by `migrate` or by `open_store`. Returns the database, and whether the store was migrated. SQLite
-    /// copies the log into the database file once it has `frames` frames.
+    /// Opens a store by `migrate` or by `open_store`. Returns the database, and whether the store
+    /// was migrated. SQLite copies the log into the database file once it has `frames` frames.
     ///
     /// # Errors
     ///
-    /// The number of the refusal, and the files.
+    /// Returns the number of the refusal, and the files.
     fn open(
         alloc: Global,
         disks: Disks,
@@ -75,10 +75,10 @@ pub(super) trait Bank: Drop {
     /// Serves a statement of a session.
     fn step(&mut self, alloc: Global, session: Session, statement: &Statement) -> Reply;
 
-    /// Serves statements of sessions by one call.
+    /// Serves statements of sessions in one call.
     fn run(&mut self, alloc: Global, events: &[Event]) -> Result<Vec<Reply>, AllocError>;
 
-    /// Limits the steps of SQLite that a statement may take.
+    /// Limits how many steps of SQLite a statement may take.
     fn limit(&mut self, steps: Option<u64>);
 
     /// Executes statements of SQL, and copies the log into the database file. Returns whether that succeeded, and the
@@ -94,7 +94,7 @@ pub(super) struct OverFiles {
     database: Database<Store>,
 }
 
-// It is written out, so that no test proves again how each part is dropped.
+// Written out, so that tests need not prove again how its parts are dropped.
 impl Drop for OverFiles {
     fn drop(self) {
         let OverFiles { database: _ } = self;
@@ -181,7 +181,7 @@ pub(super) fn execute<S: Alter>(conn: &mut Connection<S>, statements: &[&str]) -
 ///
 /// # Errors
 ///
-/// The number of the refusal, and the connection.
+/// Returns the number of the refusal, and the connection.
 pub(super) fn read<S: Alter + Drop>(
     alloc: Global,
     conn: Connection<S>,
@@ -198,7 +198,7 @@ pub(super) fn read<S: Alter + Drop>(
     }
 }
 
-/// The number of a refusal to open a store, and the connection.
+/// Returns the number of a refusal to open a store, and the connection.
 fn refused<S: Alter + Drop>(fault: StoreFault<S>) -> (u8, Connection<S>) {
     let StoreFault { connection, cause } = fault;
     (cause.number(), connection)
@@ -225,7 +225,8 @@ fn database<S: Alter + Drop>(
     }
 }
 
-/// A database that was opened, and whether its store was migrated; or the number of the refusal, and the connection.
+/// Returns a database that was opened, and whether its store was migrated; or the number of the
+/// refusal, and the connection.
 fn made<S: Alter + Drop>(
     opened: Result<Database<S>, (Opened<S>, Refusal)>,
     migrated: bool,
@@ -257,7 +258,7 @@ pub(super) fn file_with<R: Abort + AllocGlobal, B: Bank>(
     Ok(bytes)
 }
 
-/// The statement of a text.
+/// Returns the statement of a text.
 fn statement(alloc: Global, text: &str) -> Option<Statement> {
     match parse(alloc, text) {
         Ok(Request::Statement(statement)) => Some(statement),
@@ -265,7 +266,7 @@ fn statement(alloc: Global, text: &str) -> Option<Statement> {
     }
 }
 
-/// What a database replies to a statement of a session, as it is printed.
+/// Returns what a database replies to a statement of a session, as printed.
 pub(super) fn ask<R: Abort + AllocGlobal, B: Bank>(
     rt: &R,
     bank: &mut B,
@@ -279,15 +280,15 @@ pub(super) fn ask<R: Abort + AllocGlobal, B: Bank>(
     printed(alloc, session, &reply)
 }
 
-/// A reply to a session, as it is printed.
+/// Returns a reply to a session, as printed.
 fn printed(alloc: Global, session: Session, reply: &Reply) -> Result<String, Fail> {
     let lines = render(alloc, "bank", session, reply)?;
     let text = str::from_utf8(lines.as_slice())?;
     Ok(String::from_str(alloc, text)?)
 }
 
-/// Asks statements of sessions at once, and compares the replies up to the first statement that the store refuses.
-/// Returns the place of that one.
+/// Asks statements of sessions at once, and compares the replies up to the first statement that the
+/// store refuses. Returns the place of that statement.
 pub(super) fn ask_at_once<R: Abort + AllocGlobal, B: Bank>(
     rt: &R,
     bank: &mut B,

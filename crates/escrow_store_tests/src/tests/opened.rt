@@ -1,4 +1,4 @@
-//! Stores that another program made or changed, and stores of the format before.
+//! Stores that another program made or changed, and stores of the previous format.
 use super::databases::{Asked, Bank, OverFiles, ask_all, execute, file_with, over, read};
 use escrow_cells::{count_keys, create, run, tabs};
 use escrow_num::Failure;
@@ -14,25 +14,26 @@ pub(super) const ACCOUNT: &str =
 /// The known format.
 pub(super) const KNOWN: &str = "UPDATE META SET V = 2";
 
-/// The format before.
+/// The previous format.
 pub(super) const BEFORE: &str = "UPDATE META SET V = 1";
 
-/// A format that is unknown.
+/// An unknown format.
 const THREE: &str = "UPDATE META SET V = 3";
 
-/// Changes of the store with the account. The first number is that of `open_store`'s refusal, or 0 if the store is
-/// opened. The second is that of `migrate`'s refusal, where the store had the format before.
+/// Changes of the store with the account. The first number is that of `open_store`'s refusal, or 0
+/// if the store is opened. The second is that of `migrate`'s refusal, if the store had the previous
+/// format.
 const CHANGES: &[(&str, u8, u8)] = &[
     // none
     (KNOWN, 0, 0),
-    // a further table, one that points at a row of a store, and a view
+    // an additional table, one that refers to a row of a store, and a view
     (NOTES, 0, 0),
     ("CREATE TABLE NOTES (A INTEGER REFERENCES TAB (ID))", 61, 61),
     ("CREATE VIEW NOTES AS SELECT K FROM META", 0, 0),
     // another format
     (THREE, 62, 62),
     ("UPDATE META SET V = 0", 62, 62),
-    // a second row of META, also beside another format; none; one of another name
+    // a second row of META, also beside another format; no row; a row of another name
     ("INSERT INTO META VALUES ('other', 1)", 61, 61),
     (
         "UPDATE META SET V = 3; INSERT INTO META VALUES ('other', 1)",
@@ -48,9 +49,9 @@ const CHANGES: &[(&str, u8, u8)] = &[
         61,
     ),
     ("UPDATE TAB SET DDL = DDL || ' '", 61, 61),
-    // another name than that of the text
+    // a name other than that of the text
     ("UPDATE TAB SET NAME = 'OTHER'", 61, 61),
-    // a second table without rows, and one of the number 0
+    // a second table without rows, and one with the number 0
     (
         "INSERT INTO TAB VALUES (9, 'B', 'CREATE TABLE B (ID NUMBER(3) PRIMARY KEY, N NUMBER(3) RESERVABLE)')",
         0,
@@ -61,7 +62,7 @@ const CHANGES: &[(&str, u8, u8)] = &[
         61,
         61,
     ),
-    // a column with a scale, which no store of the format before has
+    // a column with a scale, which no store of the previous format has
     (
         "INSERT INTO TAB VALUES (9, 'B', 'CREATE TABLE B (ID NUMBER(9,2) PRIMARY KEY, N NUMBER(3) RESERVABLE)')",
         0,
@@ -82,13 +83,14 @@ const CHANGES: &[(&str, u8, u8)] = &[
     ("UPDATE TAB SET ID = 7", 61, 61),
     // no balance
     ("DELETE FROM CELL WHERE C = 2", 61, 61),
-    // one that breaks a check, and just doesn't; that has too many digits, and just not
+    // a balance that breaks a check, and one that just doesn't; one with too many digits, and one
+    // with just few enough
     ("UPDATE CELL SET V = 40 WHERE C = 2", 61, 61),
     ("UPDATE CELL SET V = 49 WHERE C = 2", 61, 61),
     ("UPDATE CELL SET V = 50 WHERE C = 2", 0, 0),
     ("UPDATE CELL SET V = 1000000000000000 WHERE C = 2", 61, 61),
     ("UPDATE CELL SET V = 999999999999999 WHERE C = 2", 0, 0),
-    // one that is a text, a floating number, a blob
+    // a balance that is a text, a floating number, a blob
     ("UPDATE CELL SET V = 'much' WHERE C = 2", 61, 61),
     ("UPDATE CELL SET V = 100.5 WHERE C = 2", 61, 61),
     ("UPDATE CELL SET V = x'3130' WHERE C = 2", 61, 61),
@@ -100,18 +102,18 @@ const CHANGES: &[(&str, u8, u8)] = &[
         0,
     ),
     ("UPDATE CELL SET K = '1'", 61, 61),
-    // a cell of no table, of no column, and one alone of its row
+    // a cell of no table, of no column, and the only one of its row
     ("INSERT INTO CELL VALUES (2, 1, 1, 1)", 61, 61),
     ("INSERT INTO CELL VALUES (1, 1, 0, 1)", 61, 61),
     ("INSERT INTO CELL VALUES (1, 1, 3, 1)", 61, 61),
     ("INSERT INTO CELL VALUES (1, 2, 1, 2)", 61, 61),
     // a text with a control character
     (LINES, 0, 0),
-    // META alone of the three tables
+    // only META of the three tables
     ("DROP TABLE CELL; DROP TABLE TAB", 61, 61),
 ];
 
-/// A table that is none of a store's.
+/// A table that isn't one of a store's.
 const NOTES: &str = "CREATE TABLE NOTES (ID INTEGER PRIMARY KEY, NOTE TEXT)";
 
 /// A table with a text of two lines, which no statement can write.
@@ -122,7 +124,7 @@ const LINES: &str =
 const UNITS: &str =
     "INSERT INTO TAB VALUES (2, 'PRICE', 'CREATE TABLE PRICE (CODE NUMBER(5,1) PRIMARY KEY, NET NUMBER(9,2), STOCK NUMBER(9,2) RESERVABLE, CONSTRAINT LEAST CHECK (STOCK >= 0.50))'); INSERT INTO CELL VALUES (2, 15, 1, 15), (2, 15, 2, 9950), (2, 15, 3, 275), (2, -5, 1, -5), (2, -5, 2, -1), (2, -5, 3, 75)";
 
-/// Whether an opening migrates a store, or the number of its refusal.
+/// Whether the opening migrates a store, or the number of its refusal.
 type Answer = Result<bool, u8>;
 
 /// Opens a store by `migrate` or by `open_store`. Returns its answer, and the connection.
@@ -155,7 +157,7 @@ fn open_each<R: Abort + AllocGlobal, S: Alter + Drop>(
     Ok(())
 }
 
-/// Returns the answer with a refusal's number, or of an opening if that is 0.
+/// Returns the answer: a refusal with this number, or an opening if the number is 0.
 fn answer_of(number: u8, migrated: bool) -> Answer {
     if number > 0 {
         Err(number)
@@ -164,8 +166,9 @@ fn answer_of(number: u8, migrated: bool) -> Answer {
     }
 }
 
-/// A store that holds anything but what this program writes is refused, and so is an unknown format. A further table
-/// does no harm. The same holds for a store of the format before that is migrated.
+/// A store that holds anything but what this program writes is refused, and so is an unknown
+/// format. An additional table does no harm. The same holds for a store of the previous format that
+/// is migrated.
 #[test]
 fn what_is_no_store_is_refused(rt: HostRuntime) -> Result<(), Fail> {
     for (change, number, number_before) in CHANGES {
@@ -179,7 +182,8 @@ fn what_is_no_store_is_refused(rt: HostRuntime) -> Result<(), Fail> {
     Ok(())
 }
 
-/// `open_store` refuses a store of the format before, and `migrate` migrates it once. Then both open it.
+/// `open_store` refuses a store of the previous format, and `migrate` migrates it once. Then both
+/// open it.
 #[test]
 fn a_store_is_migrated_once(rt: HostRuntime) -> Result<(), Fail> {
     let openings = [
@@ -192,7 +196,7 @@ fn a_store_is_migrated_once(rt: HostRuntime) -> Result<(), Fail> {
     open_each(&rt, conn, &[ACCOUNT, BEFORE], &openings)
 }
 
-/// Changes of the store with the account, and what is shown after them.
+/// Changes of the store with the account, and what is shown after each.
 const SHOWN: &[(&str, Asked)] = &[
     (
         NOTES,
@@ -228,7 +232,8 @@ fn show_changed<R: Abort + AllocGlobal, B: Bank>(
     ask_all(rt, &mut bank, 1, asked)
 }
 
-/// Rows are shown beside a further table, texts as they are, and numbers with a scale by their units.
+/// Rows are shown beside an additional table, texts as they are, and numbers with a scale by their
+/// units.
 #[test]
 fn changed_stores_are_shown(rt: HostRuntime) -> Result<(), Fail> {
     for (change, asked) in SHOWN {
@@ -237,7 +242,7 @@ fn changed_stores_are_shown(rt: HostRuntime) -> Result<(), Fail> {
     Ok(())
 }
 
-/// Tells whether the store refuses calls that write or read cells.
+/// Returns whether the store refuses calls that write or read cells.
 fn are_refused<S: Alter>(conn: &mut Connection<S>) -> bool {
     create(conn) == Err(Failure::Store)
         && run(conn, &[]) == Err(Failure::Store)

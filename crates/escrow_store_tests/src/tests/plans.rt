@@ -6,11 +6,11 @@ use super::opened::{ACCOUNT, BEFORE, KNOWN};
 pub(super) struct Plan {
     /// Statements of SQL that fill the store. If there are none, the files are empty at first.
     pub(super) filled_by: &'static [&'static str],
-    /// Numbers of frames at which the log is copied into the database file. Each is tried.
+    /// The numbers of frames at which the log is copied into the database file. Each is tried.
     pub(super) frames: &'static [usize],
     /// The statements of session 1, and the reply to each.
     pub(super) asked: Asked,
-    /// Statements that are given at once behind those.
+    /// Statements that are given at once after those.
     pub(super) at_once: AskedAtOnce,
     /// Queries that show the rows.
     pub(super) queries: &'static [&'static str],
@@ -19,13 +19,13 @@ pub(super) struct Plan {
 /// The log is copied at each commit, or when the store is closed.
 const COPIED: &[usize] = &[1, 1000];
 
-/// The query of the account.
+/// The query that shows the account.
 const SHOW_ACCOUNT: &str = "SELECT * FROM ACCOUNT";
 
 /// The account after its INSERT.
 const FULL: &str = "bank.1> ID | BALANCE\nbank.1> 1 | 100\nbank.1> OK rows 1\n";
 
-/// A store that is made.
+/// A store that is created.
 pub(super) const MADE: Plan = Plan {
     filled_by: &[],
     frames: COPIED,
@@ -73,7 +73,7 @@ pub(super) const COMMITTED: Plan = Plan {
     queries: &[SHOW_ACCOUNT],
 };
 
-/// A reservation, and two more of other sessions at once with the COMMITs of all three.
+/// A reservation, then two more of other sessions, given at once with the COMMITs of all three.
 pub(super) const TOGETHER: Plan = Plan {
     filled_by: &[ACCOUNT],
     frames: COPIED,
@@ -121,7 +121,7 @@ pub(super) const ALTERED: Plan = Plan {
     queries: &["SHOW TABLE ACCOUNT", SHOW_ACCOUNT],
 };
 
-/// An account in a store of the format before.
+/// An account in a store of the previous format.
 pub(super) const MIGRATED: Plan = Plan {
     filled_by: &[ACCOUNT, BEFORE],
     frames: COPIED,

@@ -3,8 +3,9 @@ use super::databases::{Asked, Bank, OverFiles, ask, ask_all, over};
 use std::process::Abort;
 use std::test::Fail;
 
-/// A statement of session 1 that writes, and its reply. A session asks statements before it. Session 9 asks what shows
-/// that it was refused, and what shows that it was served. `is_refused` tells whether limits refuse it at all.
+/// A statement of session 1 that writes, and its reply. Before it, a session asks other statements.
+/// Session 9 asks a statement that shows that it was refused, and one that shows that it was
+/// served. `is_refused` says whether the limits refuse it at all.
 struct Write {
     session: u8,
     set_up: Asked,
@@ -15,13 +16,13 @@ struct Write {
     after: Asked,
 }
 
-/// The account, by a SELECT of session 9.
+/// The account, as a SELECT of session 9 shows it.
 const STANDS: (&str, &str) = (
     "SELECT * FROM ACCOUNT",
     "bank.9> ID | OWNER | BALANCE\nbank.9> 1 | 'it''s é' | 100\nbank.9> OK rows 1\n",
 );
 
-/// A table of accounts, which keep at least 50, and an account with a balance of 100.
+/// A table of accounts, each at least 50, and an account with a balance of 100.
 const ACCOUNT: Asked = &[
     (
         "CREATE TABLE ACCOUNT (ID INTEGER PRIMARY KEY, OWNER VARCHAR2(20), BALANCE INTEGER RESERVABLE CONSTRAINT MINIMUM_BALANCE CHECK (BALANCE >= 50))",
@@ -33,7 +34,7 @@ const ACCOUNT: Asked = &[
     ),
 ];
 
-/// A table of balances, which stay at 50 or above, and one of 100.
+/// A table of balances, each at least 50, and one of 100.
 const BALANCES: Asked = &[
     (
         "CREATE TABLE ACCOUNT (ID INTEGER PRIMARY KEY, BALANCE INTEGER RESERVABLE CONSTRAINT MINIMUM_BALANCE CHECK (BALANCE >= 50))",
@@ -74,8 +75,8 @@ const COMMIT: Write = Write {
     ],
 };
 
-/// The other statements. A limit counts the rows that SQLite looks at: there is none of a new key, and a CREATE
-/// TABLE looks at none.
+/// The other statements. A limit counts the rows that SQLite looks at. A new key has none, and a
+/// CREATE TABLE looks at none.
 const WRITES: &[Write] = &[
     // an UPDATE of plain columns
     Write {
@@ -208,22 +209,22 @@ const CREATE: &str = "CREATE TABLE B (ID NUMBER(3) PRIMARY KEY, N NUMBER(3) RESE
 /// The reply to it.
 const CREATED: &str = "bank.1> OK created B\n";
 
-/// The second table, by a SELECT of session 9.
+/// The second table, as a SELECT of session 9 shows it.
 const EMPTY: (&str, &str) = ("SELECT * FROM B", "bank.9> ID | N\nbank.9> OK rows 0\n");
 
-/// A reservation of session 2, under which the table is altered.
+/// A reservation of session 2, while the table is altered.
 const TAKEN: Asked = &[(
     "UPDATE ACCOUNT SET BALANCE = BALANCE - 30 WHERE ID = 1",
     "bank.2> OK reserved 1\n",
 )];
 
-/// The reservation, by a SHOW JOURNAL of session 9.
+/// The reservation, as a SHOW JOURNAL of session 9 shows it.
 const OPEN: (&str, &str) = (
     "SHOW JOURNAL",
     "bank.9> 1 session 2 ACCOUNT 1 BALANCE -30\nbank.9> OK reservations 1\n",
 );
 
-/// The bounds of its row, over the one check of its table.
+/// The bounds of its row, with the one check of its table.
 const BOUNDS: (&str, &str) = (
     "SHOW BOUNDS ACCOUNT WHERE ID = 1",
     "bank.9> BALANCE value 100 inf 70 sup 100\nbank.9> CHECK MINIMUM_BALANCE least 70 greatest 100 low 50 high none\nbank.9> OK bounds\n",
@@ -235,8 +236,8 @@ const CHECKED: (&str, &str) = (
     "bank.9> CREATE TABLE ACCOUNT (ID NUMBER(15) PRIMARY KEY, OWNER VARCHAR2(20), BALANCE NUMBER(15) RESERVABLE, CONSTRAINT MINIMUM_BALANCE CHECK (BALANCE >= 50))\nbank.9> OK table\n",
 );
 
-/// Asks a statement, of a table that was made, under each limit of SQLite's steps, from 1 on, until it is served. After each
-/// refusal session 9 looks, without a limit, whether anything changed.
+/// Asks a statement about a new table, under each limit of SQLite's steps, from 1 on, until it is
+/// served. After each refusal, session 9 looks, without a limit, whether anything changed.
 fn refuse_at_each_limit<R: Abort + AllocGlobal, B: Bank>(
     rt: &R,
     table: Asked,
@@ -255,7 +256,7 @@ fn refuse_at_each_limit<R: Abort + AllocGlobal, B: Bank>(
     panic!(rt; "never served")
 }
 
-/// Tells whether a statement is served under a limit. If not, the store refuses it.
+/// Returns whether a statement is served under a limit. If not, the store refuses it.
 fn is_served<R: Abort + AllocGlobal, B: Bank>(
     rt: &R,
     bank: &mut B,
@@ -273,19 +274,20 @@ fn is_served<R: Abort + AllocGlobal, B: Bank>(
     Ok(served)
 }
 
-/// Tells whether two texts are the same.
+/// Returns whether two texts are the same.
 fn is_text(a: &str, b: &str) -> bool {
     a == b
 }
 
-/// A COMMIT that the store refuses leaves the transaction open, and can be asked again.
+/// After a COMMIT that the store refuses, the transaction is still open, and the COMMIT can be
+/// asked again.
 #[test]
 fn commit_refused_by_store(rt: HostRuntime) -> Result<(), Fail> {
     refuse_at_each_limit::<_, OverFiles>(&rt, BALANCES, &COMMIT)
 }
 
-/// No other refused statement changes anything either. A refused ALTER TABLE leaves the table's checks, its rows'
-/// bounds and the open reservations.
+/// No other refused statement changes anything either. A refused ALTER TABLE leaves the table's
+/// checks, the bounds of its rows and the open reservations.
 #[test]
 fn writes_refused_by_store(rt: HostRuntime) -> Result<(), Fail> {
     for write in WRITES {

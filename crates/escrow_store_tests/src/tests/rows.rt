@@ -15,7 +15,7 @@ use std::test::Fail;
 const SECOND: &str =
     "INSERT INTO TAB VALUES (7, 'A', 'CREATE TABLE A (ID NUMBER(3) PRIMARY KEY, N NUMBER(3) RESERVABLE)'); INSERT INTO CELL VALUES (7, 2, 1, 2), (7, 2, 2, 5), (7, -1, 1, -1), (7, -1, 2, 5)";
 
-/// Returns the table with a number that a text defines.
+/// Returns the table that a text defines, with a number.
 fn stored(alloc: Global, id: i64, text: &str) -> Result<StoredTable, Refusal> {
     let Ok(Request::Statement(Statement::Create(text))) = &parse(alloc, text) else {
         return Err(Refusal::BadDefinition);
@@ -58,7 +58,7 @@ fn tables_and_rows_of_a_store(rt: HostRuntime) -> Result<(), Fail> {
     list(&rt, escrow_memory::open(rt.alloc())?)
 }
 
-/// What a failure is printed as.
+/// The text of a failure.
 #[test]
 fn failures_say_what_they_are(rt: HostRuntime) -> Result<(), Fail> {
     let shown = format!(in rt.alloc(); "{}: {}", Failure::Memory, Failure::Store)?;

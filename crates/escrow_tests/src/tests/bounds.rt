@@ -18,7 +18,8 @@ fn name(rt: &impl Abort, text: &str) -> Name {
     Name::new(text.as_bytes()).expect(rt, "a name")
 }
 
-/// The check of that table. The program itself calls `normalise_behind`, and [`normalise`] never.
+/// Returns the check of that table. The program itself calls `normalise_behind`, never
+/// [`normalise`].
 fn mix(rt: &impl Abort, alloc: Global) -> Check {
     let request = parse(alloc, MIX).expect(rt, "memory");
     let Request::Statement(Statement::Create(create)) = &request else {
@@ -34,7 +35,7 @@ fn mix(rt: &impl Abort, alloc: Global) -> Check {
     *checks.as_slice().first().expect(rt, "a check")
 }
 
-/// A row of that table.
+/// Returns a row of that table.
 fn row(rt: &impl Abort, key: i64) -> RowName {
     RowName {
         table: name(rt, "MIX"),
@@ -42,7 +43,7 @@ fn row(rt: &impl Abort, key: i64) -> RowName {
     }
 }
 
-/// A row's amounts, or changes of them.
+/// Returns a row's amounts, or changes of them.
 fn amounts(rt: &impl Abort, alloc: Global, values: &[i64]) -> Seq<Amount> {
     let mut amounts = Seq::new(alloc);
     for value in values {
@@ -52,8 +53,8 @@ fn amounts(rt: &impl Abort, alloc: Global, values: &[i64]) -> Seq<Amount> {
     amounts
 }
 
-/// Makes a place for a row that has none, of one check. If memory is refused it has none, and has one once it is
-/// asked again.
+/// Makes a place for a row that has none, with one check. If memory is refused, the row has no
+/// place, and gets one at the second attempt.
 fn reserve(rt: &impl Abort, bounds: &mut Bounds, row: &RowName, values: &[Amount], check: &Check)
     requires { place_at bounds.old row.now ≡ None }
     ensures { IsPlaced bounds.new row.now [] }
@@ -82,7 +83,8 @@ fn commit_first(bounds: &mut Bounds, row: &RowName, first: &[Amount], second: &[
     bounds.remove(row, first, End::Commit);
 }
 
-/// What changes would break of the check, if they can break it: the side, the worst value and the limit.
+/// Returns what changes would break of the check, if they can break it: the side, the worst value
+/// and the limit.
 fn verdict(
     bounds: &Bounds,
     row: &RowName,
@@ -106,7 +108,7 @@ fn verdict(
     Some((side, worst.get(), limit.get()))
 }
 
-/// The least and the greatest value of the check.
+/// Returns the least and the greatest value of the check.
 fn worst(bounds: &Bounds, row: &RowName) -> (i128, i128)
     requires { (held : List (List ℤ)) × IsPlaced bounds.now row.now held }
 {
@@ -114,7 +116,7 @@ fn worst(bounds: &Bounds, row: &RowName) -> (i128, i128)
     (least.get(), greatest.get())
 }
 
-/// What is counted moves the worst cases; a commit moves the amounts.
+/// A counted reservation moves the worst cases; a commit moves the amounts.
 #[test]
 fn sums_are_kept_between_calls(rt: HostRuntime) {
     let alloc = rt.alloc();
@@ -135,7 +137,8 @@ fn sums_are_kept_between_calls(rt: HostRuntime) {
     assert_eq!(rt; worst(&bounds, &row), (90, 99));
 }
 
-/// Just the rows with the first keys have places, each with its own amounts, at which the check is at its limit.
+/// Only the rows with the first keys have places, each with its own amounts, at which the check is
+/// at its limit.
 fn are_placed(rt: &impl Abort, bounds: &Bounds, check: &Check, alloc: Global, places: i64) {
     for key in 0..ROWS {
         let row = row(rt, key);
@@ -151,7 +154,8 @@ fn are_placed(rt: &impl Abort, bounds: &Bounds, check: &Check, alloc: Global, pl
 /// How many rows get a place.
 const ROWS: i64 = 12;
 
-/// A new place leaves those that stand, also if memory is refused, and so does an empty one that is dropped.
+/// A new place leaves the existing ones, even if memory is refused, and so does dropping an empty
+/// one.
 #[test]
 fn places_of_rows(rt: HostRuntime) {
     let alloc = rt.alloc();

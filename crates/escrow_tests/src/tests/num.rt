@@ -43,7 +43,7 @@ const DECIMALS: [(&str, Option<i128>); 18] = [
     ("", None),
 ];
 
-/// The program reads the numbers of tokens, which have no sign. So it calls neither of these.
+/// The program never calls these two: it reads the numbers of tokens, which have no sign.
 #[test]
 fn reads_numbers(rt: HostRuntime) {
     for (text, want) in AMOUNTS {

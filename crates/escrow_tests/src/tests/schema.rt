@@ -1,4 +1,4 @@
-//! [`alter`], which the program does by other calls, and the calls of [`Catalog`].
+//! [`alter`], in whose place the program makes other calls, and the calls of [`Catalog`].
 ghost use Rattle.std.specs.Prelude.{IfOk};
 ghost use Rattle.escrow_schema.specs.Definition.{IsTable};
 
@@ -12,7 +12,7 @@ use std::test::Fail;
 const CREATE: &str =
     "CREATE TABLE C (K NUMBER PRIMARY KEY, A NUMBER(5,2) RESERVABLE CHECK (A >= 0))";
 
-/// Changes of the table, and its text behind each, if it is still there.
+/// Changes of the table, and its text after each, if the table still exists.
 const STEPS: [(&str, Option<&str>); 3] = [
     (
         "ALTER TABLE C ADD CHECK (A < 8.5 AND A > -1)",
@@ -29,7 +29,7 @@ const STEPS: [(&str, Option<&str>); 3] = [
     ("DROP TABLE C", None),
 ];
 
-/// The table that a text defines.
+/// Returns the table that a text defines.
 fn defined(rt: &impl Abort, alloc: Global, text: &str) -> Result<TableDef, Fail>
     ensures { IfOk result IsTable }
 {
@@ -40,7 +40,7 @@ fn defined(rt: &impl Abort, alloc: Global, text: &str) -> Result<TableDef, Fail>
     }
 }
 
-/// Does to a catalog what a statement asks.
+/// Does to a catalog what a statement asks for.
 fn step(rt: &impl Abort, alloc: Global, catalog: &mut Catalog, text: &str) -> Result<(), Fail> {
     let request = parse(alloc, text)?;
     match &request {
@@ -59,7 +59,7 @@ fn step(rt: &impl Abort, alloc: Global, catalog: &mut Catalog, text: &str) -> Re
     Ok(())
 }
 
-/// A catalog has the table that changes leave it, with the checks that it is to have.
+/// A catalog keeps the table that changes leave, with the checks that it must have.
 #[test]
 fn keeps_altered_tables(rt: HostRuntime) -> Result<(), Fail> {
     let alloc = rt.alloc();

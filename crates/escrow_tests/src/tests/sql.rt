@@ -2,7 +2,8 @@
 use escrow_sql::{MAX_TEXT, ParseFault, lex, parse};
 use std::test::Fail;
 
-/// A text with a token of each kind: in any case, behind a comment, and with no blank between.
+/// A text with a token of each kind: with letters of both cases, after a comment, and without
+/// blanks between tokens.
 const TEXT: &str = "sEt a$1<=-5--x\n'b''c'1.50";
 
 /// Its tokens, with the places of their bytes.
@@ -24,7 +25,7 @@ fn gives_tokens(rt: HostRuntime) -> Result<(), Fail> {
     Ok(())
 }
 
-/// A text of 65,536 bytes is read; of a longer one the fault is behind these.
+/// A text of 65,536 bytes is read. In a longer one, the fault comes after this many bytes.
 #[test]
 fn reads_the_longest_text(rt: HostRuntime) -> Result<(), Fail> {
     let alloc = rt.alloc();

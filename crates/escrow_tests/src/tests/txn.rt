@@ -1,11 +1,11 @@
-//! Open transactions of several sessions, also if memory is refused.
+//! Open transactions of several sessions, with and without refused memory.
 use escrow_num::{Amount, Changes, Name, RowName, Session, Value};
 use escrow_txn::TxnTable;
 use std::alloc::Global;
 use std::process::Abort;
 
-/// Sessions, each with a savepoint that it makes, and the id of the reservation that it is granted behind it. Two of them
-/// make and hold more than stand in place.
+/// Sessions, each with a savepoint that it makes, and the id of the reservation that it is granted
+/// after it. Two of them make and hold more than are held in place.
 const STEPS: [(u8, &str, u64); 12] = [
     (7, "A", 1),
     (1, "A", 2),
@@ -25,7 +25,7 @@ fn name(rt: &impl Abort, text: &str) -> Name {
     Name::new(text.as_bytes()).expect(rt, "a name")
 }
 
-/// The row that a session changes, whose key is the session's number.
+/// Returns the row that a session changes. Its key is the session's number.
 fn row(rt: &impl Abort, number: u8) -> RowName {
     RowName {
         table: name(rt, "ACCOUNT"),
@@ -33,15 +33,15 @@ fn row(rt: &impl Abort, number: u8) -> RowName {
     }
 }
 
-/// The one change of a reservation.
+/// Returns the one change of a reservation.
 fn change(rt: &impl Abort, alloc: Global) -> Changes {
     let mut changes = Changes::new(alloc);
     changes.push(Amount::new(-1)).expect(rt, "memory");
     changes
 }
 
-/// Makes a savepoint of a session, which has none of that name. If memory is refused it still has none, and has one once
-/// it is asked again.
+/// Makes a savepoint of a session, which has none of that name. If memory is refused, it still has
+/// none, and gets one at the second attempt.
 fn mark(rt: &impl Abort, table: &mut TxnTable, session: Session, name: Name) {
     if table.mark(session, name).is_err() {
         assert!(rt; table.after(session, name).is_none());
@@ -51,8 +51,8 @@ fn mark(rt: &impl Abort, table: &mut TxnTable, session: Session, name: Name) {
     assert!(rt; later.is_empty());
 }
 
-/// Grants a session a reservation with an id. If memory is refused no id is taken, and the same is granted once it is
-/// asked again.
+/// Grants a session a reservation with an id. If memory is refused, no id is taken, and the same
+/// reservation is granted at the second attempt.
 fn grant(rt: &impl Abort, table: &mut TxnTable, session: Session, id: u64, alloc: Global) {
     let number = session.get();
     let mut granted = table.grant(session, row(rt, number), change(rt, alloc));
@@ -75,7 +75,7 @@ fn are_open(rt: &impl Abort, table: &TxnTable, steps: &[(u8, &str, u64)], alloc:
     }
 }
 
-/// Sessions have a journal each, and the journals together are one list in order of grant.
+/// Each session has a journal, and the journals together are one list in order of grant.
 #[test]
 fn journals_of_sessions(rt: HostRuntime) {
     let alloc = rt.alloc();

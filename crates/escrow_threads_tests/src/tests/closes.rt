@@ -1,5 +1,5 @@
-//! Sharing and closing: what isn't shared, honest closes by one thread and by eight, and closes of what doesn't fit.
-//! These name the first cause, and hand everything back.
+//! Sharing and closing: databases that can't be shared, honest closes by one thread and by eight,
+//! and closes with parts that don't fit. These name the first cause, and return everything.
 use self::Move::{Ask, Drain};
 use super::databases::{
     ACCOUNT, COUNTER, HIT, SHOW, TAKE, check_reply, check_shown, database, databases,
@@ -31,8 +31,8 @@ const OPENED: [[&str; 4]; 2] = [
     ],
 ];
 
-/// If a database has an open transaction, none is shared, and all come back as they were. Else there is a pass for
-/// each session of each database.
+/// If one database has an open transaction, none is shared, and all are returned as they were.
+/// Otherwise there is a pass for each session of each database.
 #[test]
 fn sharing_databases(rt: HostRuntime) {
     let mut databases = databases(&rt, 3, &ACCOUNT);
@@ -53,7 +53,7 @@ fn sharing_databases(rt: HostRuntime) {
 /// The place of a pass, what its session asks, and the printed reply.
 type Told = (usize, &'static str, &'static str);
 
-/// What is asked in the first database up to its part, and behind it.
+/// What is asked in the first database before its part is handed out, and after that.
 const TOLD: [Told; 4] = [
     (0, TAKE, "bank.1> OK reserved 1\n"),
     (1, TAKE, "bank.2> ERR 41 MINIMUM_BALANCE low 40 limit 50\n"),
@@ -65,8 +65,9 @@ const TOLD: [Told; 4] = [
     ),
 ];
 
-/// Two databases with two sessions each. The first has an account: what it served stands in a part and in a last
-/// transcript, and it comes back with what was committed. No part is handed out where something is open.
+/// Two databases with two sessions each. The first has an account. What it served is in a part and
+/// in a last transcript, and it is returned with what was committed. No part is handed out while
+/// something is open.
 #[test]
 fn close_small(rt: HostRuntime) {
     let mut opened = databases(&rt, 1, &ACCOUNT);
@@ -101,14 +102,14 @@ fn close_small(rt: HostRuntime) {
     check_reply(&rt, &mut database, SHOW, shown);
 }
 
-/// How many threads share databases; how many databases, and how many sessions each has.
+/// How many threads share databases, how many databases there are, and how many sessions each has.
 const THREADS: usize = 8;
 
 const DATABASES: usize = 16;
 
 const SESSIONS: usize = 64;
 
-/// What each session asks in turn: one hit is committed, and one isn't.
+/// What each session asks in turn: one hit is committed, and another isn't.
 const TURNS: [&str; 5] = [
     HIT,
     "COMMIT",
@@ -117,13 +118,13 @@ const TURNS: [&str; 5] = [
     "ROLLBACK",
 ];
 
-/// How many entries and how many hits each database then has.
+/// How many entries and how many hits each database has then.
 const ENTRIES: usize = 320;
 
 const HITS: usize = 64;
 
-/// Shares databases, each with a counter. The passes stand by session, then by database: so each of eight threads that
-/// share them out has sessions of all databases.
+/// Shares databases, each with a counter. The passes are in order of session, then of database. So
+/// each of the eight threads among which they are divided has sessions of all databases.
 fn crowd<R: Abort + AllocGlobal>(rt: &R) -> (Shared<BlockStore>, Vec<Pass>) {
     let (shared, passes) = hall(rt, DATABASES, 64, &COUNTER);
     let mut places = Vec::new(rt.alloc());
@@ -135,7 +136,7 @@ fn crowd<R: Abort + AllocGlobal>(rt: &R) -> (Shared<BlockStore>, Vec<Pass>) {
     (shared, pick(rt, passes, &places))
 }
 
-/// The session of a pass asks all turns.
+/// Asks all turns in the session of a pass.
 fn ask_turns<R: Wait + Abort + AllocGlobal>(
     rt: &R,
     shared: &Shared<BlockStore>,
@@ -147,7 +148,7 @@ fn ask_turns<R: Wait + Abort + AllocGlobal>(
     }
 }
 
-/// Takes items out of a list: those of some places, in the order of the places.
+/// Takes the items at some places out of a list, in the order of the places.
 fn pick<R: Abort + AllocGlobal, T: Drop>(rt: &R, items: Vec<T>, places: &[usize]) -> Vec<T> {
     let mut slots = Vec::new(rt.alloc());
     for item in items {
@@ -161,7 +162,7 @@ fn pick<R: Abort + AllocGlobal, T: Drop>(rt: &R, items: Vec<T>, places: &[usize]
     picked
 }
 
-/// The counter of a database that came out of its lock shows so many hits.
+/// Asserts that the counter of a database that came out of its lock shows this many hits.
 pub fn check_hits<R: Abort + AllocGlobal>(rt: &R, closed: Closed<BlockStore>, hits: usize) {
     let (mut database, _) = closed.into_parts();
     let text = format!(in rt.alloc(); "bank.1> ID | HITS\nbank.1> 1 | {hits}\nbank.1> OK rows 1\n");
@@ -184,7 +185,8 @@ fn check_honest<R: Abort + AllocGlobal>(rt: &R, shared: Shared<BlockStore>, pass
     }
 }
 
-/// The close of all is Ok where one thread serves all sessions, and where eight do side by side.
+/// The close of everything is Ok, whether one thread serves all sessions, or eight do at the same
+/// time.
 #[test]
 fn close_of_a_crowd(rt: HostRuntime) {
     let watch = Watch::new(Meets::Nowhere);
@@ -200,8 +202,9 @@ fn close_of_a_crowd(rt: HostRuntime) {
     assert_eq!(rt; watch.faults.load(Ordering::SeqCst), 0);
 }
 
-/// One move before a close. Two sharings are made alike, each of two databases with two sessions. The databases 0 and 1
-/// and the passes 0 to 3 are those of the sharing that is closed. The others, up to 3 and 7, are those of its twin.
+/// One move before a close. Two sharings are made in the same way, each of two databases with two
+/// sessions. Databases 0 and 1 and passes 0 to 3 belong to the sharing that is closed. The others,
+/// up to 3 and 7, belong to its twin.
 #[derive(Clone, Copy)]
 enum Move {
     /// The session of a pass asks a statement.
@@ -210,8 +213,8 @@ enum Move {
     Drain(usize),
 }
 
-/// A close: what is done before it, the places of the passes and of the parts that are handed in, and the cause that it
-/// finds. Parts stand in the order in which they were handed out.
+/// A close: what is done before it, the places of the passes and of the parts that are passed in,
+/// and the cause that it finds. Parts are in the order in which they were handed out.
 #[derive(Clone, Copy)]
 struct Case {
     title: &'static str,
@@ -232,7 +235,7 @@ const RECEIPTS: Option<Cause> = Some(Cause::Receipts {
 /// Takes 20 out of the account.
 const LESS: &str = "UPDATE ACCOUNT SET BALANCE = BALANCE - 20 WHERE ID = 1";
 
-/// One COMMIT, behind which a part is handed out, and one more entry.
+/// One COMMIT, after which a part is handed out, and one more entry.
 const SMALL: &[Move] = &[
     Ask(0, TAKE),
     Ask(1, TAKE),
@@ -241,7 +244,7 @@ const SMALL: &[Move] = &[
     Ask(1, SHOW),
 ];
 
-/// The same, and session 1 asks as much of the twin, where another one has asked before.
+/// The same, and session 1 asks as much of the twin, after another session has asked.
 const OTHER_NUMBERS: &[Move] = &[
     Ask(0, TAKE),
     Ask(1, TAKE),
@@ -253,7 +256,7 @@ const OTHER_NUMBERS: &[Move] = &[
     Ask(4, "COMMIT"),
 ];
 
-/// The same, and a part of the twin with as many entries, behind which there is another balance.
+/// The same, and a part of the twin with as many entries, which ends with another balance.
 const OTHER_BALANCE: &[Move] = &[
     Ask(0, TAKE),
     Ask(1, TAKE),
@@ -265,7 +268,8 @@ const OTHER_BALANCE: &[Move] = &[
     Drain(2),
 ];
 
-/// The same, but of the twin another session commits: as many entries, with the same balance and next id behind them.
+/// The same, but another session of the twin commits: as many entries, with the same balance and
+/// next id after them.
 const SAME_END: &[Move] = &[
     Ask(0, TAKE),
     Ask(1, TAKE),
@@ -277,7 +281,7 @@ const SAME_END: &[Move] = &[
     Drain(2),
 ];
 
-/// Two parts of the first database and two of the second, the last of them without entries.
+/// Two parts of the first database and two of the second, of which the last has no entries.
 const MANY: &[Move] = &[
     Ask(0, LESS),
     Ask(0, "COMMIT"),
@@ -294,7 +298,7 @@ const MANY: &[Move] = &[
 /// More parts of the first database than any other case has.
 const PARTS_ALONE: &[Move] = &[Drain(0); 24];
 
-/// The closes. Of two causes the first is found: passes, then parts, then receipts.
+/// The closes. The first of two causes is found: passes, then parts, then receipts.
 const CASES: [Case; 14] = [
     Case {
         title: "24 parts",
@@ -401,7 +405,7 @@ const CASES: [Case; 14] = [
     },
 ];
 
-/// How many statements are asked in a database of the sharing that is closed.
+/// Returns how many statements are asked in a database of the sharing that is closed.
 fn asked_in(moves: &[Move], database: usize) -> u64 {
     let mut asked = 0u64;
     for step in moves {
@@ -414,8 +418,8 @@ fn asked_in(moves: &[Move], database: usize) -> u64 {
     asked
 }
 
-/// Makes the moves of a case and closes. The cause is that of the case, and everything comes back, each database in its
-/// place.
+/// Makes the moves of a case and closes. The cause is that of the case, and everything is returned,
+/// each database in its place.
 fn check_close<R: Wait + Abort + AllocGlobal>(rt: &R, case: &Case) {
     let (shared, mut passes) = hall(rt, 2, 2, &ACCOUNT);
     let (twin, mut more) = hall(rt, 2, 2, &ACCOUNT);
@@ -465,7 +469,7 @@ fn check_close<R: Wait + Abort + AllocGlobal>(rt: &R, case: &Case) {
     }
 }
 
-/// Closes of what fits and of what doesn't.
+/// Closes with parts that fit and with parts that don't.
 #[test]
 fn close_causes(rt: HostRuntime) {
     for case in &CASES {

@@ -26,7 +26,7 @@ pub const TAKE: &str = "UPDATE ACCOUNT SET BALANCE = BALANCE - 30 WHERE ID = 1";
 /// Shows the account.
 pub const SHOW: &str = "SELECT * FROM ACCOUNT WHERE ID = 1";
 
-/// A table with one counter, which begins at 0 and which no check limits.
+/// A table with one counter, which begins at 0 and has no check.
 pub const COUNTER: [&str; 2] = [
     "CREATE TABLE COUNTER (ID INTEGER PRIMARY KEY, HITS INTEGER RESERVABLE)",
     "INSERT INTO COUNTER VALUES (1, 0)",
@@ -76,7 +76,7 @@ pub fn statement<R: Abort + AllocGlobal>(rt: &R, text: &str) -> Statement {
     }
 }
 
-/// Compares the printed reply of `bank` to a session with what is wanted.
+/// Compares the printed reply of `bank` to a session with the expected one.
 pub fn check_shown<R: Abort + AllocGlobal>(rt: &R, session: Session, reply: &Reply, wanted: &str) {
     let lines = made(rt, render(rt.alloc(), "bank", session, reply), "memory");
     let text = made(rt, str::from_utf8(lines.as_slice()), "a text");

@@ -1,4 +1,5 @@
-//! Gates, which are called beside a call: how often, what they are told, and calls that wait for each other.
+//! Gates, which run beside a call: how often they are called, what they are told, and calls that
+//! wait for each other.
 use super::databases::{COUNTER, CREATE, INSERT, databases, statement};
 use super::results::made;
 use super::sharing::{close_whole, hall, share};
@@ -34,7 +35,7 @@ pub struct Watch {
     // how many calls it has seen, and how many under the lock of the first database
     pub calls: AtomicU64,
     first: AtomicU64,
-    // how often a call waited in vain, or had company under the lock of the first database
+    // how often a call waited in vain, or was not alone under the lock of the first database
     pub faults: AtomicU64,
     database: AtomicU64,
     session: AtomicU64,
@@ -58,7 +59,7 @@ impl Gate for Watch {
             .store(u64::from(session.get()), Ordering::SeqCst);
         self.n.store(n, Ordering::SeqCst);
         if database == 0 {
-            // Whether another call comes under the same lock meanwhile.
+            // Notices another call under the same lock.
             let before = self.first.fetch_add(1, Ordering::SeqCst);
             for _ in 0..20 {
                 if self.first.load(Ordering::SeqCst) != before.wrapping_add(1) {
@@ -70,7 +71,7 @@ impl Gate for Watch {
 }
 
 impl Watch {
-    /// A gate that has seen no call.
+    /// Returns a gate that has seen no call.
     pub fn new(meets: Meets) -> Self {
         Watch {
             meets,
@@ -84,13 +85,13 @@ impl Watch {
         }
     }
 
-    /// Comes to where two calls meet, and waits for the other one.
+    /// Arrives where two calls meet, and waits for the other one.
     fn meet(&self) {
         self.came.fetch_add(1, Ordering::SeqCst);
         self.wait_for(&self.came, 2);
     }
 
-    /// Waits until so many have come.
+    /// Waits until this many have come.
     pub fn wait_for(&self, came: &AtomicU64, count: u64) {
         for _ in 0..LOOKS {
             if came.load(Ordering::SeqCst) >= count {
@@ -114,8 +115,8 @@ const ASKED: [(usize, &str, bool); 8] = [
     (0, "ROLLBACK", true),
 ];
 
-/// Each call calls the gate once, also where it isn't served, and tells it the number of the receipt that it would make.
-/// Workers of two databases hold both locks together.
+/// Each call calls the gate once, even if it isn't served, and tells it the number of the receipt
+/// that it would make. Workers of two databases hold both locks at the same time.
 #[test]
 fn gate_inside(rt: HostRuntime) {
     let mut limited = databases(&rt, 2, &[]);
@@ -178,13 +179,13 @@ fn meet<R: Threads + Wait + Sync + Abort + AllocGlobal>(
     }
 }
 
-/// The workers of a database come to their first calls together.
+/// The workers of a database arrive at their first calls together.
 #[test]
 fn gate_before(rt: HostRuntime) {
     meet(&rt, Meets::Before, 1, 2);
 }
 
-/// An item is sent before the next one is asked for.
+/// An item is sent before the next one is requested.
 #[test]
 fn fed_live(rt: HostRuntime) {
     let (shared, passes) = hall(&rt, 1, 1, &COUNTER);

@@ -1,4 +1,4 @@
-//! Transcripts beside a database: how many entries they have, and where one begins.
+//! Transcripts beside a database: how many entries they have, and where each begins.
 use super::databases::{CREATE, INSERT, TAKE, check_reply, check_shown, database, statement};
 use super::results::{made, refused};
 use escrow_core::Database;
@@ -8,13 +8,14 @@ use escrow_num::{Failure, Refusal, Session};
 use escrow_transcript::{Base, Transcript};
 use std::process::Abort;
 
-/// How many entries a transcript has at most.
+/// The most entries of a transcript.
 const MOST: usize = 65_536;
 
-/// What COMMIT replies where nothing is to be committed.
+/// The reply to a COMMIT when there is nothing to commit.
 const NOTHING: &str = "bank.1> OK committed 0\n";
 
-/// Begins the transcript of a database. Where memory is refused, the database comes back and is asked again.
+/// Begins the transcript of a database. If memory is refused, the database is returned, and the
+/// transcript begins at the second attempt.
 pub fn audited<R: Abort + AllocGlobal>(
     rt: &R,
     database: Database<BlockStore>,
@@ -28,8 +29,9 @@ pub fn audited<R: Abort + AllocGlobal>(
     }
 }
 
-/// Serves a statement of a session, compares the printed reply, and returns the number of the entry. Where memory is
-/// refused, the transcript is as long as before, and the statement is served at the second attempt.
+/// Serves a statement of a session, compares the printed reply, and returns the number of the
+/// entry. If memory is refused, the transcript is as long as before, and the statement is served at
+/// the second attempt.
 pub fn serve<R: Abort + AllocGlobal>(
     rt: &R,
     audited: &mut Audited<BlockStore>,
@@ -54,7 +56,8 @@ pub fn serve<R: Abort + AllocGlobal>(
     rt.panic("memory")
 }
 
-/// Hands out the transcript, and the base where it ends. Where memory is refused, it is as it was and is asked for again.
+/// Hands out the transcript, and the base where it ends. If memory is refused, the transcript is as
+/// it was, and is handed out at the second attempt.
 pub fn drain<R: Abort + AllocGlobal>(
     rt: &R,
     audited: &mut Audited<BlockStore>,
@@ -70,8 +73,8 @@ pub fn drain<R: Abort + AllocGlobal>(
     }
 }
 
-/// A full transcript takes nothing more, whatever is asked. Once it is handed out, the next one goes on with the next
-/// number.
+/// A full transcript accepts no more entries, whatever is asked. Once it is handed out, the next
+/// one continues with the next number.
 #[test]
 fn full_transcript(rt: HostRuntime) {
     let mut audited = audited(&rt, database(&rt, &[]));
@@ -92,7 +95,8 @@ fn full_transcript(rt: HostRuntime) {
     assert_eq!(rt; audited.entries().len(), 1);
 }
 
-/// Room for entries is taken ahead, for as many as the transcript may still have. An entry uses up one place at most.
+/// Room for entries is taken in advance, for as many as the transcript may still get. An entry uses
+/// one place at most.
 #[test]
 fn room_ahead(rt: HostRuntime) {
     let mut audited = audited(&rt, database(&rt, &[]));
@@ -108,7 +112,7 @@ fn room_ahead(rt: HostRuntime) {
     assert_eq!(rt; audited.entries().len(), 3);
 }
 
-/// No transcript begins or ends where something is open: what was there is as it was.
+/// No transcript begins or ends while something is open: everything stays as it was.
 #[test]
 fn open_transaction(rt: HostRuntime) {
     let open = database(&rt, &[CREATE, INSERT, TAKE]);

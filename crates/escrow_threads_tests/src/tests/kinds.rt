@@ -1,20 +1,21 @@
-//! Statements of each kind, and refusals of each number that a statement of a small script meets, where two sessions have
-//! reserved: by a history, and by shared databases. Each answer is that with ample memory, or want of memory leaves what
-//! was there, so that the same statement is then answered the same.
+//! Statements of each kind, and refusals of each number that a statement of a small script can
+//! meet, while two sessions have reservations: by a history, and by shared databases. Each reply is
+//! the one that ample memory gives. Or memory is refused and nothing has changed, so that the same
+//! statement then gets this reply.
 use super::databases::{CREATE, INSERT, check_shown, database};
 use super::results::{made, push};
 use super::{histories, sharing};
 use escrow_num::Session;
 use escrow_shards::NoGate;
 
-/// A session, what it asks, and what it is replied, as it is printed.
+/// A session, its statement, and the reply as printed.
 type Asked = (u8, &'static str, &'static str);
 
 /// A table with a plain column.
 const SHOP: &str =
     "CREATE TABLE SHOP (CODE VARCHAR2(8) PRIMARY KEY, TITLE VARCHAR2(20), STOCK NUMBER(4) RESERVABLE CONSTRAINT IN_STOCK CHECK (STOCK >= 0))";
 
-/// What is asked, in order. Nothing is open behind it.
+/// The statements, in order. Nothing is open after them.
 const ASKED: [Asked; 49] = [
     (1, CREATE, "bank.1> OK created ACCOUNT\n"),
     (1, INSERT, "bank.1> OK inserted\n"),
@@ -203,11 +204,11 @@ const ASKED: [Asked; 49] = [
     (3, "ROLLBACK", "bank.3> OK rolled back 1\n"),
 ];
 
-/// A history serves statements of each kind, and each is one entry.
+/// A history serves statements of each kind, and each becomes one entry.
 #[test]
 fn kinds_by_a_history(rt: HostRuntime) {
     let mut audited = histories::audited(&rt, database(&rt, &[]));
-    // Where memory is refused nothing has changed, and the second attempt gets the room.
+    // If memory is refused, nothing has changed, and the second attempt gets the room.
     if audited.make_room(20).is_err() {
         made(&rt, audited.make_room(20), "room");
     }
@@ -220,7 +221,7 @@ fn kinds_by_a_history(rt: HostRuntime) {
     assert_eq!(rt; end.before, ASKED.len() as u64);
 }
 
-/// Calls serve statements of each kind, and all of them are the entries of one part.
+/// Calls serve statements of each kind, and all of them become the entries of one part.
 #[test]
 fn kinds_by_calls(rt: HostRuntime) {
     let (shared, mut passes) = sharing::hall(&rt, 1, 5, &[]);

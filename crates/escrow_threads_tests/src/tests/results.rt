@@ -1,7 +1,7 @@
 //! Results whose outcome a test knows. Any other outcome ends the test.
 use std::process::Abort;
 
-/// Returns the value. An error ends the test with what was wanted.
+/// Returns the value. An error ends the test, naming what was expected.
 pub fn made<R: Abort, T, E>(rt: &R, outcome: Result<T, E>, what: &str) -> T {
     match outcome {
         Ok(value) => value,
@@ -9,7 +9,7 @@ pub fn made<R: Abort, T, E>(rt: &R, outcome: Result<T, E>, what: &str) -> T {
     }
 }
 
-/// Returns the error. Success ends the test with what was wanted.
+/// Returns the error. Success ends the test, naming what was expected.
 pub fn refused<R: Abort, T, E>(rt: &R, outcome: Result<T, E>, what: &str) -> E {
     match outcome {
         Ok(_) => rt.panic(what),
@@ -17,7 +17,7 @@ pub fn refused<R: Abort, T, E>(rt: &R, outcome: Result<T, E>, what: &str) -> E {
     }
 }
 
-/// Adds an item. Want of memory ends the test.
+/// Adds an item. If memory is refused, the test ends.
 pub fn push<R: Abort, T>(rt: &R, items: &mut Vec<T>, item: T) {
     made(rt, items.push(item), "memory");
 }

@@ -1,5 +1,5 @@
-//! Shared databases: the steps that most tests take. Where memory is refused, nothing has changed, and the same is
-//! asked again. What a call requires is asserted before it.
+//! Shared databases: the steps that most tests take. If memory is refused, nothing has changed, and
+//! the step is tried again. What a call requires is asserted before it.
 use super::databases::{databases, statement};
 use super::results::made;
 use escrow_core::Database;
@@ -15,7 +15,8 @@ use std::sync::Wait;
 /// Shared databases, and a pass for each session of each.
 pub type Sharing = (Shared<BlockStore>, Vec<Pass>);
 
-/// Shares from 1 to 16 databases. Where memory is refused, they come back and are shared at the second attempt.
+/// Shares from 1 to 16 databases. If memory is refused, they are returned and shared at the second
+/// attempt.
 pub fn share<R: Abort + AllocGlobal>(
     rt: &R,
     databases: Vec<Database<BlockStore>>,
@@ -42,8 +43,8 @@ pub fn hall<R: Abort + AllocGlobal>(rt: &R, count: usize, sessions: u8, asked: &
     made(rt, share(rt, opened, sessions), "shared")
 }
 
-/// Asks a statement in the session of a pass, and returns the reply. Where memory is refused, the pass has as many
-/// receipts as before, and the statement is served at the second attempt.
+/// Asks a statement in the session of a pass, and returns the reply. If memory is refused, the pass
+/// has as many receipts as before, and the statement is served at the second attempt.
 pub fn ask<R: Wait + Abort + AllocGlobal, L: UnderLock<BlockStore>, G: Gate>(
     rt: &R,
     shared: &Shared<BlockStore, L>,
@@ -64,7 +65,8 @@ pub fn ask<R: Wait + Abort + AllocGlobal, L: UnderLock<BlockStore>, G: Gate>(
     rt.panic("memory")
 }
 
-/// Asks for the next part of the history of a database. Where memory is refused, it is asked for again.
+/// Hands out the next part of the history of a database. If memory is refused, it does so at the
+/// second attempt.
 pub fn drain<R: Wait + Abort + AllocGlobal, L: UnderLock<BlockStore>>(
     rt: &R,
     shared: &Shared<BlockStore, L>,

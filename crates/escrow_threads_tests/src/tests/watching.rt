@@ -36,15 +36,15 @@ fn watch<'a, R: Wait + Abort + AllocGlobal>(
     Shared::make_watched(rt, rt.alloc(), databases, sessions, watchers)
 }
 
-/// The place of a pass, and what its session asks: the two sessions of the second database.
+/// The place of a pass, and what its session asks. The two sessions of the second database ask.
 const ASKED: [(usize, &str); 4] = [(2, CREATE), (2, INSERT), (2, TAKE), (3, TAKE)];
 
-/// How many parts of the history are then handed out.
+/// How many parts of the history are handed out then.
 const PARTS: usize = 24;
 
-/// Two sessions of the second of two databases ask in turn, and a watcher of it sees each entry as soon as it was answered.
-/// Both of its watchers read the same behind parts that were handed out, and once the sharing has ended; those of the first
-/// database see nothing.
+/// Two sessions of the second of two databases ask in turn, and a watcher of it sees each entry as
+/// soon as it is answered. Both of its watchers read the same after parts were handed out, and
+/// after the sharing has ended. Those of the first database see nothing.
 #[test]
 fn watcher_sees(rt: HostRuntime) {
     let watching = watch(&rt, databases(&rt, 2, &[]), 2, 2);
@@ -87,7 +87,8 @@ fn watcher_sees(rt: HostRuntime) {
     assert_eq!(rt; second.read(), all);
 }
 
-/// As many watchers as may be are made for each database, and one more is refused, with the databases handed back.
+/// The greatest number of watchers is made for each database. One more is refused, and the
+/// databases are returned.
 #[test]
 fn watchers_are_few(rt: HostRuntime) {
     let many = watch(&rt, databases(&rt, 2, &ACCOUNT), 1, MAX_WATCHERS + 1);
@@ -106,9 +107,9 @@ fn watchers_are_few(rt: HostRuntime) {
     }
 }
 
-/// Reads 20,000 times beside calls that a gate counts, each a hit or a COMMIT, and returns how often a total fell, or wasn't
-/// that of what was served by then: of all calls that came under the lock before, but for the last one, and of none that
-/// came behind.
+/// Reads 20,000 times beside calls that a gate counts, each a hit or a COMMIT. Returns how often a
+/// total fell, or wasn't that of what had been served. It must count all calls that came under the
+/// lock before the read, except possibly the last, and none that came after.
 fn falls(mut watcher: Watcher<BlockStore>, watch: &Watch) -> usize {
     let mut falls = 0usize;
     let mut last = watcher.read();
@@ -136,7 +137,7 @@ fn falls(mut watcher: Watcher<BlockStore>, watch: &Watch) -> usize {
     falls
 }
 
-/// Has eight workers hit a counter a hundred times each. They are served past a gate.
+/// Has eight workers hit a counter a hundred times each, with a gate.
 fn hit<R: Threads + Wait + Sync + Abort + AllocGlobal, L: UnderLock<BlockStore> + Send>(
     rt: &R,
     shared: &Shared<BlockStore, L>,
@@ -150,8 +151,9 @@ fn hit<R: Threads + Wait + Sync + Abort + AllocGlobal, L: UnderLock<BlockStore> 
     }
 }
 
-/// While eight workers hit one counter, a watcher of another thread reads: no total ever falls, each reading is that of what
-/// was served by then, and at the end it is that of all, as it is behind many more calls.
+/// While eight workers hit one counter, a watcher on another thread reads. No total ever falls, and
+/// each reading is that of what had been served. At the end it is that of all, and so it is after
+/// many more calls.
 #[test]
 fn watcher_rises(rt: HostRuntime) {
     let watching = watch(&rt, databases(&rt, 1, &COUNTER), 8, 2);

@@ -1,4 +1,5 @@
-//! Workers over shared databases, which get their requests as lists or fed: what each answers, and what comes back.
+//! Workers over shared databases, which get their requests as lists or through channels: what each
+//! replies, and what is returned.
 ghost use Rattle.std.specs.Prelude.{◌≡◌, length};
 ghost use Rattle.std.specs.List.{AllByRecursion};
 ghost use Rattle.escrow_shards.specs.Sharing.{HasSeat};
@@ -35,12 +36,13 @@ pub enum By {
 /// Both ways.
 pub const BOTH: [By; 2] = [By::Lists, By::Channels];
 
-/// What the session of each pass asks: texts, one after another, so many times.
+/// What the session of each pass asks: texts, one after another, repeated a number of times.
 #[derive(Clone, Copy)]
 pub struct Work<'a> {
     pub texts: &'a [&'a str],
     pub times: usize,
-    /// Where workers are fed, each item, and the end of the items, comes once this gate has seen the calls of those before.
+    /// If workers are fed, each item, and the end of the items, comes once this gate has seen the
+    /// calls of the items before.
     pub live: Option<&'a Watch>,
 }
 
@@ -51,8 +53,9 @@ pub const COMMIT: Work = Work {
     live: None,
 };
 
-/// Serves the same work in the session of each pass, at the same time. Where there are too many passes, they come back.
-/// Where memory is refused before a worker is started, they are served at the second attempt.
+/// Serves the same work in the session of each pass, at the same time. If there are too many
+/// passes, they are returned. If memory is refused before a worker is started, they are served at
+/// the second attempt.
 pub fn serve_all<R: Threads + Wait + Sync + Abort + AllocGlobal, G: Gate + Sync>(
     rt: &R,
     by: By,
@@ -78,7 +81,8 @@ pub fn serve_all<R: Threads + Wait + Sync + Abort + AllocGlobal, G: Gate + Sync>
     rt.panic("memory")
 }
 
-/// The same, at one attempt. Where no worker is started, the passes come back, and no item was asked for.
+/// [`serve_all`] in one attempt. If no worker is started, the passes are returned, and no item was
+/// requested.
 fn try_serve<R: Threads + Wait + Sync + Abort + AllocGlobal, G: Gate + Sync>(
     rt: &R,
     by: By,
@@ -144,7 +148,7 @@ pub fn feeds_of<R: Abort + AllocGlobal, L: UnderLock<BlockStore>>(
     feeds
 }
 
-/// Returns the same passes. Each is for one of the databases and sessions.
+/// Returns the passes, after asserting that each is for one of the databases and sessions.
 fn seated<R: Abort + AllocGlobal>(
     rt: &R,
     shared: &Shared<BlockStore>,
@@ -177,7 +181,8 @@ fn requests_of<R: Abort + AllocGlobal>(rt: &R, work: Work) -> Vec<Request> {
     requests
 }
 
-/// The same work for each of so many places, dealt out text by text: that of the first place comes first.
+/// The same work for each of a number of places, dealt out text by text, beginning with the first
+/// place.
 #[derive(Drop)]
 struct Deal<'a> {
     alloc: Global,
@@ -190,7 +195,7 @@ struct Deal<'a> {
 impl<'a> Deal<'a> {
     ghost use Rattle.std.specs.Prelude.{◌≡◌};
 
-    /// The work, before any of it is dealt out.
+    /// Returns the work, before any of it is dealt out.
     fn new(alloc: Global, places: usize, work: Work<'a>) -> Self
         ensures { result.places ≡ places }
     {
@@ -235,7 +240,8 @@ impl Iterator for Deal<'_> {
     }
 }
 
-/// Each worker has given so many answers, which are all. The close is Ok.
+/// Closes after the workers, and returns the result. Each worker has given this many answers, which
+/// are all, and the close is Ok.
 pub fn end<R: Abort + AllocGlobal>(
     rt: &R,
     by: By,
@@ -246,7 +252,7 @@ pub fn end<R: Abort + AllocGlobal>(
     close_whole(rt, shared, passes_of(rt, by, done, answers))
 }
 
-/// The passes of workers, each of which has given so many answers, which are all.
+/// Returns the passes of workers, each of which has given this many answers, which are all.
 fn passes_of<R: Abort + AllocGlobal>(rt: &R, by: By, done: Vec<Done>, answers: usize) -> Vec<Pass> {
     let mut passes = Vec::new(rt.alloc());
     for worker in done {
@@ -267,14 +273,14 @@ pub const HITS: Work = Work {
     live: None,
 };
 
-/// Each session then asks for the counter, and this is what it is shown.
+/// Each session then asks for the counter, and gets this reply.
 const SEEN: Work = Work {
     texts: &["SELECT * FROM COUNTER"],
     times: 1,
     live: None,
 };
 
-/// Shows all hits to each session, by its worker. The passes come back.
+/// Has each worker show all hits to its session. Returns the passes.
 fn check_seen<R: Threads + Wait + Sync + Abort + AllocGlobal>(
     rt: &R,
     by: By,
@@ -300,8 +306,8 @@ fn check_seen<R: Threads + Wait + Sync + Abort + AllocGlobal>(
     passes_of(rt, by, done, 1)
 }
 
-/// Eight sessions hit one counter: the ids of the hits are the first ones, each granted once, all hits are counted, and the
-/// close is Ok.
+/// Eight sessions hit one counter. The ids of the hits are the first ones, each granted once; all
+/// hits are counted, and the close is Ok.
 #[test]
 fn close_honest(rt: HostRuntime) {
     for by in BOTH {
@@ -333,7 +339,7 @@ fn close_honest(rt: HostRuntime) {
     }
 }
 
-/// Where one pass of these isn't handed in, the close says so, and everything comes back.
+/// If one of these passes is missing, the close says so, and everything is returned.
 #[test]
 fn close_missing(rt: HostRuntime) {
     let (shared, passes) = hall(&rt, 1, 8, &COUNTER);
@@ -355,7 +361,7 @@ fn close_missing(rt: HostRuntime) {
     }
 }
 
-/// Each session asks for its totals before, between and behind two statements.
+/// Each session asks for its totals before, between and after two statements.
 const TOTALS: Work = Work {
     texts: &[
         "SHOW STATISTICS",
@@ -368,7 +374,7 @@ const TOTALS: Work = Work {
     live: None,
 };
 
-/// Totals are those of the replies so far, and no reply themselves.
+/// Totals are those of the replies so far, and are no replies themselves.
 #[test]
 fn totals_so_far(rt: HostRuntime) {
     let one = Tally {
@@ -408,7 +414,8 @@ const COMMITS: Work = Work {
     live: None,
 };
 
-/// Of 65 none is started, and all are handed back; 64 are started, and each serves all that it is asked.
+/// With 65 passes no worker is started, and all are returned. With 64, all are started, and each
+/// serves everything that it is asked.
 #[test]
 fn too_many(rt: HostRuntime) {
     for by in BOTH {
@@ -437,11 +444,11 @@ const FEW_HITS: Work = Work {
     live: None,
 };
 
-/// How many requests each session then has.
+/// How many requests each session has then.
 const REQUESTS: usize = 9;
 
-/// What came of requests: how many statements were served, how many reservations were committed, and how many requests
-/// weren't served.
+/// The outcome of requests: how many statements were served, how many reservations were committed,
+/// and how many requests weren't served.
 #[derive(Clone, Copy)]
 struct Came {
     served: usize,
@@ -449,7 +456,8 @@ struct Came {
     wanting: usize,
 }
 
-/// Adds what came of the requests of a worker. Its pass has a receipt for each that was served, and memory alone was wanting.
+/// Adds the outcome of a worker's requests. Its pass has a receipt for each that was served, and
+/// all others failed for memory.
 fn add_came<R: Abort>(rt: &R, came: &mut Came, worker: &Done) {
     let before = came.served;
     for given in &worker.answers {
@@ -473,8 +481,8 @@ fn add_came<R: Abort>(rt: &R, came: &mut Came, worker: &Done) {
     came.wanting = came.wanting.saturating_add(unanswered);
 }
 
-/// Whether memory is refused or not, receipts, entries and the counter are those of what was answered. Where it isn't, all
-/// is served.
+/// Whether memory is refused or not, the receipts, the entries and the counter are those of what
+/// was answered. If it isn't refused, everything is served.
 #[test]
 fn what_was_answered_happened(rt: HostRuntime) {
     for by in BOTH {
