@@ -17,8 +17,8 @@
 
 #define CELL "CREATE TABLE CELL (TAB INTEGER NOT NULL, K ANY NOT NULL, C INTEGER NOT NULL, V ANY NOT NULL, PRIMARY KEY (TAB, K, C)) STRICT"
 
-/* How a layout makes a table, and what it makes of each statement: ?1 is the key, ?2 a number. What a SELECT shows stands in the last columns of its
-   answer, of which there are so many. */
+/* How a layout makes a table, and what it makes of each statement: ?1 is the key, ?2 a number. A SELECT shows the last columns of its
+   answer; `shown` is their number. */
 struct layout {
     const char *name, *create, *insert, *update, *select, *select_all, *delete, *drop;
     int shown;
