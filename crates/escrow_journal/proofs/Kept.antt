@@ -8,7 +8,7 @@ use Rattle.escrow_num.specs.declared.reservation.Reservation.{Reservation}
 use Rattle.escrow_num.specs.declared.reservation.Savepoint.{Savepoint}
 use Rattle.escrow_num.proofs.Items.{all_has, all_filter}
 use Rattle.escrow_num.proofs.Ascending.{ascending_push}
-use Rattle.escrow_journal.specs.Log.{Log, IsLog, is_full_beside, pushed, marked}
+use Rattle.escrow_journal.specs.Journal.{Journal, IsJournal, is_full_beside, pushed, marked}
 use Rattle.escrow_journal.specs.Reservations.{reservation_before}
 use Rattle.escrow_journal.specs.Savepoints.{is_named, savepoint_of, without_savepoint}
 use Rattle.escrow_journal.specs.declared.journal.TheConstants.Journal.{MAX_RESERVATIONS, MAX_SAVEPOINTS}
@@ -33,8 +33,8 @@ ascending_take (suc n) [] rising = tt
 ascending_take (suc n) (r ∷ rs) rising = (all_take (λ later. IsTrue (reservation_before r later)) n rs rising.0, ascending_take n rs rising.1)
 
 -- one more reservation
-pub push_kept : (r : Reservation) (log : Log) → IsLog log → length log.reservations < MAX_RESERVATIONS → r.session ≡ log.session
-    → AllByRecursion (λ earlier. IsTrue (reservation_before earlier r)) log.reservations → IsLog (pushed r log)
+pub push_kept : (r : Reservation) (log : Journal) → IsJournal log → length log.reservations < MAX_RESERVATIONS → r.session ≡ log.session
+    → AllByRecursion (λ earlier. IsTrue (reservation_before earlier r)) log.reservations → IsJournal (pushed r log)
 push_kept r log valid room own above = record {
   session = valid.session;
   reservations_own = all_push (λ (x : Reservation). x.session ≡ log.session) log.reservations r valid.reservations_own own;
@@ -45,17 +45,17 @@ push_kept r log valid room own above = record {
 }
 
 -- as many of other names as the savepoints of other names that are counted
-beside_is : (name : List ℕ) (log : Log) (n : ℕ) → IsLog log → n ≡ length (filter (λ p. not (has_name name p)) log.savepoints)
+beside_is : (name : List ℕ) (log : Journal) (n : ℕ) → IsJournal log → n ≡ length (filter (λ p. not (has_name name p)) log.savepoints)
     → length (without_savepoint log.session name log.savepoints) ≡ n
 beside_is name log n valid count = ap length (without_is log.session name log.savepoints valid.savepoints_own) ∙ sym count
 
-pub full_beside : (name : List ℕ) (log : Log) (n : ℕ) → IsLog log → n ≡ length (filter (λ p. not (has_name name p)) log.savepoints) → MAX_SAVEPOINTS ≤ n
+pub full_beside : (name : List ℕ) (log : Journal) (n : ℕ) → IsJournal log → n ≡ length (filter (λ p. not (has_name name p)) log.savepoints) → MAX_SAVEPOINTS ≤ n
     → IsTrue (is_full_beside name log)
 full_beside name log n valid count full =
     let beside = beside_is name log n valid count in
     le-leb MAX_SAVEPOINTS (length (without_savepoint log.session name log.savepoints)) (omega arith)
 
-pub room_beside : (name : List ℕ) (log : Log) (n : ℕ) → IsLog log → n ≡ length (filter (λ p. not (has_name name p)) log.savepoints) → n < MAX_SAVEPOINTS
+pub room_beside : (name : List ℕ) (log : Journal) (n : ℕ) → IsJournal log → n ≡ length (filter (λ p. not (has_name name p)) log.savepoints) → n < MAX_SAVEPOINTS
     → IsTrue (is_full_beside name log) → ⊥
 room_beside name log n valid count room full =
     let beside = beside_is name log n valid count in
@@ -63,12 +63,12 @@ room_beside name log n valid count room full =
     omega arith
 
 -- where a savepoint of the name stands there is room for it
-pub named_found : (name : List ℕ) (log : Log) → IsLog log → IsSome (savepoint_of log.session name log.savepoints) → IsSome (find (has_name name) log.savepoints)
+pub named_found : (name : List ℕ) (log : Journal) → IsJournal log → IsSome (savepoint_of log.session name log.savepoints) → IsSome (find (has_name name) log.savepoints)
 named_found name log valid here =
     let same = find_same (is_named log.session name) (has_name name) log.savepoints (named_is log.session name log.savepoints valid.savepoints_own) in
     subst (λ (o : Option Savepoint). IsSome o) same here
 
-pub room_again : (name : List ℕ) (log : Log) (n : ℕ) → IsLog log → n ≡ length (filter (λ p. not (has_name name p)) log.savepoints)
+pub room_again : (name : List ℕ) (log : Journal) (n : ℕ) → IsJournal log → n ≡ length (filter (λ p. not (has_name name p)) log.savepoints)
     → IsSome (savepoint_of log.session name log.savepoints) → n < MAX_SAVEPOINTS
 room_again name log n valid count here =
     let fewer = fewer_others (has_name name) log.savepoints (named_found name log valid here) in
@@ -76,7 +76,7 @@ room_again name log n valid count here =
     omega arith
 
 -- one more savepoint, in the place of one of its name
-module _ (name : List ℕ) (id : ℕ) (log : Log) (valid : IsLog log) where
+module _ (name : List ℕ) (id : ℕ) (log : Journal) (valid : IsJournal log) where
   abbrev pub new : Savepoint
   new = record { session = log.session; name = name; id = id }
 
@@ -86,7 +86,7 @@ module _ (name : List ℕ) (id : ℕ) (log : Log) (valid : IsLog log) where
       ap (λ qs. record log { savepoints = qs })
       (added ∙ ap (λ qs. qs ++ new ∷ []) (without ∙ sym (without_is log.session name log.savepoints valid.savepoints_own)))
 
-  pub mark_kept : (IsTrue (is_full_beside name log) → ⊥) → IsLog (marked name id log)
+  pub mark_kept : (IsTrue (is_full_beside name log) → ⊥) → IsJournal (marked name id log)
   mark_kept room =
       let others = without_savepoint log.session name log.savepoints in
       let own = λ (q : Savepoint). q.session ≡ log.session in
@@ -104,7 +104,7 @@ module _ (name : List ℕ) (id : ℕ) (log : Log) (valid : IsLog log) where
       }
 
 -- the first reservations and the first savepoints
-pub cut_kept : (n m : ℕ) (log : Log) → IsLog log → IsLog (record log { reservations = take n log.reservations; savepoints = take m log.savepoints })
+pub cut_kept : (n m : ℕ) (log : Journal) → IsJournal log → IsJournal (record log { reservations = take n log.reservations; savepoints = take m log.savepoints })
 cut_kept n m log valid = record {
   session = valid.session;
   reservations_own = all_take (λ (r : Reservation). r.session ≡ log.session) n log.reservations valid.reservations_own;

@@ -12,7 +12,7 @@ use Rattle.escrow_num.specs.declared.reservation.Savepoint.{Savepoint}
 use Rattle.escrow_num.proofs.Items.{find_has, find_none, has_all, all_filter}
 use Rattle.escrow_num.proofs.Orders.{name_same, same_name}
 use Rattle.escrow_journal.specs.Laws.{CameBefore, CameSince, all_pushed, GoingBackAtOnceDropsNothing, GoingBackUndoesWhatCame, GoingBackDropsLaterSavepoints, GoingBackAgainDropsNothing, NothingIsLost, TheLastOfANameStands, ANameTakesOnePlace}
-use Rattle.escrow_journal.specs.Log.{Log, pushed, marked, later, cut_log, cut_at}
+use Rattle.escrow_journal.specs.Journal.{Journal, pushed, marked, later, cut_journal, cut_at}
 use Rattle.escrow_journal.specs.Reservations.{other_savepoints}
 use Rattle.escrow_journal.specs.Savepoints.{is_named, savepoint_of, without_savepoint, through, is_after, after, not_after}
 use Rattle.escrow_journal.proofs.Filters.{filter_all, filter_none, fewer_others}
@@ -51,16 +51,16 @@ comes_from f (Some x) y e = let same : f x ≡ y = cc in (x, refl, same)
 -- ---- a savepoint that was just made
 
 -- it is the session's of its name
-abbrev made : List ℕ → ℕ → Log → Savepoint
-made name id log = record { session = log.session; name = name; id = id }
+abbrev made : List ℕ → ℕ → Journal → Savepoint
+made name id journal = record { session = journal.session; name = name; id = id }
 
-made_named : (name : List ℕ) (id : ℕ) (log : Log) → is_named log.session name (made name id log) ≡ true
-made_named name id log = ap₂ (λ a b. a && b) (eq-eqb log.session log.session refl) (same_name name)
+made_named : (name : List ℕ) (id : ℕ) (journal : Journal) → is_named journal.session name (made name id journal) ≡ true
+made_named name id journal = ap₂ (λ a b. a && b) (eq-eqb journal.session journal.session refl) (same_name name)
 
-made_found : (name : List ℕ) (id : ℕ) (log : Log) → savepoint_of log.session name (marked name id log).savepoints ≡ Some (made name id log)
-made_found name id log =
-    found_behind (is_named log.session name) (without_savepoint log.session name log.savepoints) (made name id log)
-    (left_out (is_named log.session name) log.savepoints) (made_named name id log)
+made_found : (name : List ℕ) (id : ℕ) (journal : Journal) → savepoint_of journal.session name (marked name id journal).savepoints ≡ Some (made name id journal)
+made_found name id journal =
+    found_behind (is_named journal.session name) (without_savepoint journal.session name journal.savepoints) (made name id journal)
+    (left_out (is_named journal.session name) journal.savepoints) (made_named name id journal)
 
 -- up to it stand those before it
 through_made : (session : ℕ) (name : List ℕ) (ps rest : List Savepoint) (p : Savepoint) → AllByRecursion (λ q. is_named session name q ≡ false) ps
@@ -70,123 +70,123 @@ through_made session name (q ∷ ps) rest p none e = rw none.0 (ap (λ qs. q ∷
 
 -- ---- going back
 
-pushed_is : (more : List Reservation) (log : Log) → all_pushed more log ≡ record log { reservations = log.reservations ++ more }
-pushed_is [] log = ap (λ rs. record log { reservations = rs }) (sym (append-nil log.reservations))
-pushed_is (r ∷ rest) log = pushed_is rest (pushed r log) ∙ ap (λ rs. record log { reservations = rs }) (append_assoc log.reservations (r ∷ []) rest)
+pushed_is : (more : List Reservation) (journal : Journal) → all_pushed more journal ≡ record journal { reservations = journal.reservations ++ more }
+pushed_is [] journal = ap (λ rs. record journal { reservations = rs }) (sym (append-nil journal.reservations))
+pushed_is (r ∷ rest) journal = pushed_is rest (pushed r journal) ∙ ap (λ rs. record journal { reservations = rs }) (append_assoc journal.reservations (r ∷ []) rest)
 
-before_is : (name : List ℕ) (id : ℕ) (log : Log) (rs : List Reservation) → AllByRecursion (λ r. r.id < id) rs
-    → AllByRecursion (λ r. is_after (made name id log) r ≡ false) rs
-before_is name id log [] below = tt
-before_is name id log (r ∷ rs) below = (and_right (r.session == log.session) (nat_le id r.id) (lt-leb id r.id below.0), before_is name id log rs below.1)
+before_is : (name : List ℕ) (id : ℕ) (journal : Journal) (rs : List Reservation) → AllByRecursion (λ r. r.id < id) rs
+    → AllByRecursion (λ r. is_after (made name id journal) r ≡ false) rs
+before_is name id journal [] below = tt
+before_is name id journal (r ∷ rs) below = (and_right (r.session == journal.session) (nat_le id r.id) (lt-leb id r.id below.0), before_is name id journal rs below.1)
 
-since_is : (name : List ℕ) (id : ℕ) (log : Log) (rs : List Reservation) → CameSince id log rs → AllByRecursion (λ r. is_after (made name id log) r ≡ true) rs
-since_is name id log [] since = tt
-since_is name id log (r ∷ rs) since =
-    (ap₂ (λ a b. a && b) (eq-eqb r.session log.session since.0.0) (le-leb id r.id since.0.1), since_is name id log rs since.1)
+since_is : (name : List ℕ) (id : ℕ) (journal : Journal) (rs : List Reservation) → CameSince id journal rs → AllByRecursion (λ r. is_after (made name id journal) r ≡ true) rs
+since_is name id journal [] since = tt
+since_is name id journal (r ∷ rs) since =
+    (ap₂ (λ a b. a && b) (eq-eqb r.session journal.session since.0.0) (le-leb id r.id since.0.1), since_is name id journal rs since.1)
 
-module _ (log : Log) (name : List ℕ) (id : ℕ) (more : List Reservation) (below : CameBefore id log) (since : CameSince id log more) where
-  abbrev with_more : Log
-  with_more = record (marked name id log) { reservations = log.reservations ++ more }
+module _ (journal : Journal) (name : List ℕ) (id : ℕ) (more : List Reservation) (below : CameBefore id journal) (since : CameSince id journal more) where
+  abbrev with_more : Journal
+  with_more = record (marked name id journal) { reservations = journal.reservations ++ more }
 
-  after_made : after (made name id log) (log.reservations ++ more) ≡ more
+  after_made : after (made name id journal) (journal.reservations ++ more) ≡ more
   after_made =
-      filter-append (is_after (made name id log)) log.reservations more
-      ∙ ap₂ (λ xs ys. xs ++ ys) (filter_empty (is_after (made name id log)) log.reservations (before_is name id log log.reservations below))
-      (filter_all (is_after (made name id log)) more (since_is name id log more since))
+      filter-append (is_after (made name id journal)) journal.reservations more
+      ∙ ap₂ (λ xs ys. xs ++ ys) (filter_empty (is_after (made name id journal)) journal.reservations (before_is name id journal journal.reservations below))
+      (filter_all (is_after (made name id journal)) more (since_is name id journal more since))
 
-  not_after_made : not_after (made name id log) (log.reservations ++ more) ≡ log.reservations
+  not_after_made : not_after (made name id journal) (journal.reservations ++ more) ≡ journal.reservations
   not_after_made =
-      filter-append (λ r. not (is_after (made name id log) r)) log.reservations more
-      ∙ ap₂ (λ xs ys. xs ++ ys) (filter_kept (is_after (made name id log)) log.reservations (before_is name id log log.reservations below))
-      (filter_none (is_after (made name id log)) more (since_is name id log more since))
-      ∙ append-nil log.reservations
+      filter-append (λ r. not (is_after (made name id journal) r)) journal.reservations more
+      ∙ ap₂ (λ xs ys. xs ++ ys) (filter_kept (is_after (made name id journal)) journal.reservations (before_is name id journal journal.reservations below))
+      (filter_none (is_after (made name id journal)) more (since_is name id journal more since))
+      ∙ append-nil journal.reservations
 
-  marks_made : through log.session name (marked name id log).savepoints ≡ (marked name id log).savepoints
+  marks_made : through journal.session name (marked name id journal).savepoints ≡ (marked name id journal).savepoints
   marks_made =
-      through_made log.session name (without_savepoint log.session name log.savepoints) [] (made name id log)
-      (left_out (is_named log.session name) log.savepoints) (made_named name id log)
+      through_made journal.session name (without_savepoint journal.session name journal.savepoints) [] (made name id journal)
+      (left_out (is_named journal.session name) journal.savepoints) (made_named name id journal)
 
-  pub going_back : (later name (all_pushed more (marked name id log)) ≡ Some more) × (cut_log name (all_pushed more (marked name id log)) ≡ marked name id log)
+  pub going_back : (later name (all_pushed more (marked name id journal)) ≡ Some more) × (cut_journal name (all_pushed more (marked name id journal)) ≡ marked name id journal)
   going_back = (
-    ap (λ (l : Log). later name l) (pushed_is more (marked name id log))
-        ∙ ap (λ (o : Option Savepoint). option_map (λ p. after p (log.reservations ++ more)) o) (made_found name id log)
+    ap (λ (l : Journal). later name l) (pushed_is more (marked name id journal))
+        ∙ ap (λ (o : Option Savepoint). option_map (λ p. after p (journal.reservations ++ more)) o) (made_found name id journal)
         ∙ ap (λ (rs : List Reservation). Some rs) after_made,
-    ap (λ (l : Log). cut_log name l) (pushed_is more (marked name id log))
-        ∙ ap (λ (o : Option Savepoint). unwrap_or (option_map (cut_at with_more) o) with_more) (made_found name id log)
+    ap (λ (l : Journal). cut_journal name l) (pushed_is more (marked name id journal))
+        ∙ ap (λ (o : Option Savepoint). unwrap_or (option_map (cut_at with_more) o) with_more) (made_found name id journal)
         ∙ ap₂ (λ (rs : List Reservation) (ps : List Savepoint). record with_more { reservations = rs; savepoints = ps }) not_after_made marks_made,
   )
 
 pub going_back_undoes_what_came : GoingBackUndoesWhatCame
-going_back_undoes_what_came = λ log name id more below since. going_back log name id more below since
+going_back_undoes_what_came = λ journal name id more below since. going_back journal name id more below since
 
 pub going_back_at_once_drops_nothing : GoingBackAtOnceDropsNothing
-going_back_at_once_drops_nothing = λ log name id below. going_back log name id [] below tt
+going_back_at_once_drops_nothing = λ journal name id below. going_back journal name id [] below tt
 
 -- a savepoint of another name, made later
-module _ (log : Log) (name other : List ℕ) (id later_id : ℕ) (more : List Reservation) (below : CameBefore id log) (since : CameSince id log more)
-    (apart : other ≢ name) (new : savepoint_of log.session other log.savepoints ≡ None) where
+module _ (journal : Journal) (name other : List ℕ) (id later_id : ℕ) (more : List Reservation) (below : CameBefore id journal) (since : CameSince id journal more)
+    (apart : other ≢ name) (new : savepoint_of journal.session other journal.savepoints ≡ None) where
   abbrev others : List Savepoint
-  others = without_savepoint log.session name log.savepoints
+  others = without_savepoint journal.session name journal.savepoints
 
-  abbrev with_later : Log
-  with_later = marked other later_id (with_more log name id more below since)
+  abbrev with_later : Journal
+  with_later = marked other later_id (with_more journal name id more below since)
 
   -- it takes the place of none
-  takes_none : without_savepoint log.session other (others ++ made name id log ∷ []) ≡ others ++ made name id log ∷ []
+  takes_none : without_savepoint journal.session other (others ++ made name id journal ∷ []) ≡ others ++ made name id journal ∷ []
   takes_none =
-      let is_other = is_named log.session other in
-      let none = has_all (λ p. is_other p ≡ false) log.savepoints (find_none is_other log.savepoints new) in
-      let rest = all_filter (λ p. is_other p ≡ false) (λ p. not (is_named log.session name p)) log.savepoints none in
+      let is_other = is_named journal.session other in
+      let none = has_all (λ p. is_other p ≡ false) journal.savepoints (find_none is_other journal.savepoints new) in
+      let rest = all_filter (λ p. is_other p ≡ false) (λ p. not (is_named journal.session name p)) journal.savepoints none in
       let differs = false_from_ne_true (bytes_eq name other) (λ t. apart (sym (name_same name other t))) in
-      filter_kept is_other (others ++ made name id log ∷ [])
-      (all_push (λ p. is_other p ≡ false) others (made name id log) rest (and_right (log.session == log.session) (bytes_eq name other) differs))
+      filter_kept is_other (others ++ made name id journal ∷ [])
+      (all_push (λ p. is_other p ≡ false) others (made name id journal) rest (and_right (journal.session == journal.session) (bytes_eq name other) differs))
 
   -- and goes
-  later_goes : through log.session name with_later.savepoints ≡ (marked name id log).savepoints
+  later_goes : through journal.session name with_later.savepoints ≡ (marked name id journal).savepoints
   later_goes =
-      let last = made other later_id log in
-      ap (λ (ps : List Savepoint). through log.session name (ps ++ last ∷ [])) takes_none
-      ∙ ap (λ (ps : List Savepoint). through log.session name ps) (append_assoc others (made name id log ∷ []) (last ∷ []))
-      ∙ through_made log.session name others (last ∷ []) (made name id log) (left_out (is_named log.session name) log.savepoints) (made_named name id log)
-      ∙ ap (λ (ps : List Savepoint). others ++ made name id log ∷ ps) (filter_none (λ (p : Savepoint). p.session == log.session) (last ∷ []) (eq-eqb log.session log.session refl, tt))
+      let last = made other later_id journal in
+      ap (λ (ps : List Savepoint). through journal.session name (ps ++ last ∷ [])) takes_none
+      ∙ ap (λ (ps : List Savepoint). through journal.session name ps) (append_assoc others (made name id journal ∷ []) (last ∷ []))
+      ∙ through_made journal.session name others (last ∷ []) (made name id journal) (left_out (is_named journal.session name) journal.savepoints) (made_named name id journal)
+      ∙ ap (λ (ps : List Savepoint). others ++ made name id journal ∷ ps) (filter_none (λ (p : Savepoint). p.session == journal.session) (last ∷ []) (eq-eqb journal.session journal.session refl, tt))
 
-  still_there : savepoint_of log.session name with_later.savepoints ≡ Some (made name id log)
+  still_there : savepoint_of journal.session name with_later.savepoints ≡ Some (made name id journal)
   still_there =
-      let last = made other later_id log in
-      ap (λ (ps : List Savepoint). savepoint_of log.session name (ps ++ last ∷ [])) takes_none
-      ∙ find-append (is_named log.session name) (others ++ made name id log ∷ []) (last ∷ [])
-      ∙ ap (λ (o : Option Savepoint). option_or o (savepoint_of log.session name (last ∷ []))) (made_found name id log)
+      let last = made other later_id journal in
+      ap (λ (ps : List Savepoint). savepoint_of journal.session name (ps ++ last ∷ [])) takes_none
+      ∙ find-append (is_named journal.session name) (others ++ made name id journal ∷ []) (last ∷ [])
+      ∙ ap (λ (o : Option Savepoint). option_or o (savepoint_of journal.session name (last ∷ []))) (made_found name id journal)
 
-  pub later_dropped : cut_log name (marked other later_id (all_pushed more (marked name id log))) ≡ marked name id log
+  pub later_dropped : cut_journal name (marked other later_id (all_pushed more (marked name id journal))) ≡ marked name id journal
   later_dropped =
-      ap (λ (l : Log). cut_log name (marked other later_id l)) (pushed_is more (marked name id log))
+      ap (λ (l : Journal). cut_journal name (marked other later_id l)) (pushed_is more (marked name id journal))
       ∙ ap (λ (o : Option Savepoint). unwrap_or (option_map (cut_at with_later) o) with_later) still_there
-      ∙ ap₂ (λ (rs : List Reservation) (ps : List Savepoint). record with_later { reservations = rs; savepoints = ps }) (not_after_made log name id more below since) later_goes
+      ∙ ap₂ (λ (rs : List Reservation) (ps : List Savepoint). record with_later { reservations = rs; savepoints = ps }) (not_after_made journal name id more below since) later_goes
 
 pub going_back_drops_later_savepoints : GoingBackDropsLaterSavepoints
-going_back_drops_later_savepoints = λ log name other id later_id more below since apart new. later_dropped log name other id later_id more below since apart new
+going_back_drops_later_savepoints = λ journal name other id later_id more below since apart new. later_dropped journal name other id later_id more below since apart new
 
 -- ---- the savepoint to which a journal goes back
 
 -- it is the session's, of the name, and what was dropped came after it
-gone_back : (log : Log) (name : List ℕ) (dropped : List Reservation) → later name log ≡ Some dropped
-    → (p : Savepoint) × (savepoint_of log.session name log.savepoints ≡ Some p) × (after p log.reservations ≡ dropped)
-gone_back log name dropped e = comes_from (λ (p : Savepoint). after p log.reservations) (savepoint_of log.session name log.savepoints) dropped e
+gone_back : (journal : Journal) (name : List ℕ) (dropped : List Reservation) → later name journal ≡ Some dropped
+    → (p : Savepoint) × (savepoint_of journal.session name journal.savepoints ≡ Some p) × (after p journal.reservations ≡ dropped)
+gone_back journal name dropped e = comes_from (λ (p : Savepoint). after p journal.reservations) (savepoint_of journal.session name journal.savepoints) dropped e
 
-cut_found : (log : Log) (name : List ℕ) (p : Savepoint) → savepoint_of log.session name log.savepoints ≡ Some p → cut_log name log ≡ cut_at log p
-cut_found log name p found = ap (λ (o : Option Savepoint). unwrap_or (option_map (cut_at log) o) log) found
+cut_found : (journal : Journal) (name : List ℕ) (p : Savepoint) → savepoint_of journal.session name journal.savepoints ≡ Some p → cut_journal name journal ≡ cut_at journal p
+cut_found journal name p found = ap (λ (o : Option Savepoint). unwrap_or (option_map (cut_at journal) o) journal) found
 
 pub nothing_is_lost : NothingIsLost
-nothing_is_lost = λ log name dropped valid e.
-    let p = gone_back log name dropped e in
-    let passes = (find_has (is_named log.session name) log.savepoints p.0 p.1).1 in
-    let same = eqb-true p.0.session log.session (and_parts (p.0.session == log.session) (bytes_eq p.0.name name) passes).0 in
-    let n = first_from p.0.id log.reservations in
-    ap (λ (l : Log). l.reservations ++ dropped) (cut_found log name p.0 p.1)
+nothing_is_lost = λ journal name dropped valid e.
+    let p = gone_back journal name dropped e in
+    let passes = (find_has (is_named journal.session name) journal.savepoints p.0 p.1).1 in
+    let same = eqb-true p.0.session journal.session (and_parts (p.0.session == journal.session) (bytes_eq p.0.name name) passes).0 in
+    let n = first_from p.0.id journal.reservations in
+    ap (λ (l : Journal). l.reservations ++ dropped) (cut_found journal name p.0 p.1)
     ∙ ap₂ (λ xs ys. xs ++ ys)
-    (not_after_is p.0 log.session log.reservations same valid.reservations_own valid.reservation_order)
-    (sym p.2 ∙ after_is p.0 log.session log.reservations same valid.reservations_own valid.reservation_order)
-    ∙ take-append-drop n log.reservations
+    (not_after_is p.0 journal.session journal.reservations same valid.reservations_own valid.reservation_order)
+    (sym p.2 ∙ after_is p.0 journal.session journal.reservations same valid.reservations_own valid.reservation_order)
+    ∙ take-append-drop n journal.reservations
 
 -- the savepoints up to it still have it
 still_step : (b : Bool) (p : Savepoint) (others more : List Savepoint) (test : Savepoint → Bool) (found : Option Savepoint) → test p ≡ b → find test more ≡ found
@@ -201,30 +201,30 @@ still_found session name (p ∷ ps) =
     (savepoint_of session name ps) refl (still_found session name ps)
 
 pub going_back_again_drops_nothing : GoingBackAgainDropsNothing
-going_back_again_drops_nothing = λ log name dropped e.
-    let p = gone_back log name dropped e in
-    let passes = (find_has (is_named log.session name) log.savepoints p.0 p.1).1 in
-    let named = name_same p.0.name name (and_parts (p.0.session == log.session) (bytes_eq p.0.name name) passes).1 in
-    let found = ap (λ text. savepoint_of log.session name (through log.session text log.savepoints)) named ∙ still_found log.session name log.savepoints ∙ p.1 in
-    ap (λ (l : Log). later name l) (cut_found log name p.0 p.1)
-    ∙ ap (λ (o : Option Savepoint). option_map (λ q. after q (not_after p.0 log.reservations)) o) found
-    ∙ ap (λ (rs : List Reservation). Some rs) (filter_empty (is_after p.0) (not_after p.0 log.reservations) (left_out (is_after p.0) log.reservations))
+going_back_again_drops_nothing = λ journal name dropped e.
+    let p = gone_back journal name dropped e in
+    let passes = (find_has (is_named journal.session name) journal.savepoints p.0 p.1).1 in
+    let named = name_same p.0.name name (and_parts (p.0.session == journal.session) (bytes_eq p.0.name name) passes).1 in
+    let found = ap (λ text. savepoint_of journal.session name (through journal.session text journal.savepoints)) named ∙ still_found journal.session name journal.savepoints ∙ p.1 in
+    ap (λ (l : Journal). later name l) (cut_found journal name p.0 p.1)
+    ∙ ap (λ (o : Option Savepoint). option_map (λ q. after q (not_after p.0 journal.reservations)) o) found
+    ∙ ap (λ (rs : List Reservation). Some rs) (filter_empty (is_after p.0) (not_after p.0 journal.reservations) (left_out (is_after p.0) journal.reservations))
 
 -- ---- names
 
 pub the_last_of_a_name_stands : TheLastOfANameStands
-the_last_of_a_name_stands = λ log name first second.
-    let test = is_named log.session name in
-    let others = without_savepoint log.session name log.savepoints in
-    let out = left_out test log.savepoints in
-    let old = filter_none test (made name first log ∷ []) (made_named name first log, tt) in
-    let again = filter-append (λ p. not (test p)) others (made name first log ∷ []) ∙ ap₂ (λ xs ys. xs ++ ys) (filter_kept test others out) old ∙ append-nil others in
-    let last = made name second log in (
-      ap (λ (ps : List Savepoint). record log { savepoints = ps ++ last ∷ [] }) again,
-      filter-append test others (last ∷ []) ∙ ap₂ (λ xs ys. xs ++ ys) (filter_empty test others out) (filter_all test (last ∷ []) (made_named name second log, tt)),
+the_last_of_a_name_stands = λ journal name first second.
+    let test = is_named journal.session name in
+    let others = without_savepoint journal.session name journal.savepoints in
+    let out = left_out test journal.savepoints in
+    let old = filter_none test (made name first journal ∷ []) (made_named name first journal, tt) in
+    let again = filter-append (λ p. not (test p)) others (made name first journal ∷ []) ∙ ap₂ (λ xs ys. xs ++ ys) (filter_kept test others out) old ∙ append-nil others in
+    let last = made name second journal in (
+      ap (λ (ps : List Savepoint). record journal { savepoints = ps ++ last ∷ [] }) again,
+      filter-append test others (last ∷ []) ∙ ap₂ (λ xs ys. xs ++ ys) (filter_empty test others out) (filter_all test (last ∷ []) (made_named name second journal, tt)),
     )
 
 pub a_name_takes_one_place : ANameTakesOnePlace
-a_name_takes_one_place = λ log name id stands.
-    let fewer = fewer_others (is_named log.session name) log.savepoints stands in
-    omega (arith, length-append (without_savepoint log.session name log.savepoints) (made name id log ∷ []))
+a_name_takes_one_place = λ journal name id stands.
+    let fewer = fewer_others (is_named journal.session name) journal.savepoints stands in
+    omega (arith, length-append (without_savepoint journal.session name journal.savepoints) (made name id journal ∷ []))

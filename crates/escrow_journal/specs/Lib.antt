@@ -1,6 +1,6 @@
 pub mod Inside
+pub mod Journal
 pub mod Laws
-pub mod Log
 pub mod Open
 pub mod Reservations
 pub mod Savepoints

@@ -26,21 +26,21 @@ impl Drop for Journal {
 }
 
 impl Model for Journal {
-    ghost use Rattle.escrow_journal.specs.Log.{Log, IsLog};
-    ghost use Rattle.escrow_journal.specs.Inside.{log_of};
+    ghost use Rattle.escrow_journal.specs.Journal.{Journal, IsJournal};
+    ghost use Rattle.escrow_journal.specs.Inside.{journal_of};
 
-    ghost Value = { Log };
+    ghost Value = { Journal };
 
-    ghost view = { λ j. log_of j };
+    ghost view = { λ j. journal_of j };
 
-    ghost invariant = { λ j. IsLog (log_of j) };
+    ghost invariant = { λ j. IsJournal (journal_of j) };
 }
 
 impl Journal {
     ghost use Rattle.std.specs.Prelude.{◌≡◌, ◌⊎◌, IsTrue, IfErr, IsOk, IsSome, IsErrOf, OnOk, OnErr, Err, length, option_copied, option_map};
     ghost use Rattle.std.specs.List.{AllByRecursion};
     ghost use Rattle.escrow_journal.specs.Inside.{IsLeft};
-    ghost use Rattle.escrow_journal.specs.Log.{IsLog, empty_log, is_full, is_full_beside, pushed, marked, later, cut_log};
+    ghost use Rattle.escrow_journal.specs.Journal.{IsJournal, empty_journal, is_full, is_full_beside, pushed, marked, later, cut_journal};
     ghost use Rattle.escrow_journal.specs.Reservations.{reservation_before};
     ghost use Rattle.escrow_journal.specs.Savepoints.{savepoint_of};
 
@@ -52,7 +52,7 @@ impl Journal {
 
     /// Returns an empty journal of a session. Takes no memory.
     pub fn new(alloc: Global, session: Session) -> Self
-        ensures { result ≡ empty_log session }
+        ensures { result ≡ empty_journal session }
     {
         Journal {
             session,
@@ -65,7 +65,7 @@ impl Journal {
     /// in it.
     pub fn session(&self) -> Session
         ensures value { result ≡ self.now.session }
-        ensures valid { IsLog self.now }
+        ensures valid { IsJournal self.now }
     {
         self.session
     }
@@ -96,7 +96,7 @@ impl Journal {
         ensures refused { IsTrue (is_full self.old) → result ≡ Err Refusal.TooManyReservations }
         ensures only { IfErr result (λ e. (e ≡ Refusal.TooManyReservations) ⊎ (e ≡ Refusal.Memory)) }
         ensures room { IsErrOf result Refusal.TooManyReservations → IsTrue (is_full self.old) }
-        ensures valid { IsLog self.new }
+        ensures valid { IsJournal self.new }
     {
         if self.reservations.len() >= Self::MAX_RESERVATIONS {
             return Err(Refusal::TooManyReservations);
@@ -116,7 +116,7 @@ impl Journal {
         ensures only { IfErr result (λ e. (e ≡ Refusal.TooManySavepoints) ⊎ (e ≡ Refusal.Memory)) }
         ensures room { IsErrOf result Refusal.TooManySavepoints → IsTrue (is_full_beside name self.old) }
         ensures again { IsSome (savepoint_of self.old.session name self.old.savepoints) → IsOk result }
-        ensures valid { IsLog self.new }
+        ensures valid { IsJournal self.new }
     {
         if count_others(&self.savepoints, name) >= Self::MAX_SAVEPOINTS {
             return Err(Refusal::TooManySavepoints);
@@ -147,8 +147,8 @@ impl Journal {
     /// the journal is unchanged. Takes no memory.
     pub fn cut(&mut self, name: Name) -> Option<u32>
         ensures count { result ≡ option_map length (later name self.old) }
-        ensures cut { self.new ≡ cut_log name self.old }
-        ensures valid { IsLog self.new }
+        ensures cut { self.new ≡ cut_journal name self.old }
+        ensures valid { IsJournal self.new }
     {
         let (marks, first) = self.left(name)?;
         let count = self.reservations.len() - first;
@@ -170,8 +170,8 @@ impl Journal {
     /// Returns all reservations, in order of grant, and empties the journal. Takes no memory.
     pub fn take_all(&mut self) -> SmallVec<Reservation, 4>
         ensures all { result.items ≡ self.old.reservations }
-        ensures none { self.new ≡ empty_log self.old.session }
-        ensures valid { IsLog self.new }
+        ensures none { self.new ≡ empty_journal self.old.session }
+        ensures valid { IsJournal self.new }
     {
         let blank = SmallVec::new(*self.reservations.allocator());
         self.savepoints.clear();

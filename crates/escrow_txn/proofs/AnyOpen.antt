@@ -4,7 +4,7 @@ use Rattle.std.specs.List.{list_any}
 use Rattle.std.proofs.Common.{refl, ap, ap₂, sym, ◌∙◌, arith}
 use Rattle.std.proofs.lemmas.Bool.{cond_both, lt-ltb}
 use Rattle.escrow_num.specs.declared.reservation.Reservation.{Reservation}
-use Rattle.escrow_journal.specs.Log.{Log}
+use Rattle.escrow_journal.specs.Journal.{Journal}
 use Rattle.escrow_journal.specs.Open.{has_open}
 use Rattle.escrow_txn.specs.Joined.{put, by_id, opened, holds_any}
 use Rattle.escrow_txn.proofs.Sessions.{reservations_of, savepoints_of}
@@ -35,13 +35,13 @@ both_joined false true true d = refl
 both_joined false true false d = refl
 both_joined false false c d = refl
 
-any_holds : (logs : List Log) → (has_some (reservations_of logs) || has_some (savepoints_of logs)) ≡ list_any holds_any logs
+any_holds : (journals : List Journal) → (has_some (reservations_of journals) || has_some (savepoints_of journals)) ≡ list_any holds_any journals
 any_holds [] = refl
-any_holds (log ∷ logs) =
-    ap₂ (λ a b. a || b) (some_append log.reservations (reservations_of logs)) (some_append log.savepoints (savepoints_of logs))
-    ∙ both_joined (has_some log.reservations) (has_some (reservations_of logs)) (has_some log.savepoints) (has_some (savepoints_of logs))
-    ∙ ap (λ b. holds_any log || b) (any_holds logs)
+any_holds (journal ∷ journals) =
+    ap₂ (λ a b. a || b) (some_append journal.reservations (reservations_of journals)) (some_append journal.savepoints (savepoints_of journals))
+    ∙ both_joined (has_some journal.reservations) (has_some (reservations_of journals)) (has_some journal.savepoints) (has_some (savepoints_of journals))
+    ∙ ap (λ b. holds_any journal || b) (any_holds journals)
 
 -- something is open just where one of the journals holds something
-pub open_by_journals : (logs : List Log) (next : ℕ) → has_open (opened logs next) ≡ list_any holds_any logs
-open_by_journals logs next = ap (λ b. b || has_some (savepoints_of logs)) (some_by_id (reservations_of logs)) ∙ any_holds logs
+pub open_by_journals : (journals : List Journal) (next : ℕ) → has_open (opened journals next) ≡ list_any holds_any journals
+open_by_journals journals next = ap (λ b. b || has_some (savepoints_of journals)) (some_by_id (reservations_of journals)) ∙ any_holds journals

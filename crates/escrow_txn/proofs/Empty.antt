@@ -5,53 +5,53 @@ use Rattle.std.proofs.Common.{refl, ap, ap₂, sym, subst, ◌∙◌, take, drop
 use Rattle.std.proofs.lemmas.List.{append-nil, append_assoc, length-map, drop_more, drop_all, take_all, take_more_set, drop-set-lt, length_push}
 use Rattle.escrow_num.specs.Session.{IsSession}
 use Rattle.escrow_num.specs.declared.session.TheConstants.Session.{MAX}
-use Rattle.escrow_journal.specs.Log.{Log, IsLog, empty_log}
+use Rattle.escrow_journal.specs.Journal.{Journal, IsJournal, empty_journal}
 use Rattle.escrow_txn.specs.Joined.{AreEmpty, AreJournals, AreNumbered, IsBelow, by_id, opened}
 use Rattle.escrow_journal.specs.Open.{nothing_open}
 use Rattle.escrow_txn.proofs.Places.{all_append}
 use Rattle.escrow_txn.proofs.Sessions.{reservations_of, savepoints_of, open_with}
 
 -- one more journal, of the next session
-numbered_push : (first : ℕ) (logs : List Log) (log : Log) → AreNumbered first logs → log.session ≡ first + length logs → AreNumbered first (logs ++ log ∷ [])
-numbered_push first [] log numbered is = (is ∙ omega arith, tt)
-numbered_push first (x ∷ logs) log numbered is = (numbered.0, numbered_push (1 + first) logs log numbered.1 (is ∙ omega arith))
+numbered_push : (first : ℕ) (logs : List Journal) (journal : Journal) → AreNumbered first logs → journal.session ≡ first + length logs → AreNumbered first (logs ++ journal ∷ [])
+numbered_push first [] journal numbered is = (is ∙ omega arith, tt)
+numbered_push first (x ∷ logs) journal numbered is = (numbered.0, numbered_push (1 + first) logs journal numbered.1 (is ∙ omega arith))
 
-each_push : (logs : List Log) (log : Log) → AllByRecursion (λ l. l ≡ empty_log l.session) logs → log ≡ empty_log log.session
-    → AllByRecursion (λ l. l ≡ empty_log l.session) (logs ++ log ∷ [])
-each_push logs log each is = all_append (λ (l : Log). l ≡ empty_log l.session) logs (log ∷ []) each (is, tt)
+each_push : (logs : List Journal) (journal : Journal) → AllByRecursion (λ l. l ≡ empty_journal l.session) logs → journal ≡ empty_journal journal.session
+    → AllByRecursion (λ l. l ≡ empty_journal l.session) (logs ++ journal ∷ [])
+each_push logs journal each is = all_append (λ (l : Journal). l ≡ empty_journal l.session) logs (journal ∷ []) each (is, tt)
 
-pub empty_push : (n session : ℕ) (new logs : List Log) (log : Log) → AreEmpty n logs → session ≡ n + 1 → log ≡ empty_log session → new ≡ logs ++ log ∷ []
+pub empty_push : (n session : ℕ) (new logs : List Journal) (journal : Journal) → AreEmpty n logs → session ≡ n + 1 → journal ≡ empty_journal session → new ≡ logs ++ journal ∷ []
     → AreEmpty (n + 1) new
-empty_push n session new logs log empty next none is =
-    let number : log.session ≡ session = ap (λ (l : Log). l.session) none in
+empty_push n session new logs journal empty next none is =
+    let number : journal.session ≡ session = ap (λ (l : Journal). l.session) none in
     subst (AreEmpty (n + 1)) (sym is) (record {
-      count = length_push logs log ∙ ap (λ k. k + 1) empty.count;
-      numbered = numbered_push 1 logs log empty.numbered (number ∙ next ∙ omega (arith, empty.count));
-      each = each_push logs log empty.each (none ∙ ap empty_log (sym number));
+      count = length_push logs journal ∙ ap (λ k. k + 1) empty.count;
+      numbered = numbered_push 1 logs journal empty.numbered (number ∙ next ∙ omega (arith, empty.count));
+      each = each_push logs journal empty.each (none ∙ ap empty_journal (sym number));
     })
 
 -- a journal as it is when it is emptied
-abbrev pub emptied : Log → Log
-emptied log = empty_log log.session
+abbrev pub emptied : Journal → Journal
+emptied journal = empty_journal journal.session
 
-numbered_emptied : (first : ℕ) (logs : List Log) → AreNumbered first logs → AreNumbered first (map emptied logs)
+numbered_emptied : (first : ℕ) (logs : List Journal) → AreNumbered first logs → AreNumbered first (map emptied logs)
 numbered_emptied first [] numbered = tt
-numbered_emptied first (log ∷ logs) numbered = (numbered.0, numbered_emptied (1 + first) logs numbered.1)
+numbered_emptied first (journal ∷ logs) numbered = (numbered.0, numbered_emptied (1 + first) logs numbered.1)
 
-each_emptied : (logs : List Log) → AllByRecursion (λ log. log ≡ empty_log log.session) (map emptied logs)
+each_emptied : (logs : List Journal) → AllByRecursion (λ journal. journal ≡ empty_journal journal.session) (map emptied logs)
 each_emptied [] = tt
-each_emptied (log ∷ logs) = (refl, each_emptied logs)
+each_emptied (journal ∷ logs) = (refl, each_emptied logs)
 
 -- journals that were emptied are empty
-pub emptied_empty : (logs : List Log) (next : ℕ) → AreJournals logs next → AreEmpty MAX (map emptied logs)
+pub emptied_empty : (logs : List Journal) (next : ℕ) → AreJournals logs next → AreEmpty MAX (map emptied logs)
 emptied_empty logs next journals = record {
   count = length-map logs emptied ∙ journals.count;
   numbered = numbered_emptied 1 logs journals.numbered;
   each = each_emptied logs;
 }
 
-empty_is_log : (log : Log) → IsSession log.session → log ≡ empty_log log.session → IsLog log
-empty_is_log log session none = subst IsLog (sym none) (record {
+empty_is_journal : (journal : Journal) → IsSession journal.session → journal ≡ empty_journal journal.session → IsJournal journal
+empty_is_journal journal session none = subst IsJournal (sym none) (record {
   session = session;
   reservations_own = tt;
   reservation_order = tt;
@@ -60,38 +60,38 @@ empty_is_log log session none = subst IsLog (sym none) (record {
   few_savepoints = omega arith;
 })
 
-are_logs : (first : ℕ) (logs : List Log) → AreNumbered first logs → 1 ≤ first → first + length logs ≤ MAX + 1
-    → AllByRecursion (λ log. log ≡ empty_log log.session) logs → AllByRecursion IsLog logs
-are_logs first [] numbered low high none = tt
-are_logs first (log ∷ logs) numbered low high none =
-    let session : IsSession log.session = subst IsSession (sym numbered.0) (low, omega arith) in
-    (empty_is_log log session none.0, are_logs (1 + first) logs numbered.1 (omega arith) (omega arith) none.1)
+are_journals : (first : ℕ) (logs : List Journal) → AreNumbered first logs → 1 ≤ first → first + length logs ≤ MAX + 1
+    → AllByRecursion (λ journal. journal ≡ empty_journal journal.session) logs → AllByRecursion IsJournal logs
+are_journals first [] numbered low high none = tt
+are_journals first (journal ∷ logs) numbered low high none =
+    let session : IsSession journal.session = subst IsSession (sym numbered.0) (low, omega arith) in
+    (empty_is_journal journal session none.0, are_journals (1 + first) logs numbered.1 (omega arith) (omega arith) none.1)
 
-nothing_below : (logs : List Log) → AllByRecursion (λ log. log ≡ empty_log log.session) logs → AllByRecursion (IsBelow 1) logs
+nothing_below : (logs : List Journal) → AllByRecursion (λ journal. journal ≡ empty_journal journal.session) logs → AllByRecursion (IsBelow 1) logs
 nothing_below [] none = tt
-nothing_below (log ∷ logs) none = (subst (IsBelow 1) (sym none.0) tt, nothing_below logs none.1)
+nothing_below (journal ∷ logs) none = (subst (IsBelow 1) (sym none.0) tt, nothing_below logs none.1)
 
-no_reservations : (logs : List Log) → AllByRecursion (λ log. log ≡ empty_log log.session) logs → reservations_of logs ≡ []
+no_reservations : (logs : List Journal) → AllByRecursion (λ journal. journal ≡ empty_journal journal.session) logs → reservations_of logs ≡ []
 no_reservations [] none = refl
-no_reservations (log ∷ logs) none = ap (λ (l : Log). l.reservations ++ reservations_of logs) none.0 ∙ no_reservations logs none.1
+no_reservations (journal ∷ logs) none = ap (λ (l : Journal). l.reservations ++ reservations_of logs) none.0 ∙ no_reservations logs none.1
 
-no_savepoints : (logs : List Log) → AllByRecursion (λ log. log ≡ empty_log log.session) logs → savepoints_of logs ≡ []
+no_savepoints : (logs : List Journal) → AllByRecursion (λ journal. journal ≡ empty_journal journal.session) logs → savepoints_of logs ≡ []
 no_savepoints [] none = refl
-no_savepoints (log ∷ logs) none = ap (λ (l : Log). l.savepoints ++ savepoints_of logs) none.0 ∙ no_savepoints logs none.1
+no_savepoints (journal ∷ logs) none = ap (λ (l : Journal). l.savepoints ++ savepoints_of logs) none.0 ∙ no_savepoints logs none.1
 
 -- they are a table's journals
-pub empty_journals : (logs : List Log) → AreEmpty MAX logs → AreJournals logs 1
+pub empty_journals : (logs : List Journal) → AreEmpty MAX logs → AreJournals logs 1
 empty_journals logs empty = record {
   count = empty.count;
   numbered = empty.numbered;
-  each = are_logs 1 logs empty.numbered (omega arith) (omega (arith, empty.count)) empty.each;
+  each = are_journals 1 logs empty.numbered (omega arith) (omega (arith, empty.count)) empty.each;
   below = nothing_below logs empty.each;
   first_id = omega arith;
   last_id = omega arith;
 }
 
 -- in which nothing is open
-pub nothing_opened : (logs : List Log) → AreEmpty MAX logs → opened logs 1 ≡ nothing_open
+pub nothing_opened : (logs : List Journal) → AreEmpty MAX logs → opened logs 1 ≡ nothing_open
 nothing_opened logs empty = ap₂ (open_with 1) (ap by_id (no_reservations logs empty.each)) (no_savepoints logs empty.each)
 
 -- one step where each item of a list becomes another

@@ -8,7 +8,7 @@ use Rattle.std.proofs.lemmas.List.Concat.{flat_map-append}
 use Rattle.escrow_num.specs.Ascending.{IsAscending}
 use Rattle.escrow_num.specs.declared.reservation.Reservation.{Reservation}
 use Rattle.escrow_num.proofs.Items.{all_has, has_all}
-use Rattle.escrow_journal.specs.Log.{Log, IsLog}
+use Rattle.escrow_journal.specs.Journal.{Journal, IsJournal}
 use Rattle.escrow_txn.specs.Joined.{put, by_id, in_order}
 use Rattle.escrow_txn.proofs.ById.{put_front, all_by_id, by_id_order, by_id_in_order, by_id_rising, by_id_append}
 use Rattle.escrow_txn.proofs.Places.{all_append}
@@ -143,20 +143,20 @@ merged_rest front back done i j front_order back_order past so_far =
     ∙ so_far.merged)
 
 -- what one journal holds is in order
-pub one_merged : (logs : List Log) (log : Log) → length logs ≡ 1 → log ≡ get_or logs 0 log → AllByRecursion IsLog logs
-    → log.reservations ≡ by_id (reservations_of logs)
-one_merged [] log one is each = absurd (omega arith)
-one_merged (l ∷ []) log one is each =
-    ap (λ (x : Log). x.reservations) is ∙ sym (ap by_id (append-nil l.reservations) ∙ by_id_rising l.reservations each.0.reservation_order)
-one_merged (l ∷ m ∷ logs) log one is each = absurd (omega arith)
+pub one_merged : (journals : List Journal) (journal : Journal) → length journals ≡ 1 → journal ≡ get_or journals 0 journal → AllByRecursion IsJournal journals
+    → journal.reservations ≡ by_id (reservations_of journals)
+one_merged [] journal one is each = absurd (omega arith)
+one_merged (l ∷ []) journal one is each =
+    ap (λ (x : Journal). x.reservations) is ∙ sym (ap by_id (append-nil l.reservations) ∙ by_id_rising l.reservations each.0.reservation_order)
+one_merged (l ∷ m ∷ journals) journal one is each = absurd (omega arith)
 
 -- what is merged is in order
 pub merged_order : (rs : List (Bor Reservation)) (xs : List Reservation) → read rs ≡ by_id xs → IsAscending in_order (read rs)
 merged_order rs xs is = subst (IsAscending in_order) (sym is) (by_id_order xs)
 
 -- what two parts of the journals hold, each in order, in order together
-pub halves_merged : (logs front back : List Log) → logs ≡ front ++ back
-    → by_id (by_id (reservations_of front) ++ by_id (reservations_of back)) ≡ by_id (reservations_of logs)
-halves_merged logs front back split =
+pub halves_merged : (journals front back : List Journal) → journals ≡ front ++ back
+    → by_id (by_id (reservations_of front) ++ by_id (reservations_of back)) ≡ by_id (reservations_of journals)
+halves_merged journals front back split =
     by_id_append (reservations_of front) (reservations_of back)
-    ∙ ap by_id (sym (flat_map-append (λ (log : Log). log.reservations) front back)) ∙ ap (λ ls. by_id (reservations_of ls)) (sym split)
+    ∙ ap by_id (sym (flat_map-append (λ (journal : Journal). journal.reservations) front back)) ∙ ap (λ ls. by_id (reservations_of ls)) (sym split)

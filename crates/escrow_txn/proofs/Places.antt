@@ -7,7 +7,7 @@ use Rattle.std.proofs.lemmas.List.{set_split, length-set, set-get_or}
 use Rattle.escrow_num.specs.Session.{IsSession}
 use Rattle.escrow_num.specs.declared.reservation.TheConstants.Reservation.{MAX_ID}
 use Rattle.escrow_num.proofs.Items.{all_has, has_all, all_at}
-use Rattle.escrow_journal.specs.Log.{Log, IsLog}
+use Rattle.escrow_journal.specs.Journal.{Journal, IsJournal}
 use Rattle.escrow_txn.specs.Joined.{AreNumbered, AreJournals, IsBelow}
 
 -- what holds of all items but one, and of what is put in its place, holds of all
@@ -37,89 +37,89 @@ pub all_flat : {A B : Type 0} (P : A → Type 0) (Q : B → Type 0) (f : A → L
 all_flat P Q f [] each all = tt
 all_flat P Q f (x ∷ xs) each all = all_append Q (f x) (flat_map f xs) (each x all.0) (all_flat P Q f xs each all.1)
 
-numbered_set : (first : ℕ) (logs : List Log) (i : ℕ) (log : Log) → AreNumbered first logs → log.session ≡ first + i → AreNumbered first (set logs i log)
-numbered_set first [] i log numbered is = tt
-numbered_set first (x ∷ xs) zero log numbered is = (is ∙ omega arith, numbered.1)
-numbered_set first (x ∷ xs) (suc i) log numbered is = (numbered.0, numbered_set (1 + first) xs i log numbered.1 (is ∙ omega arith))
+numbered_set : (first : ℕ) (logs : List Journal) (i : ℕ) (journal : Journal) → AreNumbered first logs → journal.session ≡ first + i → AreNumbered first (set logs i journal)
+numbered_set first [] i journal numbered is = tt
+numbered_set first (x ∷ xs) zero journal numbered is = (is ∙ omega arith, numbered.1)
+numbered_set first (x ∷ xs) (suc i) journal numbered is = (numbered.0, numbered_set (1 + first) xs i journal numbered.1 (is ∙ omega arith))
 
-numbered_at : (first : ℕ) (logs : List Log) (i : ℕ) (log : Log) → AreNumbered first logs → i < length logs → (get_or logs i log).session ≡ first + i
-numbered_at first [] i log numbered within = absurd (omega arith)
-numbered_at first (x ∷ xs) zero log numbered within = numbered.0 ∙ omega arith
-numbered_at first (x ∷ xs) (suc i) log numbered within = numbered_at (1 + first) xs i log numbered.1 (omega arith) ∙ omega arith
+numbered_at : (first : ℕ) (logs : List Journal) (i : ℕ) (journal : Journal) → AreNumbered first logs → i < length logs → (get_or logs i journal).session ≡ first + i
+numbered_at first [] i journal numbered within = absurd (omega arith)
+numbered_at first (x ∷ xs) zero journal numbered within = numbered.0 ∙ omega arith
+numbered_at first (x ∷ xs) (suc i) journal numbered within = numbered_at (1 + first) xs i journal numbered.1 (omega arith) ∙ omega arith
 
 -- sessions of the journals before a place
-numbered_before : (first : ℕ) (logs : List Log) (i : ℕ) → AreNumbered first logs → AllByRecursion (λ log. IsTrue (nat_lt log.session (first + i))) (take i logs)
+numbered_before : (first : ℕ) (logs : List Journal) (i : ℕ) → AreNumbered first logs → AllByRecursion (λ journal. IsTrue (nat_lt journal.session (first + i))) (take i logs)
 numbered_before first logs zero numbered = tt
 numbered_before first [] (suc i) numbered = tt
 numbered_before first (x ∷ xs) (suc i) numbered = (
   lt-ltb x.session (first + suc i) (omega (arith, numbered.0)),
-  subst (λ n. AllByRecursion (λ log. IsTrue (nat_lt log.session n)) (take i xs)) (omega arith) (numbered_before (1 + first) xs i numbered.1),
+  subst (λ n. AllByRecursion (λ journal. IsTrue (nat_lt journal.session n)) (take i xs)) (omega arith) (numbered_before (1 + first) xs i numbered.1),
 )
 
-numbered_from : (first : ℕ) (logs : List Log) (n : ℕ) → n < first → AreNumbered first logs → AllByRecursion (λ log. IsTrue (nat_lt n log.session)) logs
+numbered_from : (first : ℕ) (logs : List Journal) (n : ℕ) → n < first → AreNumbered first logs → AllByRecursion (λ journal. IsTrue (nat_lt n journal.session)) logs
 numbered_from first [] n less numbered = tt
 numbered_from first (x ∷ xs) n less numbered = (lt-ltb n x.session (omega (arith, numbered.0)), numbered_from (1 + first) xs n (omega arith) numbered.1)
 
 -- and behind it
-numbered_behind : (first : ℕ) (logs : List Log) (i n : ℕ) → n < first + i → AreNumbered first logs → AllByRecursion (λ log. IsTrue (nat_lt n log.session)) (drop i logs)
+numbered_behind : (first : ℕ) (logs : List Journal) (i n : ℕ) → n < first + i → AreNumbered first logs → AllByRecursion (λ journal. IsTrue (nat_lt n journal.session)) (drop i logs)
 numbered_behind first logs zero n less numbered = numbered_from first logs n (omega arith) numbered
 numbered_behind first [] (suc i) n less numbered = tt
 numbered_behind first (x ∷ xs) (suc i) n less numbered = numbered_behind (1 + first) xs i n (omega arith) numbered.1
 
 -- A journal's place: it is the journal of a session at an index, those before it are of sessions below,
 -- those behind it of sessions above, and all of them are journals.
-pub record IsAt (session : ℕ) (logs : List Log) (i : ℕ) (log : Log) : Type 0 where
+pub record IsAt (session : ℕ) (logs : List Journal) (i : ℕ) (journal : Journal) : Type 0 where
   pub is_session : IsSession session
   pub index : i + 1 ≡ session
   pub within : i < length logs
-  pub read : log ≡ get_or logs i log
-  pub number : log.session ≡ session
-  pub is_log : IsLog log
-  pub split : (y : Log) → set logs i y ≡ take i logs ++ y ∷ drop (suc i) logs
-  pub same : set logs i log ≡ logs
+  pub read : journal ≡ get_or logs i journal
+  pub number : journal.session ≡ session
+  pub is_journal : IsJournal journal
+  pub split : (y : Journal) → set logs i y ≡ take i logs ++ y ∷ drop (suc i) logs
+  pub same : set logs i journal ≡ logs
   pub below : AllByRecursion (λ l. IsTrue (nat_lt l.session session)) (take i logs)
   pub above : AllByRecursion (λ l. IsTrue (nat_lt session l.session)) (drop (suc i) logs)
-  pub before : AllByRecursion IsLog (take i logs)
-  pub behind : AllByRecursion IsLog (drop (suc i) logs)
+  pub before : AllByRecursion IsJournal (take i logs)
+  pub behind : AllByRecursion IsJournal (drop (suc i) logs)
 
 -- a session's journal is at the index that is one less than its number
-pub place_is : (logs : List Log) (next session i : ℕ) (log : Log) → AreJournals logs next → IsSession session → i + 1 ≡ session
-    → log ≡ get_or logs i log → IsAt session logs i log
-place_is logs next session i log journals is_session index read =
+pub place_is : (logs : List Journal) (next session i : ℕ) (journal : Journal) → AreJournals logs next → IsSession session → i + 1 ≡ session
+    → journal ≡ get_or logs i journal → IsAt session logs i journal
+place_is logs next session i journal journals is_session index read =
     let within : i < length logs = omega (arith, journals.count, is_session.1) in
     record {
       is_session = is_session;
       index = index;
       within = within;
       read = read;
-      number = ap (λ (l : Log). l.session) read ∙ numbered_at 1 logs i log journals.numbered within ∙ omega arith;
-      is_log = all_at IsLog logs i log within read journals.each;
+      number = ap (λ (l : Journal). l.session) read ∙ numbered_at 1 logs i journal journals.numbered within ∙ omega arith;
+      is_journal = all_at IsJournal logs i journal within read journals.each;
       split = λ y. set_split logs i y within;
-      same = ap (set logs i) read ∙ set-get_or logs i log;
+      same = ap (set logs i) read ∙ set-get_or logs i journal;
       below = subst (λ n. AllByRecursion (λ l. IsTrue (nat_lt l.session n)) (take i logs)) (omega arith) (numbered_before 1 logs i journals.numbered);
       above = numbered_behind 1 logs (suc i) session (omega arith) journals.numbered;
-      before = all_take IsLog i logs journals.each;
-      behind = all_drop IsLog (suc i) logs journals.each;
+      before = all_take IsJournal i logs journals.each;
+      behind = all_drop IsJournal (suc i) logs journals.each;
     }
 
 -- ids below a number are below a greater one
-pub below_more : (log : Log) (next new_next : ℕ) → next ≤ new_next → IsBelow next log → IsBelow new_next log
-below_more log next new_next more below =
-    has_all (λ r. IsTrue (nat_lt r.id new_next)) log.reservations
-    (λ r h. lt-ltb r.id new_next (omega (arith, ltb-true r.id next (all_has (λ x. IsTrue (nat_lt x.id next)) log.reservations below r h))))
+pub below_more : (journal : Journal) (next new_next : ℕ) → next ≤ new_next → IsBelow next journal → IsBelow new_next journal
+below_more journal next new_next more below =
+    has_all (λ r. IsTrue (nat_lt r.id new_next)) journal.reservations
+    (λ r h. lt-ltb r.id new_next (omega (arith, ltb-true r.id next (all_has (λ x. IsTrue (nat_lt x.id next)) journal.reservations below r h))))
 
-all_below : (logs : List Log) (next new_next : ℕ) → next ≤ new_next → AllByRecursion (IsBelow next) logs → AllByRecursion (IsBelow new_next) logs
+all_below : (logs : List Journal) (next new_next : ℕ) → next ≤ new_next → AllByRecursion (IsBelow next) logs → AllByRecursion (IsBelow new_next) logs
 all_below [] next new_next more below = tt
-all_below (log ∷ logs) next new_next more below = (below_more log next new_next more below.0, all_below logs next new_next more below.1)
+all_below (journal ∷ logs) next new_next more below = (below_more journal next new_next more below.0, all_below logs next new_next more below.1)
 
 -- with another journal of the session in its place they are the journals
-pub journals_set : (logs : List Log) (next new_next session i : ℕ) (log : Log) → AreJournals logs next → IsSession session → i + 1 ≡ session
-    → IsLog log → log.session ≡ session → IsBelow new_next log → next ≤ new_next → new_next ≤ MAX_ID + 1 → AreJournals (set logs i log) new_next
-journals_set logs next new_next session i log journals is_session index is_log number below more last = record {
-  count = length-set logs i log ∙ journals.count;
-  numbered = numbered_set 1 logs i log journals.numbered (number ∙ omega arith);
-  each = all_set IsLog logs i log journals.each is_log;
-  below = all_set (IsBelow new_next) logs i log (all_below logs next new_next more journals.below) below;
+pub journals_set : (logs : List Journal) (next new_next session i : ℕ) (journal : Journal) → AreJournals logs next → IsSession session → i + 1 ≡ session
+    → IsJournal journal → journal.session ≡ session → IsBelow new_next journal → next ≤ new_next → new_next ≤ MAX_ID + 1 → AreJournals (set logs i journal) new_next
+journals_set logs next new_next session i journal journals is_session index is_journal number below more last = record {
+  count = length-set logs i journal ∙ journals.count;
+  numbered = numbered_set 1 logs i journal journals.numbered (number ∙ omega arith);
+  each = all_set IsJournal logs i journal journals.each is_journal;
+  below = all_set (IsBelow new_next) logs i journal (all_below logs next new_next more journals.below) below;
   first_id = omega (arith, journals.first_id);
   last_id = last;
 }

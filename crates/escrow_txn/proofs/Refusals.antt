@@ -5,7 +5,7 @@ use Rattle.std.proofs.lemmas.Bool.{leb-true}
 use Rattle.escrow_num.specs.declared.refusal.Refusal.{Refusal}
 use Rattle.escrow_num.specs.declared.refusal.Refusal.TheVariants as refusal
 use Rattle.escrow_num.specs.Refusal.{refuse_if}
-use Rattle.escrow_journal.specs.Log.{Log, is_full, is_full_beside}
+use Rattle.escrow_journal.specs.Journal.{Journal, is_full, is_full_beside}
 use Rattle.escrow_journal.specs.declared.journal.TheConstants.Journal.{MAX_RESERVATIONS, MAX_SAVEPOINTS}
 use Rattle.escrow_txn.specs.Joined.{opened}
 use Rattle.escrow_journal.specs.Open.{grant_refusal, savepoint_refusal}
@@ -28,19 +28,19 @@ only_if test r (Err e) (inl is) room = inl (subst (λ b. refuse_if b r ≡ Some 
 only_if test r (Err e) (inr memory) room = inr memory
 
 -- why a session gets no savepoint is why its journal does
-pub savepoint_refusal_is : (session next : ℕ) (name : List ℕ) (logs : List Log) (i : ℕ) (log : Log) → IsAt session logs i log
-    → refuse_if (is_full_beside name log) refusal.TooManySavepoints ≡ savepoint_refusal session name (opened logs next)
-savepoint_refusal_is session next name logs i log at =
-    ap (λ ps. refuse_if (nat_le MAX_SAVEPOINTS (length ps)) refusal.TooManySavepoints) (sym (other_names_is session name logs i log at))
+pub savepoint_refusal_is : (session next : ℕ) (name : List ℕ) (journals : List Journal) (i : ℕ) (log : Journal) → IsAt session journals i log
+    → refuse_if (is_full_beside name log) refusal.TooManySavepoints ≡ savepoint_refusal session name (opened journals next)
+savepoint_refusal_is session next name journals i log at =
+    ap (λ ps. refuse_if (nat_le MAX_SAVEPOINTS (length ps)) refusal.TooManySavepoints) (sym (other_names_is session name journals i log at))
 
 -- where a session may have one more reservation its journal has room
-pub has_room : (session next : ℕ) (logs : List Log) (i : ℕ) (log : Log) → IsAt session logs i log
-    → grant_refusal session (opened logs next) ≡ None → length log.reservations < MAX_RESERVATIONS
-has_room session next logs i log at none =
-    subst (λ rs. length rs < MAX_RESERVATIONS) (own_is session logs i log at) (is_free session (opened logs next) none).room
+pub has_room : (session next : ℕ) (journals : List Journal) (i : ℕ) (log : Journal) → IsAt session journals i log
+    → grant_refusal session (opened journals next) ≡ None → length log.reservations < MAX_RESERVATIONS
+has_room session next journals i log at none =
+    subst (λ rs. length rs < MAX_RESERVATIONS) (own_is session journals i log at) (is_free session (opened journals next) none).room
 
 -- and a reservation is refused for want of memory alone
-pub only_memory : {T : Type 0} (log : Log) (result : Result T Refusal) → length log.reservations < MAX_RESERVATIONS
+pub only_memory : {T : Type 0} (log : Journal) (result : Result T Refusal) → length log.reservations < MAX_RESERVATIONS
     → IfErr result (λ e. (e ≡ refusal.TooManyReservations) ⊎ (e ≡ refusal.Memory)) → (IsErrOf result refusal.TooManyReservations → IsTrue (is_full log))
     → IfErr result (λ e. e ≡ refusal.Memory)
 only_memory log (Ok x) room only full = tt

@@ -4,7 +4,7 @@ use Rattle.std.specs.List.{AllByRecursion}
 use Rattle.escrow_num.specs.declared.reservation.Reservation.{Reservation}
 use Rattle.escrow_num.specs.declared.reservation.TheConstants.Reservation.{MAX_ID}
 use Rattle.escrow_num.specs.declared.session.TheConstants.Session.{MAX}
-use Rattle.escrow_journal.specs.Log.{Log, IsLog, empty_log}
+use Rattle.escrow_journal.specs.Journal.{Journal, IsJournal, empty_journal}
 use Rattle.escrow_journal.specs.Open.{Open}
 
 -- the reservations, in order of id, with one added
@@ -22,37 +22,37 @@ abbrev pub in_order : Reservation → Reservation → Bool
 in_order a b = nat_le a.id b.id
 
 -- what the journals hold together
-abbrev pub opened : List Log → ℕ → Open
-opened logs next = record {
-  reservations = by_id (flat_map (λ log. log.reservations) logs);
-  savepoints = flat_map (λ log. log.savepoints) logs;
+abbrev pub opened : List Journal → ℕ → Open
+opened journals next = record {
+  reservations = by_id (flat_map (λ journal. journal.reservations) journals);
+  savepoints = flat_map (λ journal. journal.savepoints) journals;
   next_id = next;
 }
 
 -- whether a journal holds a reservation or a savepoint
-abbrev pub holds_any : Log → Bool
-holds_any log = nat_lt 0 (length log.reservations) || nat_lt 0 (length log.savepoints)
+abbrev pub holds_any : Journal → Bool
+holds_any journal = nat_lt 0 (length journal.reservations) || nat_lt 0 (length journal.savepoints)
 
 -- journals are of consecutive sessions, from the first on
-abbrev pub AreNumbered : ℕ → List Log → Type 0
+abbrev pub AreNumbered : ℕ → List Journal → Type 0
 AreNumbered first [] = Unit {0}
-AreNumbered first (log ∷ logs) = (log.session ≡ first) × AreNumbered (1 + first) logs
+AreNumbered first (journal ∷ journals) = (journal.session ≡ first) × AreNumbered (1 + first) journals
 
 -- every id of the journal is below the next one
-abbrev pub IsBelow : ℕ → Log → Type 0
-IsBelow next log = AllByRecursion (λ r. IsTrue (nat_lt r.id next)) log.reservations
+abbrev pub IsBelow : ℕ → Journal → Type 0
+IsBelow next journal = AllByRecursion (λ r. IsTrue (nat_lt r.id next)) journal.reservations
 
 -- there is an empty journal for each of the first n sessions
-pub record AreEmpty (n : ℕ) (logs : List Log) : Type 0 where
-  pub count : length logs ≡ n
-  pub numbered : AreNumbered 1 logs
-  pub each : AllByRecursion (λ log. log ≡ empty_log log.session) logs
+pub record AreEmpty (n : ℕ) (journals : List Journal) : Type 0 where
+  pub count : length journals ≡ n
+  pub numbered : AreNumbered 1 journals
+  pub each : AllByRecursion (λ journal. journal ≡ empty_journal journal.session) journals
 
 -- there is a valid journal for each session, and the ids in them are below the next one
-pub record AreJournals (logs : List Log) (next : ℕ) : Type 0 where
-  pub count : length logs ≡ MAX
-  pub numbered : AreNumbered 1 logs
-  pub each : AllByRecursion IsLog logs
-  pub below : AllByRecursion (IsBelow next) logs
+pub record AreJournals (journals : List Journal) (next : ℕ) : Type 0 where
+  pub count : length journals ≡ MAX
+  pub numbered : AreNumbered 1 journals
+  pub each : AllByRecursion IsJournal journals
+  pub below : AllByRecursion (IsBelow next) journals
   pub first_id : 1 ≤ next
   pub last_id : next ≤ MAX_ID + 1

@@ -2,7 +2,7 @@
 ghost use Rattle.std.specs.Prelude.{◌≡◌, ◌++◌, IfOk, flat_map, map};
 ghost use Rattle.std.specs.List.{AllByRecursion};
 ghost use Rattle.escrow_num.specs.Ascending.{IsAscending};
-ghost use Rattle.escrow_journal.specs.Log.{IsLog};
+ghost use Rattle.escrow_journal.specs.Journal.{IsJournal};
 ghost use Rattle.escrow_txn.specs.Joined.{by_id, in_order};
 
 use escrow_journal::Journal;
@@ -12,7 +12,7 @@ use std::alloc::{AllocError, Global};
 /// Returns the reservations of journals of different sessions, in order of id. It merges each half
 /// of the journals, then the two halves. Fails only if memory is refused.
 pub(crate) fn merged(alloc: Global, journals: &[Journal]) -> Result<Vec<&Reservation>, AllocError>
-    requires { AllByRecursion IsLog journals.now }
+    requires { AllByRecursion IsJournal journals.now }
     ensures { IfOk result (λ all. map (λ r. r.now) all.items ≡ by_id (flat_map (λ log. log.reservations) journals.now)) }
 {
     match journals {

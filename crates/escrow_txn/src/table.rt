@@ -2,7 +2,7 @@ ghost use Rattle.std.specs.Prelude.{◌≡◌, ◌+◌, IfOk, map};
 ghost use Rattle.std.specs.List.{list_any};
 ghost use Rattle.escrow_num.specs.Session.{IsSession};
 ghost use Rattle.escrow_num.specs.declared.session.TheConstants.Session.{MAX};
-ghost use Rattle.escrow_journal.specs.Log.{empty_log};
+ghost use Rattle.escrow_journal.specs.Journal.{empty_journal};
 ghost use Rattle.escrow_txn.specs.Joined.{AreEmpty, holds_any};
 
 use crate::merge::merged;
@@ -234,7 +234,7 @@ fn empty_journals(alloc: Global) -> Result<Vec<Journal>, AllocError>
 
 /// Empties the journals. Takes no memory.
 fn empty_all(journals: &mut Vec<Journal>)
-    ensures { journals.new.items ≡ map (λ log. empty_log log.session) journals.old.items }
+    ensures { journals.new.items ≡ map (λ log. empty_journal log.session) journals.old.items }
 {
     for journal in journals.iter_mut() {
         journal.take_all();

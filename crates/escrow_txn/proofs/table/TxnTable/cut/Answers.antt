@@ -1,5 +1,5 @@
 use Rattle.std.proofs.Common.{ap, ◌∙◌, set}
-use Rattle.escrow_journal.specs.Log.{Log}
+use Rattle.escrow_journal.specs.Journal.{Journal}
 use Rattle.escrow_txn.specs.Joined.{opened}
 use Rattle.escrow_journal.specs.Open.{Open, released, cut_back}
 use Rattle.escrow_txn.proofs.Kept.{cut_kept, journals_stay}
@@ -13,9 +13,9 @@ at c = place_is c.self.inside.journals.items c.self.inside.next_id c.args.sessio
 pub invariant_of-self : goal.invariant_of-self
 invariant_of-self c =
     let next = c.self.inside.next_id in
-    let log = c.index_mut.result.now in
-    journals_stay c.self.inside.journals.items next c.args.session c.place_of_session.result c.cut.new.self log c.self.invariant (at c) c.cut.ensures.valid
-    (λ below. cut_kept next c.args.name c.cut.new.self log below c.cut.ensures.cut)
+    let journal = c.index_mut.result.now in
+    journals_stay c.self.inside.journals.items next c.args.session c.place_of_session.result c.cut.new.self journal c.self.invariant (at c) c.cut.ensures.valid
+    (λ below. cut_kept next c.args.name c.cut.new.self journal below c.cut.ensures.cut)
 
 pub returns-clause-count : goal.returns-clause-count
 returns-clause-count c =
@@ -25,6 +25,6 @@ returns-clause-count c =
 
 pub returns-clause-cut : goal.returns-clause-cut
 returns-clause-cut c =
-    ap (λ (log : Log). opened (set c.self.inside.journals.items c.place_of_session.result log) c.self.inside.next_id) c.cut.ensures.cut
+    ap (λ (journal : Journal). opened (set c.self.inside.journals.items c.place_of_session.result journal) c.self.inside.next_id) c.cut.ensures.cut
     ∙ cut_is c.args.session c.self.inside.next_id c.args.name c.self.inside.journals.items c.place_of_session.result c.index_mut.result.now (at c)
     ∙ ap (λ (o : Open). cut_back c.args.session c.args.name o) c.self.view_is

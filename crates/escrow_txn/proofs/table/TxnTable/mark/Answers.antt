@@ -3,7 +3,7 @@ use Rattle.std.proofs.Common.{ap, subst, ◌∙◌, set}
 use Rattle.std.proofs.lemmas.Result.{on_ok_weaker}
 use Rattle.escrow_num.specs.declared.refusal.Refusal.TheVariants as refusal
 use Rattle.escrow_num.specs.Refusal.{refuse_if}
-use Rattle.escrow_journal.specs.Log.{Log, is_full_beside, marked}
+use Rattle.escrow_journal.specs.Journal.{Journal, is_full_beside, marked}
 use Rattle.escrow_txn.specs.Joined.{opened}
 use Rattle.escrow_journal.specs.Open.{Open, saved, savepoint_refusal}
 use Rattle.escrow_txn.proofs.Kept.{mark_kept, journals_stay}
@@ -23,14 +23,14 @@ refusal_is c =
 pub invariant_of-self : goal.invariant_of-self
 invariant_of-self c =
     let next = c.self.inside.next_id in
-    let log = c.index_mut.result.now in
-    journals_stay c.self.inside.journals.items next c.args.session c.place_of_session.result c.mark.new.self log c.self.invariant (at c) c.mark.ensures.valid
-    (λ below. mark_kept next c.args.name c.mark.result c.mark.new.self log below c.mark.ensures.marked c.mark.ensures.unchanged)
+    let journal = c.index_mut.result.now in
+    journals_stay c.self.inside.journals.items next c.args.session c.place_of_session.result c.mark.new.self journal c.self.invariant (at c) c.mark.ensures.valid
+    (λ below. mark_kept next c.args.name c.mark.result c.mark.new.self journal below c.mark.ensures.marked c.mark.ensures.unchanged)
 
 pub returns-clause-saved : goal.returns-clause-saved
 returns-clause-saved c =
     let next = c.self.inside.next_id in
-    let after : Log → Open = λ log. opened (set c.self.inside.journals.items c.place_of_session.result log) next in
+    let after : Journal → Open = λ journal. opened (set c.self.inside.journals.items c.place_of_session.result journal) next in
     let old = c.index_mut.result.now in
     on_ok_weaker {P = c.mark.new.self ≡ marked c.args.name next old} {Q = after c.mark.new.self ≡ saved c.args.session c.args.name c.args.self.now} c.mark.result
     (λ is.

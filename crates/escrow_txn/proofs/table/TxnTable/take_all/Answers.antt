@@ -1,5 +1,5 @@
 use Rattle.std.proofs.Common.{ap, sym, ◌∙◌, set}
-use Rattle.escrow_journal.specs.Log.{Log}
+use Rattle.escrow_journal.specs.Journal.{Journal}
 use Rattle.escrow_journal.specs.Reservations.{own}
 use Rattle.escrow_txn.specs.Joined.{opened}
 use Rattle.escrow_journal.specs.Open.{Open, ended}
@@ -14,9 +14,9 @@ at c = place_is c.self.inside.journals.items c.self.inside.next_id c.args.sessio
 pub invariant_of-self : goal.invariant_of-self
 invariant_of-self c =
     let next = c.self.inside.next_id in
-    let log = c.index_mut.result.now in
-    journals_stay c.self.inside.journals.items next c.args.session c.place_of_session.result c.take_all.new.self log c.self.invariant (at c) c.take_all.ensures.valid
-    (λ below. empty_kept next c.take_all.new.self log c.take_all.ensures.none)
+    let journal = c.index_mut.result.now in
+    journals_stay c.self.inside.journals.items next c.args.session c.place_of_session.result c.take_all.new.self journal c.self.invariant (at c) c.take_all.ensures.valid
+    (λ below. empty_kept next c.take_all.new.self journal c.take_all.ensures.none)
 
 pub returns-clause-all : goal.returns-clause-all
 returns-clause-all c =
@@ -26,6 +26,6 @@ returns-clause-all c =
 
 pub returns-clause-ended : goal.returns-clause-ended
 returns-clause-ended c =
-    ap (λ (log : Log). opened (set c.self.inside.journals.items c.place_of_session.result log) c.self.inside.next_id) c.take_all.ensures.none
+    ap (λ (journal : Journal). opened (set c.self.inside.journals.items c.place_of_session.result journal) c.self.inside.next_id) c.take_all.ensures.none
     ∙ ended_is c.args.session c.self.inside.next_id c.self.inside.journals.items c.place_of_session.result c.index_mut.result.now (at c)
     ∙ ap (λ (o : Open). ended c.args.session o) c.self.view_is
