@@ -19,8 +19,8 @@ use Rattle.escrow_bounds.specs.Columns.{column_checks}
 use Rattle.escrow_bounds.specs.Counts.{HaveSums, Counts}
 use Rattle.escrow_bounds.specs.Held.{of_row, CountsJust, CountsAll, AllCount}
 use Rattle.escrow_bounds.specs.Inside.{IsPlace}
-use Rattle.escrow_bounds.specs.Kept.{Kept, checks_of}
-use Rattle.escrow_bounds.specs.Places.{Places, place_at, OthersStay}
+use Rattle.escrow_bounds.specs.Place.{Place, checks_of}
+use Rattle.escrow_bounds.specs.Bounds.{Bounds, place_at, OthersStay}
 use Rattle.escrow_bounds.proofs.Forms.{values_at}
 use Rattle.escrow_bounds.proofs.LawLemmas.{split, each_row, other_way}
 use Rattle.escrow_bounds.proofs.Steps.{AllStepped, Stepped, stepped_more}
@@ -76,7 +76,7 @@ some_sums forms reservations first count sums =
 
 -- ---- a place without one of its checks
 
-without_counts : (index : ℕ) (old new : Kept) → new.count ≡ old.count → new.checks ≡ remove old.checks index → new.columns ≡ old.columns → (reservations : List (List ℤ)) → Counts old reservations → Counts new reservations
+without_counts : (index : ℕ) (old new : Place) → new.count ≡ old.count → new.checks ≡ remove old.checks index → new.columns ≡ old.columns → (reservations : List (List ℤ)) → Counts old reservations → Counts new reservations
 without_counts index old new count checks columns reservations known = (
   count ∙ known.0,
   subst (λ (forms : List Tracked). HaveSums forms reservations) (sym checks) (all_without (λ (form : Tracked). IsSpread form.check.coeffs reservations form.spread) old.checks index known.1),
@@ -90,14 +90,14 @@ values_without forms amounts values index are =
     let value : Check → ℤ = λ check. form_of check.coeffs amounts in
     ap (λ (vs : List ℤ). remove vs index) are ∙ sym (map-remove value (checks_of forms) index) ∙ ap (map value) (sym (map-remove (λ (form : Tracked). form.check) forms index))
 
-pub is_without : (index : ℕ) (old new : Kept) → new.amounts ≡ old.amounts → new.count ≡ old.count → new.checks ≡ remove old.checks index → new.columns ≡ old.columns → IsWithout index old new
+pub is_without : (index : ℕ) (old new : Place) → new.amounts ≡ old.amounts → new.count ≡ old.count → new.checks ≡ remove old.checks index → new.columns ≡ old.columns → IsWithout index old new
 is_without index old new amounts count checks columns = record {
   amounts = amounts;
   checks = ap checks_of checks ∙ map-remove (λ (form : Tracked). form.check) old.checks index;
   counts = without_counts index old new count checks columns;
 }
 
-pub place_without : (index : ℕ) (old new : Kept) → IsPlace old → new.amounts ≡ old.amounts → new.count ≡ old.count → new.checks ≡ remove old.checks index → new.columns ≡ old.columns → IsPlace new
+pub place_without : (index : ℕ) (old new : Place) → IsPlace old → new.amounts ≡ old.amounts → new.count ≡ old.count → new.checks ≡ remove old.checks index → new.columns ≡ old.columns → IsPlace new
 place_without index old new place amounts count checks columns =
     let P : List ℤ → Check → Type 0 = λ held check. IsCovered check.coeffs held in
     record {
@@ -111,39 +111,39 @@ place_without index old new place amounts count checks columns =
 -- ---- the places of a table, one after another
 
 -- an entry's place has lost the check at an index, where its row is of a table, and else it stays
-abbrev pub EntryStep : List ℕ → ℕ → RowName × Kept → RowName × Kept → Type 0
+abbrev pub EntryStep : List ℕ → ℕ → RowName × Place → RowName × Place → Type 0
 EntryStep table index old new =
     (new.0 ≡ old.0) × (bytes_eq old.0.table table ≡ true → IsWithout index old.1 new.1) × (bytes_eq old.0.table table ≡ false → new.1 ≡ old.1)
 
 -- a value that is written at a place of a map
-put_at : (places : Places) (i : ℕ) (row : RowName) (old new : Kept) → slice_get places i ≡ Some (row, old) → set_value_at places i new ≡ set places i (row, new)
+put_at : (places : Bounds) (i : ℕ) (row : RowName) (old new : Place) → slice_get places i ≡ Some (row, old) → set_value_at places i new ≡ set places i (row, new)
 put_at [] i row old new at = absurd (cc)
 put_at (entry ∷ places) zero row old new at =
     let is : entry ≡ (row, old) = cc in
-    ap (λ (e : RowName × Kept). (e.0, new) ∷ places) is
-put_at (entry ∷ places) (suc i) row old new at = ap (λ (rest : Places). entry ∷ rest) (put_at places i row old new at)
+    ap (λ (e : RowName × Place). (e.0, new) ∷ places) is
+put_at (entry ∷ places) (suc i) row old new at = ap (λ (rest : Bounds). entry ∷ rest) (put_at places i row old new at)
 
-pub length-set_value_at : (places : Places) (i : ℕ) (new : Kept) → length (set_value_at places i new) ≡ length places
+pub length-set_value_at : (places : Bounds) (i : ℕ) (new : Place) → length (set_value_at places i new) ≡ length places
 length-set_value_at [] i new = refl
 length-set_value_at (entry ∷ places) zero new = refl
 length-set_value_at (entry ∷ places) (suc i) new = ap suc (length-set_value_at places i new)
 
-pub entry_stepped : (table : List ℕ) (index i : ℕ) (old now : Places) (row : RowName) (was new : Kept) → Stepped (EntryStep table index) i old now → slice_get now i ≡ Some (row, was)
+pub entry_stepped : (table : List ℕ) (index i : ℕ) (old now : Bounds) (row : RowName) (was new : Place) → Stepped (EntryStep table index) i old now → slice_get now i ≡ Some (row, was)
     → (bytes_eq row.table table ≡ true → IsWithout index was new) → (bytes_eq row.table table ≡ false → new ≡ was)
     → Stepped (EntryStep table index) (i + 1) old (set_value_at now i new)
 entry_stepped table index i old now row was new are at own others =
-    subst (λ (places : Places). Stepped (EntryStep table index) (i + 1) old places) (sym (put_at now i row was new at))
+    subst (λ (places : Bounds). Stepped (EntryStep table index) (i + 1) old places) (sym (put_at now i row was new at))
     (stepped_more (EntryStep table index) i old now (row, was) (row, new) (slice_get_within now i (row, was) at) are (sym (get_or_from_slice_get now i (row, was) (row, was) at)) (refl, own, others))
 
-goes_one : (Step : Kept → Kept → Type 0) (is : Bool) (old new : Kept) (before after : Option Kept) → (is ≡ true → Step old new) → Goes Step before after → Goes Step (cond is (Some old) before) (cond is (Some new) after)
+goes_one : (Step : Place → Place → Type 0) (is : Bool) (old new : Place) (before after : Option Place) → (is ≡ true → Step old new) → Goes Step before after → Goes Step (cond is (Some old) before) (cond is (Some new) after)
 goes_one Step true old new before after step rest = (new, refl, step refl)
 goes_one Step false old new before after step rest = rest
 
-stays_one : (is : Bool) (old new : Kept) (before after : Option Kept) → (is ≡ true → new ≡ old) → after ≡ before → cond is (Some new) after ≡ cond is (Some old) before
+stays_one : (is : Bool) (old new : Place) (before after : Option Place) → (is ≡ true → new ≡ old) → after ≡ before → cond is (Some new) after ≡ cond is (Some old) before
 stays_one true old new before after same rest = ap Some (same refl)
 stays_one false old new before after same rest = rest
 
-stepped_own : (table : List ℕ) (index : ℕ) (row : RowName) → bytes_eq row.table table ≡ true → (old new : Places) → AllStepped (EntryStep table index) old new → Goes (IsWithout index) (place_at old row) (place_at new row)
+stepped_own : (table : List ℕ) (index : ℕ) (row : RowName) → bytes_eq row.table table ≡ true → (old new : Bounds) → AllStepped (EntryStep table index) old new → Goes (IsWithout index) (place_at old row) (place_at new row)
 stepped_own table index row within [] [] all = refl
 stepped_own table index row within [] (y ∷ ys) all = absurd all
 stepped_own table index row within (x ∷ xs) [] all = absurd all
@@ -153,7 +153,7 @@ stepped_own table index row within (x ∷ xs) (y ∷ ys) all =
     (λ same. all.0.1 (ap (λ (key : RowName). bytes_eq key.table table) (sym (row_same row x.0 same)) ∙ within))
     (stepped_own table index row within xs ys all.1))
 
-stepped_others : (table : List ℕ) (index : ℕ) (row : RowName) → bytes_eq row.table table ≡ false → (old new : Places) → AllStepped (EntryStep table index) old new → place_at new row ≡ place_at old row
+stepped_others : (table : List ℕ) (index : ℕ) (row : RowName) → bytes_eq row.table table ≡ false → (old new : Bounds) → AllStepped (EntryStep table index) old new → place_at new row ≡ place_at old row
 stepped_others table index row apart [] [] all = refl
 stepped_others table index row apart [] (y ∷ ys) all = absurd all
 stepped_others table index row apart (x ∷ xs) [] all = absurd all
@@ -164,7 +164,7 @@ stepped_others table index row apart (x ∷ xs) (y ∷ ys) all =
     (stepped_others table index row apart xs ys all.1))
 
 -- all entries have been gone through
-pub table_stepped : (table : List ℕ) (index : ℕ) (old new : Places) → AllStepped (EntryStep table index) old new → TableGoes table (λ row. IsWithout index) old new
+pub table_stepped : (table : List ℕ) (index : ℕ) (old new : Bounds) → AllStepped (EntryStep table index) old new → TableGoes table (λ row. IsWithout index) old new
 table_stepped table index old new all = record {
   own = λ row within. stepped_own table index row within old new all;
   others = λ row apart. stepped_others table index row apart old new all;
@@ -173,101 +173,101 @@ table_stepped table index old new all = record {
 -- ---- an addition's places, put one after another
 
 -- a place, or the last one where there is none
-abbrev or_last : Option Kept → Option Kept → Option Kept
+abbrev or_last : Option Place → Option Place → Option Place
 or_last None last = last
 or_last (Some place) last = Some place
 
-or_none : (place : Option Kept) → or_last place None ≡ place
+or_none : (place : Option Place) → or_last place None ≡ place
 or_none None = refl
 or_none (Some place) = refl
 
-last_one : (is : Bool) (place : Kept) (all some last : Option Kept) → all ≡ or_last some last → cond is (Some place) all ≡ or_last (cond is (Some place) some) last
+last_one : (is : Bool) (place : Place) (all some last : Option Place) → all ≡ or_last some last → cond is (Some place) all ≡ or_last (cond is (Some place) some) last
 last_one true place all some last same = refl
 last_one false place all some last same = same
 
 -- what is found where one more entry stands last
-found_last : (row : RowName) (places : Places) (last : RowName × Kept) → place_at (places ++ last ∷ []) row ≡ or_last (place_at places row) (cond (same_row row last.0) (Some last.1) None)
+found_last : (row : RowName) (places : Bounds) (last : RowName × Place) → place_at (places ++ last ∷ []) row ≡ or_last (place_at places row) (cond (same_row row last.0) (Some last.1) None)
 found_last row [] last = refl
 found_last row (entry ∷ places) last =
     last_one (same_row row entry.0) entry.1 (place_at (places ++ last ∷ []) row) (place_at places row) (cond (same_row row last.0) (Some last.1) None) (found_last row places last)
 
-put_own : (place : Kept) (left now : Option Kept) → adopted left (option_map (λ (old : Kept). place) now) ≡ adopted (or_last left (Some place)) now
+put_own : (place : Place) (left now : Option Place) → adopted left (option_map (λ (old : Place). place) now) ≡ adopted (or_last left (Some place)) now
 put_own place None None = refl
 put_own place None (Some old) = refl
 put_own place (Some first) None = refl
 put_own place (Some first) (Some old) = refl
 
 -- the last one is put, and the others are left
-pub adopted_next : (all left now mid : Places) (row : RowName) (place : Kept) → all ≡ left ++ (row, place) ∷ []
-    → place_at mid row ≡ option_map (λ (old : Kept). place) (place_at now row) → OthersStay row now mid
+pub adopted_next : (all left now mid : Bounds) (row : RowName) (place : Place) → all ≡ left ++ (row, place) ∷ []
+    → place_at mid row ≡ option_map (λ (old : Place). place) (place_at now row) → OthersStay row now mid
     → (other : RowName) → adopted (place_at left other) (place_at mid other) ≡ adopted (place_at all other) (place_at now other)
 adopted_next all left now mid row place is own others =
     each_row (λ (other : RowName). adopted (place_at left other) (place_at mid other) ≡ adopted (place_at all other) (place_at now other)) row
-    (ap (λ (p : Option Kept). adopted (place_at left row) p) own
+    (ap (λ (p : Option Place). adopted (place_at left row) p) own
     ∙ put_own place (place_at left row) (place_at now row)
-    ∙ ap (λ (p : Option Kept). adopted p (place_at now row)) (sym here))
+    ∙ ap (λ (p : Option Place). adopted p (place_at now row)) (sym here))
     (λ other apart.
-    ap (λ (p : Option Kept). adopted (place_at left other) p) (others other apart)
-    ∙ ap (λ (p : Option Kept). adopted p (place_at now other)) (sym (there other (other_way row other apart))))
+    ap (λ (p : Option Place). adopted (place_at left other) p) (others other apart)
+    ∙ ap (λ (p : Option Place). adopted p (place_at now other)) (sym (there other (other_way row other apart))))
   where
     here : place_at all row ≡ or_last (place_at left row) (Some place)
-    here = ap (λ (places : Places). place_at places row) is ∙ found_last row left (row, place)
+    here = ap (λ (places : Bounds). place_at places row) is ∙ found_last row left (row, place)
         ∙ ap (λ (b : Bool). or_last (place_at left row) (cond b (Some place) None)) (same_row_itself row)
 
     there : (other : RowName) → same_row other row ≡ false → place_at all other ≡ place_at left other
-    there other apart = ap (λ (places : Places). place_at places other) is ∙ found_last other left (row, place)
+    there other apart = ap (λ (places : Bounds). place_at places other) is ∙ found_last other left (row, place)
         ∙ ap (λ (b : Bool). or_last (place_at left other) (cond b (Some place) None)) apart ∙ or_none (place_at left other)
 
 -- the last one, as `pop` gives it
-pub popped : (all left : Places) (last : Option (RowName × Kept)) (row : RowName) (place : Kept) → all ≡ left ++ option_to_list last → last ≡ Some (row, place) → all ≡ left ++ (row, place) ∷ []
-popped all left last row place ends is = ends ∙ ap (λ (o : Option (RowName × Kept)). left ++ option_to_list o) is
+pub popped : (all left : Bounds) (last : Option (RowName × Place)) (row : RowName) (place : Place) → all ≡ left ++ option_to_list last → last ≡ Some (row, place) → all ≡ left ++ (row, place) ∷ []
+popped all left last row place ends is = ends ∙ ap (λ (o : Option (RowName × Place)). left ++ option_to_list o) is
 
 -- ---- what is counted
 
-goes_counts : (Step : Kept → Kept → Type 0) (reservations : List (List ℤ)) (was after : Option Kept) → ((old new : Kept) → Step old new → Counts old reservations → Counts new reservations)
+goes_counts : (Step : Place → Place → Type 0) (reservations : List (List ℤ)) (was after : Option Place) → ((old new : Place) → Step old new → Counts old reservations → Counts new reservations)
     → Goes Step was after → CountsJust was reservations → CountsJust after reservations
-goes_counts Step reservations None after keeps goes counts = subst (λ (p : Option Kept). CountsJust p reservations) (sym goes) counts
-goes_counts Step reservations (Some old) after keeps goes counts = subst (λ (p : Option Kept). CountsJust p reservations) (sym goes.1) (keeps old goes.0 goes.2 counts)
+goes_counts Step reservations None after keeps goes counts = subst (λ (p : Option Place). CountsJust p reservations) (sym goes) counts
+goes_counts Step reservations (Some old) after keeps goes counts = subst (λ (p : Option Place). CountsJust p reservations) (sym goes.1) (keeps old goes.0 goes.2 counts)
 
-goes_counting : (Step : Kept → Kept → Type 0) (reservations : List (List ℤ)) (was after : Option Kept) (place : Kept) → ((old new : Kept) → Step old new → Counts old reservations → Counts new reservations)
-    → Goes Step was after → CountsJust was reservations → ((kept : Kept) → was ≡ Some kept → 0 < kept.count) → after ≡ Some place → 0 < place.count
+goes_counting : (Step : Place → Place → Type 0) (reservations : List (List ℤ)) (was after : Option Place) (place : Place) → ((old new : Place) → Step old new → Counts old reservations → Counts new reservations)
+    → Goes Step was after → CountsJust was reservations → ((kept : Place) → was ≡ Some kept → 0 < kept.count) → after ≡ Some place → 0 < place.count
 goes_counting Step reservations None after place keeps goes counts counting at = absurd (cc (goes, at))
 goes_counting Step reservations (Some old) after place keeps goes counts counting at =
     let same : goes.0 ≡ place = cc (goes.1, at) in
     let known = keeps old goes.0 goes.2 counts in
     let above = counting old refl in
-    subst (λ (p : Kept). 0 < p.count) same (omega (arith, above, counts.0, known.0))
+    subst (λ (p : Place). 0 < p.count) same (omega (arith, above, counts.0, known.0))
 
-table_counts : (table : List ℕ) (Step : RowName → Kept → Kept → Type 0) (held : List Reservation) (old new : Places)
-    → ((row : RowName) (was after : Kept) → Step row was after → Counts was (of_row row held) → Counts after (of_row row held))
+table_counts : (table : List ℕ) (Step : RowName → Place → Place → Type 0) (held : List Reservation) (old new : Bounds)
+    → ((row : RowName) (was after : Place) → Step row was after → Counts was (of_row row held) → Counts after (of_row row held))
     → CountsAll old held → AllCount old → TableGoes table Step old new → CountsAll new held × AllCount new
 table_counts table Step held old new keeps counts counting goes = (
   λ row. split (bytes_eq row.table table)
       (λ within. goes_counts (Step row) (of_row row held) (place_at old row) (place_at new row) (keeps row) (goes.own row within) (counts row))
-      (λ apart. subst (λ (p : Option Kept). CountsJust p (of_row row held)) (sym (goes.others row apart)) (counts row)),
+      (λ apart. subst (λ (p : Option Place). CountsJust p (of_row row held)) (sym (goes.others row apart)) (counts row)),
   λ row place at. split (bytes_eq row.table table)
       (λ within. goes_counting (Step row) (of_row row held) (place_at old row) (place_at new row) place (keeps row) (goes.own row within) (counts row) (counting row) at)
       (λ apart. counting row place (sym (goes.others row apart) ∙ at)),
 )
 
-pub drop_check_counts : (table : List ℕ) (index : ℕ) (held : List Reservation) (old new : Places) → CountsAll old held → AllCount old
+pub drop_check_counts : (table : List ℕ) (index : ℕ) (held : List Reservation) (old new : Bounds) → CountsAll old held → AllCount old
     → TableGoes table (λ row. IsWithout index) old new → CountsAll new held × AllCount new
 drop_check_counts table index held old new counts counting goes =
     table_counts table (λ (row : RowName). IsWithout index) held old new (λ row was after step. step.counts (of_row row held)) counts counting goes
 
-goes_adopted : (Step : Kept → Kept → Type 0) (was added after : Option Kept) → Goes Step was added → after ≡ adopted added was → Goes Step was after
+goes_adopted : (Step : Place → Place → Type 0) (was added after : Option Place) → Goes Step was added → after ≡ adopted added was → Goes Step was after
 goes_adopted Step None None after goes is = is
 goes_adopted Step None (Some place) after goes is = is
-goes_adopted Step (Some old) added after goes is = (goes.0, is ∙ ap (λ (p : Option Kept). adopted p (Some old)) goes.1, goes.2)
+goes_adopted Step (Some old) added after goes is = (goes.0, is ∙ ap (λ (p : Option Place). adopted p (Some old)) goes.1, goes.2)
 
-pub adopt_counts : (table : List ℕ) (checks : List Check) (held : List Reservation) (old addition new : Places) → CountsAll old held → AllCount old
+pub adopt_counts : (table : List ℕ) (checks : List Check) (held : List Reservation) (old addition new : Bounds) → CountsAll old held → AllCount old
     → ArePrepared table checks held old addition → Adopts addition old new
     → CountsAll new held × AllCount new × TableGoes table (λ row. IsOver checks (of_row row held)) old new
 adopt_counts table checks held old addition new counts counting prepared adopts =
-    let Step : RowName → Kept → Kept → Type 0 = λ row. IsOver checks (of_row row held) in
+    let Step : RowName → Place → Place → Type 0 = λ row. IsOver checks (of_row row held) in
     let goes : TableGoes table Step old new = record {
       own = λ row within. goes_adopted (Step row) (place_at old row) (place_at addition row) (place_at new row) (prepared.own row within) (adopts row);
-      others = λ row apart. adopts row ∙ ap (λ (p : Option Kept). adopted p (place_at old row)) (prepared.others row apart);
+      others = λ row apart. adopts row ∙ ap (λ (p : Option Place). adopted p (place_at old row)) (prepared.others row apart);
     } in
     let known = table_counts table Step held old new (λ row was after step _. step.counts) counts counting goes in
     (known.0, known.1, goes)

@@ -13,8 +13,8 @@ use Rattle.escrow_num.proofs.Items.{Has}
 use Rattle.escrow_num.proofs.Orders.{row_same, same_row_itself}
 use Rattle.escrow_bounds.specs.Counts.{is_counting, TakesIn}
 use Rattle.escrow_bounds.specs.Held.{of_row, CountsJust, CountsAll, AllCount}
-use Rattle.escrow_bounds.specs.Kept.{Kept}
-use Rattle.escrow_bounds.specs.Places.{Places, place_at, OthersStay, Becomes}
+use Rattle.escrow_bounds.specs.Place.{Place}
+use Rattle.escrow_bounds.specs.Bounds.{Bounds, place_at, OthersStay, Becomes}
 use Rattle.escrow_bounds.proofs.LawLemmas.{split, each_row, other_way}
 
 -- ---- tests of a list
@@ -61,17 +61,17 @@ any_of_row row (r ∷ held) =
     ap (λ (b : Bool). b || rest) (row_either_way r.row row)
     ∙ any_one (same_row row r.row) rest (deltas r.changes) (of_row row held) (any_of_row row held)
 
-counting_any : (place : Option Kept) (reservations : List (List ℤ)) → CountsJust place reservations → is_counting place ≡ is_any reservations
+counting_any : (place : Option Place) (reservations : List (List ℤ)) → CountsJust place reservations → is_counting place ≡ is_any reservations
 counting_any None reservations counts = sym (ap is_any counts)
 counting_any (Some place) [] counts = ap (λ (n : ℕ). not (nat_eq n 0)) counts.0
 counting_any (Some place) (changes ∷ reservations) counts = ap not (ap (λ (n : ℕ). nat_eq n 0) counts.0 ∙ eqb-suc-zero (length reservations))
 
 -- a place counts a reservation exactly where one of its row is open
-pub counting_is : (places : Places) (held : List Reservation) (row : RowName) → CountsAll places held
+pub counting_is : (places : Bounds) (held : List Reservation) (row : RowName) → CountsAll places held
     → is_counting (place_at places row) ≡ list_any (λ r. same_row r.row row) held
 counting_is places held row counts = counting_any (place_at places row) (of_row row held) (counts row) ∙ sym (any_of_row row held)
 
-some_counting : (place : Option Kept) → ((kept : Kept) → place ≡ Some kept → 0 < kept.count) → is_some place ≡ is_counting place
+some_counting : (place : Option Place) → ((kept : Place) → place ≡ Some kept → 0 < kept.count) → is_some place ≡ is_counting place
 some_counting None each = refl
 some_counting (Some kept) each = sym (positive kept.count (each kept refl))
   where
@@ -80,40 +80,40 @@ some_counting (Some kept) each = sym (positive kept.count (each kept refl))
     positive (suc n) above = ap not (eqb-suc-zero n)
 
 -- where every place counts, a row has one exactly where one of its reservations is open
-pub placed_is : (places : Places) (held : List Reservation) (row : RowName) → AllCount places → CountsAll places held
+pub placed_is : (places : Bounds) (held : List Reservation) (row : RowName) → AllCount places → CountsAll places held
     → is_some (place_at places row) ≡ list_any (λ r. same_row r.row row) held
 placed_is places held row all counts = some_counting (place_at places row) (all row) ∙ counting_is places held row counts
 
 -- ---- a table
 
 -- the keys of a table are those of its entries
-pub any_key : (table : List ℕ) (places : Places) → list_any (λ row. bytes_eq row.table table) (keys_of places) ≡ list_any (λ p. bytes_eq p.0.table table) places
+pub any_key : (table : List ℕ) (places : Bounds) → list_any (λ row. bytes_eq row.table table) (keys_of places) ≡ list_any (λ p. bytes_eq p.0.table table) places
 any_key table [] = refl
 any_key table (p ∷ places) = ap (λ (b : Bool). bytes_eq p.0.table table || b) (any_key table places)
 
 -- an entry's key finds some entry, and what is found is an entry that passes
-entry_found : (test : RowName → Bool) (places : Places) (entry : RowName × Kept) → Has places entry → test entry.0 ≡ true → is_some (lookup test places) ≡ true
+entry_found : (test : RowName → Bool) (places : Bounds) (entry : RowName × Place) → Has places entry → test entry.0 ≡ true → is_some (lookup test places) ≡ true
 entry_found test [] entry has passes = absurd has
 entry_found test (first ∷ places) entry (inl is) passes =
-    cond_both (test first.0) (Some first.1) (lookup test places) (λ (o : Option Kept). is_some o ≡ true) (λ _. refl)
-    (λ fails. absurd (false≢true (sym fails ∙ ap (λ (e : RowName × Kept). test e.0) is ∙ passes)))
+    cond_both (test first.0) (Some first.1) (lookup test places) (λ (o : Option Place). is_some o ≡ true) (λ _. refl)
+    (λ fails. absurd (false≢true (sym fails ∙ ap (λ (e : RowName × Place). test e.0) is ∙ passes)))
 entry_found test (first ∷ places) entry (inr has) passes =
-    cond_both (test first.0) (Some first.1) (lookup test places) (λ (o : Option Kept). is_some o ≡ true) (λ _. refl) (λ _. entry_found test places entry has passes)
+    cond_both (test first.0) (Some first.1) (lookup test places) (λ (o : Option Place). is_some o ≡ true) (λ _. refl) (λ _. entry_found test places entry has passes)
 
-found_entry : (test : RowName → Bool) (places : Places) → is_some (lookup test places) ≡ true → (entry : RowName × Kept) × Has places entry × (test entry.0 ≡ true)
+found_entry : (test : RowName → Bool) (places : Bounds) → is_some (lookup test places) ≡ true → (entry : RowName × Place) × Has places entry × (test entry.0 ≡ true)
 found_entry test [] is = absurd (false≢true is)
 found_entry test (first ∷ places) is =
-    cond_both (test first.0) (Some first.1) (lookup test places) (λ (o : Option Kept). is_some o ≡ true → (entry : RowName × Kept) × Has (first ∷ places) entry × (test entry.0 ≡ true))
+    cond_both (test first.0) (Some first.1) (lookup test places) (λ (o : Option Place). is_some o ≡ true → (entry : RowName × Place) × Has (first ∷ places) entry × (test entry.0 ≡ true))
     (λ passes _. (first, inl refl, passes))
     (λ _ found. let later = found_entry test places found in (later.0, inr later.1, later.2)) is
 
 -- where every place counts, a row of a table has one exactly where one of its reservations is open
-pub table_placed_is : (places : Places) (held : List Reservation) (table : List ℕ) → AllCount places → CountsAll places held
+pub table_placed_is : (places : Bounds) (held : List Reservation) (table : List ℕ) → AllCount places → CountsAll places held
     → list_any (λ p. bytes_eq p.0.table table) places ≡ list_any (λ r. bytes_eq r.row.table table) held
 table_placed_is places held table all counts = both_ways
-    (list_any (λ (p : RowName × Kept). bytes_eq p.0.table table) places) (list_any (λ (r : Reservation). bytes_eq r.row.table table) held)
+    (list_any (λ (p : RowName × Place). bytes_eq p.0.table table) places) (list_any (λ (r : Reservation). bytes_eq r.row.table table) held)
     (λ is.
-    let p = any_has (λ (p : RowName × Kept). bytes_eq p.0.table table) places is in
+    let p = any_has (λ (p : RowName × Place). bytes_eq p.0.table table) places is in
     let placed = entry_found (same_row p.0.0) places p.0 p.1 (same_row_itself p.0.0) in
     let r = any_has (λ (r : Reservation). same_row r.row p.0.0) held (sym (placed_is places held p.0.0 all counts) ∙ placed) in
     has_any (λ (r : Reservation). bytes_eq r.row.table table) held r.0 r.1
@@ -122,21 +122,21 @@ table_placed_is places held table all counts = both_ways
     let r = any_has (λ (r : Reservation). bytes_eq r.row.table table) held is in
     let held_there = has_any (λ (q : Reservation). same_row q.row r.0.row) held r.0 r.1 (same_row_itself r.0.row) in
     let p = found_entry (same_row r.0.row) places (placed_is places held r.0.row all counts ∙ held_there) in
-    has_any (λ (p : RowName × Kept). bytes_eq p.0.table table) places p.0 p.1
+    has_any (λ (p : RowName × Place). bytes_eq p.0.table table) places p.0 p.1
     (sym (ap (λ (row : RowName). bytes_eq row.table table) (row_same r.0.row p.0.0 p.2)) ∙ r.2))
 
 -- ---- every place counts
 
 -- every place of another row counts a reservation
-abbrev pub OthersCount : RowName → Places → Type 0
-OthersCount row places = (other : RowName) (place : Kept) → same_row row other ≡ false → place_at places other ≡ Some place → 0 < place.count
+abbrev pub OthersCount : RowName → Bounds → Type 0
+OthersCount row places = (other : RowName) (place : Place) → same_row row other ≡ false → place_at places other ≡ Some place → 0 < place.count
 
 -- after `reserve` the places of other rows still do
-pub reserve_counting : (old new : Places) (row : RowName) → AllCount old → OthersStay row old new → OthersCount row new
+pub reserve_counting : (old new : Bounds) (row : RowName) → AllCount old → OthersStay row old new → OthersCount row new
 reserve_counting old new row all others = λ other place apart at. all other place (sym (others other apart) ∙ at)
 
 -- what counts a reservation has a number above 0
-counting_above : (place : Option Kept) (kept : Kept) → is_counting place ≡ true → place ≡ Some kept → 0 < kept.count
+counting_above : (place : Option Place) (kept : Place) → is_counting place ≡ true → place ≡ Some kept → 0 < kept.count
 counting_above place kept counting at = above kept.count (sym (ap is_counting at) ∙ counting)
   where
     above : (n : ℕ) → not (nat_eq n 0) ≡ true → 0 < n
@@ -144,30 +144,30 @@ counting_above place kept counting at = above kept.count (sym (ap is_counting at
     above (suc n) is = omega arith
 
 -- after `add` to a row, whose place alone may have counted nothing, all do
-pub add_counting : (old new : Places) (row : RowName) (changes : List ℤ) (held : List Reservation) → OthersCount row old → CountsAll old held → IsSome (place_at old row)
+pub add_counting : (old new : Bounds) (row : RowName) (changes : List ℤ) (held : List Reservation) → OthersCount row old → CountsAll old held → IsSome (place_at old row)
     → Becomes (TakesIn changes) (place_at old row) (place_at new row) → OthersStay row old new → AllCount new
 add_counting old new row changes held others_count counts there becomes others =
-    each_row (λ (other : RowName). (place : Kept) → place_at new other ≡ Some place → 0 < place.count) row
+    each_row (λ (other : RowName). (place : Place) → place_at new other ≡ Some place → 0 < place.count) row
     (λ place at. own (place_at old row) (of_row row held) (counts row) there becomes place at)
     (λ other apart place at. others_count other place apart (sym (others other apart) ∙ at))
   where
-    own : (was : Option Kept) (reservations : List (List ℤ)) → CountsJust was reservations → IsSome was → Becomes (TakesIn changes) was (place_at new row)
-        → (place : Kept) → place_at new row ≡ Some place → 0 < place.count
+    own : (was : Option Place) (reservations : List (List ℤ)) → CountsJust was reservations → IsSome was → Becomes (TakesIn changes) was (place_at new row)
+        → (place : Place) → place_at new row ≡ Some place → 0 < place.count
     own None reservations known some becomes place at = absurd (false≢true some)
     own (Some kept) reservations known some becomes place at =
         let taken = becomes kept refl in
         let is : taken.0 ≡ place = cc (taken.1, at) in
         let number = (taken.2.counts [] reservations known).0 in
-        subst (λ (p : Kept). 0 < p.count) is (omega (arith, number))
+        subst (λ (p : Place). 0 < p.count) is (omega (arith, number))
 
 -- after `release` of a row, whose place alone may have counted nothing, all do
-pub release_counting : (old new : Places) (row : RowName) → OthersCount row old
+pub release_counting : (old new : Bounds) (row : RowName) → OthersCount row old
     → (is_counting (place_at old row) ≡ false → place_at new row ≡ None)
     → (is_counting (place_at old row) ≡ true → new ≡ old)
     → OthersStay row old new → AllCount new
 release_counting old new row others_count empty counting others =
-    each_row (λ (other : RowName). (place : Kept) → place_at new other ≡ Some place → 0 < place.count) row
+    each_row (λ (other : RowName). (place : Place) → place_at new other ≡ Some place → 0 < place.count) row
     (λ place at. split (is_counting (place_at old row))
-    (λ some. counting_above (place_at old row) place some (sym (ap (λ (places : Places). place_at places row) (counting some)) ∙ at))
+    (λ some. counting_above (place_at old row) place some (sym (ap (λ (places : Bounds). place_at places row) (counting some)) ∙ at))
     (λ idle. absurd (cc (empty idle, at))))
     (λ other apart place at. others_count other place apart (sym (others other apart) ∙ at))

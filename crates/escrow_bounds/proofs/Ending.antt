@@ -12,9 +12,9 @@ use Rattle.escrow_num.specs.Reservation.{deltas}
 use Rattle.escrow_bounds.specs.Counts.{Counts, is_counting, GivesBack}
 use Rattle.escrow_bounds.specs.Ended.{HasEnded, AreEnded}
 use Rattle.escrow_bounds.specs.Held.{of_row, CountsJust, CountsAll, AllCount}
-use Rattle.escrow_bounds.specs.Kept.{Kept}
+use Rattle.escrow_bounds.specs.Place.{Place}
 use Rattle.escrow_bounds.specs.Moved.{all_moved, amounts_after, amounts_after_all}
-use Rattle.escrow_bounds.specs.Places.{Places, place_at, OthersStay, Becomes}
+use Rattle.escrow_bounds.specs.Bounds.{Bounds, place_at, OthersStay, Becomes}
 use Rattle.escrow_bounds.proofs.Counting.{release_counting}
 use Rattle.escrow_bounds.proofs.Kept.{length-after}
 use Rattle.escrow_bounds.proofs.LawLemmas.{split, each_row, other_way, of_append, own_more, remove_counts, release_counts}
@@ -57,10 +57,10 @@ after_last row amounts ended i past = ap (λ (done : List Reservation). amounts_
 
 -- ---- places
 
-pub ended_none : (end : End) (places : Places) → AreEnded end [] places places
+pub ended_none : (end : End) (places : Bounds) → AreEnded end [] places places
 ended_none end places = λ row place at. (place, at, record { checks = refl; amounts = refl })
 
-pub ended_more : (end : End) (first second : List Reservation) (old mid new : Places) → AreEnded end first old mid → AreEnded end second mid new → AreEnded end (first ++ second) old new
+pub ended_more : (end : End) (first second : List Reservation) (old mid new : Bounds) → AreEnded end first old mid → AreEnded end second mid new → AreEnded end (first ++ second) old new
 ended_more end first second old mid new those these = λ row place at.
     let later = these row place at in
     let earlier = those row later.0 later.1 in (
@@ -77,14 +77,14 @@ ended_more end first second old mid new those these = λ row place at.
 
 -- ---- one end
 
-there_is : (place : Option Kept) (changes : List ℤ) (reservations : List (List ℤ)) → CountsJust place (changes ∷ reservations)
-    → (kept : Kept) × (place ≡ Some kept) × Counts kept (changes ∷ reservations)
+there_is : (place : Option Place) (changes : List ℤ) (reservations : List (List ℤ)) → CountsJust place (changes ∷ reservations)
+    → (kept : Place) × (place ≡ Some kept) × Counts kept (changes ∷ reservations)
 there_is None changes reservations counts = absurd (cc)
 there_is (Some kept) changes reservations counts = (kept, refl, counts)
 
 -- the first of the reservations is counted by the place of its row
-pub counted_first : (places : Places) (r : Reservation) (rest : List Reservation) (changes : List ℤ) → changes ≡ deltas r.changes → CountsAll places (r ∷ rest)
-    → (place : Kept) × (before after : List (List ℤ)) × (place_at places r.row ≡ Some place) × Counts place (before ++ changes ∷ after)
+pub counted_first : (places : Bounds) (r : Reservation) (rest : List Reservation) (changes : List ℤ) → changes ≡ deltas r.changes → CountsAll places (r ∷ rest)
+    → (place : Place) × (before after : List (List ℤ)) × (place_at places r.row ≡ Some place) × Counts place (before ++ changes ∷ after)
 counted_first places r rest changes is counts =
     let others = of_row r.row rest in
     let own = subst (λ (zs : List (List ℤ)). CountsJust (place_at places r.row) zs) (own_more r [] rest ∙ ap (λ (c : List ℤ). c ∷ others) (sym is)) (counts r.row) in
@@ -92,51 +92,51 @@ counted_first places r rest changes is counts =
     (place.0, [], others, place.1, place.2)
 
 -- places when a reservation is removed and its place is released
-pub record IsRemoved (end : End) (r : Reservation) (old mid new : Places) : Type 0 where
+pub record IsRemoved (end : End) (r : Reservation) (old mid new : Bounds) : Type 0 where
   pub gives : Becomes (GivesBack end (deltas r.changes)) (place_at old r.row) (place_at mid r.row)
   pub removed : OthersStay r.row old mid
   pub empty : is_counting (place_at mid r.row) ≡ false → place_at new r.row ≡ None
   pub counting : is_counting (place_at mid r.row) ≡ true → new ≡ mid
   pub released : OthersStay r.row mid new
 
-pub removed_counts : (end : End) (r : Reservation) (old mid new : Places) (rest : List Reservation) → IsRemoved end r old mid new → CountsAll old (r ∷ rest) → CountsAll new rest
+pub removed_counts : (end : End) (r : Reservation) (old mid new : Bounds) (rest : List Reservation) → IsRemoved end r old mid new → CountsAll old (r ∷ rest) → CountsAll new rest
 removed_counts end r old mid new rest is counts =
     release_counts mid new r.row rest (remove_counts end old mid r [] rest counts is.gives is.removed) is.empty is.counting is.released
 
-pub removed_counting : (end : End) (r : Reservation) (old mid new : Places) → IsRemoved end r old mid new → AllCount old → AllCount new
+pub removed_counting : (end : End) (r : Reservation) (old mid new : Bounds) → IsRemoved end r old mid new → AllCount old → AllCount new
 removed_counting end r old mid new is all =
     release_counting mid new r.row (λ other place apart at. all other place (sym (is.removed other apart) ∙ at)) is.empty is.counting is.released
 
-removed_own : (end : End) (r : Reservation) (old mid new : Places) (rest : List Reservation) → IsRemoved end r old mid new → CountsAll old (r ∷ rest) → (place : Kept) → place_at new r.row ≡ Some place
-    → (before : Kept) × (place_at old r.row ≡ Some before) × HasEnded end (of_row r.row (r ∷ [])) before place
+removed_own : (end : End) (r : Reservation) (old mid new : Bounds) (rest : List Reservation) → IsRemoved end r old mid new → CountsAll old (r ∷ rest) → (place : Place) → place_at new r.row ≡ Some place
+    → (before : Place) × (place_at old r.row ≡ Some before) × HasEnded end (of_row r.row (r ∷ [])) before place
 removed_own end r old mid new rest is counts place at =
     let known = counted_first old r rest (deltas r.changes) refl counts in
     let before = known.0 in
     let given = is.gives before known.3 in
     split (is_counting (place_at mid r.row))
     (λ some.
-    let there : place_at mid r.row ≡ Some place = sym (ap (λ (places : Places). place_at places r.row) (is.counting some)) ∙ at in
+    let there : place_at mid r.row ≡ Some place = sym (ap (λ (places : Bounds). place_at places r.row) (is.counting some)) ∙ at in
     let same : given.0 ≡ place = cc (given.1, there) in
     let own : of_row r.row (r ∷ []) ≡ deltas r.changes ∷ [] = own_more r [] [] in
     let ended : HasEnded end (deltas r.changes ∷ []) before given.0 = record { checks = given.2.checks; amounts = given.2.amounts } in (
       before,
       known.3,
-      subst (λ (kept : Kept). HasEnded end (of_row r.row (r ∷ [])) before kept) same
+      subst (λ (kept : Place). HasEnded end (of_row r.row (r ∷ [])) before kept) same
           (subst (λ (zs : List (List ℤ)). HasEnded end zs before given.0) (sym own) ended),
     ))
     (λ idle. absurd (cc (is.empty idle, at)))
 
-removed_other : (end : End) (r : Reservation) (old mid new : Places) → IsRemoved end r old mid new → (other : RowName) → same_row r.row other ≡ false → (place : Kept) → place_at new other ≡ Some place
-    → (before : Kept) × (place_at old other ≡ Some before) × HasEnded end (of_row other (r ∷ [])) before place
+removed_other : (end : End) (r : Reservation) (old mid new : Bounds) → IsRemoved end r old mid new → (other : RowName) → same_row r.row other ≡ false → (place : Place) → place_at new other ≡ Some place
+    → (before : Place) × (place_at old other ≡ Some before) × HasEnded end (of_row other (r ∷ [])) before place
 removed_other end r old mid new is other apart place at =
     let there : place_at old other ≡ Some place = sym (is.removed other apart) ∙ sym (is.released other apart) ∙ at in
     let none : of_row other (r ∷ []) ≡ [] = cond-false (same_row other r.row) (deltas r.changes ∷ []) [] (other_way r.row other apart) in
     let ended : HasEnded end [] place place = record { checks = refl; amounts = refl } in
     (place, there, subst (λ (zs : List (List ℤ)). HasEnded end zs place place) (sym none) ended)
 
-pub removed_ended : (end : End) (r : Reservation) (old mid new : Places) (rest : List Reservation) → IsRemoved end r old mid new → CountsAll old (r ∷ rest) → AreEnded end (r ∷ []) old new
+pub removed_ended : (end : End) (r : Reservation) (old mid new : Bounds) (rest : List Reservation) → IsRemoved end r old mid new → CountsAll old (r ∷ rest) → AreEnded end (r ∷ []) old new
 removed_ended end r old mid new rest is counts =
-    each_row (λ (row : RowName). (place : Kept) → place_at new row ≡ Some place → (before : Kept) × (place_at old row ≡ Some before) × HasEnded end (of_row row (r ∷ [])) before place) r.row
+    each_row (λ (row : RowName). (place : Place) → place_at new row ≡ Some place → (before : Place) × (place_at old row ≡ Some before) × HasEnded end (of_row row (r ∷ [])) before place) r.row
     (removed_own end r old mid new rest is counts) (removed_other end r old mid new is)
 
 -- ---- one end after another
@@ -146,21 +146,21 @@ pub shown_is : (amounts : List ℤ) (n : ℕ) (shown changes : List (Option ℤ)
 shown_is amounts n shown changes many same is = ap (λ (k : ℕ). take k amounts) (many ∙ ap length (sym same)) ∙ is ∙ ap deltas same
 
 -- the next is the first of those that are left
-pub next_counted : (places : Places) (ended rest : List Reservation) (i : ℕ) (r : Reservation) → i < length ended → r ≡ get_or ended i r → CountsAll places (drop i ended ++ rest)
+pub next_counted : (places : Bounds) (ended rest : List Reservation) (i : ℕ) (r : Reservation) → i < length ended → r ≡ get_or ended i r → CountsAll places (drop i ended ++ rest)
     → CountsAll places (r ∷ drop (i + 1) ended ++ rest)
 next_counted places ended rest i r within is counts =
     let here : drop i ended ≡ r ∷ drop (i + 1) ended = drop_more ended i r within ∙ ap (λ (q : Reservation). q ∷ drop (i + 1) ended) (sym is) in
     subst (λ (left : List Reservation). CountsAll places (left ++ rest)) here counts
 
-pub ended_next : (end : End) (old mid new : Places) (ended : List Reservation) (i : ℕ) (r : Reservation) → i < length ended → r ≡ get_or ended i r → AreEnded end (take i ended) old mid → AreEnded end (r ∷ []) mid new
+pub ended_next : (end : End) (old mid new : Bounds) (ended : List Reservation) (i : ℕ) (r : Reservation) → i < length ended → r ≡ get_or ended i r → AreEnded end (take i ended) old mid → AreEnded end (r ∷ []) mid new
     → AreEnded end (take (i + 1) ended) old new
 ended_next end old mid new ended i r within is those this =
     let more : take (i + 1) ended ≡ take i ended ++ r ∷ [] = take_more ended i r within ∙ ap (λ (q : Reservation). take i ended ++ q ∷ []) (sym is) in
     subst (λ (done : List Reservation). AreEnded end done old new) (sym more) (ended_more end (take i ended) (r ∷ []) old mid new those this)
 
 -- none is left
-pub counted_last : (places : Places) (ended rest : List Reservation) (i : ℕ) → length ended ≤ i → CountsAll places (drop i ended ++ rest) → CountsAll places rest
+pub counted_last : (places : Bounds) (ended rest : List Reservation) (i : ℕ) → length ended ≤ i → CountsAll places (drop i ended ++ rest) → CountsAll places rest
 counted_last places ended rest i past counts = subst (λ (left : List Reservation). CountsAll places (left ++ rest)) (drop_all i ended past) counts
 
-pub ended_last : (end : End) (old new : Places) (ended : List Reservation) (i : ℕ) → length ended ≤ i → AreEnded end (take i ended) old new → AreEnded end ended old new
+pub ended_last : (end : End) (old new : Bounds) (ended : List Reservation) (i : ℕ) → length ended ≤ i → AreEnded end (take i ended) old new → AreEnded end ended old new
 ended_last end old new ended i past those = subst (λ (done : List Reservation). AreEnded end done old new) (take_all i ended past) those

@@ -16,8 +16,8 @@ use Rattle.escrow_bounds.specs.Altered.{Goes, IsOver, ArePrepared}
 use Rattle.escrow_bounds.specs.Counts.{IsNew, TakesIn}
 use Rattle.escrow_bounds.specs.Filling.{of_table, IsCopied, AreFilled}
 use Rattle.escrow_bounds.specs.Held.{of_row, CountsJust, CountsAll, AllCount}
-use Rattle.escrow_bounds.specs.Kept.{Kept, checks_of}
-use Rattle.escrow_bounds.specs.Places.{Places, place_at, OthersStay, Becomes}
+use Rattle.escrow_bounds.specs.Place.{Place, checks_of}
+use Rattle.escrow_bounds.specs.Bounds.{Bounds, place_at, OthersStay, Becomes}
 use Rattle.escrow_bounds.proofs.Counting.{has_any, placed_is}
 use Rattle.escrow_bounds.proofs.LawLemmas.{split, each_row, reserve_counts, add_counts}
 
@@ -74,43 +74,43 @@ few_of_table table row (r ∷ held) =
 -- ---- one more is counted
 
 -- what is filled has no place of another table, and has the amounts that it was given
-abbrev pub AreCopied : List ℕ → List Check → Places → Places → Type 0
-AreCopied table checks places filled = (row : RowName) (place : Kept) → place_at filled row ≡ Some place → IsCopied table checks places row place
+abbrev pub AreCopied : List ℕ → List Check → Bounds → Bounds → Type 0
+AreCopied table checks places filled = (row : RowName) (place : Place) → place_at filled row ≡ Some place → IsCopied table checks places row place
 
 -- after `reserve` the row has a place
-pub reserved_there : (old mid : Places) (row : RowName) (amounts : List ℤ) (checks : List Check)
-    → (IsSome (place_at old row) → mid ≡ old) → (place_at old row ≡ None → (place : Kept) × (place_at mid row ≡ Some place) × IsNew amounts checks place) → IsSome (place_at mid row)
+pub reserved_there : (old mid : Bounds) (row : RowName) (amounts : List ℤ) (checks : List Check)
+    → (IsSome (place_at old row) → mid ≡ old) → (place_at old row ≡ None → (place : Place) × (place_at mid row ≡ Some place) × IsNew amounts checks place) → IsSome (place_at mid row)
 reserved_there old mid row amounts checks found made = at (place_at old row) refl
   where
-    at : (was : Option Kept) → place_at old row ≡ was → IsSome (place_at mid row)
+    at : (was : Option Place) → place_at old row ≡ was → IsSome (place_at mid row)
     at None is = ap is_some (made is).1
-    at (Some kept) is = let there : IsSome (place_at old row) = ap is_some is in subst (λ (places : Places). IsSome (place_at places row)) (sym (found there)) there
+    at (Some kept) is = let there : IsSome (place_at old row) = ap is_some is in subst (λ (places : Bounds). IsSome (place_at places row)) (sym (found there)) there
 
 -- and there is room in it for one more
-pub reserved_room : (old mid : Places) (row : RowName) (amounts : List ℤ) (checks : List Check)
-    → (IsSome (place_at old row) → mid ≡ old) → (place_at old row ≡ None → (place : Kept) × (place_at mid row ≡ Some place) × IsNew amounts checks place)
-    → ((place : Kept) → place_at old row ≡ Some place → place.count < MAX_OPEN) → (place : Kept) → place_at mid row ≡ Some place → place.count < MAX_OPEN
+pub reserved_room : (old mid : Bounds) (row : RowName) (amounts : List ℤ) (checks : List Check)
+    → (IsSome (place_at old row) → mid ≡ old) → (place_at old row ≡ None → (place : Place) × (place_at mid row ≡ Some place) × IsNew amounts checks place)
+    → ((place : Place) → place_at old row ≡ Some place → place.count < MAX_OPEN) → (place : Place) → place_at mid row ≡ Some place → place.count < MAX_OPEN
 reserved_room old mid row amounts checks found made room place there = at (place_at old row) refl
   where
-    at : (was : Option Kept) → place_at old row ≡ was → place.count < MAX_OPEN
+    at : (was : Option Place) → place_at old row ≡ was → place.count < MAX_OPEN
     at None is =
         let new = made is in
         let same : new.0 ≡ place = cc (new.1, there) in
         let number = new.2.counts.0 in
-        subst (λ (p : Kept). p.count < MAX_OPEN) same (omega (arith, number))
+        subst (λ (p : Place). p.count < MAX_OPEN) same (omega (arith, number))
     at (Some kept) is =
-        room place (ap (λ (places : Places). place_at places row) (sym (found (ap is_some is))) ∙ there)
+        room place (ap (λ (places : Bounds). place_at places row) (sym (found (ap is_some is))) ∙ there)
 
-reserved_copied : (table : List ℕ) (checks : List Check) (places old mid : Places) (row : RowName) (copied : Kept) (amounts : List ℤ)
+reserved_copied : (table : List ℕ) (checks : List Check) (places old mid : Bounds) (row : RowName) (copied : Place) (amounts : List ℤ)
     → bytes_eq row.table table ≡ true → place_at places row ≡ Some copied → amounts ≡ copied.amounts
-    → (IsSome (place_at old row) → mid ≡ old) → (place_at old row ≡ None → (place : Kept) × (place_at mid row ≡ Some place) × IsNew amounts checks place) → OthersStay row old mid
+    → (IsSome (place_at old row) → mid ≡ old) → (place_at old row ≡ None → (place : Place) × (place_at mid row ≡ Some place) × IsNew amounts checks place) → OthersStay row old mid
     → AreCopied table checks places old → AreCopied table checks places mid
 reserved_copied table checks places old mid row copied amounts within has is found made others each =
-    each_row (λ (other : RowName). (place : Kept) → place_at mid other ≡ Some place → IsCopied table checks places other place) row
+    each_row (λ (other : RowName). (place : Place) → place_at mid other ≡ Some place → IsCopied table checks places other place) row
     (λ place there. at place there (place_at old row) refl)
     (λ other apart place there. each other place (sym (others other apart) ∙ there))
   where
-    at : (place : Kept) → place_at mid row ≡ Some place → (was : Option Kept) → place_at old row ≡ was → IsCopied table checks places row place
+    at : (place : Place) → place_at mid row ≡ Some place → (was : Option Place) → place_at old row ≡ was → IsCopied table checks places row place
     at place there None none =
         let new = made none in
         let same : new.0 ≡ place = cc (new.1, there) in
@@ -118,20 +118,20 @@ reserved_copied table checks places old mid row copied amounts within has is fou
           within = within;
           copied = copied;
           found = has;
-          amounts = ap (λ (p : Kept). p.amounts) (sym same) ∙ new.2.amounts_are ∙ is;
-          checks_are = ap (λ (p : Kept). checks_of p.checks) (sym same) ∙ new.2.checks_are;
+          amounts = ap (λ (p : Place). p.amounts) (sym same) ∙ new.2.amounts_are ∙ is;
+          checks_are = ap (λ (p : Place). checks_of p.checks) (sym same) ∙ new.2.checks_are;
         }
-    at place there (Some kept) some = each row place (ap (λ (ps : Places). place_at ps row) (sym (found (ap is_some some))) ∙ there)
+    at place there (Some kept) some = each row place (ap (λ (ps : Bounds). place_at ps row) (sym (found (ap is_some some))) ∙ there)
 
-added_copied : (table : List ℕ) (checks : List Check) (places mid new : Places) (row : RowName) (changes : List ℤ)
+added_copied : (table : List ℕ) (checks : List Check) (places mid new : Bounds) (row : RowName) (changes : List ℤ)
     → IsSome (place_at mid row) → Becomes (TakesIn changes) (place_at mid row) (place_at new row) → OthersStay row mid new
     → AreCopied table checks places mid → AreCopied table checks places new
 added_copied table checks places mid new row changes there becomes others each =
-    each_row (λ (other : RowName). (place : Kept) → place_at new other ≡ Some place → IsCopied table checks places other place) row
+    each_row (λ (other : RowName). (place : Place) → place_at new other ≡ Some place → IsCopied table checks places other place) row
     (λ place is. at place is (place_at mid row) refl)
     (λ other apart place is. each other place (sym (others other apart) ∙ is))
   where
-    at : (place : Kept) → place_at new row ≡ Some place → (was : Option Kept) → place_at mid row ≡ was → IsCopied table checks places row place
+    at : (place : Place) → place_at new row ≡ Some place → (was : Option Place) → place_at mid row ≡ was → IsCopied table checks places row place
     at place is None none = absurd (false≢true (sym (ap is_some none) ∙ there))
     at place is (Some kept) some =
         let taken = becomes kept some in
@@ -141,14 +141,14 @@ added_copied table checks places mid new row changes there becomes others each =
           within = known.within;
           copied = known.copied;
           found = known.found;
-          amounts = ap (λ (p : Kept). p.amounts) (sym same) ∙ taken.2.amounts ∙ known.amounts;
-          checks_are = ap (λ (p : Kept). checks_of p.checks) (sym same) ∙ taken.2.checks ∙ known.checks_are;
+          amounts = ap (λ (p : Place). p.amounts) (sym same) ∙ taken.2.amounts ∙ known.amounts;
+          checks_are = ap (λ (p : Place). checks_of p.checks) (sym same) ∙ taken.2.checks ∙ known.checks_are;
         }
 
 -- a reservation of the table is counted in the place of its row, which was made if there was none
-pub filled_more : (table : List ℕ) (checks : List Check) (held : List Reservation) (places old mid new : Places) (r : Reservation) (copied : Kept) (amounts changes : List ℤ)
+pub filled_more : (table : List ℕ) (checks : List Check) (held : List Reservation) (places old mid new : Bounds) (r : Reservation) (copied : Place) (amounts changes : List ℤ)
     → bytes_eq r.row.table table ≡ true → place_at places r.row ≡ Some copied → amounts ≡ copied.amounts → changes ≡ deltas r.changes
-    → (IsSome (place_at old r.row) → mid ≡ old) → (place_at old r.row ≡ None → (place : Kept) × (place_at mid r.row ≡ Some place) × IsNew amounts checks place) → OthersStay r.row old mid
+    → (IsSome (place_at old r.row) → mid ≡ old) → (place_at old r.row ≡ None → (place : Place) × (place_at mid r.row ≡ Some place) × IsNew amounts checks place) → OthersStay r.row old mid
     → Becomes (TakesIn changes) (place_at mid r.row) (place_at new r.row) → OthersStay r.row mid new
     → AreFilled table checks held places old → AreFilled table checks (held ++ r ∷ []) places new
 filled_more table checks held places old mid new r copied amounts changes within has is adds found made others becomes stay filled =
@@ -182,15 +182,15 @@ has_at (first ∷ held) zero r below is = inl (sym is)
 has_at (first ∷ held) (suc i) r below is = inr (has_at held i r (omega (arith, below)) is)
 
 -- the row of an open reservation has a place
-pub open_there : (places : Places) (held : List Reservation) (i : ℕ) (r : Reservation) → i < length held → r ≡ get_or held i r → AllCount places → CountsAll places held → IsSome (place_at places r.row)
+pub open_there : (places : Bounds) (held : List Reservation) (i : ℕ) (r : Reservation) → i < length held → r ≡ get_or held i r → AllCount places → CountsAll places held → IsSome (place_at places r.row)
 open_there places held i r below is counting counts =
     placed_is places held r.row counting counts ∙ has_any (λ (q : Reservation). same_row q.row r.row) held r (has_at held i r below is) (same_row_itself r.row)
 
 -- there is room for one more reservation while not all are counted
-pub filled_room : (table : List ℕ) (checks : List Check) (held : List Reservation) (i : ℕ) (places filled : Places) (row : RowName) → i < length held → length held ≤ MAX_OPEN
-    → AreFilled table checks (take i held) places filled → (place : Kept) → place_at filled row ≡ Some place → place.count < MAX_OPEN
+pub filled_room : (table : List ℕ) (checks : List Check) (held : List Reservation) (i : ℕ) (places filled : Bounds) (row : RowName) → i < length held → length held ≤ MAX_OPEN
+    → AreFilled table checks (take i held) places filled → (place : Place) → place_at filled row ≡ Some place → place.count < MAX_OPEN
 filled_room table checks held i places filled row below many are place at =
-    let known : CountsJust (Some place) (of_row row (of_table table (take i held))) = subst (λ (p : Option Kept). CountsJust p (of_row row (of_table table (take i held)))) at (are.counts row) in
+    let known : CountsJust (Some place) (of_row row (of_table table (take i held))) = subst (λ (p : Option Place). CountsJust p (of_row row (of_table table (take i held)))) at (are.counts row) in
     let few = few_of_table table row (take i held) in
     let taken = length-taken i held in
     omega (arith, known.0, few, taken, below, many)
@@ -200,7 +200,7 @@ filled_room table checks held i places filled row below many are place at =
     length-taken (suc n) [] = omega arith
     length-taken (suc n) (r ∷ rs) = let rest = length-taken n rs in omega (arith, rest)
 
-pub filled_next : (table : List ℕ) (checks : List Check) (held : List Reservation) (i : ℕ) (places old new : Places) (r : Reservation) → i < length held → r ≡ get_or held i r
+pub filled_next : (table : List ℕ) (checks : List Check) (held : List Reservation) (i : ℕ) (places old new : Bounds) (r : Reservation) → i < length held → r ≡ get_or held i r
     → ((some : List Reservation) → AreFilled table checks some places old → AreFilled table checks (some ++ r ∷ []) places new)
     → AreFilled table checks (take i held) places old → AreFilled table checks (take (i + 1) held) places new
 filled_next table checks held i places old new r below is step are =
@@ -209,9 +209,9 @@ filled_next table checks held i places old new r below is step are =
 
 -- ---- all are counted
 
-prepared_own : (table : List ℕ) (checks : List Check) (held : List Reservation) (places filled : Places) (row : RowName) (was now : Option Kept)
+prepared_own : (table : List ℕ) (checks : List Check) (held : List Reservation) (places filled : Bounds) (row : RowName) (was now : Option Place)
     → place_at places row ≡ was → place_at filled row ≡ now → CountsJust was (of_row row held) → CountsJust now (of_row row held)
-    → ((kept : Kept) → was ≡ Some kept → 0 < kept.count) → ((place : Kept) → now ≡ Some place → IsCopied table checks places row place)
+    → ((kept : Place) → was ≡ Some kept → 0 < kept.count) → ((place : Place) → now ≡ Some place → IsCopied table checks places row place)
     → Goes (IsOver checks (of_row row held)) was now
 prepared_own table checks held places filled row None None has is before after counting each = refl
 prepared_own table checks held places filled row None (Some place) has is before after counting each =
@@ -224,10 +224,10 @@ prepared_own table checks held places filled row (Some kept) None has is before 
 prepared_own table checks held places filled row (Some kept) (Some place) has is before after counting each =
     let known = each place refl in
     let same : known.copied ≡ kept = cc (known.found, has) in
-    (place, refl, record { amounts = known.amounts ∙ ap (λ (p : Kept). p.amounts) same; checks_are = known.checks_are; counts = after })
+    (place, refl, record { amounts = known.amounts ∙ ap (λ (p : Place). p.amounts) same; checks_are = known.checks_are; counts = after })
 
 -- what was filled with all open reservations is an addition
-pub prepared : (table : List ℕ) (checks : List Check) (held : List Reservation) (i : ℕ) (places filled : Places) → length held ≤ i → CountsAll places held → AllCount places
+pub prepared : (table : List ℕ) (checks : List Check) (held : List Reservation) (i : ℕ) (places filled : Bounds) → length held ≤ i → CountsAll places held → AllCount places
     → AreFilled table checks (take i held) places filled → ArePrepared table checks held places filled
 prepared table checks held i places filled past counts counting some =
     let are : AreFilled table checks held places filled = subst (λ (rs : List Reservation). AreFilled table checks rs places filled) (take_all i held past) some in
@@ -239,7 +239,7 @@ prepared table checks held i places filled past counts counting some =
       others = λ row apart. none (place_at filled row) row apart (are.each row);
     }
   where
-    none : (now : Option Kept) (row : RowName) → bytes_eq row.table table ≡ false → ((place : Kept) → now ≡ Some place → IsCopied table checks places row place) → now ≡ None
+    none : (now : Option Place) (row : RowName) → bytes_eq row.table table ≡ false → ((place : Place) → now ≡ Some place → IsCopied table checks places row place) → now ≡ None
     none None row apart each = refl
     none (Some place) row apart each = absurd (false≢true (sym apart ∙ (each place refl).within))
 

@@ -12,7 +12,7 @@ use Rattle.escrow_checks.specs.Grant.{broken_by, broken}
 use Rattle.escrow_checks.specs.Spread.{IsSpread}
 use Rattle.escrow_bounds.specs.declared.tracked.Tracked.{Tracked}
 use Rattle.escrow_bounds.specs.Counts.{HaveSums}
-use Rattle.escrow_bounds.specs.Kept.{checks_of}
+use Rattle.escrow_bounds.specs.Place.{checks_of}
 use Rattle.escrow_bounds.specs.Recounting.{counted_before, counted_after, AreRecounted}
 use Rattle.escrow_bounds.specs.declared.tracked.Counting.{Counting}
 use Rattle.escrow_bounds.proofs.Steps.{AllStepped}

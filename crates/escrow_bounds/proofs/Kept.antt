@@ -15,7 +15,7 @@ use Rattle.escrow_bounds.specs.declared.tracked.Tracked.{Tracked}
 use Rattle.escrow_bounds.specs.Columns.{unit_form, column_check, column_checks}
 use Rattle.escrow_bounds.specs.Counts.{Counts, GivesBack}
 use Rattle.escrow_bounds.specs.Inside.{IsPlace}
-use Rattle.escrow_bounds.specs.Kept.{Kept, checks_of}
+use Rattle.escrow_bounds.specs.Place.{Place, checks_of}
 use Rattle.escrow_bounds.specs.Moved.{all_moved, amounts_after}
 use Rattle.escrow_bounds.specs.Recounting.{counted_before, counted_after, AreRecounted, CanRecount, HasRoom, IsRecounted}
 use Rattle.escrow_bounds.specs.declared.tracked.Counting.{Counting}
@@ -36,12 +36,12 @@ pub length-put : (before after : List (List ℤ)) (changes : List ℤ) → lengt
 length-put before after changes = omega (arith, length-append before (changes ∷ after), length-append before after)
 
 -- what is counted of a place that has room for changes, or counts them
-pub recountable : (kind : Counting) (changes : List ℤ) (place : Kept) → IsPlace place → CanRecount kind changes place
+pub recountable : (kind : Counting) (changes : List ℤ) (place : Place) → IsPlace place → CanRecount kind changes place
     → (before : List (List ℤ)) × (after : List (List ℤ)) × Counts place (counted_before kind before changes after) × HasRoom kind (before ++ after)
 recountable counting.In changes place is room = ([], is.reservations, is.counts, omega (arith, is.counts.0, room))
 recountable counting.Out changes place is given = (given.0, given.1, given.2, tt)
 
-pub recounted : (kind : Counting) (changes : List ℤ) (old new : Kept) → new.amounts ≡ old.amounts
+pub recounted : (kind : Counting) (changes : List ℤ) (old new : Place) → new.amounts ≡ old.amounts
     → ((before : List (List ℤ)) (changes : List ℤ) (after : List (List ℤ)) → old.count ≡ length (counted_before kind before changes after) → new.count ≡ length (counted_after kind before changes after))
     → AreRecounted kind changes old.checks new.checks → AreRecounted kind changes old.columns new.columns → IsRecounted kind changes old new
 recounted kind changes old new amounts number checks columns = record {
@@ -51,11 +51,11 @@ recounted kind changes old new amounts number checks columns = record {
 }
 
 -- it is counted no more
-pub gives_back : (changes : List ℤ) (old new : Kept) → IsRecounted counting.Out changes old new → GivesBack ends.Rollback changes old new
+pub gives_back : (changes : List ℤ) (old new : Place) → IsRecounted counting.Out changes old new → GivesBack ends.Rollback changes old new
 gives_back changes old new given = record { amounts = given.amounts; checks = given.checks; counts = given.counts }
 
 -- and then its changes are moved into the amounts
-pub gives_committed : (changes : List ℤ) (old mid new : Kept) → IsRecounted counting.Out changes old mid → new ≡ record mid { amounts = all_moved mid.amounts changes } → GivesBack ends.Commit changes old new
+pub gives_committed : (changes : List ℤ) (old mid new : Place) → IsRecounted counting.Out changes old mid → new ≡ record mid { amounts = all_moved mid.amounts changes } → GivesBack ends.Commit changes old new
 gives_committed changes old mid new given is = subst (GivesBack ends.Commit changes old) (sym is) (record {
   amounts = ap (λ (amounts : List ℤ). all_moved amounts changes) given.amounts;
   checks = given.checks;
@@ -69,7 +69,7 @@ covered_same [] old new same all = tt
 covered_same (check ∷ checks) old new same all = (omega (arith, same, all.0), covered_same checks old new same all.1)
 
 -- a place that has as many amounts as before, and the checks, is a place
-pub place_kept : (old new : Kept) (reservations : List (List ℤ)) → IsPlace old → length new.amounts ≡ length old.amounts → checks_of new.checks ≡ checks_of old.checks → checks_of new.columns ≡ checks_of old.columns
+pub place_kept : (old new : Place) (reservations : List (List ℤ)) → IsPlace old → length new.amounts ≡ length old.amounts → checks_of new.checks ≡ checks_of old.checks → checks_of new.columns ≡ checks_of old.columns
     → Counts new reservations → IsPlace new
 place_kept old new reservations place amounts checks columns counts = record {
   covered = covered_same (checks_of new.checks) old.amounts new.amounts amounts (subst (λ (cs : List Check). AllByRecursion (λ (check : Check). IsCovered check.coeffs old.amounts) cs) (sym checks) place.covered);
@@ -82,7 +82,7 @@ pub length-after : (end : End) (amounts changes : List ℤ) → length (amounts_
 length-after ends.Commit amounts changes = length-all_moved amounts changes
 length-after ends.Rollback amounts changes = refl
 
-pub place_recounted : (kind : Counting) (changes : List ℤ) (before after : List (List ℤ)) (old new : Kept) → IsPlace old → Counts old (counted_before kind before changes after)
+pub place_recounted : (kind : Counting) (changes : List ℤ) (before after : List (List ℤ)) (old new : Place) → IsPlace old → Counts old (counted_before kind before changes after)
     → IsRecounted kind changes old new → checks_of new.columns ≡ checks_of old.columns → IsPlace new
 place_recounted kind changes before after old new place counted is columns =
     place_kept old new (counted_after kind before changes after) place (ap length is.amounts) is.checks columns (is.counts before after counted)
@@ -94,7 +94,7 @@ length-column_checks columns zero = refl
 length-column_checks columns (suc n) = omega (arith, length-append (column_checks columns n) (column_check columns n ∷ []), length-column_checks columns n)
 
 -- there is a form for each column
-pub columns_fit : (place : Kept) → IsPlace place → length place.columns ≡ length place.amounts
+pub columns_fit : (place : Place) → IsPlace place → length place.columns ≡ length place.amounts
 columns_fit place is =
     sym (length-map place.columns (λ (form : Tracked). form.check)) ∙ ap length is.columns ∙ length-column_checks (length place.amounts) (length place.amounts)
 
@@ -117,7 +117,7 @@ unit_covered columns place amounts many =
 -- ---- the extremes of a form
 
 -- the extremes of the form that is read are those of the check at that place
-pub worst_is : (kept : Kept) (check : ℕ) (read form : Tracked) (amounts : List ℤ) (reservations : List (List ℤ)) (low high : ℤ) → IsPlace kept
+pub worst_is : (kept : Place) (check : ℕ) (read form : Tracked) (amounts : List ℤ) (reservations : List (List ℤ)) (low high : ℤ) → IsPlace kept
     → read ≡ get_or kept.checks check read → amounts ≡ kept.amounts → slice_get kept.checks check ≡ Some form → Counts kept reservations
     → ((rs : List (List ℤ)) → IsCovered read.check.coeffs amounts → IsSpread read.check.coeffs rs read.spread → low ≡ least read.check.coeffs amounts rs)
     → ((rs : List (List ℤ)) → IsCovered read.check.coeffs amounts → IsSpread read.check.coeffs rs read.spread → high ≡ greatest read.check.coeffs amounts rs)
@@ -133,7 +133,7 @@ worst_is kept check read form amounts reservations low high place is shown at co
     (subst (λ (f : Tracked). low ≡ least f.check.coeffs kept.amounts reservations) same low_is, subst (λ (f : Tracked). high ≡ greatest f.check.coeffs kept.amounts reservations) same high_is)
 
 -- the extremes of a column's form are those of the column
-pub inf_sup_is : (kept : Kept) (column : ℕ) (read : Tracked) (amounts : List ℤ) (reservations : List (List ℤ)) (low high : ℤ) → IsPlace kept
+pub inf_sup_is : (kept : Place) (column : ℕ) (read : Tracked) (amounts : List ℤ) (reservations : List (List ℤ)) (low high : ℤ) → IsPlace kept
     → column < length kept.amounts → read ≡ get_or kept.columns column read → amounts ≡ kept.amounts → Counts kept reservations
     → ((rs : List (List ℤ)) → IsCovered read.check.coeffs amounts → IsSpread read.check.coeffs rs read.spread → low ≡ least read.check.coeffs amounts rs)
     → ((rs : List (List ℤ)) → IsCovered read.check.coeffs amounts → IsSpread read.check.coeffs rs read.spread → high ≡ greatest read.check.coeffs amounts rs)

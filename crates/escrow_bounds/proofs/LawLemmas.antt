@@ -24,8 +24,8 @@ use Rattle.escrow_checks.proofs.ExtremesLemmas.{least_is, greatest_is}
 use Rattle.escrow_checks.proofs.FormLemmas.{form-none, length-changed}
 use Rattle.escrow_bounds.specs.Counts.{Counts, is_counting, IsNew, TakesIn, GivesBack}
 use Rattle.escrow_bounds.specs.Held.{of_row, CountsJust, CountsAll}
-use Rattle.escrow_bounds.specs.Kept.{Kept}
-use Rattle.escrow_bounds.specs.Places.{Places, place_at, OthersStay, Becomes}
+use Rattle.escrow_bounds.specs.Place.{Place}
+use Rattle.escrow_bounds.specs.Bounds.{Bounds, place_at, OthersStay, Becomes}
 
 -- ---- other rows add nothing
 
@@ -104,10 +104,10 @@ other_same row r before after apart =
     ∙ sym (of_append row before after)
 
 -- the places of other rows count what they counted
-others_count : (old new : Places) (row other : RowName) (was is : List Reservation) → CountsAll old was → OthersStay row old new → same_row row other ≡ false → of_row other is ≡ of_row other was
+others_count : (old new : Bounds) (row other : RowName) (was is : List Reservation) → CountsAll old was → OthersStay row old new → same_row row other ≡ false → of_row other is ≡ of_row other was
     → CountsJust (place_at new other) (of_row other is)
 others_count old new row other was is counts others apart same =
-    subst (λ (p : Option Kept). CountsJust p (of_row other is)) (sym (others other apart))
+    subst (λ (p : Option Place). CountsJust p (of_row other is)) (sym (others other apart))
     (subst (λ (zs : List (List ℤ)). CountsJust (place_at old other) zs) (sym same) (counts other))
 
 -- ---- calls
@@ -115,30 +115,30 @@ others_count old new row other was is counts others apart same =
 pub nothing_counts : CountsAll [] []
 nothing_counts = λ row. refl
 
-reserved : (old new : Places) (row : RowName) (amounts : List ℤ) (checks : List Check) (held : List Reservation) (was : Option Kept) → place_at old row ≡ was → CountsJust was (of_row row held)
-    → (IsSome was → new ≡ old) → (was ≡ None → (place : Kept) × (place_at new row ≡ Some place) × IsNew amounts checks place) → CountsJust (place_at new row) (of_row row held)
+reserved : (old new : Bounds) (row : RowName) (amounts : List ℤ) (checks : List Check) (held : List Reservation) (was : Option Place) → place_at old row ≡ was → CountsJust was (of_row row held)
+    → (IsSome was → new ≡ old) → (was ≡ None → (place : Place) × (place_at new row ≡ Some place) × IsNew amounts checks place) → CountsJust (place_at new row) (of_row row held)
 reserved old new row amounts checks held None at counts found made =
     let place = made refl in
-    subst (λ (p : Option Kept). CountsJust p (of_row row held)) (sym place.1) (subst (λ (zs : List (List ℤ)). Counts place.0 zs) (sym counts) place.2.counts)
+    subst (λ (p : Option Place). CountsJust p (of_row row held)) (sym place.1) (subst (λ (zs : List (List ℤ)). Counts place.0 zs) (sym counts) place.2.counts)
 reserved old new row amounts checks held (Some kept) at counts found made =
-    subst (λ (p : Option Kept). CountsJust p (of_row row held)) (sym (ap (λ (places : Places). place_at places row) (found refl) ∙ at)) counts
+    subst (λ (p : Option Place). CountsJust p (of_row row held)) (sym (ap (λ (places : Bounds). place_at places row) (found refl) ∙ at)) counts
 
-pub reserve_counts : (old new : Places) (row : RowName) (amounts : List ℤ) (checks : List Check) (held : List Reservation) → CountsAll old held
+pub reserve_counts : (old new : Bounds) (row : RowName) (amounts : List ℤ) (checks : List Check) (held : List Reservation) → CountsAll old held
     → (IsSome (place_at old row) → new ≡ old)
-    → (place_at old row ≡ None → (place : Kept) × (place_at new row ≡ Some place) × IsNew amounts checks place)
+    → (place_at old row ≡ None → (place : Place) × (place_at new row ≡ Some place) × IsNew amounts checks place)
     → OthersStay row old new → CountsAll new held
 reserve_counts old new row amounts checks held counts found made others =
     each_row (λ (other : RowName). CountsJust (place_at new other) (of_row other held)) row
     (reserved old new row amounts checks held (place_at old row) refl (counts row) found made)
     (λ other apart. others_count old new row other held held counts others apart refl)
 
-added : (changes : List ℤ) (xs ys : List (List ℤ)) (was after : Option Kept) → CountsJust was (xs ++ ys) → IsSome was → Becomes (TakesIn changes) was after → CountsJust after (xs ++ changes ∷ ys)
+added : (changes : List ℤ) (xs ys : List (List ℤ)) (was after : Option Place) → CountsJust was (xs ++ ys) → IsSome was → Becomes (TakesIn changes) was after → CountsJust after (xs ++ changes ∷ ys)
 added changes xs ys None after counts there becomes = absurd (false≢true there)
 added changes xs ys (Some old) after counts there becomes =
     let new = becomes old refl in
-    subst (λ (p : Option Kept). CountsJust p (xs ++ changes ∷ ys)) (sym new.1) (new.2.counts xs ys counts)
+    subst (λ (p : Option Place). CountsJust p (xs ++ changes ∷ ys)) (sym new.1) (new.2.counts xs ys counts)
 
-pub add_counts : (old new : Places) (r : Reservation) (before after : List Reservation) → CountsAll old (before ++ after) → IsSome (place_at old r.row)
+pub add_counts : (old new : Bounds) (r : Reservation) (before after : List Reservation) → CountsAll old (before ++ after) → IsSome (place_at old r.row)
     → Becomes (TakesIn (deltas r.changes)) (place_at old r.row) (place_at new r.row)
     → OthersStay r.row old new → CountsAll new (before ++ r ∷ after)
 add_counts old new r before after counts there becomes others =
@@ -152,13 +152,13 @@ not_none : (xs ys : List (List ℤ)) (changes : List ℤ) → ¬ (xs ++ changes 
 not_none [] ys changes is = absurd (cc)
 not_none (x ∷ xs) ys changes is = absurd (cc)
 
-removed : (end : End) (changes : List ℤ) (xs ys : List (List ℤ)) (was after : Option Kept) → CountsJust was (xs ++ changes ∷ ys) → Becomes (GivesBack end changes) was after → CountsJust after (xs ++ ys)
+removed : (end : End) (changes : List ℤ) (xs ys : List (List ℤ)) (was after : Option Place) → CountsJust was (xs ++ changes ∷ ys) → Becomes (GivesBack end changes) was after → CountsJust after (xs ++ ys)
 removed end changes xs ys None after counts becomes = absurd (not_none xs ys changes counts)
 removed end changes xs ys (Some old) after counts becomes =
     let new = becomes old refl in
-    subst (λ (p : Option Kept). CountsJust p (xs ++ ys)) (sym new.1) (new.2.counts xs ys counts)
+    subst (λ (p : Option Place). CountsJust p (xs ++ ys)) (sym new.1) (new.2.counts xs ys counts)
 
-pub remove_counts : (end : End) (old new : Places) (r : Reservation) (before after : List Reservation) → CountsAll old (before ++ r ∷ after)
+pub remove_counts : (end : End) (old new : Bounds) (r : Reservation) (before after : List Reservation) → CountsAll old (before ++ r ∷ after)
     → Becomes (GivesBack end (deltas r.changes)) (place_at old r.row) (place_at new r.row)
     → OthersStay r.row old new → CountsAll new (before ++ after)
 remove_counts end old new r before after counts becomes others =
@@ -169,20 +169,20 @@ remove_counts end old new r before after counts becomes others =
     (λ other apart. others_count old new r.row other (before ++ r ∷ after) (before ++ after) counts others apart (sym (other_same other r before after (other_way r.row other apart))))
 
 -- a place that counts none of them has none
-none_left : (place : Option Kept) (reservations : List (List ℤ)) → CountsJust place reservations → is_counting place ≡ false → reservations ≡ []
+none_left : (place : Option Place) (reservations : List (List ℤ)) → CountsJust place reservations → is_counting place ≡ false → reservations ≡ []
 none_left None reservations counts idle = counts
 none_left (Some place) [] counts idle = refl
 none_left (Some place) (changes ∷ reservations) counts idle =
     let some : not (nat_eq place.count 0) ≡ true = ap not (ap (λ (n : ℕ). nat_eq n 0) counts.0 ∙ eqb-suc-zero (length reservations)) in
     absurd (false≢true (sym idle ∙ some))
 
-pub release_counts : (old new : Places) (row : RowName) (held : List Reservation) → CountsAll old held
+pub release_counts : (old new : Bounds) (row : RowName) (held : List Reservation) → CountsAll old held
     → (is_counting (place_at old row) ≡ false → place_at new row ≡ None)
     → (is_counting (place_at old row) ≡ true → new ≡ old)
     → OthersStay row old new → CountsAll new held
 release_counts old new row held counts empty counting others =
     each_row (λ (other : RowName). CountsJust (place_at new other) (of_row other held)) row
     (split (is_counting (place_at old row))
-    (λ some. subst (λ (places : Places). CountsJust (place_at places row) (of_row row held)) (sym (counting some)) (counts row))
-    (λ idle. subst (λ (p : Option Kept). CountsJust p (of_row row held)) (sym (empty idle)) (none_left (place_at old row) (of_row row held) (counts row) idle)))
+    (λ some. subst (λ (places : Bounds). CountsJust (place_at places row) (of_row row held)) (sym (counting some)) (counts row))
+    (λ idle. subst (λ (p : Option Place). CountsJust p (of_row row held)) (sym (empty idle)) (none_left (place_at old row) (of_row row held) (counts row) idle)))
     (λ other apart. others_count old new row other held held counts others apart refl)

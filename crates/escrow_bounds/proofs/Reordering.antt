@@ -13,8 +13,8 @@ use Rattle.escrow_checks.specs.Spread.{falls, rises, AreContributions}
 use Rattle.escrow_bounds.specs.declared.tracked.Tracked.{Tracked}
 use Rattle.escrow_bounds.specs.Counts.{HaveSums}
 use Rattle.escrow_bounds.specs.Held.{of_row, CountsJust, CountsAll}
-use Rattle.escrow_bounds.specs.Kept.{Kept}
-use Rattle.escrow_bounds.specs.Places.{Places, place_at}
+use Rattle.escrow_bounds.specs.Place.{Place}
+use Rattle.escrow_bounds.specs.Bounds.{Bounds, place_at}
 use Rattle.escrow_bounds.proofs.LawLemmas.{of_append}
 
 -- two lists of changes are counted alike
@@ -89,12 +89,12 @@ sums_alike xs ys (first ∷ forms) is sums =
       sums_alike xs ys forms is sums.1,
     )
 
-counts_alike : (place : Option Kept) (xs ys : List (List ℤ)) → Alike xs ys → CountsJust place xs → CountsJust place ys
+counts_alike : (place : Option Place) (xs ys : List (List ℤ)) → Alike xs ys → CountsJust place xs → CountsJust place ys
 counts_alike None xs ys is counts = nil_from_length ys (is.number ∙ ap length counts)
 counts_alike (Some place) xs ys is counts = (counts.0 ∙ sym is.number, sums_alike xs ys place.checks is counts.1, sums_alike xs ys place.columns is counts.2)
 
 -- those that pass a test may be counted before the others
-pub parts_count : (test : Reservation → Bool) (places : Places) (held : List Reservation) → CountsAll places held
+pub parts_count : (test : Reservation → Bool) (places : Bounds) (held : List Reservation) → CountsAll places held
     → CountsAll places (filter test held ++ filter (λ r. not (test r)) held)
 parts_count test places held counts = λ row.
     let some = filter test held in

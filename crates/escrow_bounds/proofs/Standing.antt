@@ -14,26 +14,26 @@ use Rattle.escrow_num.specs.Equal.{same_row_equiv}
 use Rattle.escrow_num.specs.Order.{same_row}
 use Rattle.escrow_num.proofs.Orders.{row_same}
 use Rattle.escrow_bounds.specs.At.{IsAt}
-use Rattle.escrow_bounds.specs.Kept.{Kept}
-use Rattle.escrow_bounds.specs.Places.{Places, place_at, Becomes, OthersStay}
+use Rattle.escrow_bounds.specs.Place.{Place}
+use Rattle.escrow_bounds.specs.Bounds.{Bounds, place_at, Becomes, OthersStay}
 
 some_same : {X : Type 0} {x y : X} → Some x ≡ Some y → x ≡ y
 some_same is = cc
 
-abbrev first : RowName × Kept → RowName
+abbrev first : RowName × Place → RowName
 first p = p.0
 
-get_end : (places : Places) (p : RowName × Kept) → slice_get (places ++ p ∷ []) (length places) ≡ Some p
+get_end : (places : Bounds) (p : RowName × Place) → slice_get (places ++ p ∷ []) (length places) ≡ Some p
 get_end [] p = refl
 get_end (q ∷ places) p = get_end places p
 
-there_is : (places : Places) (i : ℕ) → i < length places → (p : RowName × Kept) × (slice_get places i ≡ Some p)
+there_is : (places : Bounds) (i : ℕ) → i < length places → (p : RowName × Place) × (slice_get places i ≡ Some p)
 there_is [] i below = absurd (omega arith)
 there_is (p ∷ places) zero below = (p, refl)
 there_is (p ∷ places) (suc i) below = there_is places i (omega arith)
 
 -- the place that is found stands there
-pub found_at : (places : Places) (row : RowName) (found : Option ℕ) → found ≡ position (same_row row) (keys_of places) → IfSome found (λ i. IsAt places row i)
+pub found_at : (places : Bounds) (row : RowName) (found : Option ℕ) → found ≡ position (same_row row) (keys_of places) → IfSome found (λ i. IsAt places row i)
 found_at places row None is = tt
 found_at places row (Some i) is =
     let found = Found-position (same_row row) places i (sym is) in
@@ -42,7 +42,7 @@ found_at places row (Some i) is =
     key ∙ ap Some (sym (row_same row (first entry.0) (lookup_key_passes (same_row row) places (first entry.0) (found.key ∙ slice_get-map first places i ∙ key))))
 
 -- a place that is made stands last
-pub made_at : (old new : Places) (row : RowName) (place : Kept) (i : ℕ) → place_at old row ≡ None → new ≡ insert_entry same_row old row place → i ≡ position_or_len (same_row row) (keys_of old) → IsAt new row i
+pub made_at : (old new : Bounds) (row : RowName) (place : Place) (i : ℕ) → place_at old row ≡ None → new ≡ insert_entry same_row old row place → i ≡ position_or_len (same_row row) (keys_of old) → IsAt new row i
 made_at old new row place i none is at =
     let absent = absent_from_lookup (same_row row) old none in
     let last : i ≡ length old = at ∙ or_len-absent (same_row row) old absent in
@@ -50,7 +50,7 @@ made_at old new row place i none is at =
     let end : slice_get new i ≡ Some (row, place) = rw (more, last) (get_end old (row, place)) in
     ap (option_map first) end
 
-module _ {S : Type 0} (m : IndexMap RowName Kept S) (i : ℕ) (key : RowName) (was : Kept) (unique : IsUnique same_row m) (at : slice_get m.entries i ≡ Some (key, was)) where
+module _ {S : Type 0} (m : IndexMap RowName Place S) (i : ℕ) (key : RowName) (was : Place) (unique : IsUnique same_row m) (at : slice_get m.entries i ≡ Some (key, was)) where
   -- it is the one entry of its row
   pub own_at : IsAt m.entries key i
   own_at = ap (option_map first) at
@@ -61,19 +61,19 @@ module _ {S : Type 0} (m : IndexMap RowName Kept S) (i : ℕ) (key : RowName) (w
   pub own_place : (row : RowName) → IsAt m.entries row i → place_at m.entries row ≡ Some was
   own_place row is = subst (λ (row : RowName). place_at m.entries row ≡ Some was) (own_key row is) (lookup_from_place same_row_equiv m.entries i key was unique at)
 
-  pub own_same : (row : RowName) (place : Kept) → IsAt m.entries row i → place_at m.entries row ≡ Some place → place ≡ was
+  pub own_same : (row : RowName) (place : Place) → IsAt m.entries row i → place_at m.entries row ≡ Some place → place ≡ was
   own_same row place is before = some_same (sym before ∙ own_place row is)
 
   -- what is written there is the row's, which stands there still
-  module _ (new : Kept) (row : RowName) (is : IsAt m.entries row i) where
+  module _ (new : Place) (row : RowName) (is : IsAt m.entries row i) where
     pub still_at : IsAt (with_value_at m i new).entries row i
     still_at = sym (slice_get-map first (with_value_at m i new).entries i) ∙ ap (λ (rows : List RowName). slice_get rows i) (keys-with_value_at m i new) ∙ slice_get-map first m.entries i ∙ is
 
-    pub written : (Step : Kept → Kept → Type 0) → Step was new → Becomes Step (place_at m.entries row) (place_at (with_value_at m i new).entries row)
+    pub written : (Step : Place → Place → Type 0) → Step was new → Becomes Step (place_at m.entries row) (place_at (with_value_at m i new).entries row)
     written Step step = λ old before. (
       new,
       subst (λ (row : RowName). place_at (with_value_at m i new).entries row ≡ Some new) (own_key row is) (updates-with_value_at m i new same_row_equiv unique key was at).1,
-      subst (λ (kept : Kept). Step kept new) (sym (own_same row old is before)) step,
+      subst (λ (kept : Place). Step kept new) (sym (own_same row old is before)) step,
     )
 
     pub others_stay : OthersStay row m.entries (with_value_at m i new).entries

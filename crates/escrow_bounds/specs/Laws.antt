@@ -12,8 +12,8 @@ use Rattle.escrow_checks.specs.Grant.{broken}
 use Rattle.escrow_bounds.specs.Altered.{TableGoes, IsOver, IsWithout, ArePrepared, Adopts}
 use Rattle.escrow_bounds.specs.Counts.{is_counting, IsNew, TakesIn, GivesBack}
 use Rattle.escrow_bounds.specs.Held.{of_row, CountsAll, AllCount}
-use Rattle.escrow_bounds.specs.Kept.{Kept}
-use Rattle.escrow_bounds.specs.Places.{Places, place_at, OthersStay, Becomes}
+use Rattle.escrow_bounds.specs.Place.{Place}
+use Rattle.escrow_bounds.specs.Bounds.{Bounds, place_at, OthersStay, Becomes}
 
 -- ---- what a place counts is enough
 
@@ -39,29 +39,29 @@ NothingCounts = CountsAll [] []
 -- `reserve` doesn't change what is counted: a new place counts nothing, and its row has nothing open
 abbrev pub ReserveCounts : Type 0
 ReserveCounts =
-    (old new : Places) (row : RowName) (amounts : List ℤ) (checks : List Check) (held : List Reservation) → CountsAll old held
+    (old new : Bounds) (row : RowName) (amounts : List ℤ) (checks : List Check) (held : List Reservation) → CountsAll old held
     → (IsSome (place_at old row) → new ≡ old)
-    → (place_at old row ≡ None → (place : Kept) × (place_at new row ≡ Some place) × IsNew amounts checks place)
+    → (place_at old row ≡ None → (place : Place) × (place_at new row ≡ Some place) × IsNew amounts checks place)
     → OthersStay row old new → CountsAll new held
 
 -- `add` counts one more, at any place among the others
 abbrev pub AddCounts : Type 0
 AddCounts =
-    (old new : Places) (r : Reservation) (before after : List Reservation) → CountsAll old (before ++ after) → IsSome (place_at old r.row)
+    (old new : Bounds) (r : Reservation) (before after : List Reservation) → CountsAll old (before ++ after) → IsSome (place_at old r.row)
     → Becomes (TakesIn (deltas r.changes)) (place_at old r.row) (place_at new r.row)
     → OthersStay r.row old new → CountsAll new (before ++ r ∷ after)
 
 -- `remove` counts one less, in any order of ends
 abbrev pub RemoveCounts : Type 0
 RemoveCounts =
-    (end : End) (old new : Places) (r : Reservation) (before after : List Reservation) → CountsAll old (before ++ r ∷ after)
+    (end : End) (old new : Bounds) (r : Reservation) (before after : List Reservation) → CountsAll old (before ++ r ∷ after)
     → Becomes (GivesBack end (deltas r.changes)) (place_at old r.row) (place_at new r.row)
     → OthersStay r.row old new → CountsAll new (before ++ after)
 
 -- `release` drops no place that counts
 abbrev pub ReleaseCounts : Type 0
 ReleaseCounts =
-    (old new : Places) (row : RowName) (held : List Reservation) → CountsAll old held
+    (old new : Bounds) (row : RowName) (held : List Reservation) → CountsAll old held
     → (is_counting (place_at old row) ≡ false → place_at new row ≡ None)
     → (is_counting (place_at old row) ≡ true → new ≡ old)
     → OthersStay row old new → CountsAll new held
@@ -72,14 +72,14 @@ ReleaseCounts =
 -- checks
 abbrev pub AdoptCounts : Type 0
 AdoptCounts =
-    (table : List ℕ) (checks : List Check) (held : List Reservation) (old addition new : Places) → CountsAll old held → AllCount old
+    (table : List ℕ) (checks : List Check) (held : List Reservation) (old addition new : Bounds) → CountsAll old held → AllCount old
     → ArePrepared table checks held old addition → Adopts addition old new
     → CountsAll new held × AllCount new × TableGoes table (λ row. IsOver checks (of_row row held)) old new
 
 -- `drop_check` doesn't change what is counted
 abbrev pub DropCheckCounts : Type 0
 DropCheckCounts =
-    (table : List ℕ) (index : ℕ) (held : List Reservation) (old new : Places) → CountsAll old held → AllCount old
+    (table : List ℕ) (index : ℕ) (held : List Reservation) (old new : Bounds) → CountsAll old held → AllCount old
     → TableGoes table (λ row. IsWithout index) old new
     → CountsAll new held × AllCount new
 
@@ -88,5 +88,5 @@ DropCheckCounts =
 -- those that pass a test may be counted before the others
 abbrev pub PartsCount : Type 0
 PartsCount =
-    (test : Reservation → Bool) (places : Places) (held : List Reservation) → CountsAll places held
+    (test : Reservation → Bool) (places : Bounds) (held : List Reservation) → CountsAll places held
     → CountsAll places (filter test held ++ filter (λ r. not (test r)) held)

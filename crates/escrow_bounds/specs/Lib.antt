@@ -1,14 +1,14 @@
 pub mod Altered
 pub mod At
+pub mod Bounds
 pub mod Columns
 pub mod Counts
 pub mod Ended
 pub mod Filling
 pub mod Held
 pub mod Inside
-pub mod Kept
 pub mod Laws
 pub mod Moved
-pub mod Places
+pub mod Place
 pub mod Recounting
 pub mod Verdict

@@ -5,7 +5,7 @@ use Rattle.escrow_bounds.specs.declared.tracked.Tracked.{Tracked}
 use Rattle.escrow_bounds.specs.declared.tracked.Counting.{Counting}
 use Rattle.escrow_bounds.specs.declared.tracked.Counting.TheVariants as counting
 use Rattle.escrow_bounds.specs.Counts.{HaveSums, Counts}
-use Rattle.escrow_bounds.specs.Kept.{Kept, checks_of}
+use Rattle.escrow_bounds.specs.Place.{Place, checks_of}
 
 -- those that are counted before
 abbrev pub counted_before : Counting → List (List ℤ) → List ℤ → List (List ℤ) → List (List ℤ)
@@ -23,7 +23,7 @@ HasRoom counting.In others = length others < MAX_OPEN
 HasRoom counting.Out others = Unit {0}
 
 -- a place has room for the changes, or counts them
-abbrev pub CanRecount : Counting → List ℤ → Kept → Type 0
+abbrev pub CanRecount : Counting → List ℤ → Place → Type 0
 CanRecount counting.In changes place = place.count < MAX_OPEN
 CanRecount counting.Out changes place = (before : List (List ℤ)) × (after : List (List ℤ)) × Counts place (before ++ changes ∷ after)
 
@@ -34,7 +34,7 @@ AreRecounted kind changes old new =
     × ((before after : List (List ℤ)) → HaveSums old (counted_before kind before changes after) → HaveSums new (counted_after kind before changes after))
 
 -- a place whose count changes from those before to those after
-pub record IsRecounted (kind : Counting) (changes : List ℤ) (old new : Kept) : Type 0 where
+pub record IsRecounted (kind : Counting) (changes : List ℤ) (old new : Place) : Type 0 where
   pub amounts : new.amounts ≡ old.amounts
   pub checks : checks_of new.checks ≡ checks_of old.checks
   pub counts : (before after : List (List ℤ)) → Counts old (counted_before kind before changes after) → Counts new (counted_after kind before changes after)

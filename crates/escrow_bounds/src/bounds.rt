@@ -12,8 +12,8 @@ ghost use Rattle.escrow_bounds.specs.Columns.{unit_form};
 ghost use Rattle.escrow_bounds.specs.Counts.{Counts, is_counting, IsNew, TakesIn, GivesBack};
 ghost use Rattle.escrow_bounds.specs.Ended.{AreEnded};
 ghost use Rattle.escrow_bounds.specs.Held.{CountsAll, AllCount};
-ghost use Rattle.escrow_bounds.specs.Kept.{Kept, checks_of};
-ghost use Rattle.escrow_bounds.specs.Places.{place_at, OthersStay, Becomes};
+ghost use Rattle.escrow_bounds.specs.Place.{Place, checks_of};
+ghost use Rattle.escrow_bounds.specs.Bounds.{place_at, OthersStay, Becomes};
 ghost use Rattle.escrow_bounds.specs.Verdict.{verdict_of};
 ghost use Rattle.escrow_bounds.specs.declared.tracked.Tracked.{Tracked};
 
@@ -49,9 +49,9 @@ impl Drop for Bounds {
 }
 
 impl Model for Bounds {
-    ghost use Rattle.escrow_bounds.specs.Places.{Places};
+    ghost use Rattle.escrow_bounds.specs.Bounds.{Bounds};
 
-    ghost Value = { Places };
+    ghost Value = { Bounds };
 
     ghost view = { λ b. b.places.entries };
 }
@@ -80,7 +80,7 @@ impl Bounds {
         requires few { length amounts.now ≤ MAX_LEN }
         ensures found { OnOk result (IsSome (place_at self.old row.now) → self.new ≡ self.old) }
         ensures made { OnOk result (place_at self.old row.now ≡ None
-            → (place : Kept) × (place_at self.new row.now ≡ Some place) × IsNew amounts.now checks.now place) }
+            → (place : Place) × (place_at self.new row.now ≡ Some place) × IsNew amounts.now checks.now place) }
         ensures others { OthersStay row.now self.old self.new }
         ensures err { OnErr result (self.new ≡ self.old) }
     {
@@ -103,7 +103,7 @@ impl Bounds {
         requires few { length amounts.now ≤ MAX_LEN }
         requires new { place_at self.old row.now ≡ None }
         ensures at { IfOk result (λ index. IsAt self.new row.now index) }
-        ensures made { OnOk result ((place : Kept) × (place_at self.new row.now ≡ Some place) × IsNew amounts.now checks.now place) }
+        ensures made { OnOk result ((place : Place) × (place_at self.new row.now ≡ Some place) × IsNew amounts.now checks.now place) }
         ensures others { OthersStay row.now self.old self.new }
         ensures err { OnErr result (self.new ≡ self.old) }
     {
@@ -200,8 +200,8 @@ impl Bounds {
     /// place.
     pub fn worst(&self, row: &RowName, check: usize) -> (Wide, Wide)
         requires placed { IsSome (place_at self.now row.now) }
-        requires check { (place : Kept) → place_at self.now row.now ≡ Some place → check < length place.checks }
-        ensures { (place : Kept) (form : Tracked) (reservations : List (List ℤ))
+        requires check { (place : Place) → place_at self.now row.now ≡ Some place → check < length place.checks }
+        ensures { (place : Place) (form : Tracked) (reservations : List (List ℤ))
             → place_at self.now row.now ≡ Some place → slice_get place.checks check ≡ Some form → Counts place reservations
             → (result.0 ≡ least form.check.coeffs place.amounts reservations) × (result.1 ≡ greatest form.check.coeffs place.amounts reservations) }
     {
@@ -212,8 +212,8 @@ impl Bounds {
     /// every choice of the reservations that the row's place counts.
     pub fn inf_sup(&self, row: &RowName, column: usize) -> (Wide, Wide)
         requires placed { IsSome (place_at self.now row.now) }
-        requires column { (place : Kept) → place_at self.now row.now ≡ Some place → column < length place.amounts }
-        ensures { (place : Kept) (reservations : List (List ℤ))
+        requires column { (place : Place) → place_at self.now row.now ≡ Some place → column < length place.amounts }
+        ensures { (place : Place) (reservations : List (List ℤ))
             → place_at self.now row.now ≡ Some place → Counts place reservations
             → (result.0 ≡ least (unit_form (length place.amounts) column) place.amounts reservations)
             × (result.1 ≡ greatest (unit_form (length place.amounts) column) place.amounts reservations) }
@@ -227,7 +227,7 @@ impl Bounds {
     /// high side.
     pub fn verdict(&self, row: &RowName, changes: &[Amount]) -> Verdict
         requires { IsSome (place_at self.now row.now) }
-        ensures { (place : Kept) (reservations : List (List ℤ)) → place_at self.now row.now ≡ Some place → Counts place reservations
+        ensures { (place : Place) (reservations : List (List ℤ)) → place_at self.now row.now ≡ Some place → Counts place reservations
             → result ≡ verdict_of (broken (checks_of place.checks) place.amounts changes.now reservations) }
     {
         Verdict::of(self.place(row).verdict(changes))
@@ -239,7 +239,7 @@ impl Bounds {
     /// granted.
     pub fn verdict_at(&self, index: usize, changes: &[Amount]) -> Option<Violation>
         requires { (row : RowName) × IsAt self.now row index }
-        ensures { (row : RowName) (place : Kept) (reservations : List (List ℤ)) → IsAt self.now row index → place_at self.now row ≡ Some place → Counts place reservations
+        ensures { (row : RowName) (place : Place) (reservations : List (List ℤ)) → IsAt self.now row index → place_at self.now row ≡ Some place → Counts place reservations
             → result ≡ broken (checks_of place.checks) place.amounts changes.now reservations }
     {
         let (_, place) = self.places.get_index(index).unwrap();
@@ -249,7 +249,7 @@ impl Bounds {
     /// Counts a new reservation of a row. Its place must count fewer than 16,384.
     pub fn add(&mut self, row: &RowName, changes: &[Amount])
         requires placed { IsSome (place_at self.old row.now) }
-        requires room { (place : Kept) → place_at self.old row.now ≡ Some place → place.count < MAX_OPEN }
+        requires room { (place : Place) → place_at self.old row.now ≡ Some place → place.count < MAX_OPEN }
         ensures takes { Becomes (TakesIn changes.now) (place_at self.old row.now) (place_at self.new row.now) }
         ensures others { OthersStay row.now self.old self.new }
     {
@@ -262,7 +262,7 @@ impl Bounds {
     /// than 16,384.
     pub fn add_at(&mut self, index: usize, changes: &[Amount])
         requires placed { (row : RowName) × IsAt self.old row index }
-        requires room { (row : RowName) (place : Kept) → IsAt self.old row index → place_at self.old row ≡ Some place → place.count < MAX_OPEN }
+        requires room { (row : RowName) (place : Place) → IsAt self.old row index → place_at self.old row ≡ Some place → place.count < MAX_OPEN }
         ensures takes { (row : RowName) → IsAt self.old row index → Becomes (TakesIn changes.now) (place_at self.old row) (place_at self.new row) }
         ensures others { (row : RowName) → IsAt self.old row index → OthersStay row self.old self.new }
     {
@@ -274,7 +274,7 @@ impl Bounds {
     /// it, and stays. A commit adds its changes to the committed amounts, as [`Bounds::remove_at`]
     /// does.
     pub fn remove(&mut self, row: &RowName, changes: &[Amount], end: End)
-        requires { (place : Kept) × (before after : List (List ℤ))
+        requires { (place : Place) × (before after : List (List ℤ))
             × (place_at self.old row.now ≡ Some place) × Counts place (before ++ changes.now ∷ after) }
         ensures gives { Becomes (GivesBack end changes.now) (place_at self.old row.now) (place_at self.new row.now) }
         ensures others { OthersStay row.now self.old self.new }
@@ -288,7 +288,7 @@ impl Bounds {
     /// count it, and stays there. A commit adds its changes to the committed amounts. If a sum
     /// would be no amount, that amount stays as it is.
     pub fn remove_at(&mut self, index: usize, changes: &[Amount], end: End)
-        requires { (row : RowName) × (place : Kept) × (before after : List (List ℤ))
+        requires { (row : RowName) × (place : Place) × (before after : List (List ℤ))
             × IsAt self.old row index × (place_at self.old row ≡ Some place) × Counts place (before ++ changes.now ∷ after) }
         ensures at { (row : RowName) → IsAt self.old row index → IsAt self.new row index }
         ensures gives { (row : RowName) → IsAt self.old row index → Becomes (GivesBack end changes.now) (place_at self.old row) (place_at self.new row) }

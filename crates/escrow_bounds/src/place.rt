@@ -9,7 +9,7 @@ ghost use Rattle.escrow_bounds.specs.Altered.{IsWithout};
 ghost use Rattle.escrow_bounds.specs.Columns.{unit_form, column_check, column_checks};
 ghost use Rattle.escrow_bounds.specs.Counts.{HaveSums, Counts, IsNew, TakesIn, GivesBack};
 ghost use Rattle.escrow_bounds.specs.Held.{of_row};
-ghost use Rattle.escrow_bounds.specs.Kept.{checks_of};
+ghost use Rattle.escrow_bounds.specs.Place.{checks_of};
 ghost use Rattle.escrow_bounds.specs.Moved.{moved, all_moved, amounts_after_all};
 ghost use Rattle.escrow_bounds.specs.Recounting.{CanRecount, IsRecounted};
 ghost use Rattle.escrow_bounds.specs.declared.tracked.Tracked.{Tracked};
@@ -54,14 +54,14 @@ impl Model for Place {
     ghost use Rattle.escrow_checks.specs.Contribution.{IsContribution};
     ghost use Rattle.escrow_checks.specs.Form.{form};
     ghost use Rattle.escrow_checks.specs.declared.check.Check.{Check};
-    ghost use Rattle.escrow_bounds.specs.Inside.{kept_of, IsPlace};
-    ghost use Rattle.escrow_bounds.specs.Kept.{Kept, checks_of};
+    ghost use Rattle.escrow_bounds.specs.Inside.{place_of, IsPlace};
+    ghost use Rattle.escrow_bounds.specs.Place.{Place, checks_of};
 
-    ghost Value = { Kept };
+    ghost Value = { Place };
 
-    ghost view = { λ p. kept_of p };
+    ghost view = { λ p. place_of p };
 
-    ghost invariant = { λ p. IsPlace (kept_of p)
+    ghost invariant = { λ p. IsPlace (place_of p)
         × (p.values.items ≡ map (λ (check : Check). form check.coeffs p.amounts.items) (checks_of p.checks.items))
         × AllByRecursion IsContribution p.values.items };
 }

@@ -5,7 +5,7 @@ ghost use Rattle.escrow_checks.specs.Form.{form, IsCovered};
 ghost use Rattle.escrow_checks.specs.Grant.{broken};
 ghost use Rattle.escrow_checks.specs.Spread.{IsSpread};
 ghost use Rattle.escrow_bounds.specs.Counts.{HaveSums};
-ghost use Rattle.escrow_bounds.specs.Kept.{checks_of};
+ghost use Rattle.escrow_bounds.specs.Place.{checks_of};
 ghost use Rattle.escrow_bounds.specs.Recounting.{counted_before, counted_after, AreRecounted, HasRoom};
 
 use escrow_checks::{Check, Sparse, Spread};

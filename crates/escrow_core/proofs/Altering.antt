@@ -32,8 +32,8 @@ use Rattle.escrow_checks.specs.Form.{IsCovered}
 use Rattle.escrow_checks.specs.Grant.{broken}
 use Rattle.escrow_bounds.specs.Altered.{ArePrepared, Goes, IsOver, IsWithout, TableGoes}
 use Rattle.escrow_bounds.specs.Held.{of_row}
-use Rattle.escrow_bounds.specs.Kept.{Kept, checks_of}
-use Rattle.escrow_bounds.specs.Places.{Places, place_at}
+use Rattle.escrow_bounds.specs.Place.{Place, checks_of}
+use Rattle.escrow_bounds.specs.Bounds.{Bounds, place_at}
 use Rattle.escrow_bounds.proofs.LawLemmas.{same_grant_rule}
 use Rattle.escrow_schema.specs.declared.table.TableDef.{TableDef}
 use Rattle.escrow_schema.specs.Altered.{declared_place, with_check, without_check, without_check_at, with_altered}
@@ -181,14 +181,14 @@ place_amounts rows row amounts order has named =
     let stands = standing rows row.name amounts named in
     sym stands.has ∙ ap (λ (r : Row). r.amounts) (row_unique rows row.name stands.row row order stands.found has (same_row_itself row.name))
 
-amounts_are : (table : List ℕ) (checks : List Check) (reservations : List Reservation) (places addition : Places) (rows : List Row) (row : Row)
+amounts_are : (table : List ℕ) (checks : List Check) (reservations : List Reservation) (places addition : Bounds) (rows : List Row) (row : Row)
     → ArePrepared table checks reservations places addition → HaveAmounts rows places → IsAscending row_before rows → Has rows row → bytes_eq row.name.table table ≡ true
-    → unwrap_or (option_map (λ (place : Kept). place.amounts) (place_at addition row.name)) row.amounts ≡ row.amounts
+    → unwrap_or (option_map (λ (place : Place). place.amounts) (place_at addition row.name)) row.amounts ≡ row.amounts
 amounts_are table checks reservations places addition rows row prepared have order has here =
     at (place_at places row.name) (place_at addition row.name) refl (prepared.own row.name here)
   where
-    at : (before after : Option Kept) → place_at places row.name ≡ before → Goes (IsOver checks (of_row row.name reservations)) before after
-        → unwrap_or (option_map (λ (place : Kept). place.amounts) after) row.amounts ≡ row.amounts
+    at : (before after : Option Place) → place_at places row.name ≡ before → Goes (IsOver checks (of_row row.name reservations)) before after
+        → unwrap_or (option_map (λ (place : Place). place.amounts) after) row.amounts ≡ row.amounts
     at None after is none = rw none refl
     at (Some old) after is goes =
         rw goes.1 (goes.2.amounts ∙ place_amounts rows row old.amounts order has (have row.name old is))
@@ -207,12 +207,12 @@ new_covered added amounts is_table many =
     all_take P added.count (drop added.first added.table.checks) (all_drop P added.first added.table.checks (covered added.table amounts is_table many))
 
 -- there is no place where there was none
-goes_none : (Step : Kept → Kept → Type 0) (before after : Option Kept) → before ≡ None → Goes Step before after → after ≡ None
+goes_none : (Step : Place → Place → Type 0) (before after : Option Place) → before ≡ None → Goes Step before after → after ≡ None
 goes_none Step None after is none = none
 goes_none Step (Some old) after is goes = absurd (cc)
 
 -- a row that isn't reserved is judged by its own amounts, with no open reservation
-pub free_judged : (added : AddedChecks) (reserved : Reserved) (addition : Places) (row : Row) → CanJudge added reserved addition
+pub free_judged : (added : AddedChecks) (reserved : Reserved) (addition : Bounds) (row : Row) → CanJudge added reserved addition
     → list_any (λ r. same_row r.row row.name) reserved.txns.reservations ≡ false
     → violation_by (record { added = added; reservations = reserved.txns.reservations; addition = addition }) row ≡ broken (new_ones added) row.amounts [] []
 free_judged added reserved addition row can free =
@@ -226,7 +226,7 @@ free_judged added reserved addition row can free =
     rw (unplaced, free_list row.name reservations free) refl
 
 -- the parts of a state that a judge goes by, whose places have their rows' amounts
-pub record AreJudged (s : State) (old : TableDef) (text : CheckText) (added : AddedChecks) (reserved : Reserved) (addition : Places) : Type 0 where
+pub record AreJudged (s : State) (old : TableDef) (text : CheckText) (added : AddedChecks) (reserved : Reserved) (addition : Bounds) : Type 0 where
   pub named : table_named s.catalog old.name ≡ Some old
   pub is_table : IsTable old
   pub adds : Adds old text added
@@ -235,7 +235,7 @@ pub record AreJudged (s : State) (old : TableDef) (text : CheckText) (added : Ad
   pub safe : AreSafeRows s.catalog s.rows s.reservations
   pub amounts : HaveAmounts s.rows reserved.places
 
-module _ (s : State) (old : TableDef) (text : CheckText) (added : AddedChecks) (reserved : Reserved) (addition : Places) (are : AreJudged s old text added reserved addition) where
+module _ (s : State) (old : TableDef) (text : CheckText) (added : AddedChecks) (reserved : Reserved) (addition : Bounds) (are : AreJudged s old text added reserved addition) where
   new : AreNew old text added
   new = are_new old text added are.is_table are.adds
 
@@ -391,9 +391,9 @@ module _ {S : Type 0} (g : Ghosts S) (session : ℕ) (asked : Statement) (t new 
       (write_failed g session asked t new o f (reply.Altered table) (altered_state (seen_of t o).state made) may.asks may.early (may.takes f) writes may.steps)
 
   -- what is kept, where the places of the table come of the old ones
-  pub alter_holds : (Step : RowName → Kept → Kept → Type 0) (places after : Places) (recent : ReadRows) → Holds g (seen_of t o) places recent → Writes g t new true (with_altered made t.catalog) t.rows
-      → TableGoes table Step places after → ((row : RowName) (a b : Kept) → Step row a b → b.amounts ≡ a.amounts)
-      → ((row : RowName) (a b : Kept) → Step row a b → checks_of a.checks ≡ old.checks → checks_of b.checks ≡ made.checks) → Holds g (seen_of new o) after recent
+  pub alter_holds : (Step : RowName → Place → Place → Type 0) (places after : Bounds) (recent : ReadRows) → Holds g (seen_of t o) places recent → Writes g t new true (with_altered made t.catalog) t.rows
+      → TableGoes table Step places after → ((row : RowName) (a b : Place) → Step row a b → b.amounts ≡ a.amounts)
+      → ((row : RowName) (a b : Place) → Step row a b → checks_of a.checks ≡ old.checks → checks_of b.checks ≡ made.checks) → Holds g (seen_of new o) after recent
   alter_holds Step places after recent holds writes goes amounts checks =
       let s : State = (seen_of t o).state in
       let keeps = holds.keeps in
@@ -416,7 +416,7 @@ module _ {S : Type 0} (g : Ghosts S) (session : ℕ) (asked : Statement) (t new 
       }
 
 -- the check at a place is gone
-pub checks_without : (old made : TableDef) (index : ℕ) → made ≡ without_check_at old index → (row : RowName) (a b : Kept) → IsWithout index a b → checks_of a.checks ≡ old.checks → checks_of b.checks ≡ made.checks
+pub checks_without : (old made : TableDef) (index : ℕ) → made ≡ without_check_at old index → (row : RowName) (a b : Place) → IsWithout index a b → checks_of a.checks ≡ old.checks → checks_of b.checks ≡ made.checks
 checks_without old made index made_is row a b step is = step.checks ∙ ap (λ (checks : List Check). remove checks index) is ∙ ap (λ (t : TableDef). t.checks) (sym made_is)
 
 -- ADD: THE PLACES OF THE TABLE'S ROWS
@@ -427,28 +427,28 @@ some_is P None h = absurd h
 some_is P (Some x) h = (x, refl, h)
 
 -- a place of a row of the table is of the table
-own_place : (catalog : List TableDef) (table : List ℕ) (old : TableDef) (places : Places) (row : RowName) (place : Kept) → table_named catalog table ≡ Some old → AreOfTables catalog places
+own_place : (catalog : List TableDef) (table : List ℕ) (old : TableDef) (places : Bounds) (row : RowName) (place : Place) → table_named catalog table ≡ Some old → AreOfTables catalog places
     → bytes_eq row.table table ≡ true → place_at places row ≡ Some place → IsOfTable old place
 own_place catalog table old places row place named of_tables here at =
     some_at (λ (t : TableDef). IsOfTable t place) (table_named catalog row.table) old (ap (table_named catalog) (name_same row.table table here) ∙ named) (of_tables row place at)
 
 -- it has few enough amounts
-pub few_amounts : (catalog : List TableDef) (table : List ℕ) (old : TableDef) (places : Places) → table_named catalog table ≡ Some old → IsTable old → AreOfTables catalog places
-    → (row : RowName) (place : Kept) → bytes_eq row.table table ≡ true → place_at places row ≡ Some place → length place.amounts ≤ MAX_LEN
+pub few_amounts : (catalog : List TableDef) (table : List ℕ) (old : TableDef) (places : Bounds) → table_named catalog table ≡ Some old → IsTable old → AreOfTables catalog places
+    → (row : RowName) (place : Place) → bytes_eq row.table table ≡ true → place_at places row ≡ Some place → length place.amounts ≤ MAX_LEN
 few_amounts catalog table old places named is_table of_tables = λ row place here at.
     let of = own_place catalog table old places row place named of_tables here at in
     omega (arith, of.amounts, (few_reservable old is_table).1)
 
 -- and they cover all checks that the table is to have
-pub amounts_cover : (catalog : List TableDef) (table : List ℕ) (old : TableDef) (text : CheckText) (added : AddedChecks) (places : Places) → table_named catalog table ≡ Some old → IsTable old
+pub amounts_cover : (catalog : List TableDef) (table : List ℕ) (old : TableDef) (text : CheckText) (added : AddedChecks) (places : Bounds) → table_named catalog table ≡ Some old → IsTable old
     → Adds old text added → AreOfTables catalog places
-    → (row : RowName) (place : Kept) → bytes_eq row.table table ≡ true → place_at places row ≡ Some place → AllByRecursion (λ (check : Check). IsCovered check.coeffs place.amounts) added.table.checks
+    → (row : RowName) (place : Place) → bytes_eq row.table table ≡ true → place_at places row ≡ Some place → AllByRecursion (λ (check : Check). IsCovered check.coeffs place.amounts) added.table.checks
 amounts_cover catalog table old text added places named is_table are of_tables = λ row place here at.
     let of = own_place catalog table old places row place named of_tables here at in
     covered added.table place.amounts are.table (of.amounts ∙ ap (λ (t : TableDef). length (reservables t.columns)) (sym (are_new old text added is_table are).alike))
 
 -- so its rows can be judged
-pub can_judge : (catalog : List TableDef) (table : List ℕ) (old : TableDef) (text : CheckText) (added : AddedChecks) (reserved : Reserved) (addition : Places) → table_named catalog table ≡ Some old
+pub can_judge : (catalog : List TableDef) (table : List ℕ) (old : TableDef) (text : CheckText) (added : AddedChecks) (reserved : Reserved) (addition : Bounds) → table_named catalog table ≡ Some old
     → IsTable old → Adds old text added → ArePlaced reserved.txns.reservations reserved.places
     → ArePrepared table added.table.checks reserved.txns.reservations reserved.places addition → CanJudge added reserved addition
 can_judge catalog table old text added reserved addition named is_table are placed prepared =
@@ -462,7 +462,7 @@ can_judge catalog table old text added reserved addition named is_table are plac
     }
 
 -- and the answer is the machine's
-pub rows_judged : (s : State) (table : List ℕ) (old : TableDef) (text : CheckText) (added : AddedChecks) (reserved : Reserved) (addition : Places) → table_named s.catalog table ≡ Some old → IsTable old
+pub rows_judged : (s : State) (table : List ℕ) (old : TableDef) (text : CheckText) (added : AddedChecks) (reserved : Reserved) (addition : Bounds) → table_named s.catalog table ≡ Some old → IsTable old
     → Adds old text added → CanJudge added reserved addition → reserved.txns.reservations ≡ s.reservations → AreSafeRows s.catalog s.rows s.reservations → HaveAmounts s.rows reserved.places
     → first_violation (violation_by (record { added = added; reservations = reserved.txns.reservations; addition = addition })) (rows_of s.rows table) ≡ added_violation s table text
 rows_judged s table old text added reserved addition named is_table adds can held safe amounts =
@@ -485,7 +485,7 @@ read_only_reads g t after o reads = record {
 }
 
 -- and what the database keeps
-pub read_holds : {S : Type 0} (g : Ghosts S) (t after : Committed S) (o : Open) (places : Places) (recent : ReadRows) → Holds g (seen_of t o) places recent → Reads g t after
+pub read_holds : {S : Type 0} (g : Ghosts S) (t after : Committed S) (o : Open) (places : Bounds) (recent : ReadRows) → Holds g (seen_of t o) places recent → Reads g t after
     → Holds g (seen_of after o) places recent
 read_holds g t after o places recent holds reads = record {
   keeps = read_keeps g t after o places holds.keeps reads;

@@ -10,8 +10,8 @@ use Rattle.escrow_statement.specs.declared.statement.Statement.TheVariants as st
 use Rattle.escrow_num.specs.declared.session.End.TheVariants as end
 use Rattle.escrow_num.specs.declared.value.RowName.{RowName}
 use Rattle.escrow_bounds.specs.Ended.{AreEnded}
-use Rattle.escrow_bounds.specs.Kept.{Kept}
-use Rattle.escrow_bounds.specs.Places.{Places, place_at}
+use Rattle.escrow_bounds.specs.Place.{Place}
+use Rattle.escrow_bounds.specs.Bounds.{Bounds, place_at}
 use Rattle.escrow_journal.specs.Reservations.{own}
 use Rattle.escrow_tables.specs.Calls.{AreGiven}
 use Rattle.escrow_tables.specs.Committed.{Committed}
@@ -75,7 +75,7 @@ read_after s session None valid read = tt
 read_after s session (Some r) valid read = committed_amounts s session r.name r.amounts valid read
 
 -- what a database holds where reservations are dropped, and the store is left
-pub dropped_holds : {S : Type 0} (g : Ghosts S) (t : Committed S) (o left : Open) (dropped : List Reservation) (old : Places) (after : Reserved) (recent : ReadRows) → Holds g (seen_of t o) old recent
+pub dropped_holds : {S : Type 0} (g : Ghosts S) (t : Committed S) (o left : Open) (dropped : List Reservation) (old : Bounds) (after : Reserved) (recent : ReadRows) → Holds g (seen_of t o) old recent
     → after.txns ≡ left → AreEnded end.Rollback dropped old after.places → (ArePlaced o.reservations old → ArePlaced after.txns.reservations after.places)
     → IsOrderly t.catalog left.reservations left.savepoints left.next_id → (IsValid (seen_of t o).state → IsValid (seen_of t left).state) → Holds g (seen_of t after.txns) after.places recent
 dropped_holds g t o left dropped old after recent holds is are placed orderly valid =
@@ -101,27 +101,27 @@ module _ {S : Type 0} (g : Ghosts S) (session : ℕ) (t : Committed S) (o : Open
       let quiet : nat_lt 0 (length (own session o.reservations)) ≡ false = subst (λ (mine : List Reservation). nat_lt 0 (length mine) ≡ false) (sym none) refl in
       served_apart g session statement.Commit (seen_of t o) (seen_of t (ended session o)) (done session o) quiet refl event
 
-  pub just_ended_holds : (old : Places) (after : Reserved) (recent : ReadRows) → Holds g (seen_of t o) old recent → after.txns ≡ ended session o → AreEnded end.Rollback (own session o.reservations) old after.places
+  pub just_ended_holds : (old : Bounds) (after : Reserved) (recent : ReadRows) → Holds g (seen_of t o) old recent → after.txns ≡ ended session o → AreEnded end.Rollback (own session o.reservations) old after.places
       → (ArePlaced o.reservations old → ArePlaced after.txns.reservations after.places) → Holds g (seen_of t after.txns) after.places recent
   just_ended_holds old after recent holds is are placed =
       let s : State = (seen_of t o).state in
       dropped_holds g t o (ended session o) (own session o.reservations) old after recent holds is are placed (rollback_orderly s session holds.keeps.kept.orderly) (rollback_valid s session)
 
 -- the amounts that the places have of the rows of reservations are those of the rows
-given_one : (rows : List Row) (places : Places) (row : RowName) (amounts : List ℤ) → HaveAmounts rows places → (o : Option Kept) → place_at places row ≡ o
-    → option_map (λ (place : Kept). place.amounts) o ≡ Some amounts → amounts_named rows row ≡ Some amounts
+given_one : (rows : List Row) (places : Bounds) (row : RowName) (amounts : List ℤ) → HaveAmounts rows places → (o : Option Place) → place_at places row ≡ o
+    → option_map (λ (place : Place). place.amounts) o ≡ Some amounts → amounts_named rows row ≡ Some amounts
 given_one rows places row amounts have None at is = absurd (cc)
 given_one rows places row amounts have (Some place) at is = have row place at ∙ is
 
-pub given : (rows : List Row) (places : Places) (reservations : List Reservation) (before : List (List ℤ)) → HaveAmounts rows places → AreAmounts places reservations before → AreGiven rows reservations before
+pub given : (rows : List Row) (places : Bounds) (reservations : List Reservation) (before : List (List ℤ)) → HaveAmounts rows places → AreAmounts places reservations before → AreGiven rows reservations before
 given rows places [] before have are = are
 given rows places (r ∷ reservations) [] have are = absurd (cc)
 given rows places (r ∷ reservations) (amounts ∷ before) have are =
-    let first : option_map (λ (place : Kept). place.amounts) (place_at places r.row) ≡ Some amounts = cc in
+    let first : option_map (λ (place : Place). place.amounts) (place_at places r.row) ≡ Some amounts = cc in
     let rest : AreAmounts places reservations before = cc in
     ap₂ (λ (o : Option (List ℤ)) (os : List (Option (List ℤ))). o ∷ os) (given_one rows places r.row amounts have (place_at places r.row) refl first) (given rows places reservations before have rest)
 
 -- and they are as many
-pub as_many : (places : Places) (reservations : List Reservation) (before : List (List ℤ)) → AreAmounts places reservations before → length before ≡ length reservations
+pub as_many : (places : Bounds) (reservations : List Reservation) (before : List (List ℤ)) → AreAmounts places reservations before → length before ≡ length reservations
 as_many places reservations before are =
-    sym (length-map before Some) ∙ sym (ap length are) ∙ length-map reservations (λ (r : Reservation). option_map (λ (place : Kept). place.amounts) (place_at places r.row))
+    sym (length-map before Some) ∙ sym (ap length are) ∙ length-map reservations (λ (r : Reservation). option_map (λ (place : Place). place.amounts) (place_at places r.row))

@@ -14,7 +14,7 @@ use Rattle.escrow_statement.specs.declared.statement.Statement.{Statement}
 use Rattle.escrow_statement.specs.declared.statement.Statement.TheVariants as statement
 use Rattle.escrow_num.specs.declared.failure.Failure.{Failure}
 use Rattle.escrow_num.specs.declared.failure.Failure.TheVariants as failure
-use Rattle.escrow_bounds.specs.Places.{Places}
+use Rattle.escrow_bounds.specs.Bounds.{Bounds}
 use Rattle.escrow_num.specs.declared.row.Row.{Row}
 use Rattle.escrow_num.specs.declared.value.RowName.{RowName}
 use Rattle.escrow_num.specs.Order.{same_row}
@@ -134,7 +134,7 @@ pub still_clean : (a b : Store) (P : Trees → Type 0) → Survives a b P → Ha
 still_clean a b P survives clean = omega (arith, survives.clean, clean)
 
 -- what a database keeps where its store was read
-pub read_keeps : {S : Type 0} (g : Ghosts S) (t new : Committed S) (o : Open) (places : Places) → Keeps g (seen_of t o) places → Reads g t new → Keeps g (seen_of new o) places
+pub read_keeps : {S : Type 0} (g : Ghosts S) (t new : Committed S) (o : Open) (places : Bounds) → Keeps g (seen_of t o) places → Reads g t new → Keeps g (seen_of new o) places
 read_keeps g t new o places keeps reads = record {
   kept = record {
     orderly = rw reads.catalog keeps.kept.orderly;
@@ -146,7 +146,7 @@ read_keeps g t new o places keeps reads = record {
 }
 
 -- and what it holds where one more row was read, and is kept or not
-pub remembered_holds : {S : Type 0} (g : Ghosts S) (t new : Committed S) (o : Open) (places : Places) (old recent : ReadRows) (row : RowName) (amounts : List ℤ) → Holds g (seen_of t o) places old → Reads g t new
+pub remembered_holds : {S : Type 0} (g : Ghosts S) (t new : Committed S) (o : Open) (places : Bounds) (old recent : ReadRows) (row : RowName) (amounts : List ℤ) → Holds g (seen_of t o) places old → Reads g t new
     → ((name : RowName) → IsLeft old recent name ⊎ ((same_row row name ≡ true) × (read_at recent name ≡ Some amounts)))
     → IsKnown t.catalog (Some (row_with row amounts)) → (HasCleanDisk (state g new.store) → IsRead t.rows (Some (row_with row amounts))) → Holds g (seen_of new o) places recent
 remembered_holds g t new o places old recent row amounts holds reads only known read = record {
@@ -161,7 +161,7 @@ unwritten_same g t new o catalog rows writes =
     ap₂ (λ (c : List TableDef) (rs : List Row). record (seen_of t o).state { catalog = c; rows = rs }) (writes.kept_catalog refl) (writes.kept_rows refl)
 
 -- and what it keeps
-unwritten_keeps : {S : Type 0} (g : Ghosts S) (t new : Committed S) (o : Open) (places : Places) (catalog : List TableDef) (rows : List Row) → Keeps g (seen_of t o) places → Writes g t new false catalog rows
+unwritten_keeps : {S : Type 0} (g : Ghosts S) (t new : Committed S) (o : Open) (places : Bounds) (catalog : List TableDef) (rows : List Row) → Keeps g (seen_of t o) places → Writes g t new false catalog rows
     → Keeps g (seen_of new o) places
 unwritten_keeps g t new o places catalog rows keeps writes = record {
   kept = record {
@@ -174,7 +174,7 @@ unwritten_keeps g t new o places catalog rows keeps writes = record {
 }
 
 -- what it holds where a write wasn't done, and rows that were read may have been forgotten
-pub unwritten_holds : {S : Type 0} (g : Ghosts S) (t new : Committed S) (o : Open) (places : Places) (catalog : List TableDef) (rows : List Row) (old recent : ReadRows) → Holds g (seen_of t o) places old
+pub unwritten_holds : {S : Type 0} (g : Ghosts S) (t new : Committed S) (o : Open) (places : Bounds) (catalog : List TableDef) (rows : List Row) (old recent : ReadRows) → Holds g (seen_of t o) places old
     → Writes g t new false catalog rows → ((name : RowName) → IsLeft old recent name) → Holds g (seen_of new o) places recent
 unwritten_holds g t new o places catalog rows old recent holds writes left = record {
   keeps = unwritten_keeps g t new o places catalog rows holds.keeps writes;
@@ -460,7 +460,7 @@ module _ {S : Type 0} {Stays : RowName → Type 0} (g : Ghosts S) (session : ℕ
       → Serves g session asked (seen_of t o) (reply.Refused r) after
   refusal_told after r writes reads is = write_refused g session asked t new o after r answer next may.asks may.early writes reads may.steps is
 
-  write_keeps : (places : Places) → Keeps g (seen_of t o) places → Writes g t new true next.catalog next.rows → Keeps g (seen_of new o) places
+  write_keeps : (places : Bounds) → Keeps g (seen_of t o) places → Writes g t new true next.catalog next.rows → Keeps g (seen_of new o) places
   write_keeps places keeps writes =
       let s : State = (seen_of t o).state in
       record {
@@ -494,7 +494,7 @@ module _ {S : Type 0} {Stays : RowName → Type 0} (g : Ghosts S) (session : ℕ
       at None read = tt
       at (Some amounts) read = may.amounts_stay was name amounts stays read
 
-  pub write_holds : (places : Places) (old recent : ReadRows) → Holds g (seen_of t o) places old → Writes g t new true next.catalog next.rows
+  pub write_holds : (places : Bounds) (old recent : ReadRows) → Holds g (seen_of t o) places old → Writes g t new true next.catalog next.rows
       → ((name : RowName) → (read_at recent name ≡ None) ⊎ ((read_at recent name ≡ read_at old name) × Stays name)) → Holds g (seen_of new o) places recent
   write_holds places old recent holds writes left = record {
     keeps = write_keeps places holds.keeps writes;

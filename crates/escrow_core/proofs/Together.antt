@@ -21,7 +21,7 @@ use Rattle.escrow_schema.specs.Rows.{applied, changes_to}
 use Rattle.escrow_schema.specs.declared.table.TableDef.{TableDef}
 use Rattle.escrow_bounds.specs.Held.{of_row}
 use Rattle.escrow_bounds.specs.Moved.{amounts_after_all}
-use Rattle.escrow_bounds.specs.Places.{Places}
+use Rattle.escrow_bounds.specs.Bounds.{Bounds}
 use Rattle.escrow_bounds.proofs.Ending.{after_all-append}
 use Rattle.escrow_bounds.proofs.LawLemmas.{of_append}
 use Rattle.escrow_journal.specs.Open.{Open, ended}
@@ -146,16 +146,16 @@ together_orderly (entry ∷ plan) s commits orderly =
     first_then HasOrder s entry.0 entry.1 plan commits.0 (together_orderly plan (after_commit s entry.0) commits.2 (commit_orderly s entry.0 orderly))
 
 -- the places have its amounts
-together_amounts : (plan : List (ℕ × End)) (s : State) (old new : Places) → AreCommits plan → IsValid s → AreAllEnded plan (open_in s) old new
+together_amounts : (plan : List (ℕ × End)) (s : State) (old new : Bounds) → AreCommits plan → IsValid s → AreAllEnded plan (open_in s) old new
     → HaveAmounts s.rows old → HaveAmounts (after_ends s plan).rows new
 together_amounts [] s old new commits valid same have = subst (HaveAmounts s.rows) (sym same) have
 together_amounts ((a, e) ∷ plan) s old new commits valid are have =
-    let mid : Places = are.0 in
+    let mid : Bounds = are.0 in
     let one : HaveAmounts (applied s.rows (own a s.reservations)) mid = commits_amounts s a old mid valid (rw commits.0 at are.1) have in
     first_then (λ (t : State). HaveAmounts t.rows new) s a e plan commits.0
     (together_amounts plan (after_commit s a) mid new commits.2 (commit_valid s a valid) are.2 one)
 
-together_tables : (plan : List (ℕ × End)) (o : Open) (catalog : List TableDef) (old new : Places) → AreAllEnded plan o old new → AreOfTables catalog old → AreOfTables catalog new
+together_tables : (plan : List (ℕ × End)) (o : Open) (catalog : List TableDef) (old new : Bounds) → AreAllEnded plan o old new → AreOfTables catalog old → AreOfTables catalog new
 together_tables [] o catalog old new same of_tables = subst (AreOfTables catalog) (sym same) of_tables
 together_tables (entry ∷ plan) o catalog old new are of_tables =
     together_tables plan (ended entry.0 o) catalog are.0 new are.2 (ended_tables entry.1 (own entry.0 o.reservations) catalog old are.0 are.1 of_tables)
@@ -202,7 +202,7 @@ module _ {S : Type 0} (g : Ghosts S) (plan : List (ℕ × End)) (commits : AreCo
         subst (λ c. AreHeld c new.rows trees) (sym (writes.done_catalog refl))
         (subst (λ rs. AreHeld t.catalog rs trees) (sym (writes.done_rows refl clean)) (writes.durable refl clean trees may))
 
-    together_keeps : (old places : Places) → Keeps g (seen_of t o) old → AreAllEnded plan o old places → ArePlaced (all_ended plan o).reservations places → Keeps g (seen_of new (all_ended plan o)) places
+    together_keeps : (old places : Bounds) → Keeps g (seen_of t o) old → AreAllEnded plan o old places → ArePlaced (all_ended plan o).reservations places → Keeps g (seen_of new (all_ended plan o)) places
     together_keeps old places keeps are placed =
         let next : after_ends s plan ≡ together plan s = together_is plan s commits in
         record {
@@ -220,7 +220,7 @@ module _ {S : Type 0} (g : Ghosts S) (plan : List (ℕ × End)) (commits : AreCo
         }
 
     -- and what was read of rows has what is committed
-    pub together_holds : (old places : Places) (recent after : ReadRows) → Holds g (seen_of t o) old recent → AreAllEnded plan o old places → ArePlaced (all_ended plan o).reservations places
+    pub together_holds : (old places : Bounds) (recent after : ReadRows) → Holds g (seen_of t o) old recent → AreAllEnded plan o old places → ArePlaced (all_ended plan o).reservations places
         → ((name : RowName) → read_at after name ≡ option_map (committed_to name all) (read_at recent name)) → Holds g (seen_of new (all_ended plan o)) places after
     together_holds old places recent after holds are placed committed =
         let row_after : (name : RowName) → option_map (committed_by all) (row_read recent name) ≡ row_read after name =

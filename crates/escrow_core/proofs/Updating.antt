@@ -28,8 +28,8 @@ use Rattle.escrow_checks.specs.declared.spread.TheConstants.Spread.{MAX_OPEN}
 use Rattle.escrow_checks.specs.Grant.{broken}
 use Rattle.escrow_bounds.specs.Counts.{IsNew, TakesIn}
 use Rattle.escrow_bounds.specs.Held.{of_row}
-use Rattle.escrow_bounds.specs.Kept.{Kept, checks_of}
-use Rattle.escrow_bounds.specs.Places.{Places, place_at, Becomes, OthersStay}
+use Rattle.escrow_bounds.specs.Place.{Place, checks_of}
+use Rattle.escrow_bounds.specs.Bounds.{Bounds, place_at, Becomes, OthersStay}
 use Rattle.escrow_bounds.proofs.LawLemmas.{same_grant_rule}
 use Rattle.escrow_schema.specs.Catalog.{table_named}
 use Rattle.escrow_schema.specs.Column.{reservables}
@@ -279,7 +279,7 @@ module _ (s : State) (session : ℕ) (text : UpdateText) (name : RowName) (chang
     pub row_accepts : reason_by session table.checks amounts (deltas changes) (of_row name s.reservations) (open_in s) ≡ None → IsAccepted s session (statement.Update text)
     row_accepts none = plan_accepted s session text (plan.Reserve name.key changes) planned.plan (by_row ∙ none)
 
-  module _ (place : Kept) (orderly : HasOrder s) (of_table : IsSomeAnd (table_named s.catalog name.table) (λ table. IsOfTable table place))
+  module _ (place : Place) (orderly : HasOrder s) (of_table : IsSomeAnd (table_named s.catalog name.table) (λ table. IsOfTable table place))
       (has : amounts_named s.rows name ≡ Some place.amounts) where
     by_place : first_refusal (update_refusals s session text.table (plan.Reserve name.key changes)) ≡ reason_against session place name changes (open_in s)
     by_place =
@@ -299,7 +299,7 @@ module _ (s : State) (session : ℕ) (text : UpdateText) (name : RowName) (chang
     place_accepts none = plan_accepted s session text (plan.Reserve name.key changes) planned.plan (by_place ∙ none)
 
   -- a refusal by its place is no refusal by the store
-  pub not_the_store : (place : Kept) (r : Refusal) → (reason_against session place name changes (open_in s) ≡ Some r) ⊎ (r ≡ refusal.Memory) → ¬ (failure_of (reply.Refused r) ≡ Some failure.Store)
+  pub not_the_store : (place : Place) (r : Refusal) → (reason_against session place name changes (open_in s) ≡ Some r) ⊎ (r ≡ refusal.Memory) → ¬ (failure_of (reply.Refused r) ≡ Some failure.Store)
   not_the_store place r why is = elim why [
     | inl first ↦ (let none : failure_of_refusal r ≡ None =
         no_failure (nat_le MAX_RESERVATIONS (length (own session s.reservations))) (nat_lt MAX_ID s.next_id)
@@ -320,7 +320,7 @@ still_planned old new text name changes same planned = subst (λ (s : State). Is
 
 module _ {S : Type 0} (g : Ghosts S) (session : ℕ) (text : UpdateText) (name : RowName) (changes : List (Option ℤ)) where
   -- by the place of a row that is reserved
-  module _ (d : Seen S) (places : Places) (planned : IsPlanned d.state text name changes) (keeps : Keeps g d places) (place : Kept) (at : place_at places name ≡ Some place) where
+  module _ (d : Seen S) (places : Bounds) (planned : IsPlanned d.state text name changes) (keeps : Keeps g d places) (place : Place) (at : place_at places name ≡ Some place) where
     of_its_table : IsSomeAnd (table_named d.state.catalog name.table) (λ table. IsOfTable table place)
     of_its_table = keeps.of_tables name place at
 
@@ -394,10 +394,10 @@ module _ {S : Type 0} (g : Ghosts S) (session : ℕ) (text : UpdateText) (name :
           (λ is. absurd (false≢true is)) (λ usable. usable) (survives_itself (state g mid.store) _) (λ writes. absurd (false≢true writes)))
 
 -- WHAT A GRANT KEEPS
-module _ {S : Type 0} (g : Ghosts S) (session : ℕ) (text : UpdateText) (name : RowName) (changes : List (Option ℤ)) (d : Seen S) (old new : Places)
+module _ {S : Type 0} (g : Ghosts S) (session : ℕ) (text : UpdateText) (name : RowName) (changes : List (Option ℤ)) (d : Seen S) (old new : Bounds)
     (planned : IsPlanned d.state text name changes) (kept : IsKept g d) (of_session : IsSession session) where
   -- where its row has a place of its table, with its amounts, and all other places are those of the rows that are reserved
-  pub grant_keeps : (place : Kept) → place_at old name ≡ Some place
+  pub grant_keeps : (place : Place) → place_at old name ≡ Some place
       → ((other : RowName) → same_row name other ≡ false → is_some (place_at old other) ≡ is_reserved d.state other)
       → AreOfTables d.state.catalog old → (HasCleanDisk (state g d.store) → HaveAmounts d.state.rows old)
       → reason_against session place name changes (open_in d.state) ≡ None
@@ -405,7 +405,7 @@ module _ {S : Type 0} (g : Ghosts S) (session : ℕ) (text : UpdateText) (name :
       → Keeps g (record { store = d.store; state = with_open d.state (txn.granted session name changes (open_in d.state)) }) new
   grant_keeps place at others_placed of_tables amounts none becomes others =
       let s = d.state in
-      let there : IsSome (place_at old name) = ap (λ (p : Option Kept). is_some p) at in
+      let there : IsSome (place_at old name) = ap (λ (p : Option Place). is_some p) at in
       let left : grant_refusal session (open_in s) ≡ None = (passed (grant_refusal session (open_in s)) (option_map refusal.Check (broken (checks_of place.checks) place.amounts (deltas changes) (of_row name s.reservations)) ∷ []) none).first in
       let free = is_free session (open_in s) left in
       let same = named_so text.table name planned.table in
@@ -426,8 +426,8 @@ module _ {S : Type 0} (g : Ghosts S) (session : ℕ) (text : UpdateText) (name :
       }
 
 -- where its row has none, and gets one of its table, with its amounts
-pub first_keeps : {S : Type 0} (g : Ghosts S) (session : ℕ) (text : UpdateText) (name : RowName) (changes : List (Option ℤ)) (d : Seen S) (old new : Places)
-    → IsPlanned d.state text name changes → Keeps g d old → IsSession session → (table : TableDef) (amounts : List ℤ) (place : Kept)
+pub first_keeps : {S : Type 0} (g : Ghosts S) (session : ℕ) (text : UpdateText) (name : RowName) (changes : List (Option ℤ)) (d : Seen S) (old new : Bounds)
+    → IsPlanned d.state text name changes → Keeps g d old → IsSession session → (table : TableDef) (amounts : List ℤ) (place : Place)
     → table_named d.state.catalog name.table ≡ Some table → length amounts ≡ length (reservables table.columns)
     → (HasCleanDisk (state g d.store) → amounts_named d.state.rows name ≡ Some amounts) → IsNew amounts table.checks place
     → reason_by session table.checks amounts (deltas changes) (of_row name d.state.reservations) (open_in d.state) ≡ None
@@ -437,13 +437,13 @@ first_keeps g session text name changes d old new planned keeps of_session table
     let at = put_at name place old in
     let put = put_others name place old in
     grant_keeps g session text name changes d ((name, place) ∷ old) new planned keeps.kept of_session place at
-    (λ other differs. ap (λ (p : Option Kept). is_some p) (put other differs) ∙ keeps.placed other)
+    (λ other differs. ap (λ (p : Option Place). is_some p) (put other differs) ∙ keeps.placed other)
     (made_tables d.state.catalog name table amounts place old ((name, place) ∷ old) named many at is_new put keeps.of_tables)
     (λ clean. made_amounts d.state.rows name amounts table.checks place old ((name, place) ∷ old) (read clean) at is_new put (keeps.amounts clean))
     (rw (is_new.checks_are, is_new.amounts_are) none) (rw at becomes) (λ other differs. others other differs ∙ sym (put other differs))
 
 -- where each row has the place that it had, what is kept stays
-pub same_keeps : {S : Type 0} (g : Ghosts S) (d : Seen S) (old new : Places) → Keeps g d old → ((row : RowName) → place_at new row ≡ place_at old row) → Keeps g d new
+pub same_keeps : {S : Type 0} (g : Ghosts S) (d : Seen S) (old new : Bounds) → Keeps g d old → ((row : RowName) → place_at new row ≡ place_at old row) → Keeps g d new
 same_keeps g d old new keeps same = record {
   kept = keeps.kept;
   placed = same_placed d.state.reservations old new same keeps.placed;

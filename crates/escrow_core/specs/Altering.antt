@@ -14,8 +14,8 @@ use Rattle.escrow_checks.specs.declared.check.Check.{Check}
 use Rattle.escrow_checks.specs.Grant.{broken}
 use Rattle.escrow_bounds.specs.Altered.{ArePrepared}
 use Rattle.escrow_bounds.specs.Held.{of_row}
-use Rattle.escrow_bounds.specs.Kept.{Kept}
-use Rattle.escrow_bounds.specs.Places.{Places, place_at}
+use Rattle.escrow_bounds.specs.Place.{Place}
+use Rattle.escrow_bounds.specs.Bounds.{Bounds, place_at}
 use Rattle.escrow_schema.specs.declared.table.TableDef.{TableDef}
 use Rattle.escrow_schema.specs.Altered.{with_check}
 use Rattle.escrow_schema.specs.Catalog.{table_named}
@@ -59,18 +59,18 @@ pub record Adds (old : TableDef) (text : CheckText) (added : AddedChecks) : Type
 pub record Judge : Type 0 where
   pub added : AddedChecks
   pub reservations : List Reservation
-  pub addition : Places
+  pub addition : Bounds
 
 -- the amounts of a row: those of its place, if it has one
 abbrev pub amounts_by : Judge → Row → List ℤ
-amounts_by judge row = unwrap_or (option_map (λ (place : Kept). place.amounts) (place_at judge.addition row.name)) row.amounts
+amounts_by judge row = unwrap_or (option_map (λ (place : Place). place.amounts) (place_at judge.addition row.name)) row.amounts
 
 -- what the open reservations of a row, some of them or none, could break of the added checks
 abbrev pub violation_by : Judge → Row → Option Violation
 violation_by judge row = broken (new_ones judge.added) (amounts_by judge row) [] (of_row row.name judge.reservations)
 
 -- the added checks are some of a table's, and an addition was prepared for the reserved rows of the table
-pub record CanJudge (added : AddedChecks) (reserved : Reserved) (addition : Places) : Type 0 where
+pub record CanJudge (added : AddedChecks) (reserved : Reserved) (addition : Bounds) : Type 0 where
   pub table : IsTable added.table
   pub within : added.first + added.count ≤ length added.table.checks
   pub placed : ArePlaced reserved.txns.reservations reserved.places

@@ -17,8 +17,8 @@ use Rattle.escrow_checks.specs.declared.check.Check.{Check}
 use Rattle.escrow_checks.specs.Grant.{broken}
 use Rattle.escrow_bounds.specs.Counts.{Counts, TakesIn, is_counting}
 use Rattle.escrow_bounds.specs.Held.{of_row, AllCount, CountsAll}
-use Rattle.escrow_bounds.specs.Kept.{Kept}
-use Rattle.escrow_bounds.specs.Places.{Places, place_at, Becomes, OthersStay}
+use Rattle.escrow_bounds.specs.Place.{Place}
+use Rattle.escrow_bounds.specs.Bounds.{Bounds, place_at, Becomes, OthersStay}
 use Rattle.escrow_bounds.proofs.Counting.{counting_is, placed_is}
 use Rattle.escrow_bounds.proofs.LawLemmas.{add_counts}
 use Rattle.escrow_bounds.proofs.Reordering.{parts_count}
@@ -36,21 +36,21 @@ not_zero zero is = absurd (cc)
 not_zero (suc n) is = omega arith
 
 -- where just the rows that are reserved have places, each place counts a reservation; and the other way
-pub all_count : (reservations : List Reservation) (places : Places) → ArePlaced reservations places → CountsAll places reservations → AllCount places
+pub all_count : (reservations : List Reservation) (places : Bounds) → ArePlaced reservations places → CountsAll places reservations → AllCount places
 all_count reservations places placed counts = λ row place at.
-    let here : is_some (place_at places row) ≡ true = ap (λ (p : Option Kept). is_some p) at in
-    let counting : is_counting (Some place) ≡ true = ap (λ (p : Option Kept). is_counting p) (sym at) ∙ counting_is places reservations row counts ∙ sym (placed row) ∙ here in
+    let here : is_some (place_at places row) ≡ true = ap (λ (p : Option Place). is_some p) at in
+    let counting : is_counting (Some place) ≡ true = ap (λ (p : Option Place). is_counting p) (sym at) ∙ counting_is places reservations row counts ∙ sym (placed row) ∙ here in
     not_zero place.count counting
 
-pub all_placed : (reservations : List Reservation) (places : Places) → AllCount places → CountsAll places reservations → ArePlaced reservations places
+pub all_placed : (reservations : List Reservation) (places : Bounds) → AllCount places → CountsAll places reservations → ArePlaced reservations places
 all_placed reservations places counting counts = λ row. placed_is places reservations row counting counts
 
 -- a session's reservations, in front of the others
-pub own_first : (session : ℕ) (reservations : List Reservation) (places : Places) → CountsAll places reservations → CountsAll places (own session reservations ++ others session reservations)
+pub own_first : (session : ℕ) (reservations : List Reservation) (places : Bounds) → CountsAll places reservations → CountsAll places (own session reservations ++ others session reservations)
 own_first session reservations places counts = parts_count (λ (r : Reservation). r.session == session) places reservations counts
 
 -- what came after a savepoint, in front of the rest
-pub after_first : (p : Savepoint) (reservations : List Reservation) (places : Places) → CountsAll places reservations → CountsAll places (after p reservations ++ not_after p reservations)
+pub after_first : (p : Savepoint) (reservations : List Reservation) (places : Bounds) → CountsAll places reservations → CountsAll places (after p reservations ++ not_after p reservations)
 after_first p reservations places counts = parts_count (is_after p) places reservations counts
 
 -- each of both is short
@@ -69,11 +69,11 @@ length-of_row row (r ∷ reservations) = one (same_row row r.row) (deltas r.chan
     one true changes rest others few = omega arith
     one false changes rest others few = omega arith
 
-pub few_counted : (row : RowName) (reservations : List Reservation) (place : Kept) → Counts place (of_row row reservations) → place.count ≤ length reservations
+pub few_counted : (row : RowName) (reservations : List Reservation) (place : Place) → Counts place (of_row row reservations) → place.count ≤ length reservations
 few_counted row reservations place counts = subst (λ (n : ℕ). n ≤ length reservations) (sym counts.0) (length-of_row row reservations)
 
 -- a place that is given back where it counts nothing is so where its row isn't reserved
-pub released_is : (reservations : List Reservation) (row : RowName) (old new : Places) → CountsAll old reservations
+pub released_is : (reservations : List Reservation) (row : RowName) (old new : Bounds) → CountsAll old reservations
     → (is_counting (place_at old row) ≡ false → place_at new row ≡ None) → (is_counting (place_at old row) ≡ true → new ≡ old) → Releases reservations row old new
 released_is reservations row old new counts empty counting = record {
   free = λ none. empty (counting_is old reservations row counts ∙ none);
@@ -86,7 +86,7 @@ pub free_of : (session : ℕ) (checks : List Check) (amounts changes : List ℤ)
 free_of session checks amounts changes reservations o none = (passed (grant_refusal session o) (option_map refusal.Check (broken checks amounts changes reservations) ∷ []) none).first
 
 -- one more is counted, the last
-pub granted_counts : (session : ℕ) (row : RowName) (changes : List (Option ℤ)) (o : Open) (old new : Places) → CountsAll old o.reservations → AllByRecursion IsShort o.reservations → length changes ≤ MAX_LEN
+pub granted_counts : (session : ℕ) (row : RowName) (changes : List (Option ℤ)) (o : Open) (old new : Bounds) → CountsAll old o.reservations → AllByRecursion IsShort o.reservations → length changes ≤ MAX_LEN
     → IsSome (place_at old row) → Becomes (TakesIn (deltas changes)) (place_at old row) (place_at new row) → OthersStay row old new
     → AreCounted (record { txns = granted session row changes o; places = new })
 granted_counts session row changes o old new counts short few there becomes others =
@@ -97,7 +97,7 @@ granted_counts session row changes o old new counts short few there becomes othe
     }
 
 -- what came after a savepoint, if there is one, and the rest
-pub later_first : (session : ℕ) (name : List ℕ) (o : Open) (later : List Reservation) (places : Places) → Some later ≡ option_map (λ p. after p o.reservations) (savepoint_of session name o.savepoints)
+pub later_first : (session : ℕ) (name : List ℕ) (o : Open) (later : List Reservation) (places : Bounds) → Some later ≡ option_map (λ p. after p o.reservations) (savepoint_of session name o.savepoints)
     → CountsAll places o.reservations → CountsAll places (later ++ (cut_back session name o).reservations)
 later_first session name o later places is counts = at (savepoint_of session name o.savepoints) is
   where
@@ -123,20 +123,20 @@ short_cut session name o short = at (savepoint_of session name o.savepoints)
     at (Some p) = all_filter IsShort (λ (r : Reservation). not (is_after p r)) o.reservations short
 
 -- the amounts of one place more
-pub amounts_more : {A : Type 0} (of : A → List ℤ) (places : Places) (reservations : List Reservation) (before : List A) (i : ℕ) (r : Reservation) (amounts : A)
-    → i < length reservations → r ≡ get_or reservations i r → option_map (λ (place : Kept). place.amounts) (place_at places r.row) ≡ Some (of amounts)
+pub amounts_more : {A : Type 0} (of : A → List ℤ) (places : Bounds) (reservations : List Reservation) (before : List A) (i : ℕ) (r : Reservation) (amounts : A)
+    → i < length reservations → r ≡ get_or reservations i r → option_map (λ (place : Place). place.amounts) (place_at places r.row) ≡ Some (of amounts)
     → AreAmounts places (take i reservations) (map of before) → AreAmounts places (take (i + 1) reservations) (map of (before ++ amounts ∷ []))
 amounts_more of places reservations before i r amounts below at has so_far =
-    let own : Reservation → Option (List ℤ) = λ r. option_map (λ (place : Kept). place.amounts) (place_at places r.row) in
+    let own : Reservation → Option (List ℤ) = λ r. option_map (λ (place : Place). place.amounts) (place_at places r.row) in
     map_more own reservations i r below
     ∙ ap₂ (λ (zs : List (Option (List ℤ))) (z : Option (List ℤ)). zs ++ z ∷ []) so_far (sym (ap own at) ∙ has)
     ∙ sym (ap (map Some) (map_push of before amounts) ∙ map_push Some (map of before) (of amounts))
 
 -- a reservation that is open has a place
-pub open_placed : (places : Places) (reservations : List Reservation) (r : Reservation) → CountsAll places reservations → Has reservations r → IsSome (place_at places r.row)
+pub open_placed : (places : Bounds) (reservations : List Reservation) (r : Reservation) → CountsAll places reservations → Has reservations r → IsSome (place_at places r.row)
 open_placed places reservations r counts has = counting_some (place_at places r.row) (counting_is places reservations r.row counts ∙ any_has (λ (x : Reservation). same_row x.row r.row) reservations r has (same_row_itself r.row))
   where
-    counting_some : (p : Option Kept) → is_counting p ≡ true → IsSome p
+    counting_some : (p : Option Place) → is_counting p ≡ true → IsSome p
     counting_some None is = absurd (cc)
     counting_some (Some place) is = refl
 
@@ -145,7 +145,7 @@ open_placed places reservations r counts has = counting_some (place_at places r.
     any_has p (y ∷ rs) x (inl same) is = or_left (p y) (list_any p rs) (ap p same ∙ is)
     any_has p (y ∷ rs) x (inr later) is = or_right (p y) (list_any p rs) (any_has p rs x later is)
 
-pub own_placed : (session : ℕ) (places : Places) (reservations : List Reservation) → CountsAll places reservations → AllByRecursion (λ r. IsSome (place_at places r.row)) (own session reservations)
+pub own_placed : (session : ℕ) (places : Bounds) (reservations : List Reservation) → CountsAll places reservations → AllByRecursion (λ r. IsSome (place_at places r.row)) (own session reservations)
 own_placed session places reservations counts =
     has_all (λ (r : Reservation). IsSome (place_at places r.row)) (own session reservations)
     (λ r has. open_placed places reservations r counts (has_filter (λ (x : Reservation). x.session == session) reservations r has).0)

@@ -31,9 +31,9 @@ use Rattle.escrow_bounds.specs.Altered.{Goes, TableGoes}
 use Rattle.escrow_bounds.specs.Counts.{IsNew, TakesIn}
 use Rattle.escrow_bounds.specs.Ended.{AreEnded, HasEnded}
 use Rattle.escrow_bounds.specs.Held.{of_row}
-use Rattle.escrow_bounds.specs.Kept.{Kept, checks_of}
+use Rattle.escrow_bounds.specs.Place.{Place, checks_of}
 use Rattle.escrow_bounds.specs.Moved.{all_moved, amounts_after_all}
-use Rattle.escrow_bounds.specs.Places.{Places, place_at, Becomes, OthersStay}
+use Rattle.escrow_bounds.specs.Bounds.{Bounds, place_at, Becomes, OthersStay}
 use Rattle.escrow_journal.specs.Open.{Open, granted}
 use Rattle.escrow_journal.specs.Reservations.{own}
 use Rattle.escrow_bounds.proofs.LawLemmas.{other_way}
@@ -57,24 +57,24 @@ each_row : (P : RowName → Type 0) (row : RowName) → P row → ((other : RowN
 each_row P row here others other = elim (cases_Bool (same_row row other)) [ inl same ↦ subst P (row_same row other same) here | inr differs ↦ others other differs ]
 
 -- places that are the same for each row
-pub same_tables : (catalog : List TableDef) (old new : Places) → ((row : RowName) → place_at new row ≡ place_at old row) → AreOfTables catalog old → AreOfTables catalog new
+pub same_tables : (catalog : List TableDef) (old new : Bounds) → ((row : RowName) → place_at new row ≡ place_at old row) → AreOfTables catalog old → AreOfTables catalog new
 same_tables catalog old new same of_tables = λ row place at. of_tables row place (sym (same row) ∙ at)
 
-pub same_amounts : (rows : List Row) (old new : Places) → ((row : RowName) → place_at new row ≡ place_at old row) → HaveAmounts rows old → HaveAmounts rows new
+pub same_amounts : (rows : List Row) (old new : Bounds) → ((row : RowName) → place_at new row ≡ place_at old row) → HaveAmounts rows old → HaveAmounts rows new
 same_amounts rows old new same have = λ row place at. have row place (sym (same row) ∙ at)
 
-pub same_placed : (reservations : List Reservation) (old new : Places) → ((row : RowName) → place_at new row ≡ place_at old row) → ArePlaced reservations old → ArePlaced reservations new
-same_placed reservations old new same placed = λ row. ap (λ (p : Option Kept). is_some p) (same row) ∙ placed row
+pub same_placed : (reservations : List Reservation) (old new : Bounds) → ((row : RowName) → place_at new row ≡ place_at old row) → ArePlaced reservations old → ArePlaced reservations new
+same_placed reservations old new same placed = λ row. ap (λ (p : Option Place). is_some p) (same row) ∙ placed row
 
 -- A ROW THAT HAS A PLACE
 
 -- is reserved
-pub placed_reserved : (reservations : List Reservation) (places : Places) (row : RowName) (place : Kept) → ArePlaced reservations places → place_at places row ≡ Some place
+pub placed_reserved : (reservations : List Reservation) (places : Bounds) (row : RowName) (place : Place) → ArePlaced reservations places → place_at places row ≡ Some place
     → list_any (λ r. same_row r.row row) reservations ≡ true
-placed_reserved reservations places row place placed at = sym (placed row) ∙ ap (λ (p : Option Kept). is_some p) at
+placed_reserved reservations places row place placed at = sym (placed row) ∙ ap (λ (p : Option Place). is_some p) at
 
 -- and one that is reserved has one
-pub reserved_placed : (reservations : List Reservation) (places : Places) (row : RowName) → ArePlaced reservations places
+pub reserved_placed : (reservations : List Reservation) (places : Bounds) (row : RowName) → ArePlaced reservations places
     → list_any (λ r. same_row r.row row) reservations ≡ true → IsSome (place_at places row)
 reserved_placed reservations places row placed is = placed row ∙ is
 
@@ -94,7 +94,7 @@ any_weaker p q (x ∷ xs) weaker any =
     elim (or_cases (p x) (list_any p xs) any) [ inl here ↦ or_left (q x) (list_any q xs) (weaker x here) | inr later ↦ or_right (q x) (list_any q xs) (any_weaker p q xs weaker later) ]
 
 -- one that isn't has none
-pub none_placed : (reservations : List Reservation) (places : Places) (row : RowName) → ArePlaced reservations places
+pub none_placed : (reservations : List Reservation) (places : Bounds) (row : RowName) → ArePlaced reservations places
     → list_any (λ r. same_row r.row row) reservations ≡ false → place_at places row ≡ None
 none_placed reservations places row placed free = none_there (place_at places row) (placed row ∙ free)
 
@@ -104,14 +104,14 @@ on_err P (Ok x) holds = tt
 on_err P (Err e) holds = holds
 
 -- a place in front of others is that of its row, and the other rows have the places that they had
-pub put_at : (row : RowName) (place : Kept) (places : Places) → place_at ((row, place) ∷ places) row ≡ Some place
+pub put_at : (row : RowName) (place : Place) (places : Bounds) → place_at ((row, place) ∷ places) row ≡ Some place
 put_at row place places = cond-true (same_row row row) (Some place) (place_at places row) (same_row_itself row)
 
-pub put_others : (row : RowName) (place : Kept) (places : Places) → OthersStay row places ((row, place) ∷ places)
+pub put_others : (row : RowName) (place : Place) (places : Bounds) → OthersStay row places ((row, place) ∷ places)
 put_others row place places = λ other differs. cond-false (same_row other row) (Some place) (place_at places other) (other_way row other differs)
 
 -- a place that was made for such a row, and given back, leaves each row the place that it had
-pub refused_same : (reservations : List Reservation) (row : RowName) (old mid new : Places) → list_any (λ r. same_row r.row row) reservations ≡ false → place_at old row ≡ None
+pub refused_same : (reservations : List Reservation) (row : RowName) (old mid new : Bounds) → list_any (λ r. same_row r.row row) reservations ≡ false → place_at old row ≡ None
     → OthersStay row old mid → Releases reservations row mid new → OthersStay row mid new → (other : RowName) → place_at new other ≡ place_at old other
 refused_same reservations row old mid new free none made releases gone =
     each_row (λ (other : RowName). place_at new other ≡ place_at old other) row (releases.free free ∙ sym none) (λ other differs. gone other differs ∙ made other differs)
@@ -123,14 +123,14 @@ pub some_of : {A C : Type 0} (P : A → Type 0) (o : Option A) → IsSomeAnd o P
 some_of P None h then = absurd h
 some_of P (Some x) h then = then x refl h
 
-pub tables_stay : (old new : State) (places : Places) → ArePlaced old.reservations places
+pub tables_stay : (old new : State) (places : Bounds) → ArePlaced old.reservations places
     → ((row : RowName) (table : TableDef) → is_reserved old row ≡ true → table_named old.catalog row.table ≡ Some table → table_named new.catalog row.table ≡ Some table)
     → AreOfTables old.catalog places → AreOfTables new.catalog places
 tables_stay old new places placed stay of_tables = λ row place at.
     some_of (λ (table : TableDef). IsOfTable table place) (table_named old.catalog row.table) (of_tables row place at) (λ table named is.
     subst (λ (o : Option TableDef). IsSomeAnd o (λ t. IsOfTable t place)) (sym (stay row table (placed_reserved old.reservations places row place placed at) named)) is)
 
-pub amounts_stay : (old new : State) (places : Places) → ArePlaced old.reservations places
+pub amounts_stay : (old new : State) (places : Bounds) → ArePlaced old.reservations places
     → ((row : RowName) (amounts : List ℤ) → is_reserved old row ≡ true → amounts_named old.rows row ≡ Some amounts → amounts_named new.rows row ≡ Some amounts)
     → HaveAmounts old.rows places → HaveAmounts new.rows places
 amounts_stay old new places placed stay have = λ row place at.
@@ -150,7 +150,7 @@ length-after_all end.Commit amounts (changes ∷ ended) = length-after_all end.C
 length-after_all end.Rollback amounts (changes ∷ ended) = length-after_all end.Rollback amounts ended
 
 -- the places that are left are of their tables
-pub ended_tables : (e : End) (ended : List Reservation) (catalog : List TableDef) (old new : Places) → AreEnded e ended old new → AreOfTables catalog old → AreOfTables catalog new
+pub ended_tables : (e : End) (ended : List Reservation) (catalog : List TableDef) (old new : Bounds) → AreEnded e ended old new → AreOfTables catalog old → AreOfTables catalog new
 ended_tables e ended catalog old new are of_tables = λ row place at.
     let was = are row place at in
     let before = was.0 in
@@ -162,7 +162,7 @@ ended_tables e ended catalog old new are of_tables = λ row place at.
     }))
 
 -- and have their rows' amounts, which a rollback leaves
-pub rollbacks_amounts : (ended : List Reservation) (rows : List Row) (old new : Places) → AreEnded end.Rollback ended old new → HaveAmounts rows old → HaveAmounts rows new
+pub rollbacks_amounts : (ended : List Reservation) (rows : List Row) (old new : Bounds) → AreEnded end.Rollback ended old new → HaveAmounts rows old → HaveAmounts rows new
 rollbacks_amounts ended rows old new are have = λ row place at.
     let was = are row place at in
     let before = was.0 in
@@ -238,7 +238,7 @@ committed_amounts s session name amounts valid is =
     ap (option_map (λ (r : Row). r.amounts)) found ∙ ap Some (sym added)
     ∙ ap₂ (λ (n : RowName) (zs : List ℤ). Some (amounts_after_all end.Commit zs (of_row n mine))) stands.named stands.has
 
-pub commits_amounts : (s : State) (session : ℕ) (old new : Places) → IsValid s → AreEnded end.Commit (own session s.reservations) old new → HaveAmounts s.rows old
+pub commits_amounts : (s : State) (session : ℕ) (old new : Bounds) → IsValid s → AreEnded end.Commit (own session s.reservations) old new → HaveAmounts s.rows old
     → HaveAmounts (applied s.rows (own session s.reservations)) new
 commits_amounts s session old new valid are have = λ row place at.
     let was = are row place at in
@@ -249,48 +249,48 @@ commits_amounts s session old new valid are have = λ row place at.
 -- A GRANT
 
 -- a place that is made has the checks of its table
-pub made_tables : (catalog : List TableDef) (row : RowName) (table : TableDef) (amounts : List ℤ) (place : Kept) (old new : Places) → table_named catalog row.table ≡ Some table
+pub made_tables : (catalog : List TableDef) (row : RowName) (table : TableDef) (amounts : List ℤ) (place : Place) (old new : Bounds) → table_named catalog row.table ≡ Some table
     → length amounts ≡ length (reservables table.columns) → place_at new row ≡ Some place → IsNew amounts table.checks place → OthersStay row old new
     → AreOfTables catalog old → AreOfTables catalog new
 made_tables catalog row table amounts place old new named many at new_place others of_tables =
-    each_row (λ (other : RowName). (kept : Kept) → place_at new other ≡ Some kept → IsSomeAnd (table_named catalog other.table) (λ t. IsOfTable t kept)) row
+    each_row (λ (other : RowName). (kept : Place) → place_at new other ≡ Some kept → IsSomeAnd (table_named catalog other.table) (λ t. IsOfTable t kept)) row
     (λ kept found.
     let same : place ≡ kept = some_same (sym at ∙ found) in
-    subst (λ (k : Kept). IsSomeAnd (table_named catalog row.table) (λ t. IsOfTable t k)) same
+    subst (λ (k : Place). IsSomeAnd (table_named catalog row.table) (λ t. IsOfTable t k)) same
     (some_from (λ (t : TableDef). IsOfTable t place) (table_named catalog row.table) table named
     (record { checks = new_place.checks_are; amounts = ap length new_place.amounts_are ∙ many })))
     (λ other differs kept found. of_tables other kept (sym (others other differs) ∙ found))
 
 -- and the amounts of its row
-pub made_amounts : (rows : List Row) (row : RowName) (amounts : List ℤ) (checks : List Check) (place : Kept) (old new : Places) → amounts_named rows row ≡ Some amounts
+pub made_amounts : (rows : List Row) (row : RowName) (amounts : List ℤ) (checks : List Check) (place : Place) (old new : Bounds) → amounts_named rows row ≡ Some amounts
     → place_at new row ≡ Some place → IsNew amounts checks place → OthersStay row old new → HaveAmounts rows old → HaveAmounts rows new
 made_amounts rows row amounts checks place old new has at new_place others have =
-    each_row (λ (other : RowName). (kept : Kept) → place_at new other ≡ Some kept → amounts_named rows other ≡ Some kept.amounts) row
-    (λ kept found. has ∙ ap Some (sym new_place.amounts_are ∙ ap (λ (k : Kept). k.amounts) (some_same (sym at ∙ found))))
+    each_row (λ (other : RowName). (kept : Place) → place_at new other ≡ Some kept → amounts_named rows other ≡ Some kept.amounts) row
+    (λ kept found. has ∙ ap Some (sym new_place.amounts_are ∙ ap (λ (k : Place). k.amounts) (some_same (sym at ∙ found))))
     (λ other differs kept found. have other kept (sym (others other differs) ∙ found))
 
 -- a place that takes in a reservation keeps both
-pub taken_tables : (catalog : List TableDef) (row : RowName) (changes : List ℤ) (old new : Places) → IsSome (place_at old row) → Becomes (TakesIn changes) (place_at old row) (place_at new row)
+pub taken_tables : (catalog : List TableDef) (row : RowName) (changes : List ℤ) (old new : Bounds) → IsSome (place_at old row) → Becomes (TakesIn changes) (place_at old row) (place_at new row)
     → OthersStay row old new → AreOfTables catalog old → AreOfTables catalog new
 taken_tables catalog row changes old new there becomes others of_tables =
-    each_row (λ (other : RowName). (kept : Kept) → place_at new other ≡ Some kept → IsSomeAnd (table_named catalog other.table) (λ t. IsOfTable t kept)) row
+    each_row (λ (other : RowName). (kept : Place) → place_at new other ≡ Some kept → IsSomeAnd (table_named catalog other.table) (λ t. IsOfTable t kept)) row
     (λ kept found.
     from_some (place_at old row) there (λ before was.
     let after = becomes before was in
     let same : after.0 ≡ kept = some_same (sym after.1 ∙ found) in
-    subst (λ (k : Kept). IsSomeAnd (table_named catalog row.table) (λ t. IsOfTable t k)) same
+    subst (λ (k : Place). IsSomeAnd (table_named catalog row.table) (λ t. IsOfTable t k)) same
     (some_weaker (λ (t : TableDef). IsOfTable t before) (λ (t : TableDef). IsOfTable t after.0) (table_named catalog row.table)
     (λ t is. record { checks = after.2.checks ∙ is.checks; amounts = ap length after.2.amounts ∙ is.amounts }) (of_tables row before was))))
     (λ other differs kept found. of_tables other kept (sym (others other differs) ∙ found))
 
-pub taken_amounts : (rows : List Row) (row : RowName) (changes : List ℤ) (old new : Places) → IsSome (place_at old row) → Becomes (TakesIn changes) (place_at old row) (place_at new row)
+pub taken_amounts : (rows : List Row) (row : RowName) (changes : List ℤ) (old new : Bounds) → IsSome (place_at old row) → Becomes (TakesIn changes) (place_at old row) (place_at new row)
     → OthersStay row old new → HaveAmounts rows old → HaveAmounts rows new
 taken_amounts rows row changes old new there becomes others have =
-    each_row (λ (other : RowName). (kept : Kept) → place_at new other ≡ Some kept → amounts_named rows other ≡ Some kept.amounts) row
+    each_row (λ (other : RowName). (kept : Place) → place_at new other ≡ Some kept → amounts_named rows other ≡ Some kept.amounts) row
     (λ kept found.
     from_some (place_at old row) there (λ before was.
     let after = becomes before was in
-    have row before was ∙ ap Some (sym after.2.amounts ∙ ap (λ (k : Kept). k.amounts) (some_same (sym after.1 ∙ found)))))
+    have row before was ∙ ap Some (sym after.2.amounts ∙ ap (λ (k : Place). k.amounts) (some_same (sym after.1 ∙ found)))))
     (λ other differs kept found. have other kept (sym (others other differs) ∙ found))
 
 passed_one : (a b : Bool) → b ≡ true → (a || (b || false)) ≡ true
@@ -307,11 +307,11 @@ failed_one false true is = absurd (cc)
 failed_one false false is = refl
 
 -- it stands afterwards
-pub becomes_some : (before after : Option Kept) (changes : List ℤ) → IsSome before → Becomes (TakesIn changes) before after → IsSome after
-becomes_some before after changes there becomes = from_some before there (λ kept was. ap (λ (p : Option Kept). is_some p) (becomes kept was).1)
+pub becomes_some : (before after : Option Place) (changes : List ℤ) → IsSome before → Becomes (TakesIn changes) before after → IsSome after
+becomes_some before after changes there becomes = from_some before there (λ kept was. ap (λ (p : Option Place). is_some p) (becomes kept was).1)
 
 -- and its row is one that is reserved
-pub granted_placed : (session : ℕ) (row : RowName) (changes : List (Option ℤ)) (o : Open) (old new : Places)
+pub granted_placed : (session : ℕ) (row : RowName) (changes : List (Option ℤ)) (o : Open) (old new : Bounds)
     → ((other : RowName) → same_row row other ≡ false → is_some (place_at old other) ≡ list_any (λ r. same_row r.row other) o.reservations)
     → IsSome (place_at new row) → OthersStay row old new → ArePlaced (granted session row changes o).reservations new
 granted_placed session row changes o old new before there others =
@@ -319,17 +319,17 @@ granted_placed session row changes o old new before there others =
     each_row (λ (other : RowName). is_some (place_at new other) ≡ list_any (λ x. same_row x.row other) (o.reservations ++ r ∷ [])) row
     (there ∙ sym (list_any-append (λ (x : Reservation). same_row x.row row) o.reservations (r ∷ []) ∙ passed_one (list_any (λ x. same_row x.row row) o.reservations) (same_row row row) (same_row_itself row)))
     (λ other differs.
-    ap (λ (p : Option Kept). is_some p) (others other differs) ∙ before other differs
+    ap (λ (p : Option Place). is_some p) (others other differs) ∙ before other differs
     ∙ sym (list_any-append (λ (x : Reservation). same_row x.row other) o.reservations (r ∷ []) ∙ failed_one (list_any (λ x. same_row x.row other) o.reservations) (same_row row other) differs))
 
 -- ALTER TABLE: the places of a table come of the old ones
 
-goes_some : (Step : Kept → Kept → Type 0) (before after : Option Kept) → Goes Step before after → is_some after ≡ is_some before
-goes_some Step None after none = ap (λ (p : Option Kept). is_some p) none
-goes_some Step (Some old) after goes = ap (λ (p : Option Kept). is_some p) goes.1
+goes_some : (Step : Place → Place → Type 0) (before after : Option Place) → Goes Step before after → is_some after ≡ is_some before
+goes_some Step None after none = ap (λ (p : Option Place). is_some p) none
+goes_some Step (Some old) after goes = ap (λ (p : Option Place). is_some p) goes.1
 
-goes_of : {C : Type 0} (Step : Kept → Kept → Type 0) (before after : Option Kept) (place : Kept) → Goes Step before after → after ≡ Some place
-    → ((old : Kept) → before ≡ Some old → Step old place → C) → C
+goes_of : {C : Type 0} (Step : Place → Place → Type 0) (before after : Option Place) (place : Place) → Goes Step before after → after ≡ Some place
+    → ((old : Place) → before ≡ Some old → Step old place → C) → C
 goes_of Step None after place none at then = absurd (cc)
 goes_of Step (Some old) after place goes at then = then old refl (subst (Step old) (some_same (sym goes.1 ∙ at)) goes.2)
 
@@ -348,18 +348,18 @@ altered_other : (catalog : List TableDef) (made : TableDef) (name : List ℕ) �
 altered_other catalog made name differs =
     altered_named made catalog name ∙ other_stays made name (table_named catalog name) differs (λ t named. name_found catalog name t named)
 
-module _ (table : List ℕ) (Step : RowName → Kept → Kept → Type 0) (old new : Places) (goes : TableGoes table Step old new) where
+module _ (table : List ℕ) (Step : RowName → Place → Place → Type 0) (old new : Bounds) (goes : TableGoes table Step old new) where
   -- the same rows have places
   pub gone_placed : (reservations : List Reservation) → ArePlaced reservations old → ArePlaced reservations new
   gone_placed reservations placed = λ row.
       elim (cases_Bool (bytes_eq row.table table)) [
         | inl here ↦ goes_some (Step row) (place_at old row) (place_at new row) (goes.own row here) ∙ placed row
-        | inr differs ↦ ap (λ (p : Option Kept). is_some p) (goes.others row differs) ∙ placed row
+        | inr differs ↦ ap (λ (p : Option Place). is_some p) (goes.others row differs) ∙ placed row
       ]
 
   -- a place comes of one of the table, or is one of another
-  came_of : {C : Type 0} (row : RowName) (place : Kept) → place_at new row ≡ Some place
-      → (bytes_eq row.table table ≡ true → (before : Kept) → place_at old row ≡ Some before → Step row before place → C)
+  came_of : {C : Type 0} (row : RowName) (place : Place) → place_at new row ≡ Some place
+      → (bytes_eq row.table table ≡ true → (before : Place) → place_at old row ≡ Some before → Step row before place → C)
       → (bytes_eq row.table table ≡ false → place_at old row ≡ Some place → C) → C
   came_of row place at own other =
       elim (cases_Bool (bytes_eq row.table table)) [
@@ -367,7 +367,7 @@ module _ (table : List ℕ) (Step : RowName → Kept → Kept → Type 0) (old n
         | inr differs ↦ other differs (sym (goes.others row differs) ∙ at)
       ]
 
-  module _ (same : (row : RowName) (before after : Kept) → Step row before after → after.amounts ≡ before.amounts) where
+  module _ (same : (row : RowName) (before after : Place) → Step row before after → after.amounts ≡ before.amounts) where
     -- they have their rows' amounts
     pub gone_amounts : (rows : List Row) → HaveAmounts rows old → HaveAmounts rows new
     gone_amounts rows have = λ row place at.
@@ -375,7 +375,7 @@ module _ (table : List ℕ) (Step : RowName → Kept → Kept → Type 0) (old n
 
     -- and are of their tables, one of which is altered
     pub gone_tables : (catalog : List TableDef) (was made : TableDef) → table_named catalog table ≡ Some was → made ≡ record was { checks = made.checks }
-        → ((row : RowName) (before after : Kept) → Step row before after → checks_of before.checks ≡ was.checks → checks_of after.checks ≡ made.checks)
+        → ((row : RowName) (before after : Place) → Step row before after → checks_of before.checks ≡ was.checks → checks_of after.checks ≡ made.checks)
         → AreOfTables catalog old → AreOfTables (with_altered made catalog) new
     gone_tables catalog was made named alike checks of_tables = λ row place at.
         let called : made.name ≡ was.name = ap (λ (t : TableDef). t.name) alike in

@@ -2,7 +2,7 @@
 use Rattle.std.specs.Prelude.{◌≡◌, ℕ, List, [], ◌∷◌}
 use Rattle.escrow_num.specs.declared.session.End.{End}
 use Rattle.escrow_bounds.specs.Ended.{AreEnded}
-use Rattle.escrow_bounds.specs.Places.{Places}
+use Rattle.escrow_bounds.specs.Bounds.{Bounds}
 use Rattle.escrow_journal.specs.Open.{Open, ended}
 use Rattle.escrow_journal.specs.Reservations.{own}
 
@@ -12,6 +12,6 @@ all_ended [] o = o
 all_ended (entry ∷ plan) o = all_ended plan (ended entry.0 o)
 
 -- the places after that: in each place, the reservations of one session after another have ended
-abbrev pub AreAllEnded : List (ℕ × End) → Open → Places → Places → Type 0
+abbrev pub AreAllEnded : List (ℕ × End) → Open → Bounds → Bounds → Type 0
 AreAllEnded [] o old new = new ≡ old
-AreAllEnded (entry ∷ plan) o old new = (mid : Places) × AreEnded entry.1 (own entry.0 o.reservations) old mid × AreAllEnded plan (ended entry.0 o) mid new
+AreAllEnded (entry ∷ plan) o old new = (mid : Bounds) × AreEnded entry.1 (own entry.0 o.reservations) old mid × AreAllEnded plan (ended entry.0 o) mid new

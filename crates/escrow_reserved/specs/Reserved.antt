@@ -11,15 +11,15 @@ use Rattle.escrow_num.specs.Reservation.{deltas}
 use Rattle.escrow_checks.specs.declared.check.Check.{Check}
 use Rattle.escrow_checks.specs.Grant.{broken}
 use Rattle.escrow_bounds.specs.Held.{of_row, CountsAll}
-use Rattle.escrow_bounds.specs.Kept.{Kept, checks_of}
-use Rattle.escrow_bounds.specs.Places.{Places, place_at}
+use Rattle.escrow_bounds.specs.Place.{Place, checks_of}
+use Rattle.escrow_bounds.specs.Bounds.{Bounds, place_at}
 use Rattle.escrow_journal.specs.Open.{Open, nothing_open, grant_refusal}
 use Rattle.escrow_machine.specs.Walked.{IsShort}
 
 -- what is open, and the places
 pub record Reserved : Type 0 where
   pub txns : Open
-  pub places : Places
+  pub places : Bounds
 
 -- nothing is open, and no row has a place
 abbrev pub nothing : Reserved
@@ -32,7 +32,7 @@ pub record AreCounted (r : Reserved) : Type 0 where
   pub short : AllByRecursion IsShort r.txns.reservations
 
 -- exactly the rows that have an open reservation have a place
-abbrev pub ArePlaced : List Reservation → Places → Type 0
+abbrev pub ArePlaced : List Reservation → Bounds → Type 0
 ArePlaced reservations places = (row : RowName) → is_some (place_at places row) ≡ list_any (λ r. same_row r.row row) reservations
 
 -- why a session can't get changes of a row with these amounts and open reservations, by the checks of its table
@@ -43,14 +43,14 @@ reason_by session checks amounts changes reservations o = first_refusal (
     ∷ [])
 
 -- why a session can't get changes of a row, by its place and the open reservations of it
-abbrev pub reason_against : ℕ → Kept → RowName → List (Option ℤ) → Open → Option Refusal
+abbrev pub reason_against : ℕ → Place → RowName → List (Option ℤ) → Open → Option Refusal
 reason_against session place row changes o = reason_by session (checks_of place.checks) place.amounts (deltas changes) (of_row row o.reservations) o
 
 -- the place of a row is dropped if no open reservation is of it; otherwise everything stays as it is
-pub record Releases (reservations : List Reservation) (row : RowName) (old new : Places) : Type 0 where
+pub record Releases (reservations : List Reservation) (row : RowName) (old new : Bounds) : Type 0 where
   pub free : list_any (λ r. same_row r.row row) reservations ≡ false → place_at new row ≡ None
   pub reserved : list_any (λ r. same_row r.row row) reservations ≡ true → new ≡ old
 
 -- for each reservation, the amounts in the place of its row
-abbrev pub AreAmounts : Places → List Reservation → List (List ℤ) → Type 0
-AreAmounts places reservations amounts = map (λ r. option_map (λ (place : Kept). place.amounts) (place_at places r.row)) reservations ≡ map Some amounts
+abbrev pub AreAmounts : Bounds → List Reservation → List (List ℤ) → Type 0
+AreAmounts places reservations amounts = map (λ r. option_map (λ (place : Place). place.amounts) (place_at places r.row)) reservations ≡ map Some amounts

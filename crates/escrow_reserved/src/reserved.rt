@@ -7,7 +7,7 @@ ghost use Rattle.escrow_checks.specs.declared.check.Check.{Check as Form};
 ghost use Rattle.escrow_bounds.specs.Altered.{TableGoes, IsOver, IsWithout, ArePrepared};
 ghost use Rattle.escrow_bounds.specs.Ended.{AreEnded};
 ghost use Rattle.escrow_bounds.specs.Held.{of_row, AllCount, CountsAll};
-ghost use Rattle.escrow_bounds.specs.Places.{place_at, OthersStay};
+ghost use Rattle.escrow_bounds.specs.Bounds.{place_at, OthersStay};
 ghost use Rattle.escrow_journal.specs.Open.{cut_back};
 ghost use Rattle.escrow_journal.specs.Reservations.{own};
 ghost use Rattle.escrow_machine.specs.Walked.{IsShort};
@@ -59,8 +59,8 @@ impl Reserved {
     ghost use Rattle.escrow_checks.specs.declared.spread.TheConstants.Spread.{MAX_OPEN};
     ghost use Rattle.escrow_bounds.specs.At.{IsAt};
     ghost use Rattle.escrow_bounds.specs.Counts.{IsNew, TakesIn};
-    ghost use Rattle.escrow_bounds.specs.Kept.{Kept};
-    ghost use Rattle.escrow_bounds.specs.Places.{Becomes};
+    ghost use Rattle.escrow_bounds.specs.Place.{Place};
+    ghost use Rattle.escrow_bounds.specs.Bounds.{Becomes};
     ghost use Rattle.escrow_journal.specs.Open.{ended, grant_refusal, granted, released, saved, savepoint_refusal};
     ghost use Rattle.escrow_reserved.specs.Ends.{AreAllEnded, all_ended};
     ghost use Rattle.escrow_reserved.specs.Reserved.{AreAmounts, AreCounted, ArePlaced, Releases, nothing, reason_against, reason_by};
@@ -186,7 +186,7 @@ impl Reserved {
         ensures id { IfOk result (λ id. id ≡ self.old.txns.next_id) }
         ensures free { OnOk result (reason_by session checks.now amounts.now (deltas changes) (of_row row self.old.txns.reservations) self.old.txns ≡ None) }
         ensures granted { OnOk result (self.new.txns ≡ granted session row changes self.old.txns) }
-        ensures made { OnOk result ((place : Kept) × IsNew amounts.now checks.now place × Becomes (TakesIn (deltas changes)) (Some place) (place_at self.new.places row)) }
+        ensures made { OnOk result ((place : Place) × IsNew amounts.now checks.now place × Becomes (TakesIn (deltas changes)) (Some place) (place_at self.new.places row)) }
         ensures others { OthersStay row self.old.places self.new.places }
         ensures against { IfSome (reason_by session checks.now amounts.now (deltas changes) (of_row row self.old.txns.reservations) self.old.txns) (λ e. result ≡ Err e) }
         ensures only { IfErr result (λ e. (reason_by session checks.now amounts.now (deltas changes) (of_row row self.old.txns.reservations) self.old.txns ≡ Some e) ⊎ (e ≡ Refusal.Memory)) }
@@ -242,12 +242,12 @@ impl Reserved {
         requires short { length changes ≤ MAX_LEN }
         requires room { grant_refusal session self.old.txns ≡ None → length self.old.txns.reservations < MAX_OPEN }
         ensures id { IfOk result (λ id. id ≡ self.old.txns.next_id) }
-        ensures free { OnOk result ((place : Kept) → place_at self.old.places row ≡ Some place → reason_against session place row changes self.old.txns ≡ None) }
+        ensures free { OnOk result ((place : Place) → place_at self.old.places row ≡ Some place → reason_against session place row changes self.old.txns ≡ None) }
         ensures granted { OnOk result (self.new.txns ≡ granted session row changes self.old.txns) }
         ensures takes { OnOk result (Becomes (TakesIn (deltas changes)) (place_at self.old.places row) (place_at self.new.places row)) }
         ensures others { OthersStay row self.old.places self.new.places }
-        ensures against { (place : Kept) → place_at self.old.places row ≡ Some place → IfSome (reason_against session place row changes self.old.txns) (λ e. result ≡ Err e) }
-        ensures only { IfErr result (λ e. (place : Kept) → place_at self.old.places row ≡ Some place → (reason_against session place row changes self.old.txns ≡ Some e) ⊎ (e ≡ Refusal.Memory)) }
+        ensures against { (place : Place) → place_at self.old.places row ≡ Some place → IfSome (reason_against session place row changes self.old.txns) (λ e. result ≡ Err e) }
+        ensures only { IfErr result (λ e. (place : Place) → place_at self.old.places row ≡ Some place → (reason_against session place row changes self.old.txns ≡ Some e) ⊎ (e ≡ Refusal.Memory)) }
         ensures unchanged { OnErr result (self.new ≡ self.old) }
     {
         let added = deltas(changes.as_slice());
@@ -262,7 +262,7 @@ impl Reserved {
     /// memory aside.
     fn refusal(&self, session: Session, at: usize, changes: &[Amount]) -> Option<Refusal>
         requires { (row : Row) × IsAt self.now.places row at }
-        ensures { (row : Row) (place : Kept) (asked : List (Option ℤ)) → IsAt self.now.places row at → place_at self.now.places row ≡ Some place → changes.now ≡ deltas asked
+        ensures { (row : Row) (place : Place) (asked : List (Option ℤ)) → IsAt self.now.places row at → place_at self.now.places row ≡ Some place → changes.now ≡ deltas asked
             → result ≡ reason_against session place row asked self.now.txns }
     {
         if let Some(refusal) = self.txns.grant_refusal(session) {
@@ -373,9 +373,9 @@ impl Reserved {
     pub fn prepare(&self, alloc: Global, table: Name, checks: &[Check]) -> Result<Addition, Refusal>
         requires placed { ArePlaced self.now.txns.reservations self.now.places }
         requires many { length self.now.txns.reservations ≤ MAX_OPEN }
-        requires few { (row : Row) (place : Kept) → bytes_eq row.table table ≡ true → place_at self.now.places row ≡ Some place
+        requires few { (row : Row) (place : Place) → bytes_eq row.table table ≡ true → place_at self.now.places row ≡ Some place
             → length place.amounts ≤ MAX_LEN }
-        requires covered { (row : Row) (place : Kept) → bytes_eq row.table table ≡ true → place_at self.now.places row ≡ Some place
+        requires covered { (row : Row) (place : Place) → bytes_eq row.table table ≡ true → place_at self.now.places row ≡ Some place
             → AllByRecursion (λ check. IsCovered check.coeffs place.amounts) checks.now }
         ensures prepared { IfOk result (λ addition. ArePrepared table checks.now self.now.txns.reservations self.now.places addition) }
         ensures only { IfErr result (λ e. e ≡ Refusal.Memory) }

@@ -1,8 +1,8 @@
 ghost use Rattle.std.specs.Prelude.{◌≡◌, ℤ, Some, IfOk, IsSome, List, [], length, map};
 ghost use Rattle.escrow_checks.specs.Extremes.{least, greatest};
 ghost use Rattle.escrow_bounds.specs.Counts.{Counts};
-ghost use Rattle.escrow_bounds.specs.Kept.{Kept, checks_of};
-ghost use Rattle.escrow_bounds.specs.Places.{place_at};
+ghost use Rattle.escrow_bounds.specs.Place.{Place, checks_of};
+ghost use Rattle.escrow_bounds.specs.Bounds.{place_at};
 ghost use Rattle.escrow_schema.specs.Column.{reservables};
 ghost use Rattle.escrow_schema.specs.Definition.{IsTable};
 ghost use Rattle.escrow_machine.specs.Bounds.{bounds_over, check_bounds};
@@ -27,8 +27,8 @@ pub fn row_bounds(
 ) -> Result<Reply, AllocError>
     requires table { IsTable table.now }
     requires placed { IsSome (place_at bounds.now name.now) }
-    requires of_table { (place : Kept) → place_at bounds.now name.now ≡ Some place → IsOfTable table.now place }
-    ensures { IfOk result (λ reply. (place : Kept) (reservations : List (List ℤ)) → place_at bounds.now name.now ≡ Some place → Counts place reservations
+    requires of_table { (place : Place) → place_at bounds.now name.now ≡ Some place → IsOfTable table.now place }
+    ensures { IfOk result (λ reply. (place : Place) (reservations : List (List ℤ)) → place_at bounds.now name.now ≡ Some place → Counts place reservations
         → reply ≡ bounds_over reservations table.now place.amounts) }
 {
     let amounts = bounds.amounts(name).unwrap();
@@ -68,9 +68,9 @@ fn all_check_bounds(
     bounds: &Bounds,
 ) -> Result<Seq<CheckBounds>, AllocError>
     requires placed { IsSome (place_at bounds.now name.now) }
-    requires checks { (place : Kept) → place_at bounds.now name.now ≡ Some place → checks_of place.checks ≡ checks.now }
+    requires checks { (place : Place) → place_at bounds.now name.now ≡ Some place → checks_of place.checks ≡ checks.now }
     ensures many { IfOk result (λ all. length all ≡ length checks.now) }
-    ensures shown { IfOk result (λ all. (place : Kept) (reservations : List (List ℤ)) → place_at bounds.now name.now ≡ Some place → Counts place reservations
+    ensures shown { IfOk result (λ all. (place : Place) (reservations : List (List ℤ)) → place_at bounds.now name.now ≡ Some place → Counts place reservations
         → all ≡ map (check_bounds place.amounts reservations) checks.now) }
 {
     let mut all = Seq::new(alloc);

@@ -1,8 +1,8 @@
 ghost use Rattle.std.specs.Prelude.{◌≡◌, ℤ, List, [], ◌+◌, ◌≤◌, ◌++◌, IsSome, IfNone, Some, is_some, length, take, drop, option_to_list};
 ghost use Rattle.escrow_checks.specs.Grant.{broken};
 ghost use Rattle.escrow_bounds.specs.Counts.{Counts};
-ghost use Rattle.escrow_bounds.specs.Kept.{Kept, checks_of};
-ghost use Rattle.escrow_bounds.specs.Places.{place_at};
+ghost use Rattle.escrow_bounds.specs.Place.{Place, checks_of};
+ghost use Rattle.escrow_bounds.specs.Bounds.{place_at};
 
 use super::Bounds;
 use crate::place::Place;
@@ -24,9 +24,9 @@ impl Drop for Addition {
 }
 
 impl Model for Addition {
-    ghost use Rattle.escrow_bounds.specs.Places.{Places};
+    ghost use Rattle.escrow_bounds.specs.Bounds.{Bounds};
 
-    ghost Value = { Places };
+    ghost Value = { Bounds };
 
     ghost view = { λ a. a.bounds };
 }
@@ -53,8 +53,8 @@ impl Addition {
     /// and `count` is their number.
     pub fn violation(&self, row: &RowName, first: usize, count: usize) -> Option<Violation>
         requires placed { IsSome (place_at self.now row.now) }
-        requires checks { (place : Kept) → place_at self.now row.now ≡ Some place → first + count ≤ length place.checks }
-        ensures { (place : Kept) (reservations : List (List ℤ)) → place_at self.now row.now ≡ Some place → Counts place reservations
+        requires checks { (place : Place) → place_at self.now row.now ≡ Some place → first + count ≤ length place.checks }
+        ensures { (place : Place) (reservations : List (List ℤ)) → place_at self.now row.now ≡ Some place → Counts place reservations
             → result ≡ broken (take count (drop first (checks_of place.checks))) place.amounts [] reservations }
     {
         self.bounds.place(row).violation(first, count)

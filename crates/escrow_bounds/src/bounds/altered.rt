@@ -10,8 +10,8 @@ ghost use Rattle.escrow_checks.specs.declared.spread.TheConstants.Spread.{MAX_OP
 ghost use Rattle.escrow_bounds.specs.Altered.{TableGoes, IsWithout, ArePrepared, Adopts};
 ghost use Rattle.escrow_bounds.specs.Filling.{AreFilled};
 ghost use Rattle.escrow_bounds.specs.Held.{CountsAll, AllCount};
-ghost use Rattle.escrow_bounds.specs.Kept.{Kept};
-ghost use Rattle.escrow_bounds.specs.Places.{place_at, OthersStay};
+ghost use Rattle.escrow_bounds.specs.Place.{Place};
+ghost use Rattle.escrow_bounds.specs.Bounds.{place_at, OthersStay};
 
 use super::{Addition, Bounds};
 use crate::changes::deltas;
@@ -34,9 +34,9 @@ impl Bounds {
         requires counting { AllCount self.now }
         requires short { AllByRecursion (λ r. length r.now.changes ≤ MAX_LEN) reservations.now }
         requires many { length reservations.now ≤ MAX_OPEN }
-        requires few { (row : RowName) (place : Kept) → bytes_eq row.table table ≡ true → place_at self.now row ≡ Some place
+        requires few { (row : RowName) (place : Place) → bytes_eq row.table table ≡ true → place_at self.now row ≡ Some place
             → length place.amounts ≤ MAX_LEN }
-        requires covered { (row : RowName) (place : Kept) → bytes_eq row.table table ≡ true → place_at self.now row ≡ Some place
+        requires covered { (row : RowName) (place : Place) → bytes_eq row.table table ≡ true → place_at self.now row ≡ Some place
             → AllByRecursion (λ check. IsCovered check.coeffs place.amounts) checks.now }
         ensures prepared { IfOk result (λ addition. ArePrepared table checks.now (map (λ r. r.now) reservations.now) self.now addition) }
         ensures only { IfErr result (λ e. e ≡ Refusal.Memory) }
@@ -79,12 +79,12 @@ impl Bounds {
         r: &Reservation,
     ) -> Result<(), AllocError>
         requires placed { IsSome (place_at placed.now r.now.row) }
-        requires few { (row : RowName) (place : Kept) → bytes_eq row.table table ≡ true → place_at placed.now row ≡ Some place
+        requires few { (row : RowName) (place : Place) → bytes_eq row.table table ≡ true → place_at placed.now row ≡ Some place
             → length place.amounts ≤ MAX_LEN }
-        requires covered { (row : RowName) (place : Kept) → bytes_eq row.table table ≡ true → place_at placed.now row ≡ Some place
+        requires covered { (row : RowName) (place : Place) → bytes_eq row.table table ≡ true → place_at placed.now row ≡ Some place
             → AllByRecursion (λ check. IsCovered check.coeffs place.amounts) checks.now }
         requires short { length r.now.changes ≤ MAX_LEN }
-        requires room { (place : Kept) → place_at self.old r.now.row ≡ Some place → place.count < MAX_OPEN }
+        requires room { (place : Place) → place_at self.old r.now.row ≡ Some place → place.count < MAX_OPEN }
         ensures { OnOk result ((held : List Reservation) → AreFilled table checks.now held placed.now self.old
             → AreFilled table checks.now (held ++ r.now ∷ []) placed.now self.new) }
     {

@@ -1,7 +1,7 @@
 //! Worst-case sums of a row, kept between calls.
 ghost use Rattle.std.specs.Prelude.{◌≡◌, ◌<◌, ℤ, IsSome, None, List, [], ◌∷◌, length};
 ghost use Rattle.escrow_checks.specs.declared.spread.TheConstants.Spread.{MAX_OPEN};
-ghost use Rattle.escrow_bounds.specs.Places.{place_at};
+ghost use Rattle.escrow_bounds.specs.Bounds.{place_at};
 ghost use Rattle.escrow_tests.specs.Placed.{IsPlaced};
 
 use escrow_bounds::{Bounds, Verdict};

@@ -1,7 +1,7 @@
 use Rattle.std.proofs.Common.{◌≡◌, []}
 use Rattle.escrow_bounds.specs.Columns.{column_checks}
 use Rattle.escrow_bounds.specs.Counts.{HaveSums}
-use Rattle.escrow_bounds.specs.Kept.{checks_of}
+use Rattle.escrow_bounds.specs.Place.{checks_of}
 use Rattle.escrow_bounds.proofs.place.all_columns.Given as goal
 
 abbrev pub invariant-loop-place : goal.invariant-loop-place

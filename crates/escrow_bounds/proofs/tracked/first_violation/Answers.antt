@@ -4,7 +4,7 @@ use Rattle.escrow_checks.specs.declared.check.Check.{Check}
 use Rattle.escrow_checks.specs.Form.{form, IsCovered}
 use Rattle.escrow_checks.specs.Grant.{broken_by}
 use Rattle.escrow_bounds.specs.Counts.{HaveSums}
-use Rattle.escrow_bounds.specs.Kept.{checks_of}
+use Rattle.escrow_bounds.specs.Place.{checks_of}
 use Rattle.escrow_bounds.proofs.Forms.{sums_at, covered_at, value_at, broken_here, broken_past}
 use Rattle.escrow_bounds.proofs.tracked.first_violation.Goals as goal
 use Rattle.escrow_bounds.proofs.tracked.first_violation.Goals.{After-violation_from-violation}

@@ -4,7 +4,7 @@ use Rattle.escrow_checks.specs.Form.{form, IsCovered}
 use Rattle.escrow_checks.specs.Grant.{broken}
 use Rattle.escrow_checks.specs.declared.check.Check.{Check}
 use Rattle.escrow_bounds.specs.Counts.{HaveSums}
-use Rattle.escrow_bounds.specs.Kept.{checks_of}
+use Rattle.escrow_bounds.specs.Place.{checks_of}
 use Rattle.escrow_bounds.proofs.tracked.first_violation.Given as goal
 
 abbrev pub invariant-loop-i : goal.invariant-loop-i

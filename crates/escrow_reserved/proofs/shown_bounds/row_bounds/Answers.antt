@@ -1,5 +1,5 @@
 use Rattle.std.proofs.Common.{◌≡◌, ◌-◌, List, length, map, drop, take, refl, ◌∙◌, ap, ap₂}
-use Rattle.escrow_bounds.specs.Kept.{Kept}
+use Rattle.escrow_bounds.specs.Place.{Place}
 use Rattle.escrow_schema.specs.declared.column.Column.{Column}
 use Rattle.escrow_schema.specs.Column.{names_of, reservables}
 use Rattle.escrow_schema.specs.Print.{declared_checks}
@@ -17,7 +17,7 @@ returns c = λ place reservations at counts.
     let table = c.args.table.now in
     let amounts = place.amounts in
     let of_table = c.requires.of_table place at in
-    let kept : c.unwrap-amounts.result.now ≡ amounts = some_same ((rw c.unwrap-amounts.ensures at c.amounts.ensures) ∙ ap (option_map (λ (p : Kept). p.amounts)) at) in
+    let kept : c.unwrap-amounts.result.now ≡ amounts = some_same ((rw c.unwrap-amounts.ensures at c.amounts.ensures) ∙ ap (option_map (λ (p : Place). p.amounts)) at) in
     let is : c.in_ok-all.all ≡ map (check_bounds amounts reservations) table.checks =
     c.in_ok-all.ensures.shown place reservations at counts ∙ ap (map (check_bounds amounts reservations)) c.as_slice.ensures in
     let n = c.len.result - length c.unwrap-amounts.result.now in

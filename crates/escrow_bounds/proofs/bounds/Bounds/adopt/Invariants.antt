@@ -1,7 +1,7 @@
 use Rattle.std.proofs.Common.{◌≡◌, length}
 use Rattle.escrow_num.specs.declared.value.RowName.{RowName}
 use Rattle.escrow_bounds.specs.Altered.{adopted}
-use Rattle.escrow_bounds.specs.Places.{place_at}
+use Rattle.escrow_bounds.specs.Bounds.{place_at}
 use Rattle.escrow_bounds.proofs.bounds.Bounds.adopt.Given as goal
 
 abbrev pub invariant-loop-row : goal.invariant-loop-row

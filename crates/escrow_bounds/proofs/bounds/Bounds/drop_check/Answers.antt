@@ -1,6 +1,6 @@
 use Rattle.std.proofs.Common.{◌≤◌, ◌∙◌, length, sym, subst, arith}
 use Rattle.escrow_bounds.specs.Altered.{TableGoes, IsWithout}
-use Rattle.escrow_bounds.specs.Places.{Places}
+use Rattle.escrow_bounds.specs.Bounds.{Bounds}
 use Rattle.escrow_bounds.proofs.Altering.{EntryStep, entry_stepped, table_stepped, length-set_value_at}
 use Rattle.escrow_bounds.proofs.Steps.{stepped_first, stepped_last}
 use Rattle.escrow_bounds.proofs.bounds.Bounds.drop_check.Goals as goal
@@ -26,5 +26,5 @@ returns c =
     let old = c.self.inside.places.entries in
     let new = c.loop-i.self-inside.places.entries in
     let past : length new ≤ c.loop-i.i = omega (arith, c.loop-i.invariant.all, c.loop-i-test.false) in
-    subst (λ (places : Places). TableGoes c.args.table (λ row. IsWithout c.args.index) places new) c.self.view_is
+    subst (λ (places : Bounds). TableGoes c.args.table (λ row. IsWithout c.args.index) places new) c.self.view_is
     (table_stepped c.args.table c.args.index old new (stepped_last (EntryStep c.args.table c.args.index) c.loop-i.i old new past c.loop-i.invariant.stepped))

@@ -3,7 +3,7 @@ use Rattle.std.proofs.Common.{List, ◌≤◌, length, map, sym, subst, arith}
 use Rattle.escrow_num.specs.declared.reservation.Reservation.{Reservation}
 use Rattle.escrow_checks.specs.declared.spread.TheConstants.Spread.{MAX_OPEN}
 use Rattle.escrow_bounds.specs.Altered.{ArePrepared}
-use Rattle.escrow_bounds.specs.Places.{Places}
+use Rattle.escrow_bounds.specs.Bounds.{Bounds}
 use Rattle.escrow_bounds.proofs.Filling.{shown_at, length-shown, open_there, filled_room, filled_next, prepared}
 use Rattle.escrow_bounds.proofs.bounds.Bounds.prepare.Goals as goal
 
@@ -36,5 +36,5 @@ returns-clause-prepared c =
     let held = shown c.args.reservations.now in
     let i = c.loop-r.r-index in
     let past : length held ≤ i = omega (arith, length-shown c.args.reservations.now, c.loop-r-test.false) in
-    subst (λ (places : Places). ArePrepared c.args.table c.args.checks.now held c.args.self.now places) (sym c.new.ensures)
+    subst (λ (places : Bounds). ArePrepared c.args.table c.args.checks.now held c.args.self.now places) (sym c.new.ensures)
     (prepared c.args.table c.args.checks.now held i c.args.self.now c.loop-r.filled past c.requires.counted c.requires.counting c.loop-r.invariant)

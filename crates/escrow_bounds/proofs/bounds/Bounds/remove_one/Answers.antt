@@ -1,6 +1,6 @@
 use Rattle.std.proofs.Common.{ℤ, List, take, subst}
 use Rattle.escrow_bounds.specs.Counts.{GivesBack}
-use Rattle.escrow_bounds.specs.Places.{place_at, Becomes}
+use Rattle.escrow_bounds.specs.Bounds.{place_at, Becomes}
 use Rattle.escrow_bounds.proofs.Ending.{IsRemoved, counted_first, shown_is, removed_counts, removed_ended, removed_counting}
 use Rattle.escrow_bounds.proofs.bounds.Bounds.remove_one.Goals as goal
 

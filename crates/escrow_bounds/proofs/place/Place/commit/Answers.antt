@@ -3,8 +3,8 @@ use Rattle.std.specs.List.{AllByRecursion}
 use Rattle.std.specs.Vec.{with_items}
 use Rattle.std.proofs.lemmas.List.{with_items_is}
 use Rattle.escrow_checks.specs.Contribution.{IsContribution}
-use Rattle.escrow_bounds.specs.Inside.{kept_of}
-use Rattle.escrow_bounds.specs.Kept.{Kept, checks_of}
+use Rattle.escrow_bounds.specs.Inside.{place_of}
+use Rattle.escrow_bounds.specs.Place.{Place, checks_of}
 use Rattle.escrow_bounds.specs.Moved.{all_moved}
 use Rattle.escrow_bounds.proofs.Forms.{values_at}
 use Rattle.escrow_bounds.proofs.Kept.{lent, place_kept}
@@ -13,11 +13,11 @@ use Rattle.escrow_bounds.proofs.place.Place.commit.Goals as goal
 
 pub invariant_of-self : goal.invariant_of-self
 invariant_of-self c =
-    let old = kept_of c.self.inside in
+    let old = place_of c.self.inside in
     let place = c.self.invariant.0 in
     let changes = c.args.changes.now in
     let amounts = lent (λ held new. new ≡ all_moved held changes) c.self.inside.amounts c.deref_mut.result.now c.move_all.new.amounts c.deref_mut.ensures.value (omega (arith, c.move_all.auto.amounts, c.deref_mut.ensures.len)) c.move_all.ensures in
-    let new : Kept = record old { amounts = (with_items c.self.inside.amounts c.move_all.new.amounts).items } in
+    let new : Place = record old { amounts = (with_items c.self.inside.amounts c.move_all.new.amounts).items } in
     let values = with_items_is c.self.inside.values c.revalue.new.values (omega (arith, c.revalue.auto.values, c.deref_mut-2.ensures.len)) in (
       place_kept old new place.reservations place (ap length amounts ∙ length-all_moved old.amounts changes) refl refl place.counts,
       values ∙ c.revalue.ensures.values ∙ ap₂ (λ held forms. values_at held (checks_of forms)) c.deref-2.ensures.value c.deref.ensures.value,
@@ -26,8 +26,8 @@ invariant_of-self c =
 
 pub returns : goal.returns
 returns c =
-    let old = kept_of c.self.inside in
+    let old = place_of c.self.inside in
     let changes = c.args.changes.now in
-    let new : Kept = record old { amounts = (with_items c.self.inside.amounts c.move_all.new.amounts).items } in
+    let new : Place = record old { amounts = (with_items c.self.inside.amounts c.move_all.new.amounts).items } in
     let amounts = lent (λ held new. new ≡ all_moved held changes) c.self.inside.amounts c.deref_mut.result.now c.move_all.new.amounts c.deref_mut.ensures.value (omega (arith, c.move_all.auto.amounts, c.deref_mut.ensures.len)) c.move_all.ensures in
-    subst (λ (kept : Kept). new ≡ record kept { amounts = all_moved kept.amounts changes }) c.self.view_is (ap (λ (held : List ℤ). record old { amounts = held }) amounts)
+    subst (λ (kept : Place). new ≡ record kept { amounts = all_moved kept.amounts changes }) c.self.view_is (ap (λ (held : List ℤ). record old { amounts = held }) amounts)

@@ -2,15 +2,15 @@ use Rattle.std.proofs.Common.{refl, sym, ap, ◌∙◌, subst, arith}
 use Rattle.std.specs.List.{AllByRecursion}
 use Rattle.escrow_checks.specs.Contribution.{IsContribution}
 use Rattle.escrow_bounds.specs.Altered.{IsWithout}
-use Rattle.escrow_bounds.specs.Inside.{kept_of}
-use Rattle.escrow_bounds.specs.Kept.{Kept, checks_of}
+use Rattle.escrow_bounds.specs.Inside.{place_of}
+use Rattle.escrow_bounds.specs.Place.{Place, checks_of}
 use Rattle.escrow_bounds.proofs.Forms.{values_at}
 use Rattle.escrow_bounds.proofs.Altering.{all_without, is_without, place_without, values_without, remove_past}
 use Rattle.escrow_bounds.proofs.place.Place.drop_check.Goals as goal
 
 pub invariant_of-self : goal.invariant_of-self
 invariant_of-self c =
-    let old = kept_of c.self.inside in (
+    let old = place_of c.self.inside in (
       place_without c.args.index old (record old { checks = c.remove.new.self.items }) c.self.invariant.0 refl refl c.remove.ensures.items refl,
       c.remove-then-index-len.ensures.items ∙ values_without old.checks old.amounts c.self.inside.values.items c.args.index c.self.invariant.1
           ∙ ap (λ forms. values_at old.amounts (checks_of forms)) (sym c.remove.ensures.items),
@@ -19,12 +19,12 @@ invariant_of-self c =
 
 pub returns-then-index-len : goal.returns-then-index-len
 returns-then-index-len c =
-    let old = kept_of c.self.inside in
-    let new : Kept = record old { checks = c.remove.new.self.items } in
-    subst (λ (kept : Kept). IsWithout c.args.index kept new) c.self.view_is (is_without c.args.index old new refl refl c.remove.ensures.items refl)
+    let old = place_of c.self.inside in
+    let new : Place = record old { checks = c.remove.new.self.items } in
+    subst (λ (kept : Place). IsWithout c.args.index kept new) c.self.view_is (is_without c.args.index old new refl refl c.remove.ensures.items refl)
 
 pub returns-else-index-len : goal.returns-else-index-len
 returns-else-index-len c =
-    let old = kept_of c.self.inside in
-    subst (λ (kept : Kept). IsWithout c.args.index kept kept) c.self.view_is
+    let old = place_of c.self.inside in
+    subst (λ (kept : Place). IsWithout c.args.index kept kept) c.self.view_is
     (is_without c.args.index old old refl refl (sym (remove_past old.checks c.args.index (omega (arith, c.if-index-len.false, c.len.ensures)))) refl)

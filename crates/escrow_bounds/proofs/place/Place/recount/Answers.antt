@@ -2,8 +2,8 @@ use Rattle.std.proofs.Common.{ℤ, List, ◌++◌, refl, sym, ap, ◌∙◌, sub
 use Rattle.std.specs.Vec.{with_items}
 use Rattle.escrow_bounds.specs.declared.tracked.Tracked.{Tracked}
 use Rattle.escrow_bounds.specs.Counts.{Counts, HaveSums}
-use Rattle.escrow_bounds.specs.Inside.{kept_of}
-use Rattle.escrow_bounds.specs.Kept.{Kept}
+use Rattle.escrow_bounds.specs.Inside.{place_of}
+use Rattle.escrow_bounds.specs.Place.{Place}
 use Rattle.escrow_bounds.specs.Recounting.{counted_before, AreRecounted, CanRecount, HasRoom, IsRecounted}
 use Rattle.escrow_bounds.proofs.Forms.{values_at}
 use Rattle.escrow_bounds.proofs.Kept.{lent, recountable, recounted, place_recounted}
@@ -11,10 +11,10 @@ use Rattle.escrow_bounds.proofs.place.Place.recount.Goals as goal
 use Rattle.escrow_bounds.proofs.place.Place.recount.Goals.{After-number-self-inside, After-self}
 
 -- what is counted, with the changes and with their list
-counted : (c : After-self) → (before : List (List ℤ)) × (after : List (List ℤ)) × Counts (kept_of c.self.inside) (counted_before c.args.counting before c.of-changes.result after) × HasRoom c.args.counting (before ++ after)
+counted : (c : After-self) → (before : List (List ℤ)) × (after : List (List ℤ)) × Counts (place_of c.self.inside) (counted_before c.args.counting before c.of-changes.result after) × HasRoom c.args.counting (before ++ after)
 counted c =
-    let can = subst (λ (kept : Kept). CanRecount c.args.counting c.args.changes.now kept) (sym c.self.view_is) c.requires in
-    recountable c.args.counting c.of-changes.result (kept_of c.self.inside) c.self.invariant.0 (subst (λ (changes : List ℤ). CanRecount c.args.counting changes (kept_of c.self.inside)) (sym c.of-changes.ensures) can)
+    let can = subst (λ (kept : Place). CanRecount c.args.counting c.args.changes.now kept) (sym c.self.view_is) c.requires in
+    recountable c.args.counting c.of-changes.result (place_of c.self.inside) c.self.invariant.0 (subst (λ (changes : List ℤ). CanRecount c.args.counting changes (place_of c.self.inside)) (sym c.of-changes.ensures) can)
 
 pub recount-requires : goal.recount-requires
 recount-requires c =
@@ -32,31 +32,31 @@ number-self-inside-requires c =
     (known.0, c.of-changes.result, known.1, known.2.0, known.3)
 
 -- what the fields keep then
-abbrev kept : (c : After-number-self-inside) → Kept
+abbrev kept : (c : After-number-self-inside) → Place
 kept c = record {
-  amounts = (kept_of c.self.inside).amounts;
+  amounts = (place_of c.self.inside).amounts;
   count = c.number-self-inside.result;
   checks = (with_items c.self.inside.checks c.recount.new.forms).items;
   columns = (with_items c.self.inside.columns c.recount-2.new.forms).items;
 }
 
-checks : (c : After-number-self-inside) → AreRecounted c.args.counting c.of-changes.result (kept_of c.self.inside).checks (kept c).checks
+checks : (c : After-number-self-inside) → AreRecounted c.args.counting c.of-changes.result (place_of c.self.inside).checks (kept c).checks
 checks c = lent (AreRecounted c.args.counting c.of-changes.result) c.self.inside.checks c.deref_mut.result.now c.recount.new.forms c.deref_mut.ensures.value (omega (arith, c.recount.auto.forms, c.deref_mut.ensures.len)) c.recount.ensures
 
-columns : (c : After-number-self-inside) → AreRecounted c.args.counting c.of-changes.result (kept_of c.self.inside).columns (kept c).columns
+columns : (c : After-number-self-inside) → AreRecounted c.args.counting c.of-changes.result (place_of c.self.inside).columns (kept c).columns
 columns c = lent (AreRecounted c.args.counting c.of-changes.result) c.self.inside.columns c.deref_mut-2.result.now c.recount-2.new.forms c.deref_mut-2.ensures.value (omega (arith, c.recount-2.auto.forms, c.deref_mut-2.ensures.len)) c.recount-2.ensures
 
-is_recounted : (c : After-number-self-inside) → IsRecounted c.args.counting c.of-changes.result (kept_of c.self.inside) (kept c)
-is_recounted c = recounted c.args.counting c.of-changes.result (kept_of c.self.inside) (kept c) refl c.number-self-inside.ensures (checks c) (columns c)
+is_recounted : (c : After-number-self-inside) → IsRecounted c.args.counting c.of-changes.result (place_of c.self.inside) (kept c)
+is_recounted c = recounted c.args.counting c.of-changes.result (place_of c.self.inside) (kept c) refl c.number-self-inside.ensures (checks c) (columns c)
 
 pub invariant_of-self : goal.invariant_of-self
 invariant_of-self c =
     let known = counted (goal.at.invariant_of-self c).After-self in
     let at = (goal.at.invariant_of-self c).After-number-self-inside in
-    (place_recounted c.args.counting c.of-changes.result known.0 known.1 (kept_of c.self.inside) (kept at) c.self.invariant.0 known.2 (is_recounted at) (columns at).0, c.self.invariant.1 ∙ ap (values_at (kept_of c.self.inside).amounts) (sym (checks at).0), c.self.invariant.2)
+    (place_recounted c.args.counting c.of-changes.result known.0 known.1 (place_of c.self.inside) (kept at) c.self.invariant.0 known.2 (is_recounted at) (columns at).0, c.self.invariant.1 ∙ ap (values_at (place_of c.self.inside).amounts) (sym (checks at).0), c.self.invariant.2)
 
 pub returns : goal.returns
 returns c =
     let at = (goal.at.returns c).After-number-self-inside in
     subst (λ (changes : List ℤ). IsRecounted c.args.counting changes c.args.self.now (kept at)) c.of-changes.ensures
-    (subst (λ (old : Kept). IsRecounted c.args.counting c.of-changes.result old (kept at)) c.self.view_is (is_recounted at))
+    (subst (λ (old : Place). IsRecounted c.args.counting c.of-changes.result old (kept at)) c.self.view_is (is_recounted at))

@@ -1,7 +1,7 @@
 use Rattle.std.specs.Prelude.{Option, IsSome, is_some}
 use Rattle.std.proofs.Common.{refl, sym, ap, ◌∙◌}
 use Rattle.escrow_num.specs.Session.{IsSession}
-use Rattle.escrow_bounds.specs.Places.{place_at}
+use Rattle.escrow_bounds.specs.Bounds.{place_at}
 use Rattle.escrow_machine.specs.Asked.{row_name}
 use Rattle.escrow_machine.specs.State.{State}
 use Rattle.escrow_core.specs.Inside.{seen_of}

@@ -5,8 +5,8 @@ use Rattle.escrow_num.specs.declared.value.RowName.{RowName}
 use Rattle.escrow_statement.specs.declared.statement.Statement.TheVariants as statement
 use Rattle.escrow_bounds.specs.Counts.{Counts}
 use Rattle.escrow_bounds.specs.Held.{CountsJust, of_row}
-use Rattle.escrow_bounds.specs.Kept.{Kept}
-use Rattle.escrow_bounds.specs.Places.{place_at}
+use Rattle.escrow_bounds.specs.Place.{Place}
+use Rattle.escrow_bounds.specs.Bounds.{place_at}
 use Rattle.escrow_schema.specs.Catalog.{place_named, table_named}
 use Rattle.escrow_schema.specs.Column.{reservables}
 use Rattle.escrow_schema.specs.declared.table.TableDef.{TableDef}
@@ -35,7 +35,7 @@ named : (g : given.Over) (c : After-bounds g) → table_named c.self.inside.tabl
 named g c = c.table-table.ensures.named c.args.text.now.table (rw (← c.self.view_is) at c.in_ok-place.ensures.place)
 
 -- where the row is reserved its place is of that table
-of_table : (g : given.Over) (c : After-bounds g) → (place : Kept) → place_at c.self.inside.reserved.places c.in_ok-name.name ≡ Some place → IsOfTable c.table-table.result.now place
+of_table : (g : given.Over) (c : After-bounds g) → (place : Place) → place_at c.self.inside.reserved.places c.in_ok-name.name ≡ Some place → IsOfTable c.table-table.result.now place
 of_table g c place at =
     let catalog = c.self.inside.tables.catalog in
     let same : c.in_ok-name.name.table ≡ c.args.text.now.table = ap (λ (n : RowName). n.table) c.in_ok-name.ensures in

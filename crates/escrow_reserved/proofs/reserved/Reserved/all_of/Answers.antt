@@ -1,6 +1,6 @@
 use Rattle.std.specs.Prelude.{IsSome, take}
 use Rattle.escrow_num.specs.declared.reservation.Reservation.{Reservation}
-use Rattle.escrow_bounds.specs.Places.{place_at}
+use Rattle.escrow_bounds.specs.Bounds.{place_at}
 use Rattle.escrow_machine.specs.Walked.{IsShort}
 use Rattle.escrow_reserved.proofs.Counting.{own_placed, short_own}
 use Rattle.escrow_reserved.proofs.Ends.{all_own}

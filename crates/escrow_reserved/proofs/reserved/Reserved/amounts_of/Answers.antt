@@ -4,7 +4,7 @@ use Rattle.std.proofs.Common.{refl, sym, subst, arith}
 use Rattle.std.proofs.lemmas.List.{take_all}
 use Rattle.escrow_num.specs.declared.reservation.Reservation.{Reservation}
 use Rattle.escrow_num.proofs.Items.{all_at}
-use Rattle.escrow_bounds.specs.Places.{place_at}
+use Rattle.escrow_bounds.specs.Bounds.{place_at}
 use Rattle.escrow_bounds.proofs.Filling.{length-shown, shown_at}
 use Rattle.escrow_reserved.specs.Reserved.{AreAmounts}
 use Rattle.escrow_reserved.proofs.Counting.{amounts_more}

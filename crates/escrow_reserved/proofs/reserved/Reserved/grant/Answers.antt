@@ -2,8 +2,8 @@ use Rattle.std.specs.Prelude.{◌≡◌, None, take}
 use Rattle.std.proofs.Common.{sym}
 use Rattle.escrow_num.specs.Reservation.{deltas}
 use Rattle.escrow_bounds.specs.Held.{of_row}
-use Rattle.escrow_bounds.specs.Kept.{checks_of}
-use Rattle.escrow_bounds.specs.Places.{place_at}
+use Rattle.escrow_bounds.specs.Place.{checks_of}
+use Rattle.escrow_bounds.specs.Bounds.{place_at}
 use Rattle.escrow_bounds.proofs.Ending.{shown_is}
 use Rattle.escrow_journal.specs.Open.{grant_refusal}
 use Rattle.escrow_reserved.proofs.Counting.{free_of}

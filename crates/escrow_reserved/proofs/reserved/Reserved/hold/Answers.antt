@@ -3,7 +3,7 @@ use Rattle.std.proofs.Common.{ap, subst, arith}
 use Rattle.escrow_num.specs.Reservation.{deltas}
 use Rattle.escrow_bounds.specs.Counts.{TakesIn}
 use Rattle.escrow_bounds.specs.Held.{CountsJust, of_row}
-use Rattle.escrow_bounds.specs.Places.{Becomes, place_at}
+use Rattle.escrow_bounds.specs.Bounds.{Becomes, place_at}
 use Rattle.escrow_bounds.proofs.LawLemmas.{release_counts}
 use Rattle.escrow_reserved.specs.Reserved.{Reserved}
 use Rattle.escrow_reserved.proofs.Counting.{few_counted, granted_counts, released_is}

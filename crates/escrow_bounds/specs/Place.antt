@@ -5,7 +5,7 @@ use Rattle.escrow_bounds.specs.declared.tracked.Tracked.{Tracked}
 
 -- What is kept of a row: its committed amounts; how many open reservations are counted; and their spread under
 -- each check of its table, and under each RESERVABLE column alone.
-pub record Kept : Type 0 where
+pub record Place : Type 0 where
   pub amounts : List ℤ
   pub count : ℕ
   pub checks : List Tracked
