@@ -47,7 +47,7 @@ use Rattle.escrow_schema.proofs.LawLemmas.{few_reservable}
 use Rattle.escrow_schema.proofs.PrintBack.{sound_of}
 use Rattle.escrow_journal.specs.Open.{Open}
 use Rattle.escrow_tables.specs.Calls.{Reads, Writes}
-use Rattle.escrow_tables.specs.Committed.{Committed}
+use Rattle.escrow_tables.specs.Tables.{Tables}
 use Rattle.escrow_tables.specs.Judged.{first_violation}
 use Rattle.escrow_machine.specs.declared.reply.Reply.{Reply}
 use Rattle.escrow_machine.specs.declared.reply.Reply.TheVariants as reply
@@ -366,7 +366,7 @@ known_altered catalog table old made named alike (Some r) known =
         many ∙ ap (λ (t : TableDef). length (reservables t.columns)) itself ∙ ap (λ (t : TableDef). length (reservables t.columns)) (sym alike))
         (λ _. many)
 
-module _ {S : Type 0} (g : Ghosts S) (session : ℕ) (asked : Statement) (t new : Committed S) (o : Open) (table : List ℕ) (old made : TableDef)
+module _ {S : Type 0} (g : Ghosts S) (session : ℕ) (asked : Statement) (t new : Tables S) (o : Open) (table : List ℕ) (old made : TableDef)
     (may : MayAlter g session asked (seen_of t o) table old made) where
   -- the call that writes it may be made
   pub alters_like : IsSomeAnd (table_named t.catalog made.name) (λ (was : TableDef). made ≡ record was { checks = made.checks })
@@ -477,7 +477,7 @@ pub judges_old : (catalog : List TableDef) (table : List ℕ) (old : TableDef) (
 judges_old catalog table old text added named is_table are = named ∙ ap (λ (t : TableDef). Some t) (sym (are_new old text added is_table are).before)
 
 -- where the rows are read, the state stays
-pub read_only_reads : {S : Type 0} (g : Ghosts S) (t after : Committed S) (o : Open) → Reads g t after → OnlyReads g (seen_of t o) (seen_of after o)
+pub read_only_reads : {S : Type 0} (g : Ghosts S) (t after : Tables S) (o : Open) → Reads g t after → OnlyReads g (seen_of t o) (seen_of after o)
 read_only_reads g t after o reads = record {
   same = ap (λ (c : _ × _). record (seen_of t o).state { catalog = c.0; rows = c.1 }) (ap₂ (λ a b. (a, b)) reads.catalog reads.rows);
   usable = reads.usable;
@@ -485,7 +485,7 @@ read_only_reads g t after o reads = record {
 }
 
 -- and what the database keeps
-pub read_holds : {S : Type 0} (g : Ghosts S) (t after : Committed S) (o : Open) (places : Bounds) (recent : ReadRows) → Holds g (seen_of t o) places recent → Reads g t after
+pub read_holds : {S : Type 0} (g : Ghosts S) (t after : Tables S) (o : Open) (places : Bounds) (recent : ReadRows) → Holds g (seen_of t o) places recent → Reads g t after
     → Holds g (seen_of after o) places recent
 read_holds g t after o places recent holds reads = record {
   keeps = read_keeps g t after o places holds.keeps reads;

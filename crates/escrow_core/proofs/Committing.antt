@@ -14,7 +14,7 @@ use Rattle.escrow_bounds.specs.Place.{Place}
 use Rattle.escrow_bounds.specs.Bounds.{Bounds, place_at}
 use Rattle.escrow_journal.specs.Reservations.{own}
 use Rattle.escrow_tables.specs.Calls.{AreGiven}
-use Rattle.escrow_tables.specs.Committed.{Committed}
+use Rattle.escrow_tables.specs.Tables.{Tables}
 use Rattle.escrow_journal.specs.Open.{Open, ended}
 use Rattle.escrow_machine.specs.declared.reply.Reply.{Reply}
 use Rattle.escrow_machine.specs.declared.reply.Reply.TheVariants as reply
@@ -75,7 +75,7 @@ read_after s session None valid read = tt
 read_after s session (Some r) valid read = committed_amounts s session r.name r.amounts valid read
 
 -- what a database holds where reservations are dropped, and the store is left
-pub dropped_holds : {S : Type 0} (g : Ghosts S) (t : Committed S) (o left : Open) (dropped : List Reservation) (old : Bounds) (after : Reserved) (recent : ReadRows) → Holds g (seen_of t o) old recent
+pub dropped_holds : {S : Type 0} (g : Ghosts S) (t : Tables S) (o left : Open) (dropped : List Reservation) (old : Bounds) (after : Reserved) (recent : ReadRows) → Holds g (seen_of t o) old recent
     → after.txns ≡ left → AreEnded end.Rollback dropped old after.places → (ArePlaced o.reservations old → ArePlaced after.txns.reservations after.places)
     → IsOrderly t.catalog left.reservations left.savepoints left.next_id → (IsValid (seen_of t o).state → IsValid (seen_of t left).state) → Holds g (seen_of t after.txns) after.places recent
 dropped_holds g t o left dropped old after recent holds is are placed orderly valid =
@@ -91,7 +91,7 @@ dropped_holds g t o left dropped old after recent holds is are placed orderly va
       read = holds.read;
     }
 
-module _ {S : Type 0} (g : Ghosts S) (session : ℕ) (t : Committed S) (o : Open) where
+module _ {S : Type 0} (g : Ghosts S) (session : ℕ) (t : Tables S) (o : Open) where
   -- the session holds no reservation
   pub just_ended : own session o.reservations ≡ [] → Serves g session statement.Commit (seen_of t o) (done session o) (seen_of t (ended session o))
   just_ended none =

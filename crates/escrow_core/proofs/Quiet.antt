@@ -11,7 +11,7 @@ use Rattle.escrow_num.specs.declared.reservation.Reservation.{Reservation}
 use Rattle.escrow_num.specs.declared.row.Row.{Row}
 use Rattle.escrow_statement.specs.declared.statement.Statement.{Statement}
 use Rattle.escrow_statement.specs.declared.statement.Statement.TheVariants as statement
-use Rattle.escrow_tables.specs.Committed.{AreHeld}
+use Rattle.escrow_tables.specs.Tables.{AreHeld}
 use Rattle.escrow_journal.specs.Reservations.{own}
 use Rattle.escrow_schema.specs.Rows.{applied}
 use Rattle.escrow_schema.specs.declared.plan.Plan.{Plan}

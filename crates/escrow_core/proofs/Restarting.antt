@@ -3,7 +3,7 @@ use Rattle.sqlite_trees.specs.declared.store.Store.{Ghosts}
 use Rattle.std.specs.Prelude.{[], refl}
 use Rattle.escrow_bounds.specs.Bounds.{Bounds}
 use Rattle.escrow_tables.specs.Calls.{Reads}
-use Rattle.escrow_tables.specs.Committed.{Committed}
+use Rattle.escrow_tables.specs.Tables.{Tables}
 use Rattle.escrow_journal.specs.Open.{Open, nothing_open}
 use Rattle.escrow_core.specs.Inside.{seen_of, Keeps}
 use Rattle.escrow_machine.specs.State.{State}
@@ -11,7 +11,7 @@ use Rattle.escrow_machine.specs.Valid.{IsValid}
 use Rattle.escrow_machine.proofs.ValidEmpty.{opened_orderly, opened_valid}
 use Rattle.escrow_core.proofs.Serving.{still_clean}
 
-pub restarted_keeps : {S : Type 0} (g : Ghosts S) (t new : Committed S) (o : Open) (places : Bounds) → Keeps g (seen_of t o) places → Reads g t new → Keeps g (seen_of new nothing_open) []
+pub restarted_keeps : {S : Type 0} (g : Ghosts S) (t new : Tables S) (o : Open) (places : Bounds) → Keeps g (seen_of t o) places → Reads g t new → Keeps g (seen_of new nothing_open) []
 restarted_keeps g t new o places keeps reads =
     let s : State = (seen_of t o).state in
     record {

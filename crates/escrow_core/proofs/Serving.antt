@@ -23,7 +23,7 @@ use Rattle.escrow_schema.specs.Column.{reservables}
 use Rattle.escrow_schema.specs.declared.table.TableDef.{TableDef}
 use Rattle.escrow_rows.specs.Answers.{IsUsable}
 use Rattle.escrow_tables.specs.Calls.{Reads, Writes}
-use Rattle.escrow_tables.specs.Committed.{Committed, AreHeld}
+use Rattle.escrow_tables.specs.Tables.{Tables, AreHeld}
 use Rattle.escrow_journal.specs.Open.{Open}
 use Rattle.escrow_machine.specs.declared.reply.Reply.{Reply}
 use Rattle.escrow_machine.specs.declared.reply.Reply.TheVariants as reply
@@ -134,7 +134,7 @@ pub still_clean : (a b : Store) (P : Trees → Type 0) → Survives a b P → Ha
 still_clean a b P survives clean = omega (arith, survives.clean, clean)
 
 -- what a database keeps where its store was read
-pub read_keeps : {S : Type 0} (g : Ghosts S) (t new : Committed S) (o : Open) (places : Bounds) → Keeps g (seen_of t o) places → Reads g t new → Keeps g (seen_of new o) places
+pub read_keeps : {S : Type 0} (g : Ghosts S) (t new : Tables S) (o : Open) (places : Bounds) → Keeps g (seen_of t o) places → Reads g t new → Keeps g (seen_of new o) places
 read_keeps g t new o places keeps reads = record {
   kept = record {
     orderly = rw reads.catalog keeps.kept.orderly;
@@ -146,7 +146,7 @@ read_keeps g t new o places keeps reads = record {
 }
 
 -- and what it holds where one more row was read, and is kept or not
-pub remembered_holds : {S : Type 0} (g : Ghosts S) (t new : Committed S) (o : Open) (places : Bounds) (old recent : ReadRows) (row : RowName) (amounts : List ℤ) → Holds g (seen_of t o) places old → Reads g t new
+pub remembered_holds : {S : Type 0} (g : Ghosts S) (t new : Tables S) (o : Open) (places : Bounds) (old recent : ReadRows) (row : RowName) (amounts : List ℤ) → Holds g (seen_of t o) places old → Reads g t new
     → ((name : RowName) → IsLeft old recent name ⊎ ((same_row row name ≡ true) × (read_at recent name ≡ Some amounts)))
     → IsKnown t.catalog (Some (row_with row amounts)) → (HasCleanDisk (state g new.store) → IsRead t.rows (Some (row_with row amounts))) → Holds g (seen_of new o) places recent
 remembered_holds g t new o places old recent row amounts holds reads only known read = record {
@@ -156,12 +156,12 @@ remembered_holds g t new o places old recent row amounts holds reads only known 
 }
 
 -- a write that failed leaves the state
-pub unwritten_same : {S : Type 0} (g : Ghosts S) (t new : Committed S) (o : Open) (catalog : List TableDef) (rows : List Row) → Writes g t new false catalog rows → (seen_of new o).state ≡ (seen_of t o).state
+pub unwritten_same : {S : Type 0} (g : Ghosts S) (t new : Tables S) (o : Open) (catalog : List TableDef) (rows : List Row) → Writes g t new false catalog rows → (seen_of new o).state ≡ (seen_of t o).state
 unwritten_same g t new o catalog rows writes =
     ap₂ (λ (c : List TableDef) (rs : List Row). record (seen_of t o).state { catalog = c; rows = rs }) (writes.kept_catalog refl) (writes.kept_rows refl)
 
 -- and what it keeps
-unwritten_keeps : {S : Type 0} (g : Ghosts S) (t new : Committed S) (o : Open) (places : Bounds) (catalog : List TableDef) (rows : List Row) → Keeps g (seen_of t o) places → Writes g t new false catalog rows
+unwritten_keeps : {S : Type 0} (g : Ghosts S) (t new : Tables S) (o : Open) (places : Bounds) (catalog : List TableDef) (rows : List Row) → Keeps g (seen_of t o) places → Writes g t new false catalog rows
     → Keeps g (seen_of new o) places
 unwritten_keeps g t new o places catalog rows keeps writes = record {
   kept = record {
@@ -174,7 +174,7 @@ unwritten_keeps g t new o places catalog rows keeps writes = record {
 }
 
 -- what it holds where a write wasn't done, and rows that were read may have been forgotten
-pub unwritten_holds : {S : Type 0} (g : Ghosts S) (t new : Committed S) (o : Open) (places : Bounds) (catalog : List TableDef) (rows : List Row) (old recent : ReadRows) → Holds g (seen_of t o) places old
+pub unwritten_holds : {S : Type 0} (g : Ghosts S) (t new : Tables S) (o : Open) (places : Bounds) (catalog : List TableDef) (rows : List Row) (old recent : ReadRows) → Holds g (seen_of t o) places old
     → Writes g t new false catalog rows → ((name : RowName) → IsLeft old recent name) → Holds g (seen_of new o) places recent
 unwritten_holds g t new o places catalog rows old recent holds writes left = record {
   keeps = unwritten_keeps g t new o places catalog rows holds.keeps writes;
@@ -326,7 +326,7 @@ module _ {S : Type 0} (g : Ghosts S) (session : ℕ) (asked : Statement) where
       look_answered old new (reply.Refused r) only_reads asks early refl (λ clean. refused_serves old.state session asked r (is clean))
 
   -- a crash leaves what the step makes, where a write leaves it
-  crashed : (t new : Committed S) (o : Open) (answer : Reply) (next : State) (is_done : Bool) → Writes g t new is_done next.catalog next.rows
+  crashed : (t new : Tables S) (o : Open) (answer : Reply) (next : State) (is_done : Bool) → Writes g t new is_done next.catalog next.rows
       → (HasCleanDisk (state g t.store) → step (seen_of t o).state session asked ≡ (answer, next))
       → Survives (state g t.store) (state g new.store) (λ trees. IsTrue (state g t.store).is_open × AreAfter (seen_of t o).state session asked trees)
   crashed t new o answer next is_done writes steps =
@@ -337,7 +337,7 @@ module _ {S : Type 0} (g : Ghosts S) (session : ℕ) (asked : Statement) where
       writes.survives
 
   -- a write was done, and the reply is the step's
-  pub wrote : (t new : Committed S) (o after : Open) (given answer : Reply) (next : State)
+  pub wrote : (t new : Tables S) (o after : Open) (given answer : Reply) (next : State)
       → asks_store (seen_of t o).state session asked ≡ true → PassesEarly (seen_of t o).state session asked → is_refused given ≡ false
       → (HasCleanDisk (state g new.store) → answer ≡ given)
       → Writes g t new true next.catalog next.rows
@@ -356,7 +356,7 @@ module _ {S : Type 0} (g : Ghosts S) (session : ℕ) (asked : Statement) where
       (subst (λ rs. AreHeld next.catalog rs trees) (sym (writes.done_rows refl clean)) (writes.durable refl clean trees may)))
 
   -- a write wasn't done, and the statement is refused for what it told, or what was looked at then
-  pub write_refused : (t mid : Committed S) (o : Open) (new : Seen S) (r : Refusal) (answer : Reply) (next : State)
+  pub write_refused : (t mid : Tables S) (o : Open) (new : Seen S) (r : Refusal) (answer : Reply) (next : State)
       → asks_store (seen_of t o).state session asked ≡ true → PassesEarly (seen_of t o).state session asked
       → Writes g t mid false next.catalog next.rows → OnlyReads g (seen_of mid o) new
       → (HasCleanDisk (state g t.store) → step (seen_of t o).state session asked ≡ (answer, next))
@@ -372,7 +372,7 @@ module _ {S : Type 0} (g : Ghosts S) (session : ℕ) (asked : Statement) where
       (λ e. absurd (no_write r e))
 
   -- a write failed
-  pub write_failed : (t new : Committed S) (o : Open) (f : Failure) (answer : Reply) (next : State)
+  pub write_failed : (t new : Tables S) (o : Open) (f : Failure) (answer : Reply) (next : State)
       → asks_store (seen_of t o).state session asked ≡ true → PassesEarly (seen_of t o).state session asked → fails_for (seen_of t o).state session asked f ≡ true
       → Writes g t new false next.catalog next.rows
       → (HasCleanDisk (state g t.store) → step (seen_of t o).state session asked ≡ (answer, next))
@@ -381,7 +381,7 @@ module _ {S : Type 0} (g : Ghosts S) (session : ℕ) (asked : Statement) where
       write_refused t new o (seen_of new o) (refusal_for f) answer next asks early writes (reads_itself g (seen_of new o)) steps (λ _. fails (seen_of t o).state session asked f early takes)
 
   -- what a database keeps after a write that was done
-  pub wrote_keeps : (t new : Committed S) (o after : Open) (next : State) → IsKept g (seen_of t o)
+  pub wrote_keeps : (t new : Tables S) (o after : Open) (next : State) → IsKept g (seen_of t o)
       → Writes g t new true next.catalog next.rows
       → next ≡ record (seen_of new after).state { catalog = next.catalog; rows = next.rows }
       → IsOrderly next.catalog next.reservations next.savepoints next.next_id
@@ -449,7 +449,7 @@ pub record MayWrite {S : Type 0} (g : Ghosts S) (session : ℕ) (asked : Stateme
   pub tables_stay : (row : RowName) (table : TableDef) → Stays row → table_named d.state.catalog row.table ≡ Some table → table_named next.catalog row.table ≡ Some table
   pub amounts_stay : HasCleanDisk (state g d.store) → (row : RowName) (amounts : List ℤ) → Stays row → amounts_named d.state.rows row ≡ Some amounts → amounts_named next.rows row ≡ Some amounts
 
-module _ {S : Type 0} {Stays : RowName → Type 0} (g : Ghosts S) (session : ℕ) (asked : Statement) (t new : Committed S) (o : Open) (answer : Reply) (next : State)
+module _ {S : Type 0} {Stays : RowName → Type 0} (g : Ghosts S) (session : ℕ) (asked : Statement) (t new : Tables S) (o : Open) (answer : Reply) (next : State)
     (may : MayWrite g session asked (seen_of t o) answer next Stays) where
   -- its write was done, and so the answer is one that is given
   pub write_serves : (given : Reply) → is_refused given ≡ false → (HasCleanDisk (state g new.store) → answer ≡ given) → Writes g t new true next.catalog next.rows → Serves g session asked (seen_of t o) given (seen_of new o)

@@ -45,7 +45,7 @@ use Rattle.escrow_reserved.proofs.Ends.{own_and_others}
 use Rattle.escrow_reserved.proofs.Places.{commits_amounts, ended_tables}
 use Rattle.escrow_rows.specs.Answers.{IsUsable}
 use Rattle.escrow_tables.specs.Calls.{Writes}
-use Rattle.escrow_tables.specs.Committed.{Committed, AreHeld}
+use Rattle.escrow_tables.specs.Tables.{Tables, AreHeld}
 use Rattle.escrow_core.specs.Ends.{AreCommits, left_after}
 use Rattle.escrow_core.specs.Inside.{seen_of, Holds, Keeps}
 use Rattle.escrow_core.specs.Seen.{Seen}
@@ -176,7 +176,7 @@ together_read (entry ∷ plan) s recent commits valid read =
 
 -- ONE WRITE
 
-module _ {S : Type 0} (g : Ghosts S) (plan : List (ℕ × End)) (commits : AreCommits plan) (t new : Committed S) (o : Open) where
+module _ {S : Type 0} (g : Ghosts S) (plan : List (ℕ × End)) (commits : AreCommits plan) (t new : Tables S) (o : Open) where
   abbrev s : State
   s = (seen_of t o).state
 

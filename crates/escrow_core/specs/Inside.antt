@@ -3,7 +3,7 @@ use Rattle.sqlite.specs.Held.{state}
 use Rattle.sqlite.specs.State.{HasCleanDisk}
 use Rattle.sqlite_trees.specs.declared.store.Store.{Ghosts}
 use Rattle.escrow_bounds.specs.Bounds.{Bounds}
-use Rattle.escrow_tables.specs.Committed.{Committed}
+use Rattle.escrow_tables.specs.Tables.{Tables}
 use Rattle.escrow_journal.specs.Open.{Open}
 use Rattle.escrow_reserved.specs.Placed.{AreOfTables, HaveAmounts}
 use Rattle.escrow_reserved.specs.Read.{AreKnown, AreRead, ReadRows}
@@ -11,7 +11,7 @@ use Rattle.escrow_reserved.specs.Reserved.{ArePlaced}
 use Rattle.escrow_core.specs.Seen.{Seen, IsKept}
 
 -- the store and the state that a database's fields hold
-abbrev pub seen_of : {S : Type 0} → Committed S → Open → Seen S
+abbrev pub seen_of : {S : Type 0} → Tables S → Open → Seen S
 seen_of tables open_ones = record {
   store = tables.store;
   state = record {

@@ -10,7 +10,7 @@ use Rattle.escrow_num.specs.declared.session.End.{End}
 use Rattle.escrow_num.specs.Refusal.{first_refusal}
 use Rattle.escrow_statement.specs.declared.statement.Statement.{Statement}
 use Rattle.escrow_rows.specs.Answers.{IsUsable}
-use Rattle.escrow_tables.specs.Committed.{AreHeld}
+use Rattle.escrow_tables.specs.Tables.{AreHeld}
 use Rattle.escrow_machine.specs.declared.reply.Reply.{Reply}
 use Rattle.escrow_machine.specs.declared.reply.Reply.TheVariants as reply
 use Rattle.escrow_machine.specs.Promised.{asks_store, reads_rows}

@@ -12,7 +12,7 @@ use Rattle.escrow_schema.specs.declared.table.TableDef.{TableDef}
 use Rattle.escrow_schema.specs.Catalog.{place_named, table_before, table_named}
 use Rattle.escrow_schema.specs.Rows.{rows_of}
 use Rattle.escrow_tables.specs.Calls.{Reads}
-use Rattle.escrow_tables.specs.Committed.{Committed}
+use Rattle.escrow_tables.specs.Tables.{Tables}
 use Rattle.escrow_tables.specs.Whole.{rows_by_table}
 use Rattle.escrow_tables.proofs.AllRows.{below_differs}
 
@@ -84,7 +84,7 @@ adds catalog rows place t first found old new at one told added =
 
 -- ---- what a reading call keeps
 
-pub reads_nothing : {S : Type 0} (g : Ghosts S) (t : Committed S) → Reads g t t
+pub reads_nothing : {S : Type 0} (g : Ghosts S) (t : Tables S) → Reads g t t
 reads_nothing g t = record {
   catalog = refl;
   rows = refl;

@@ -16,13 +16,13 @@ use Rattle.escrow_rows.specs.View.{rows_in}
 use Rattle.escrow_rows.proofs.ListedTables.{listed_are}
 use Rattle.escrow_recover.proofs.OpenedLemmas.{definitions}
 use Rattle.escrow_tables.specs.Calls.{Writes}
-use Rattle.escrow_tables.specs.Committed.{Committed, Holds}
+use Rattle.escrow_tables.specs.Tables.{Tables, Holds}
 use Rattle.escrow_tables.specs.Inside.{IsHeld, Keeps, catalog_of, stored_of}
 use Rattle.escrow_schema.specs.declared.counted_table.CountedTable.{CountedTable}
 use Rattle.escrow_tables.proofs.Held.{held_itself, rows_held}
 
 -- what contracts see of a connection, of how it was when it was last written, and of tables
-abbrev pub seen : {S : Type 0} → Ghosts S → Held S → Held S → List CountedTable → Committed S
+abbrev pub seen : {S : Type 0} → Ghosts S → Held S → Held S → List CountedTable → Tables S
 seen g store last tables = record { store = store; catalog = catalog_of tables; rows = rows_in (stored_of tables) (state g last).now }
 
 -- a database of which tables and rows are held holds them
@@ -36,7 +36,7 @@ holds tables rows db are held = record {
 }
 
 -- nothing is changed, and the call fails
-pub untouched : {S : Type 0} (g : Ghosts S) (it : Committed S) (catalog : List TableDef) (rows : List Row) → Writes g it it false catalog rows
+pub untouched : {S : Type 0} (g : Ghosts S) (it : Tables S) (catalog : List TableDef) (rows : List Row) → Writes g it it false catalog rows
 untouched g it catalog rows = record {
   done_catalog = λ e. absurd (false≢true e);
   done_rows = λ e. absurd (false≢true e);

@@ -9,11 +9,11 @@ use Rattle.escrow_num.specs.declared.row.Row.{Row}
 use Rattle.escrow_schema.specs.declared.table.TableDef.{TableDef}
 use Rattle.escrow_schema.specs.Rows.{row_named, with_row}
 use Rattle.escrow_rows.specs.Answers.{IsUsable}
-use Rattle.escrow_tables.specs.Committed.{Committed, AreHeld}
+use Rattle.escrow_tables.specs.Tables.{Tables, AreHeld}
 
 -- a call reads: tables and rows are unchanged, a store that a fault has shut stays shut, and a crash leaves what it
 -- might have left before
-pub record Reads {S : Type 0} (g : Ghosts S) (old new : Committed S) : Type 0 where
+pub record Reads {S : Type 0} (g : Ghosts S) (old new : Tables S) : Type 0 where
   pub catalog : new.catalog ≡ old.catalog
   pub rows : new.rows ≡ old.rows
   pub usable : IsUsable (state g new.store) → IsUsable (state g old.store)
@@ -23,7 +23,7 @@ pub record Reads {S : Type 0} (g : Ghosts S) (old new : Committed S) : Type 0 wh
 -- written, these rows; the store is open, and a crash leaves both. Otherwise both are unchanged. Whatever happens, a
 -- crash leaves what it might have left before, or, if the store was open, these tables and rows. After a fault has shut
 -- a store, nothing more is written to it.
-pub record Writes {S : Type 0} (g : Ghosts S) (old new : Committed S) (is_done : Bool) (catalog : List TableDef) (rows : List Row) : Type 0 where
+pub record Writes {S : Type 0} (g : Ghosts S) (old new : Tables S) (is_done : Bool) (catalog : List TableDef) (rows : List Row) : Type 0 where
   pub done_catalog : is_done ≡ true → new.catalog ≡ catalog
   pub done_rows : is_done ≡ true → HasCleanDisk (state g new.store) → new.rows ≡ rows
   pub opened : is_done ≡ true → HasCleanDisk (state g new.store) → IsTrue (state g new.store).is_open

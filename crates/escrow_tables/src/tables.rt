@@ -21,12 +21,12 @@ pub struct Tables<S: Alter> {
 impl<S: Alter> Model for Tables<S> {
     ghost use Rattle.sqlite.specs.Held.{state};
     ghost use Rattle.escrow_rows.specs.View.{rows_in};
-    ghost use Rattle.escrow_tables.specs.Committed.{Committed, committed_code};
+    ghost use Rattle.escrow_tables.specs.Tables.{Tables, tables_code};
     ghost use Rattle.escrow_tables.specs.Inside.{stored_of, catalog_of, Keeps};
 
-    ghost Value = { Committed S };
+    ghost Value = { Tables S };
 
-    ghost coded = { committed_code S.code };
+    ghost coded = { tables_code S.code };
 
     ghost view = { λ t. record { store = t.store; catalog = catalog_of t.catalog; rows = rows_in (stored_of t.catalog) (state S.Store t.last.value).now } };
 
@@ -45,7 +45,7 @@ impl<S: Alter> Tables<S> {
     ghost use Rattle.escrow_schema.specs.Rows.{rows_of, AreRowsOf};
     ghost use Rattle.escrow_schema.specs.Stored.{catalog_of};
     ghost use Rattle.escrow_recover.specs.Opened.{IsOpened, Stores};
-    ghost use Rattle.escrow_tables.specs.Committed.{AreHeld};
+    ghost use Rattle.escrow_tables.specs.Tables.{AreHeld};
 
     /// Returns the tables of a store that is opened. Makes no store call, and takes no memory.
     pub fn over(opened: Opened<S>) -> Self

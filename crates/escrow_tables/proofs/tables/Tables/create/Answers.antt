@@ -9,7 +9,7 @@ use Rattle.escrow_cells.specs.Calls.{Transacts}
 use Rattle.escrow_rows.specs.Changes.{Creates}
 use Rattle.escrow_rows.specs.View.{rows_in}
 use Rattle.escrow_tables.specs.Calls.{Writes}
-use Rattle.escrow_tables.specs.Committed.{Committed}
+use Rattle.escrow_tables.specs.Tables.{Tables}
 use Rattle.escrow_tables.specs.Inside.{Keeps, catalog_of, stored_of}
 use Rattle.escrow_tables.proofs.Created.{IsNew, added_at, create_keeps, create_writes, is_new, undone}
 use Rattle.escrow_tables.proofs.Writing.{seen, untouched}
@@ -20,7 +20,7 @@ use Rattle.escrow_tables.proofs.tables.Tables.create.Goals.{After-create_table, 
 -- the table is new among those that the catalog had
 new : (g : given.Over) (c : After-create_table g) → IsNew c.self.inside.catalog (new_table c.in-Some.id c.args.table).stored
 new g c =
-    is_new c.self.inside.catalog (new_table c.in-Some.id c.args.table).stored c.args.self.now.catalog (ap (λ (v : Committed g.row.S.Denot). v.catalog) c.self.view_is)
+    is_new c.self.inside.catalog (new_table c.in-Some.id c.args.table).stored c.args.self.now.catalog (ap (λ (v : Tables g.row.S.Denot). v.catalog) c.self.view_is)
     (rw c.tables.ensures.value at c.in-Some.ensures) c.requires.table c.requires.new c.requires.room
 
 -- it is put among them

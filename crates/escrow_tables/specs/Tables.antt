@@ -10,12 +10,12 @@ pub use Rattle.escrow_recover.specs.Holds.{Holds, AreHeld}
 
 -- What contracts see: the connection to the store, the tables in order of name, and their rows in order of table and
 -- key. These are the committed rows whatever has happened to the store: a fault that shuts it takes nothing from them.
-pub record Committed (S : Type 0) : Type 0 where
+pub record Tables (S : Type 0) : Type 0 where
   pub store : Held S
   pub catalog : List TableDef
   pub rows : List Row
 
-abbrev pub committed_code : {S : Type 0} → Coded S → Coded (Committed S)
-committed_code {S} store =
+abbrev pub tables_code : {S : Type 0} → Coded S → Coded (Tables S)
+tables_code {S} store =
     code_by (Held S × (List TableDef × List Row)) (coded× (held_code store) (coded× (coded_list table.the_row.coded) (coded_list row.the_row.coded)))
     (λ c. (c.store, (c.catalog, c.rows))) (λ p. record { store = p.0; catalog = p.1.0; rows = p.1.1 }) (λ _. refl)
