@@ -62,13 +62,13 @@ use Rattle.escrow_machine.proofs.Refusals.{first_behind, first_in_front}
 use Rattle.escrow_machine.proofs.Safe.{row_unique, some_at, some_from}
 use Rattle.escrow_machine.proofs.Shapes.{covered}
 use Rattle.escrow_machine.proofs.ValidAlter.{add_check_valid, altered_named, drop_check_valid, alter_orderly, in_place, is_added, name_found}
-use Rattle.escrow_core.specs.Altering.{Adds, Judge, CanJudge, adds, alter_refusal, amounts_by, violation_by, drops, new_ones, table_without}
+use Rattle.escrow_core.specs.Altering.{Adds, AddedJudge, CanJudge, adds, alter_refusal, amounts_by, violation_by, drops, new_ones, table_without}
 use Rattle.escrow_core.specs.declared.database.added.AddedChecks.{AddedChecks}
 use Rattle.escrow_reserved.specs.Read.{IsKnown, IsRead, ReadRow, ReadRows, row_read}
 use Rattle.escrow_reserved.specs.Placed.{amounts_named, AreOfTables, HaveAmounts, IsOfTable}
-use Rattle.escrow_core.specs.Inside.{seen_of, Holds, Keeps}
+use Rattle.escrow_core.specs.Inside.{database_of, Holds, Keeps}
 use Rattle.escrow_reserved.specs.Reserved.{Reserved, ArePlaced}
-use Rattle.escrow_core.specs.Seen.{Seen}
+use Rattle.escrow_core.specs.Database.{Database}
 use Rattle.escrow_core.specs.Serves.{Serves}
 use Rattle.escrow_core.specs.Serving.{OnlyReads, answer_of}
 use Rattle.escrow_reserved.proofs.Places.{gone_amounts, gone_placed, gone_tables, none_placed, some_same}
@@ -168,7 +168,7 @@ more_checks old text made is_table e =
 -- THE JUDGE OF ROWS
 
 -- where it judges each row as the machine does, so it judges them all
-judged : (judge : Judge) (checks : List Check) (reservations : List Reservation) (rows : List Row)
+judged : (judge : AddedJudge) (checks : List Check) (reservations : List Reservation) (rows : List Row)
     → ((row : Row) → Has rows row → violation_by judge row ≡ broken checks row.amounts [] (map (changes_to row) reservations))
     → first_violation (violation_by judge) rows ≡ rows_violation checks reservations rows
 judged judge checks reservations [] each = refl
@@ -239,7 +239,7 @@ module _ (s : State) (old : TableDef) (text : CheckText) (added : AddedChecks) (
   new : AreNew old text added
   new = are_new old text added are.is_table are.adds
 
-  abbrev judge : Judge
+  abbrev judge : AddedJudge
   judge = record { added = added; reservations = reserved.txns.reservations; addition = addition }
 
   -- a row of the table is judged as the machine does
@@ -300,7 +300,7 @@ drop_accepted s session table name early = none_applies s session (drops table n
 -- NOTHING REFUSES IT
 
 -- the step puts a table over other checks in the place of the one of its name
-pub record MayAlter {S : Type 0} (g : Ghosts S) (session : ℕ) (asked : Statement) (d : Seen S) (table : List ℕ) (old made : TableDef) : Type 0 where
+pub record MayAlter {S : Type 0} (g : Ghosts S) (session : ℕ) (asked : Statement) (d : Database S) (table : List ℕ) (old made : TableDef) : Type 0 where
   pub asks : asks_store d.state session asked ≡ true
   pub early : PassesEarly d.state session asked
   pub takes : (f : Failure) → fails_for d.state session asked f ≡ true
@@ -311,7 +311,7 @@ pub record MayAlter {S : Type 0} (g : Ghosts S) (session : ℕ) (asked : Stateme
   pub valid : HasCleanDisk (state g d.store) → IsValid d.state → IsValid (altered_state d.state made)
 
 -- without a check at the place of a declared one
-pub may_drop_check : {S : Type 0} (g : Ghosts S) (session : ℕ) (table name : List ℕ) (d : Seen S) (old made : TableDef) (index : ℕ) → PassesEarly d.state session (drops table name)
+pub may_drop_check : {S : Type 0} (g : Ghosts S) (session : ℕ) (table name : List ℕ) (d : Database S) (old made : TableDef) (index : ℕ) → PassesEarly d.state session (drops table name)
     → table_named d.state.catalog table ≡ Some old → declared_place old name ≡ Some index → made ≡ without_check_at old index → IsTable made
     → MayAlter g session (drops table name) d table old made
 may_drop_check g session table name d old made index early named at is is_table =
@@ -330,7 +330,7 @@ may_drop_check g session table name d old made index early named at is is_table 
     }
 
 -- with the checks that are added, where no row breaks one
-pub may_add_check : {S : Type 0} (g : Ghosts S) (session : ℕ) (table : List ℕ) (text : CheckText) (d : Seen S) (old : TableDef) (added : AddedChecks)
+pub may_add_check : {S : Type 0} (g : Ghosts S) (session : ℕ) (table : List ℕ) (text : CheckText) (d : Database S) (old : TableDef) (added : AddedChecks)
     → PassesEarly d.state session (adds table text) → table_named d.state.catalog table ≡ Some old → IsTable old → Adds old text added
     → (HasCleanDisk (state g d.store) → added_violation d.state table text ≡ None) → MayAlter g session (adds table text) d table old added.table
 may_add_check g session table text d old added early named is_table are unbroken =
@@ -367,7 +367,7 @@ known_altered catalog table old made named alike (Some r) known =
         (λ _. many)
 
 module _ {S : Type 0} (g : Ghosts S) (session : ℕ) (asked : Statement) (t new : Tables S) (o : Open) (table : List ℕ) (old made : TableDef)
-    (may : MayAlter g session asked (seen_of t o) table old made) where
+    (may : MayAlter g session asked (database_of t o) table old made) where
   -- the call that writes it may be made
   pub alters_like : IsSomeAnd (table_named t.catalog made.name) (λ (was : TableDef). made ≡ record was { checks = made.checks })
   alters_like =
@@ -380,22 +380,22 @@ module _ {S : Type 0} (g : Ghosts S) (session : ℕ) (asked : Statement) (t new 
       ap (place_named t.catalog) called ∙ at
 
   -- its write was done
-  pub alter_serves : Writes g t new true (with_altered made t.catalog) t.rows → Serves g session asked (seen_of t o) (reply.Altered table) (seen_of new o)
-  alter_serves writes = wrote g session asked t new o o (reply.Altered table) (reply.Altered table) (altered_state (seen_of t o).state made) may.asks may.early refl (λ _. refl) writes may.steps refl
+  pub alter_serves : Writes g t new true (with_altered made t.catalog) t.rows → Serves g session asked (database_of t o) (reply.Altered table) (database_of new o)
+  alter_serves writes = wrote g session asked t new o o (reply.Altered table) (reply.Altered table) (altered_state (database_of t o).state made) may.asks may.early refl (λ _. refl) writes may.steps refl
 
   -- it failed, and `?` handed the failure on
   pub alter_fails : (result : Result Reply Refusal) (f : Failure) → IsErrAnd result (λ e. e ≡ refusal_for f) → Writes g t new false (with_altered made t.catalog) t.rows
-      → Serves g session asked (seen_of t o) (answer_of result) (seen_of new o)
+      → Serves g session asked (database_of t o) (answer_of result) (database_of new o)
   alter_fails result f is writes =
-      handed_on g session asked (seen_of t o) (seen_of new o) result (refusal_for f) is
-      (write_failed g session asked t new o f (reply.Altered table) (altered_state (seen_of t o).state made) may.asks may.early (may.takes f) writes may.steps)
+      handed_on g session asked (database_of t o) (database_of new o) result (refusal_for f) is
+      (write_failed g session asked t new o f (reply.Altered table) (altered_state (database_of t o).state made) may.asks may.early (may.takes f) writes may.steps)
 
   -- what is kept, where the places of the table come of the old ones
-  pub alter_holds : (Step : RowName → Place → Place → Type 0) (places after : Bounds) (recent : ReadRows) → Holds g (seen_of t o) places recent → Writes g t new true (with_altered made t.catalog) t.rows
+  pub alter_holds : (Step : RowName → Place → Place → Type 0) (places after : Bounds) (recent : ReadRows) → Holds g (database_of t o) places recent → Writes g t new true (with_altered made t.catalog) t.rows
       → TableGoes table Step places after → ((row : RowName) (a b : Place) → Step row a b → b.amounts ≡ a.amounts)
-      → ((row : RowName) (a b : Place) → Step row a b → checks_of a.checks ≡ old.checks → checks_of b.checks ≡ made.checks) → Holds g (seen_of new o) after recent
+      → ((row : RowName) (a b : Place) → Step row a b → checks_of a.checks ≡ old.checks → checks_of b.checks ≡ made.checks) → Holds g (database_of new o) after recent
   alter_holds Step places after recent holds writes goes amounts checks =
-      let s : State = (seen_of t o).state in
+      let s : State = (database_of t o).state in
       let keeps = holds.keeps in
       let called : old.name ≡ table = name_found t.catalog table old may.named in
       let here : table_named t.catalog old.name ≡ Some old = ap (table_named t.catalog) called ∙ may.named in
@@ -477,16 +477,16 @@ pub judges_old : (catalog : List TableDef) (table : List ℕ) (old : TableDef) (
 judges_old catalog table old text added named is_table are = named ∙ ap (λ (t : TableDef). Some t) (sym (are_new old text added is_table are).before)
 
 -- where the rows are read, the state stays
-pub read_only_reads : {S : Type 0} (g : Ghosts S) (t after : Tables S) (o : Open) → Reads g t after → OnlyReads g (seen_of t o) (seen_of after o)
+pub read_only_reads : {S : Type 0} (g : Ghosts S) (t after : Tables S) (o : Open) → Reads g t after → OnlyReads g (database_of t o) (database_of after o)
 read_only_reads g t after o reads = record {
-  same = ap (λ (c : _ × _). record (seen_of t o).state { catalog = c.0; rows = c.1 }) (ap₂ (λ a b. (a, b)) reads.catalog reads.rows);
+  same = ap (λ (c : _ × _). record (database_of t o).state { catalog = c.0; rows = c.1 }) (ap₂ (λ a b. (a, b)) reads.catalog reads.rows);
   usable = reads.usable;
   survives = reads.survives;
 }
 
 -- and what the database keeps
-pub read_holds : {S : Type 0} (g : Ghosts S) (t after : Tables S) (o : Open) (places : Bounds) (recent : ReadRows) → Holds g (seen_of t o) places recent → Reads g t after
-    → Holds g (seen_of after o) places recent
+pub read_holds : {S : Type 0} (g : Ghosts S) (t after : Tables S) (o : Open) (places : Bounds) (recent : ReadRows) → Holds g (database_of t o) places recent → Reads g t after
+    → Holds g (database_of after o) places recent
 read_holds g t after o places recent holds reads = record {
   keeps = read_keeps g t after o places holds.keeps reads;
   known = λ name. rw reads.catalog (holds.known name);

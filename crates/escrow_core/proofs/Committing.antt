@@ -26,7 +26,7 @@ use Rattle.escrow_bounds.proofs.Ending.{length-after_all}
 use Rattle.escrow_machine.proofs.Safe.{some_weaker}
 use Rattle.escrow_reserved.specs.Placed.{amounts_named, HaveAmounts}
 use Rattle.escrow_reserved.specs.Read.{committed_by, IsKnown, IsRead, ReadRow, ReadRows}
-use Rattle.escrow_core.specs.Inside.{seen_of, Holds}
+use Rattle.escrow_core.specs.Inside.{database_of, Holds}
 use Rattle.escrow_reserved.specs.Reserved.{AreAmounts, ArePlaced, Reserved}
 use Rattle.escrow_core.specs.Serves.{Serves}
 use Rattle.escrow_machine.specs.Accepted.{PassesEarly}
@@ -75,14 +75,14 @@ read_after s session None valid read = tt
 read_after s session (Some r) valid read = committed_amounts s session r.name r.amounts valid read
 
 -- what a database holds where reservations are dropped, and the store is left
-pub dropped_holds : {S : Type 0} (g : Ghosts S) (t : Tables S) (o left : Open) (dropped : List Reservation) (old : Bounds) (after : Reserved) (recent : ReadRows) → Holds g (seen_of t o) old recent
+pub dropped_holds : {S : Type 0} (g : Ghosts S) (t : Tables S) (o left : Open) (dropped : List Reservation) (old : Bounds) (after : Reserved) (recent : ReadRows) → Holds g (database_of t o) old recent
     → after.txns ≡ left → AreEnded end.Rollback dropped old after.places → (ArePlaced o.reservations old → ArePlaced after.txns.reservations after.places)
-    → IsOrderly t.catalog left.reservations left.savepoints left.next_id → (IsValid (seen_of t o).state → IsValid (seen_of t left).state) → Holds g (seen_of t after.txns) after.places recent
+    → IsOrderly t.catalog left.reservations left.savepoints left.next_id → (IsValid (database_of t o).state → IsValid (database_of t left).state) → Holds g (database_of t after.txns) after.places recent
 dropped_holds g t o left dropped old after recent holds is are placed orderly valid =
     let keeps = holds.keeps in
     record {
       keeps = record {
-        kept = rw is (apart_keeps g (seen_of t o) (seen_of t left).state keeps.kept orderly valid);
+        kept = rw is (apart_keeps g (database_of t o) (database_of t left).state keeps.kept orderly valid);
         placed = placed keeps.placed;
         of_tables = ended_tables end.Rollback dropped t.catalog old after.places are keeps.of_tables;
         amounts = λ clean. rollbacks_amounts dropped t.rows old after.places are (keeps.amounts clean);
@@ -93,18 +93,18 @@ dropped_holds g t o left dropped old after recent holds is are placed orderly va
 
 module _ {S : Type 0} (g : Ghosts S) (session : ℕ) (t : Tables S) (o : Open) where
   -- the session holds no reservation
-  pub just_ended : own session o.reservations ≡ [] → Serves g session statement.Commit (seen_of t o) (done session o) (seen_of t (ended session o))
+  pub just_ended : own session o.reservations ≡ [] → Serves g session statement.Commit (database_of t o) (done session o) (database_of t (ended session o))
   just_ended none =
-      let s : State = (seen_of t o).state in
+      let s : State = (database_of t o).state in
       let event : StepOrRefusal s session statement.Commit (done session o) (after_rollback s session) =
       subst (λ (after : State). StepOrRefusal s session statement.Commit (done session o) after) (changes_none s session none) (commit_serves s session) in
       let quiet : nat_lt 0 (length (own session o.reservations)) ≡ false = subst (λ (mine : List Reservation). nat_lt 0 (length mine) ≡ false) (sym none) refl in
-      served_apart g session statement.Commit (seen_of t o) (seen_of t (ended session o)) (done session o) quiet refl event
+      served_apart g session statement.Commit (database_of t o) (database_of t (ended session o)) (done session o) quiet refl event
 
-  pub just_ended_holds : (old : Bounds) (after : Reserved) (recent : ReadRows) → Holds g (seen_of t o) old recent → after.txns ≡ ended session o → AreEnded end.Rollback (own session o.reservations) old after.places
-      → (ArePlaced o.reservations old → ArePlaced after.txns.reservations after.places) → Holds g (seen_of t after.txns) after.places recent
+  pub just_ended_holds : (old : Bounds) (after : Reserved) (recent : ReadRows) → Holds g (database_of t o) old recent → after.txns ≡ ended session o → AreEnded end.Rollback (own session o.reservations) old after.places
+      → (ArePlaced o.reservations old → ArePlaced after.txns.reservations after.places) → Holds g (database_of t after.txns) after.places recent
   just_ended_holds old after recent holds is are placed =
-      let s : State = (seen_of t o).state in
+      let s : State = (database_of t o).state in
       dropped_holds g t o (ended session o) (own session o.reservations) old after recent holds is are placed (rollback_orderly s session holds.keeps.kept.orderly) (rollback_valid s session)
 
 -- the amounts that the places have of the rows of reservations are those of the rows

@@ -16,7 +16,7 @@ use Rattle.escrow_schema.proofs.CatalogLemmas.{with_table_put}
 use Rattle.escrow_schema.specs.Definition.{definition_of}
 use Rattle.escrow_schema.proofs.LawLemmas.{name_of_table}
 use Rattle.escrow_machine.specs.declared.reply.Reply.TheVariants as reply
-use Rattle.escrow_core.specs.Seen.{Seen}
+use Rattle.escrow_core.specs.Database.{Database}
 use Rattle.escrow_machine.specs.Accepted.{IsRefusal, PassesEarly}
 use Rattle.escrow_machine.specs.State.{State, is_open}
 use Rattle.escrow_machine.specs.Step.{step}
@@ -61,7 +61,7 @@ still_named catalog table other name new named =
     ]
 
 -- nothing refuses it
-pub may_create : {S : Type 0} (g : Ghosts S) (session : ℕ) (text : CreateText) (d : Seen S) (table : TableDef) → PassesEarly d.state session (statement.Create text)
+pub may_create : {S : Type 0} (g : Ghosts S) (session : ℕ) (text : CreateText) (d : Database S) (table : TableDef) → PassesEarly d.state session (statement.Create text)
     → definition_of text ≡ Some table → length d.state.catalog < MAX_TABLES
     → MayWrite g session (statement.Create text) d (reply.Created text.table) (record d.state { catalog = with_table table d.state.catalog }) Any
 may_create g session text d table early made room =

@@ -18,7 +18,7 @@ use Rattle.escrow_statement.specs.declared.statement.RowText.{RowText}
 use Rattle.escrow_statement.specs.declared.statement.Statement.TheVariants as statement
 use Rattle.escrow_machine.specs.declared.reply.Reply.TheVariants as reply
 use Rattle.escrow_machine.specs.Asked.{named_by}
-use Rattle.escrow_core.specs.Seen.{Seen}
+use Rattle.escrow_core.specs.Database.{Database}
 use Rattle.escrow_machine.specs.Accepted.{IsRefusal, PassesEarly}
 use Rattle.escrow_machine.specs.State.{State, is_reserved}
 use Rattle.escrow_machine.specs.Valid.{AreSafeRows, HasRow}
@@ -91,7 +91,7 @@ delete_tried s session text name is early free = at (row_named s.rows name) refl
     at (Some row) found = delete_step s session text name is early (ap (λ (o : Option Row). is_some o) found) free
 
 -- where it isn't reserved, it may be taken out
-pub may_delete : {S : Type 0} (g : Ghosts S) (session : ℕ) (text : RowText) (name : RowName) (d : Seen S) → name ≡ named_by d.state.catalog text.table text.row
+pub may_delete : {S : Type 0} (g : Ghosts S) (session : ℕ) (text : RowText) (name : RowName) (d : Database S) → name ≡ named_by d.state.catalog text.table text.row
     → PassesEarly d.state session (statement.Delete text) → is_reserved d.state name ≡ false
     → MayWrite g session (statement.Delete text) d (tried (row_named d.state.rows name) refusal.NoSuchRow reply.Deleted) (record d.state { rows = without_row name d.state.rows }) (λ row. same_row name row ≡ false)
 may_delete g session text name d is early free = record {

@@ -14,7 +14,7 @@ use Rattle.escrow_statement.specs.declared.statement.Statement.TheVariants as st
 use Rattle.escrow_schema.specs.declared.table.TableDef.{TableDef}
 use Rattle.escrow_schema.specs.Catalog.{table_named}
 use Rattle.escrow_machine.specs.declared.reply.Reply.TheVariants as reply
-use Rattle.escrow_core.specs.Seen.{Seen}
+use Rattle.escrow_core.specs.Database.{Database}
 use Rattle.escrow_machine.specs.Accepted.{PassesEarly}
 use Rattle.escrow_schema.specs.Rows.{row_named, without_rows_of}
 use Rattle.escrow_machine.specs.State.{State, is_open, is_reserved, is_table_reserved}
@@ -61,7 +61,7 @@ other_table_row rows name row differs =
     (λ r same. ap not (ap (λ (n : RowName). bytes_eq n.table name) (row_same r.name row same) ∙ differs))
 
 -- nothing refuses it
-pub may_drop : {S : Type 0} (g : Ghosts S) (session : ℕ) (name : List ℕ) (d : Seen S) → PassesEarly d.state session (statement.Drop name)
+pub may_drop : {S : Type 0} (g : Ghosts S) (session : ℕ) (name : List ℕ) (d : Database S) → PassesEarly d.state session (statement.Drop name)
     → MayWrite g session (statement.Drop name) d (reply.Dropped name) (after_drop d.state name) (λ row. bytes_eq row.table name ≡ false)
 may_drop g session name d early =
     let free = (stands d.state session name early).free in

@@ -30,7 +30,7 @@ use Rattle.escrow_machine.specs.declared.reply.Reply.TheVariants as reply
 use Rattle.escrow_machine.specs.Asked.{new_row, insert_violation}
 use Rattle.escrow_tables.specs.Calls.{with_new}
 use Rattle.escrow_reserved.specs.Placed.{amounts_named}
-use Rattle.escrow_core.specs.Seen.{Seen}
+use Rattle.escrow_core.specs.Database.{Database}
 use Rattle.escrow_machine.specs.Accepted.{IsAccepted, IsRefusal, PassesEarly}
 use Rattle.escrow_machine.specs.State.{State}
 use Rattle.escrow_schema.specs.Rows.{row_before, row_named, rows_of, with_row, HasTable}
@@ -146,7 +146,7 @@ insert_step s session text row made accepted =
 -- A ROW THAT IS MADE, where its table's room and its checks were looked at
 
 -- a row, its table, and how many rows that has
-pub record IsAsked {S : Type 0} (g : Ghosts S) (d : Seen S) (session : ℕ) (text : InsertText) (row : Row) (table : TableDef) (count : ℕ) : Type 0 where
+pub record IsAsked {S : Type 0} (g : Ghosts S) (d : Database S) (session : ℕ) (text : InsertText) (row : Row) (table : TableDef) (count : ℕ) : Type 0 where
   pub made : new_row d.state text ≡ Some row
   pub early : PassesEarly d.state session (statement.Insert text)
   pub named : table_named d.state.catalog text.table ≡ Some table
@@ -184,7 +184,7 @@ put_reply (Some row) = reply.Refused refusal.RowExists
 pub put_none : (o : Option Row) → o ≡ None → put_reply o ≡ reply.Inserted
 put_none o none = ap put_reply none
 
-module _ {S : Type 0} (g : Ghosts S) (d : Seen S) (session : ℕ) (text : InsertText) (row : Row) (table : TableDef) (count : ℕ) (asked : IsAsked g d session text row table count) where
+module _ {S : Type 0} (g : Ghosts S) (d : Database S) (session : ℕ) (text : InsertText) (row : Row) (table : TableDef) (count : ℕ) (asked : IsAsked g d session text row table count) where
   judged : (r : Option Refusal) → r ≡ first_refusal (refusals_of table count row) → HasCleanDisk (state g d.store) → first_refusal (new_refusals d.state text) ≡ r
   judged r is u = decided d.state text row table count asked.named asked.made (asked.counted u) ∙ sym is
 

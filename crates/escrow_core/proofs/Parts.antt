@@ -26,7 +26,7 @@ use Rattle.escrow_machine.proofs.Shapes.{HasOrder, few_reservations}
 use Rattle.escrow_machine.proofs.Settling.{CountsSoFar, counts_end, counts_next, settled_is_the_run}
 use Rattle.escrow_rows.specs.Answers.{IsUsable}
 use Rattle.escrow_core.specs.Ends.{AreCommits, Settles, left_after}
-use Rattle.escrow_core.specs.Seen.{Seen}
+use Rattle.escrow_core.specs.Database.{Database}
 use Rattle.escrow_core.specs.Serves.{AreAfterEnds, AreHeldOf}
 use Rattle.escrow_core.proofs.Serving.{still_clean}
 use Rattle.escrow_core.proofs.Together.{neither}
@@ -181,7 +181,7 @@ on_ok (Ok x) then holds = then holds
 on_ok (Err e) then holds = tt
 
 -- a plan is settled after a write of all of it that was refused, where the store is open still
-pub settles_after : {S : Type 0} (g : Ghosts S) (plan : List (ℕ × End)) (old mid new : Seen S) (r : Result Settled Stop) → mid.state ≡ old.state → (HasCleanDisk (state g mid.store) → IsTrue (state g mid.store).is_open)
+pub settles_after : {S : Type 0} (g : Ghosts S) (plan : List (ℕ × End)) (old mid new : Database S) (r : Result Settled Stop) → mid.state ≡ old.state → (HasCleanDisk (state g mid.store) → IsTrue (state g mid.store).is_open)
     → (IsUsable (state g mid.store) → IsUsable (state g old.store))
     → Survives (state g old.store) (state g mid.store) (λ trees. IsTrue (state g old.store).is_open × AreHeldOf (after_ends old.state plan) trees)
     → Settles g plan mid r new → Settles g plan old r new

@@ -13,7 +13,7 @@ use Rattle.escrow_num.specs.declared.failure.Failure.TheVariants as failure
 use Rattle.escrow_machine.specs.Promised.{asks_store, needs_nothing, is_plain_refusal, is_promised, reads_rows}
 use Rattle.escrow_statement.specs.declared.statement.Statement.TheVariants as statement
 use Rattle.escrow_machine.specs.Reply.{failure_of}
-use Rattle.escrow_core.specs.Seen.{Seen}
+use Rattle.escrow_core.specs.Database.{Database}
 use Rattle.escrow_core.specs.Serves.{Serves}
 use Rattle.escrow_machine.specs.State.{State}
 use Rattle.escrow_machine.specs.Step.{step, fails_for, may_fail, IsStep}
@@ -76,7 +76,7 @@ kept s session asked answer new None none event = event
 kept s session asked answer new (Some f) none event = absurd (never_fails s session asked f none event.0)
 
 -- what is promised is answered by the step, and leaves the store
-pub promised : {S : Type 0} (g : Ghosts S) (session : ℕ) (asked : Statement) (old : Seen S) (answer : Reply) (new : Seen S) → Serves g session asked old answer new
+pub promised : {S : Type 0} (g : Ghosts S) (session : ℕ) (asked : Statement) (old : Database S) (answer : Reply) (new : Database S) → Serves g session asked old answer new
     → IsTrue (is_promised old.state session asked) → (new.store ≡ old.store) × IsStep old.state session asked answer new.state
 promised {S} g session asked old answer new serves promise =
     let s = old.state in
@@ -87,6 +87,6 @@ promised {S} g session asked old answer new serves promise =
       )
       | inr plain ↦ (let first = early_at s session asked (first_refusal (transition_of s session asked).early) refl plain in
           let is = serves.early first.0 first.1 in
-          let stays : (answer, new.state) ≡ (reply.Refused first.0, s) = ap₂ (λ (a : Reply) (d : Seen S). (a, d.state)) is.0 is.1 in
-          (ap (λ (d : Seen S). d.store) is.1, record { is_step = stays ∙ early_step s session asked first.0 first.1 }))
+          let stays : (answer, new.state) ≡ (reply.Refused first.0, s) = ap₂ (λ (a : Reply) (d : Database S). (a, d.state)) is.0 is.1 in
+          (ap (λ (d : Database S). d.store) is.1, record { is_step = stays ∙ early_step s session asked first.0 first.1 }))
     ]

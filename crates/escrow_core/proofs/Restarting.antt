@@ -5,15 +5,15 @@ use Rattle.escrow_bounds.specs.Bounds.{Bounds}
 use Rattle.escrow_tables.specs.Calls.{Reads}
 use Rattle.escrow_tables.specs.Tables.{Tables}
 use Rattle.escrow_journal.specs.Open.{Open, nothing_open}
-use Rattle.escrow_core.specs.Inside.{seen_of, Keeps}
+use Rattle.escrow_core.specs.Inside.{database_of, Keeps}
 use Rattle.escrow_machine.specs.State.{State}
 use Rattle.escrow_machine.specs.Valid.{IsValid}
 use Rattle.escrow_machine.proofs.ValidEmpty.{opened_orderly, opened_valid}
 use Rattle.escrow_core.proofs.Serving.{still_clean}
 
-pub restarted_keeps : {S : Type 0} (g : Ghosts S) (t new : Tables S) (o : Open) (places : Bounds) → Keeps g (seen_of t o) places → Reads g t new → Keeps g (seen_of new nothing_open) []
+pub restarted_keeps : {S : Type 0} (g : Ghosts S) (t new : Tables S) (o : Open) (places : Bounds) → Keeps g (database_of t o) places → Reads g t new → Keeps g (database_of new nothing_open) []
 restarted_keeps g t new o places keeps reads =
-    let s : State = (seen_of t o).state in
+    let s : State = (database_of t o).state in
     record {
       kept = record {
         orderly = rw reads.catalog (opened_orderly t.catalog keeps.kept.orderly.tables);

@@ -30,10 +30,10 @@ use Rattle.escrow_machine.specs.declared.reply.Reply.TheVariants as reply
 use Rattle.escrow_reserved.specs.Read.{IsLeft, ReadRows, read_at, row_read, row_with, IsKnown, IsRead}
 use Rattle.escrow_reserved.proofs.Reading.{known_left, known_more, read_left, read_more}
 use Rattle.escrow_reserved.specs.Placed.{amounts_named, AreOfTables, HaveAmounts}
-use Rattle.escrow_core.specs.Inside.{seen_of, Holds, Keeps}
+use Rattle.escrow_core.specs.Inside.{database_of, Holds, Keeps}
 use Rattle.escrow_machine.specs.Promised.{asks_store, reads_rows}
 use Rattle.escrow_machine.specs.Reply.{failure_of, is_refused, tells_write}
-use Rattle.escrow_core.specs.Seen.{Seen, IsKept}
+use Rattle.escrow_core.specs.Database.{Database, IsKept}
 use Rattle.escrow_core.specs.Serves.{AreAfter, AreHeldOf, Serves}
 use Rattle.escrow_machine.specs.Accepted.{IsAccepted, IsRefusal, PassesEarly}
 use Rattle.escrow_core.specs.Serving.{IsFailure, OnlyReads, answer_of}
@@ -134,7 +134,7 @@ pub still_clean : (a b : Store) (P : Trees → Type 0) → Survives a b P → Ha
 still_clean a b P survives clean = omega (arith, survives.clean, clean)
 
 -- what a database keeps where its store was read
-pub read_keeps : {S : Type 0} (g : Ghosts S) (t new : Tables S) (o : Open) (places : Bounds) → Keeps g (seen_of t o) places → Reads g t new → Keeps g (seen_of new o) places
+pub read_keeps : {S : Type 0} (g : Ghosts S) (t new : Tables S) (o : Open) (places : Bounds) → Keeps g (database_of t o) places → Reads g t new → Keeps g (database_of new o) places
 read_keeps g t new o places keeps reads = record {
   kept = record {
     orderly = rw reads.catalog keeps.kept.orderly;
@@ -146,9 +146,9 @@ read_keeps g t new o places keeps reads = record {
 }
 
 -- and what it holds where one more row was read, and is kept or not
-pub remembered_holds : {S : Type 0} (g : Ghosts S) (t new : Tables S) (o : Open) (places : Bounds) (old recent : ReadRows) (row : RowName) (amounts : List ℤ) → Holds g (seen_of t o) places old → Reads g t new
+pub remembered_holds : {S : Type 0} (g : Ghosts S) (t new : Tables S) (o : Open) (places : Bounds) (old recent : ReadRows) (row : RowName) (amounts : List ℤ) → Holds g (database_of t o) places old → Reads g t new
     → ((name : RowName) → IsLeft old recent name ⊎ ((same_row row name ≡ true) × (read_at recent name ≡ Some amounts)))
-    → IsKnown t.catalog (Some (row_with row amounts)) → (HasCleanDisk (state g new.store) → IsRead t.rows (Some (row_with row amounts))) → Holds g (seen_of new o) places recent
+    → IsKnown t.catalog (Some (row_with row amounts)) → (HasCleanDisk (state g new.store) → IsRead t.rows (Some (row_with row amounts))) → Holds g (database_of new o) places recent
 remembered_holds g t new o places old recent row amounts holds reads only known read = record {
   keeps = read_keeps g t new o places holds.keeps reads;
   known = λ name. rw reads.catalog (known_more old recent row amounts only t.catalog holds.known known name);
@@ -156,13 +156,13 @@ remembered_holds g t new o places old recent row amounts holds reads only known 
 }
 
 -- a write that failed leaves the state
-pub unwritten_same : {S : Type 0} (g : Ghosts S) (t new : Tables S) (o : Open) (catalog : List TableDef) (rows : List Row) → Writes g t new false catalog rows → (seen_of new o).state ≡ (seen_of t o).state
+pub unwritten_same : {S : Type 0} (g : Ghosts S) (t new : Tables S) (o : Open) (catalog : List TableDef) (rows : List Row) → Writes g t new false catalog rows → (database_of new o).state ≡ (database_of t o).state
 unwritten_same g t new o catalog rows writes =
-    ap₂ (λ (c : List TableDef) (rs : List Row). record (seen_of t o).state { catalog = c; rows = rs }) (writes.kept_catalog refl) (writes.kept_rows refl)
+    ap₂ (λ (c : List TableDef) (rs : List Row). record (database_of t o).state { catalog = c; rows = rs }) (writes.kept_catalog refl) (writes.kept_rows refl)
 
 -- and what it keeps
-unwritten_keeps : {S : Type 0} (g : Ghosts S) (t new : Tables S) (o : Open) (places : Bounds) (catalog : List TableDef) (rows : List Row) → Keeps g (seen_of t o) places → Writes g t new false catalog rows
-    → Keeps g (seen_of new o) places
+unwritten_keeps : {S : Type 0} (g : Ghosts S) (t new : Tables S) (o : Open) (places : Bounds) (catalog : List TableDef) (rows : List Row) → Keeps g (database_of t o) places → Writes g t new false catalog rows
+    → Keeps g (database_of new o) places
 unwritten_keeps g t new o places catalog rows keeps writes = record {
   kept = record {
     orderly = rw (writes.kept_catalog refl) keeps.kept.orderly;
@@ -174,8 +174,8 @@ unwritten_keeps g t new o places catalog rows keeps writes = record {
 }
 
 -- what it holds where a write wasn't done, and rows that were read may have been forgotten
-pub unwritten_holds : {S : Type 0} (g : Ghosts S) (t new : Tables S) (o : Open) (places : Bounds) (catalog : List TableDef) (rows : List Row) (old recent : ReadRows) → Holds g (seen_of t o) places old
-    → Writes g t new false catalog rows → ((name : RowName) → IsLeft old recent name) → Holds g (seen_of new o) places recent
+pub unwritten_holds : {S : Type 0} (g : Ghosts S) (t new : Tables S) (o : Open) (places : Bounds) (catalog : List TableDef) (rows : List Row) (old recent : ReadRows) → Holds g (database_of t o) places old
+    → Writes g t new false catalog rows → ((name : RowName) → IsLeft old recent name) → Holds g (database_of new o) places recent
 unwritten_holds g t new o places catalog rows old recent holds writes left = record {
   keeps = unwritten_keeps g t new o places catalog rows holds.keeps writes;
   known = λ name. rw (writes.kept_catalog refl) (known_left t.catalog old recent name (holds.known name) (left name));
@@ -183,11 +183,11 @@ unwritten_holds g t new o places catalog rows old recent holds writes left = rec
 }
 
 -- nothing was looked at
-pub reads_itself : {S : Type 0} (g : Ghosts S) (d : Seen S) → OnlyReads g d d
+pub reads_itself : {S : Type 0} (g : Ghosts S) (d : Database S) → OnlyReads g d d
 reads_itself g d = record { same = refl; usable = λ usable. usable; survives = survives_itself (state g d.store) (λ _. ⊥) }
 
 -- what a database keeps where the store is left
-pub apart_keeps : {S : Type 0} (g : Ghosts S) (d : Seen S) (next : State) → IsKept g d → IsOrderly next.catalog next.reservations next.savepoints next.next_id
+pub apart_keeps : {S : Type 0} (g : Ghosts S) (d : Database S) (next : State) → IsKept g d → IsOrderly next.catalog next.reservations next.savepoints next.next_id
     → (IsValid d.state → IsValid next) → IsKept g (record { store = d.store; state = next })
 apart_keeps g d next kept orderly valid = record {
   orderly = orderly;
@@ -208,7 +208,7 @@ not_by_store s session asked answer new event none is =
 
 module _ {S : Type 0} (g : Ghosts S) (session : ℕ) (asked : Statement) where
   -- refused before the store is asked: all stays
-  pub refused : (d : Seen S) (r : Refusal) → IsRefusal d.state session asked r → Serves g session asked d (reply.Refused r) d
+  pub refused : (d : Database S) (r : Refusal) → IsRefusal d.state session asked r → Serves g session asked d (reply.Refused r) d
   refused d r is = record {
     event = λ _. refused_serves d.state session asked r is;
     early = λ other first. (ap reply.Refused (early_answered d.state session asked r other is first), refl);
@@ -221,13 +221,13 @@ module _ {S : Type 0} (g : Ghosts S) (session : ℕ) (asked : Statement) where
   }
 
   -- refused early
-  pub early_refused : (d : Seen S) (r : Refusal) → first_refusal (transition_of d.state session asked).early ≡ Some r → Serves g session asked d (reply.Refused r) d
+  pub early_refused : (d : Database S) (r : Refusal) → first_refusal (transition_of d.state session asked).early ≡ Some r → Serves g session asked d (reply.Refused r) d
   early_refused d r first =
       let transition = transition_of d.state session asked in
       refused d r (inl (first_in_front transition.early transition.late r first))
 
   -- a statement that asks the store, and is refused nothing early, is served by what else there is to say
-  pub served : (old new : Seen S) (answer : Reply) → asks_store old.state session asked ≡ true → PassesEarly old.state session asked
+  pub served : (old new : Database S) (answer : Reply) → asks_store old.state session asked ≡ true → PassesEarly old.state session asked
       → (HasCleanDisk (state g new.store) → StepOrRefusal old.state session asked answer new.state)
       → (IsTrue (is_refused answer) → new.state ≡ old.state)
       → (IsUsable (state g new.store) → IsUsable (state g old.store))
@@ -246,18 +246,18 @@ module _ {S : Type 0} (g : Ghosts S) (session : ℕ) (asked : Statement) where
   }
 
   -- answered without a write, from what was looked at before
-  pub answered : (d : Seen S) (answer : Reply) → asks_store d.state session asked ≡ true → PassesEarly d.state session asked → tells_write answer ≡ false
+  pub answered : (d : Database S) (answer : Reply) → asks_store d.state session asked ≡ true → PassesEarly d.state session asked → tells_write answer ≡ false
       → (HasCleanDisk (state g d.store) → StepOrRefusal d.state session asked answer d.state) → Serves g session asked d answer d
   answered d answer asks early quiet event =
       served d d answer asks early event (λ _. refl) (λ usable. usable) (survives_itself (state g d.store) _) (λ e. absurd (false≢true (sym quiet ∙ e)))
 
   -- refused for what was looked at
-  pub late_refused : (d : Seen S) (r : Refusal) → asks_store d.state session asked ≡ true → PassesEarly d.state session asked
+  pub late_refused : (d : Database S) (r : Refusal) → asks_store d.state session asked ≡ true → PassesEarly d.state session asked
       → (HasCleanDisk (state g d.store) → IsRefusal d.state session asked r) → Serves g session asked d (reply.Refused r) d
   late_refused d r asks early is = answered d (reply.Refused r) asks early refl (λ u. refused_serves d.state session asked r (is u))
 
   -- what is served after a look at the store is served from before it
-  pub after_look : (old mid new : Seen S) (answer : Reply) → OnlyReads g old mid
+  pub after_look : (old mid new : Database S) (answer : Reply) → OnlyReads g old mid
       → asks_store old.state session asked ≡ true → PassesEarly old.state session asked → Serves g session asked mid answer new → Serves g session asked old answer new
   after_look old mid new answer only_reads asks early serves =
       let crashes = survives_then (state g old.store) (state g mid.store) (state g new.store) (λ _. ⊥) _
@@ -271,7 +271,7 @@ module _ {S : Type 0} (g : Ghosts S) (session : ℕ) (asked : Statement) where
       (λ is. serves.refused is ∙ only_reads.same) (λ usable. only_reads.usable (serves.usable usable)) crashes serves.durable
 
   -- a statement is served that leaves the store, and tells of no write
-  pub served_apart : (old new : Seen S) (answer : Reply) → tells_write answer ≡ false → new.store ≡ old.store → StepOrRefusal old.state session asked answer new.state
+  pub served_apart : (old new : Database S) (answer : Reply) → tells_write answer ≡ false → new.store ≡ old.store → StepOrRefusal old.state session asked answer new.state
       → Serves g session asked old answer new
   served_apart old new answer quiet same event =
       let unwritten : Survives (state g old.store) (state g old.store) (λ trees. IsTrue (state g old.store).is_open × AreAfter old.state session asked trees) =
@@ -290,7 +290,7 @@ module _ {S : Type 0} (g : Ghosts S) (session : ℕ) (asked : Statement) where
       }
 
   -- a statement goes by what is kept of rows: it leaves the store, and isn't refused by it
-  pub served_beside : (old new : Seen S) (answer : Reply) → tells_write answer ≡ false → new.store ≡ old.store → PassesEarly old.state session asked
+  pub served_beside : (old new : Database S) (answer : Reply) → tells_write answer ≡ false → new.store ≡ old.store → PassesEarly old.state session asked
       → reads_rows old.state session asked ≡ true → ¬ (failure_of answer ≡ Some failure.Store)
       → (HasCleanDisk (state g old.store) → StepOrRefusal old.state session asked answer new.state) → (IsTrue (is_refused answer) → new.state ≡ old.state)
       → Serves g session asked old answer new
@@ -309,7 +309,7 @@ module _ {S : Type 0} (g : Ghosts S) (session : ℕ) (asked : Statement) where
       }
 
   -- answered for what was looked at, without a write
-  pub look_answered : (old new : Seen S) (answer : Reply) → OnlyReads g old new → asks_store old.state session asked ≡ true → PassesEarly old.state session asked
+  pub look_answered : (old new : Database S) (answer : Reply) → OnlyReads g old new → asks_store old.state session asked ≡ true → PassesEarly old.state session asked
       → tells_write answer ≡ false → (HasCleanDisk (state g new.store) → StepOrRefusal old.state session asked answer old.state) → Serves g session asked old answer new
   look_answered old new answer only_reads asks early quiet event =
       served old new answer asks early
@@ -320,15 +320,15 @@ module _ {S : Type 0} (g : Ghosts S) (session : ℕ) (asked : Statement) where
       (λ e. absurd (false≢true (sym quiet ∙ e)))
 
   -- a look that failed, or after which the statement is refused
-  pub look_refused : (old new : Seen S) (r : Refusal) → OnlyReads g old new → asks_store old.state session asked ≡ true → PassesEarly old.state session asked
+  pub look_refused : (old new : Database S) (r : Refusal) → OnlyReads g old new → asks_store old.state session asked ≡ true → PassesEarly old.state session asked
       → (HasCleanDisk (state g new.store) → IsRefusal old.state session asked r) → Serves g session asked old (reply.Refused r) new
   look_refused old new r only_reads asks early is =
       look_answered old new (reply.Refused r) only_reads asks early refl (λ clean. refused_serves old.state session asked r (is clean))
 
   -- a crash leaves what the step makes, where a write leaves it
   crashed : (t new : Tables S) (o : Open) (answer : Reply) (next : State) (is_done : Bool) → Writes g t new is_done next.catalog next.rows
-      → (HasCleanDisk (state g t.store) → step (seen_of t o).state session asked ≡ (answer, next))
-      → Survives (state g t.store) (state g new.store) (λ trees. IsTrue (state g t.store).is_open × AreAfter (seen_of t o).state session asked trees)
+      → (HasCleanDisk (state g t.store) → step (database_of t o).state session asked ≡ (answer, next))
+      → Survives (state g t.store) (state g new.store) (λ trees. IsTrue (state g t.store).is_open × AreAfter (database_of t o).state session asked trees)
   crashed t new o answer next is_done writes steps =
       survives_weaker (state g t.store) (state g new.store) _ _
       (λ clean trees k.
@@ -338,17 +338,17 @@ module _ {S : Type 0} (g : Ghosts S) (session : ℕ) (asked : Statement) where
 
   -- a write was done, and the reply is the step's
   pub wrote : (t new : Tables S) (o after : Open) (given answer : Reply) (next : State)
-      → asks_store (seen_of t o).state session asked ≡ true → PassesEarly (seen_of t o).state session asked → is_refused given ≡ false
+      → asks_store (database_of t o).state session asked ≡ true → PassesEarly (database_of t o).state session asked → is_refused given ≡ false
       → (HasCleanDisk (state g new.store) → answer ≡ given)
       → Writes g t new true next.catalog next.rows
-      → (HasCleanDisk (state g t.store) → step (seen_of t o).state session asked ≡ (answer, next))
-      → next ≡ record (seen_of new after).state { catalog = next.catalog; rows = next.rows }
-      → Serves g session asked (seen_of t o) given (seen_of new after)
+      → (HasCleanDisk (state g t.store) → step (database_of t o).state session asked ≡ (answer, next))
+      → next ≡ record (database_of new after).state { catalog = next.catalog; rows = next.rows }
+      → Serves g session asked (database_of t o) given (database_of new after)
   wrote t new o after given answer next asks early accepted told writes steps is =
-      let same : HasCleanDisk (state g new.store) → (seen_of new after).state ≡ next =
-      λ clean. ap (λ (c : _ × _). record (seen_of new after).state { catalog = c.0; rows = c.1 }) (ap₂ (λ a b. (a, b)) (writes.done_catalog refl) (writes.done_rows refl clean)) ∙ sym is in
-      served (seen_of t o) (seen_of new after) given asks early
-      (λ clean. stepped (seen_of t o).state session asked given (seen_of new after).state (succeeds given accepted)
+      let same : HasCleanDisk (state g new.store) → (database_of new after).state ≡ next =
+      λ clean. ap (λ (c : _ × _). record (database_of new after).state { catalog = c.0; rows = c.1 }) (ap₂ (λ a b. (a, b)) (writes.done_catalog refl) (writes.done_rows refl clean)) ∙ sym is in
+      served (database_of t o) (database_of new after) given asks early
+      (λ clean. stepped (database_of t o).state session asked given (database_of new after).state (succeeds given accepted)
       (ap₂ (λ (a : Reply) (s : State). (a, s)) (sym (told clean)) (same clean) ∙ sym (steps (still_clean _ _ _ writes.survives clean))))
       (λ is_refusal. absurd (false≢true (sym accepted ∙ is_refusal))) writes.usable (crashed t new o answer next true writes steps)
       (λ _ clean trees may.
@@ -356,16 +356,16 @@ module _ {S : Type 0} (g : Ghosts S) (session : ℕ) (asked : Statement) where
       (subst (λ rs. AreHeld next.catalog rs trees) (sym (writes.done_rows refl clean)) (writes.durable refl clean trees may)))
 
   -- a write wasn't done, and the statement is refused for what it told, or what was looked at then
-  pub write_refused : (t mid : Tables S) (o : Open) (new : Seen S) (r : Refusal) (answer : Reply) (next : State)
-      → asks_store (seen_of t o).state session asked ≡ true → PassesEarly (seen_of t o).state session asked
-      → Writes g t mid false next.catalog next.rows → OnlyReads g (seen_of mid o) new
-      → (HasCleanDisk (state g t.store) → step (seen_of t o).state session asked ≡ (answer, next))
-      → (HasCleanDisk (state g new.store) → IsRefusal (seen_of t o).state session asked r)
-      → Serves g session asked (seen_of t o) (reply.Refused r) new
+  pub write_refused : (t mid : Tables S) (o : Open) (new : Database S) (r : Refusal) (answer : Reply) (next : State)
+      → asks_store (database_of t o).state session asked ≡ true → PassesEarly (database_of t o).state session asked
+      → Writes g t mid false next.catalog next.rows → OnlyReads g (database_of mid o) new
+      → (HasCleanDisk (state g t.store) → step (database_of t o).state session asked ≡ (answer, next))
+      → (HasCleanDisk (state g new.store) → IsRefusal (database_of t o).state session asked r)
+      → Serves g session asked (database_of t o) (reply.Refused r) new
   write_refused t mid o new r answer next asks early writes reads steps is =
-      let s : State = (seen_of t o).state in
+      let s : State = (database_of t o).state in
       let same : new.state ≡ s = reads.same ∙ unwritten_same g t mid o next.catalog next.rows writes in
-      served (seen_of t o) new (reply.Refused r) asks early
+      served (database_of t o) new (reply.Refused r) asks early
       (λ clean. subst (λ (after : State). StepOrRefusal s session asked (reply.Refused r) after) (sym same) (refused_serves s session asked r (is clean)))
       (λ _. same) (λ usable. writes.usable (reads.usable usable))
       (survives_then (state g t.store) (state g mid.store) (state g new.store) _ (λ _. ⊥) _ (λ _ trees left. left) (λ _ trees none. absurd none) (crashed t mid o answer next false writes steps) reads.survives)
@@ -373,19 +373,19 @@ module _ {S : Type 0} (g : Ghosts S) (session : ℕ) (asked : Statement) where
 
   -- a write failed
   pub write_failed : (t new : Tables S) (o : Open) (f : Failure) (answer : Reply) (next : State)
-      → asks_store (seen_of t o).state session asked ≡ true → PassesEarly (seen_of t o).state session asked → fails_for (seen_of t o).state session asked f ≡ true
+      → asks_store (database_of t o).state session asked ≡ true → PassesEarly (database_of t o).state session asked → fails_for (database_of t o).state session asked f ≡ true
       → Writes g t new false next.catalog next.rows
-      → (HasCleanDisk (state g t.store) → step (seen_of t o).state session asked ≡ (answer, next))
-      → Serves g session asked (seen_of t o) (reply.Refused (refusal_for f)) (seen_of new o)
+      → (HasCleanDisk (state g t.store) → step (database_of t o).state session asked ≡ (answer, next))
+      → Serves g session asked (database_of t o) (reply.Refused (refusal_for f)) (database_of new o)
   write_failed t new o f answer next asks early takes writes steps =
-      write_refused t new o (seen_of new o) (refusal_for f) answer next asks early writes (reads_itself g (seen_of new o)) steps (λ _. fails (seen_of t o).state session asked f early takes)
+      write_refused t new o (database_of new o) (refusal_for f) answer next asks early writes (reads_itself g (database_of new o)) steps (λ _. fails (database_of t o).state session asked f early takes)
 
   -- what a database keeps after a write that was done
-  pub wrote_keeps : (t new : Tables S) (o after : Open) (next : State) → IsKept g (seen_of t o)
+  pub wrote_keeps : (t new : Tables S) (o after : Open) (next : State) → IsKept g (database_of t o)
       → Writes g t new true next.catalog next.rows
-      → next ≡ record (seen_of new after).state { catalog = next.catalog; rows = next.rows }
+      → next ≡ record (database_of new after).state { catalog = next.catalog; rows = next.rows }
       → IsOrderly next.catalog next.reservations next.savepoints next.next_id
-      → (IsValid (seen_of t o).state → HasCleanDisk (state g t.store) → IsValid next) → IsKept g (seen_of new after)
+      → (IsValid (database_of t o).state → HasCleanDisk (state g t.store) → IsValid next) → IsKept g (database_of new after)
   wrote_keeps t new o after next kept writes is orderly valid =
       let catalog = writes.done_catalog refl in
       let parts = ap (λ (s : State). IsOrderly new.catalog s.reservations s.savepoints s.next_id) is in
@@ -400,32 +400,32 @@ module _ {S : Type 0} (g : Ghosts S) (session : ℕ) (asked : Statement) where
       }
 
   -- `?` handed a refusal on
-  pub handed_on : (old new : Seen S) (result : Result Reply Refusal) (r : Refusal) → IsErrAnd result (λ e. e ≡ r) → Serves g session asked old (reply.Refused r) new
+  pub handed_on : (old new : Database S) (result : Result Reply Refusal) (r : Refusal) → IsErrAnd result (λ e. e ≡ r) → Serves g session asked old (reply.Refused r) new
       → Serves g session asked old (answer_of result) new
   handed_on old new result r is serves = subst (λ (answer : Reply). Serves g session asked old answer new) (sym (left_by result r is)) serves
 
   -- and the statement was refused before the store was asked
-  pub refusal_serves : (d : Seen S) (result : Result Reply Refusal) (r : Refusal) → IsErrAnd result (λ e. e ≡ r) → IsRefusal d.state session asked r → Serves g session asked d (answer_of result) d
+  pub refusal_serves : (d : Database S) (result : Result Reply Refusal) (r : Refusal) → IsErrAnd result (λ e. e ≡ r) → IsRefusal d.state session asked r → Serves g session asked d (answer_of result) d
   refusal_serves d result r is_error is = handed_on d d result r is_error (refused d r is)
 
-  pub early_serves : (d : Seen S) (result : Result Reply Refusal) (r : Refusal) → IsErrAnd result (λ e. e ≡ r) → Some r ≡ first_refusal (transition_of d.state session asked).early
+  pub early_serves : (d : Database S) (result : Result Reply Refusal) (r : Refusal) → IsErrAnd result (λ e. e ≡ r) → Some r ≡ first_refusal (transition_of d.state session asked).early
       → Serves g session asked d (answer_of result) d
   early_serves d result r is_error first = handed_on d d result r is_error (early_refused d r (sym first))
 
   -- a look that failed
-  pub look_failed : (old new : Seen S) (f : Failure) → OnlyReads g old new → asks_store old.state session asked ≡ true → PassesEarly old.state session asked
+  pub look_failed : (old new : Database S) (f : Failure) → OnlyReads g old new → asks_store old.state session asked ≡ true → PassesEarly old.state session asked
       → fails_for old.state session asked f ≡ true → Serves g session asked old (reply.Refused (refusal_for f)) new
   look_failed old new f only_reads asks early takes = look_refused old new (refusal_for f) only_reads asks early (λ _. fails old.state session asked f early takes)
 
 -- the store was looked at for a statement that asks it, and that nothing refuses early
-pub record HasLooked {S : Type 0} (g : Ghosts S) (session : ℕ) (asked : Statement) (old mid : Seen S) : Type 0 where
+pub record HasLooked {S : Type 0} (g : Ghosts S) (session : ℕ) (asked : Statement) (old mid : Database S) : Type 0 where
   pub only_reads : OnlyReads g old mid
   pub asks : asks_store old.state session asked ≡ true
   pub early : PassesEarly old.state session asked
 
-module _ {S : Type 0} (g : Ghosts S) (session : ℕ) (asked : Statement) (old mid : Seen S) (looked : HasLooked g session asked old mid) where
+module _ {S : Type 0} (g : Ghosts S) (session : ℕ) (asked : Statement) (old mid : Database S) (looked : HasLooked g session asked old mid) where
   -- what is served from then on
-  pub since_look : (new : Seen S) (answer : Reply) → Serves g session asked mid answer new → Serves g session asked old answer new
+  pub since_look : (new : Database S) (answer : Reply) → Serves g session asked mid answer new → Serves g session asked old answer new
   since_look new answer serves = after_look g session asked old mid new answer looked.only_reads looked.asks looked.early serves
 
   pub early_since : PassesEarly mid.state session asked
@@ -437,7 +437,7 @@ Any row = Unit {0}
 
 -- a statement may write: its step makes this answer and this state, in which the same is open. The rows that stay, among
 -- which are those that are reserved, have their tables and their amounts. What the write tells may refuse it.
-pub record MayWrite {S : Type 0} (g : Ghosts S) (session : ℕ) (asked : Statement) (d : Seen S) (answer : Reply) (next : State) (Stays : RowName → Type 0) : Type 0 where
+pub record MayWrite {S : Type 0} (g : Ghosts S) (session : ℕ) (asked : Statement) (d : Database S) (answer : Reply) (next : State) (Stays : RowName → Type 0) : Type 0 where
   pub asks : asks_store d.state session asked ≡ true
   pub early : PassesEarly d.state session asked
   pub takes : (f : Failure) → fails_for d.state session asked f ≡ true
@@ -450,19 +450,19 @@ pub record MayWrite {S : Type 0} (g : Ghosts S) (session : ℕ) (asked : Stateme
   pub amounts_stay : HasCleanDisk (state g d.store) → (row : RowName) (amounts : List ℤ) → Stays row → amounts_named d.state.rows row ≡ Some amounts → amounts_named next.rows row ≡ Some amounts
 
 module _ {S : Type 0} {Stays : RowName → Type 0} (g : Ghosts S) (session : ℕ) (asked : Statement) (t new : Tables S) (o : Open) (answer : Reply) (next : State)
-    (may : MayWrite g session asked (seen_of t o) answer next Stays) where
+    (may : MayWrite g session asked (database_of t o) answer next Stays) where
   -- its write was done, and so the answer is one that is given
-  pub write_serves : (given : Reply) → is_refused given ≡ false → (HasCleanDisk (state g new.store) → answer ≡ given) → Writes g t new true next.catalog next.rows → Serves g session asked (seen_of t o) given (seen_of new o)
+  pub write_serves : (given : Reply) → is_refused given ≡ false → (HasCleanDisk (state g new.store) → answer ≡ given) → Writes g t new true next.catalog next.rows → Serves g session asked (database_of t o) given (database_of new o)
   write_serves given accepted told writes = wrote g session asked t new o o given answer next may.asks may.early accepted told writes may.steps may.same_open
 
   -- it wasn't done, and it is refused for what the write told, or what was looked at then
-  pub refusal_told : (after : Seen S) (r : Refusal) → Writes g t new false next.catalog next.rows → OnlyReads g (seen_of new o) after → (HasCleanDisk (state g after.store) → IsRefusal (seen_of t o).state session asked r)
-      → Serves g session asked (seen_of t o) (reply.Refused r) after
+  pub refusal_told : (after : Database S) (r : Refusal) → Writes g t new false next.catalog next.rows → OnlyReads g (database_of new o) after → (HasCleanDisk (state g after.store) → IsRefusal (database_of t o).state session asked r)
+      → Serves g session asked (database_of t o) (reply.Refused r) after
   refusal_told after r writes reads is = write_refused g session asked t new o after r answer next may.asks may.early writes reads may.steps is
 
-  write_keeps : (places : Bounds) → Keeps g (seen_of t o) places → Writes g t new true next.catalog next.rows → Keeps g (seen_of new o) places
+  write_keeps : (places : Bounds) → Keeps g (database_of t o) places → Writes g t new true next.catalog next.rows → Keeps g (database_of new o) places
   write_keeps places keeps writes =
-      let s : State = (seen_of t o).state in
+      let s : State = (database_of t o).state in
       record {
         kept = wrote_keeps g session asked t new o o next keeps.kept writes may.same_open (may.orderly keeps.kept.orderly) (λ valid u. may.valid u valid);
         placed = keeps.placed;
@@ -494,8 +494,8 @@ module _ {S : Type 0} {Stays : RowName → Type 0} (g : Ghosts S) (session : ℕ
       at None read = tt
       at (Some amounts) read = may.amounts_stay was name amounts stays read
 
-  pub write_holds : (places : Bounds) (old recent : ReadRows) → Holds g (seen_of t o) places old → Writes g t new true next.catalog next.rows
-      → ((name : RowName) → (read_at recent name ≡ None) ⊎ ((read_at recent name ≡ read_at old name) × Stays name)) → Holds g (seen_of new o) places recent
+  pub write_holds : (places : Bounds) (old recent : ReadRows) → Holds g (database_of t o) places old → Writes g t new true next.catalog next.rows
+      → ((name : RowName) → (read_at recent name ≡ None) ⊎ ((read_at recent name ≡ read_at old name) × Stays name)) → Holds g (database_of new o) places recent
   write_holds places old recent holds writes left = record {
     keeps = write_keeps places holds.keeps writes;
     known = λ name. rw (writes.done_catalog refl) (still_known name (left name));
@@ -512,7 +512,7 @@ module _ {S : Type 0} {Stays : RowName → Type 0} (g : Ghosts S) (session : ℕ
 
   -- it failed, and `?` handed the failure on
   pub failure_serves : (result : Result Reply Refusal) (f : Failure) → IsErrAnd result (λ e. e ≡ refusal_for f) → Writes g t new false next.catalog next.rows
-      → Serves g session asked (seen_of t o) (answer_of result) (seen_of new o)
+      → Serves g session asked (database_of t o) (answer_of result) (database_of new o)
   failure_serves result f is writes =
-      handed_on g session asked (seen_of t o) (seen_of new o) result (refusal_for f) is
+      handed_on g session asked (database_of t o) (database_of new o) result (refusal_for f) is
       (write_failed g session asked t new o f answer next may.asks may.early (may.takes f) writes may.steps)

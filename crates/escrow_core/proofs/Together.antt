@@ -47,8 +47,8 @@ use Rattle.escrow_rows.specs.Answers.{IsUsable}
 use Rattle.escrow_tables.specs.Calls.{Writes}
 use Rattle.escrow_tables.specs.Tables.{Tables, AreHeld}
 use Rattle.escrow_core.specs.Ends.{AreCommits, left_after}
-use Rattle.escrow_core.specs.Inside.{seen_of, Holds, Keeps}
-use Rattle.escrow_core.specs.Seen.{Seen}
+use Rattle.escrow_core.specs.Inside.{database_of, Holds, Keeps}
+use Rattle.escrow_core.specs.Database.{Database}
 use Rattle.escrow_core.specs.Serves.{AreHeldOf, Serves}
 use Rattle.escrow_core.proofs.Committing.{known_after, passes, read_after}
 use Rattle.escrow_core.proofs.Served.{commit_serves, refused_serves}
@@ -178,7 +178,7 @@ together_read (entry ∷ plan) s recent commits valid read =
 
 module _ {S : Type 0} (g : Ghosts S) (plan : List (ℕ × End)) (commits : AreCommits plan) (t new : Tables S) (o : Open) where
   abbrev s : State
-  s = (seen_of t o).state
+  s = (database_of t o).state
 
   abbrev all : List Reservation
   all = all_of plan o.reservations
@@ -192,17 +192,17 @@ module _ {S : Type 0} (g : Ghosts S) (plan : List (ℕ × End)) (commits : AreCo
 
   module _ (writes : Writes g t new true t.catalog (applied t.rows all)) where
     -- the changes are written, and the transactions are over
-    pub together_done : HasCleanDisk (state g new.store) → (seen_of new (all_ended plan o)).state ≡ after_ends s plan
+    pub together_done : HasCleanDisk (state g new.store) → (database_of new (all_ended plan o)).state ≡ after_ends s plan
     together_done clean =
         ap₂ (λ (catalog : List TableDef) (rows : List Row). record (with_open s (all_ended plan o)) { catalog = catalog; rows = rows }) (writes.done_catalog refl) (writes.done_rows refl clean)
         ∙ sym (together_is plan s commits)
 
-    pub together_durable : HasCleanDisk (state g new.store) → (trees : Trees) → (state g new.store).may_leave trees → AreHeldOf (seen_of new (all_ended plan o)).state trees
+    pub together_durable : HasCleanDisk (state g new.store) → (trees : Trees) → (state g new.store).may_leave trees → AreHeldOf (database_of new (all_ended plan o)).state trees
     together_durable clean trees may =
         subst (λ c. AreHeld c new.rows trees) (sym (writes.done_catalog refl))
         (subst (λ rs. AreHeld t.catalog rs trees) (sym (writes.done_rows refl clean)) (writes.durable refl clean trees may))
 
-    together_keeps : (old places : Bounds) → Keeps g (seen_of t o) old → AreAllEnded plan o old places → ArePlaced (all_ended plan o).reservations places → Keeps g (seen_of new (all_ended plan o)) places
+    together_keeps : (old places : Bounds) → Keeps g (database_of t o) old → AreAllEnded plan o old places → ArePlaced (all_ended plan o).reservations places → Keeps g (database_of new (all_ended plan o)) places
     together_keeps old places keeps are placed =
         let next : after_ends s plan ≡ together plan s = together_is plan s commits in
         record {
@@ -220,8 +220,8 @@ module _ {S : Type 0} (g : Ghosts S) (plan : List (ℕ × End)) (commits : AreCo
         }
 
     -- and what was read of rows has what is committed
-    pub together_holds : (old places : Bounds) (recent after : ReadRows) → Holds g (seen_of t o) old recent → AreAllEnded plan o old places → ArePlaced (all_ended plan o).reservations places
-        → ((name : RowName) → read_at after name ≡ option_map (committed_to name all) (read_at recent name)) → Holds g (seen_of new (all_ended plan o)) places after
+    pub together_holds : (old places : Bounds) (recent after : ReadRows) → Holds g (database_of t o) old recent → AreAllEnded plan o old places → ArePlaced (all_ended plan o).reservations places
+        → ((name : RowName) → read_at after name ≡ option_map (committed_to name all) (read_at recent name)) → Holds g (database_of new (all_ended plan o)) places after
     together_holds old places recent after holds are placed committed =
         let row_after : (name : RowName) → option_map (committed_by all) (row_read recent name) ≡ row_read after name =
         λ name. sym (ap (option_map (row_with name)) (committed name) ∙ row_committed name all (read_at recent name)) in
@@ -239,7 +239,7 @@ module _ {S : Type 0} (g : Ghosts S) (plan : List (ℕ × End)) (commits : AreCo
 
 -- ONE SESSION
 
-module _ {S : Type 0} (g : Ghosts S) (session : ℕ) (old new : Seen S) (holds : nat_lt 0 (length (own session old.state.reservations)) ≡ true) where
+module _ {S : Type 0} (g : Ghosts S) (session : ℕ) (old new : Database S) (holds : nat_lt 0 (length (own session old.state.reservations)) ≡ true) where
   abbrev alone : List (ℕ × End)
   alone = (session, end.Commit) ∷ []
 

@@ -63,7 +63,7 @@ use Rattle.escrow_machine.proofs.ValidUpdate.{granted_orderly}
 use Rattle.escrow_reserved.specs.Placed.{amounts_named, AreOfTables, HaveAmounts, IsOfTable}
 use Rattle.escrow_core.specs.Inside.{Keeps}
 use Rattle.escrow_reserved.specs.Reserved.{reason_against, reason_by}
-use Rattle.escrow_core.specs.Seen.{Seen, IsKept}
+use Rattle.escrow_core.specs.Database.{Database, IsKept}
 use Rattle.escrow_core.specs.Serves.{Serves}
 use Rattle.escrow_core.specs.Serving.{OnlyReads}
 use Rattle.escrow_reserved.proofs.Places.{becomes_some, granted_placed, made_amounts, made_tables, put_at, put_others, same_amounts, same_placed, same_tables, some_of, some_same, taken_amounts, taken_tables}
@@ -140,11 +140,11 @@ absent_same name values rows none = go rows (find_none (λ (row : Row). same_row
 -- PLAIN VALUES, where the session's transaction was looked at
 
 -- plain values of a row may be replaced, if it stands
-pub record MayReplace {S : Type 0} (g : Ghosts S) (d : Seen S) (session : ℕ) (text : UpdateText) (key : Value) (values : List (Option Value)) : Type 0 where
+pub record MayReplace {S : Type 0} (g : Ghosts S) (d : Database S) (session : ℕ) (text : UpdateText) (key : Value) (values : List (Option Value)) : Type 0 where
   pub planned : plan_of d.state text ≡ Some (plan.Plain key values)
   pub closed : is_open session d.state ≡ false
 
-module _ {S : Type 0} (g : Ghosts S) (d : Seen S) (session : ℕ) (text : UpdateText) (key : Value) (values : List (Option Value)) (may : MayReplace g d session text key values) where
+module _ {S : Type 0} (g : Ghosts S) (d : Database S) (session : ℕ) (text : UpdateText) (key : Value) (values : List (Option Value)) (may : MayReplace g d session text key values) where
   -- the step, whether the row stands or not
   plain_step : step d.state session (statement.Update text)
       ≡ (tried (row_named d.state.rows (row_name text.table key)) refusal.NoSuchRow reply.Updated, record d.state { rows = with_plain (row_name text.table key) values d.state.rows })
@@ -320,7 +320,7 @@ still_planned old new text name changes same planned = subst (λ (s : State). Is
 
 module _ {S : Type 0} (g : Ghosts S) (session : ℕ) (text : UpdateText) (name : RowName) (changes : List (Option ℤ)) where
   -- by the place of a row that is reserved
-  module _ (d : Seen S) (places : Bounds) (planned : IsPlanned d.state text name changes) (keeps : Keeps g d places) (place : Place) (at : place_at places name ≡ Some place) where
+  module _ (d : Database S) (places : Bounds) (planned : IsPlanned d.state text name changes) (keeps : Keeps g d places) (place : Place) (at : place_at places name ≡ Some place) where
     of_its_table : IsSomeAnd (table_named d.state.catalog name.table) (λ table. IsOfTable table place)
     of_its_table = keeps.of_tables name place at
 
@@ -343,7 +343,7 @@ module _ {S : Type 0} (g : Ghosts S) (session : ℕ) (text : UpdateText) (name :
         (λ is. absurd (false≢true is))
 
   -- where the amounts of its row were looked at
-  module _ (old mid : Seen S) (planned : IsPlanned old.state text name changes) (first : is_reserved old.state name ≡ false) (only_reads : OnlyReads g old mid) where
+  module _ (old mid : Database S) (planned : IsPlanned old.state text name changes) (first : is_reserved old.state name ≡ false) (only_reads : OnlyReads g old mid) where
     asks : asks_store old.state session (statement.Update text) ≡ true
     asks = asks_first old.state session text name changes planned first
 
@@ -385,7 +385,7 @@ module _ {S : Type 0} (g : Ghosts S) (session : ℕ) (text : UpdateText) (name :
       pub first_granted : why ≡ None
           → Serves g session (statement.Update text) old (reply.Reserved mid.state.next_id) (record { store = mid.store; state = with_open mid.state (txn.granted session name changes (open_in mid.state)) })
       first_granted none =
-          let new : Seen S = record { store = mid.store; state = with_open mid.state (txn.granted session name changes (open_in mid.state)) } in
+          let new : Database S = record { store = mid.store; state = with_open mid.state (txn.granted session name changes (open_in mid.state)) } in
           let still_first : is_reserved mid.state name ≡ false = subst (λ (s : State). is_reserved s name ≡ false) (sym only_reads.same) first in
           after_look g session (statement.Update text) old mid new (reply.Reserved mid.state.next_id) only_reads asks early
           (served g session (statement.Update text) mid new (reply.Reserved mid.state.next_id) (asks_first mid.state session text name changes planned_now still_first)
@@ -394,7 +394,7 @@ module _ {S : Type 0} (g : Ghosts S) (session : ℕ) (text : UpdateText) (name :
           (λ is. absurd (false≢true is)) (λ usable. usable) (survives_itself (state g mid.store) _) (λ writes. absurd (false≢true writes)))
 
 -- WHAT A GRANT KEEPS
-module _ {S : Type 0} (g : Ghosts S) (session : ℕ) (text : UpdateText) (name : RowName) (changes : List (Option ℤ)) (d : Seen S) (old new : Bounds)
+module _ {S : Type 0} (g : Ghosts S) (session : ℕ) (text : UpdateText) (name : RowName) (changes : List (Option ℤ)) (d : Database S) (old new : Bounds)
     (planned : IsPlanned d.state text name changes) (kept : IsKept g d) (of_session : IsSession session) where
   -- where its row has a place of its table, with its amounts, and all other places are those of the rows that are reserved
   pub grant_keeps : (place : Place) → place_at old name ≡ Some place
@@ -426,7 +426,7 @@ module _ {S : Type 0} (g : Ghosts S) (session : ℕ) (text : UpdateText) (name :
       }
 
 -- where its row has none, and gets one of its table, with its amounts
-pub first_keeps : {S : Type 0} (g : Ghosts S) (session : ℕ) (text : UpdateText) (name : RowName) (changes : List (Option ℤ)) (d : Seen S) (old new : Bounds)
+pub first_keeps : {S : Type 0} (g : Ghosts S) (session : ℕ) (text : UpdateText) (name : RowName) (changes : List (Option ℤ)) (d : Database S) (old new : Bounds)
     → IsPlanned d.state text name changes → Keeps g d old → IsSession session → (table : TableDef) (amounts : List ℤ) (place : Place)
     → table_named d.state.catalog name.table ≡ Some table → length amounts ≡ length (reservables table.columns)
     → (HasCleanDisk (state g d.store) → amounts_named d.state.rows name ≡ Some amounts) → IsNew amounts table.checks place
@@ -443,7 +443,7 @@ first_keeps g session text name changes d old new planned keeps of_session table
     (rw (is_new.checks_are, is_new.amounts_are) none) (rw at becomes) (λ other differs. others other differs ∙ sym (put other differs))
 
 -- where each row has the place that it had, what is kept stays
-pub same_keeps : {S : Type 0} (g : Ghosts S) (d : Seen S) (old new : Bounds) → Keeps g d old → ((row : RowName) → place_at new row ≡ place_at old row) → Keeps g d new
+pub same_keeps : {S : Type 0} (g : Ghosts S) (d : Database S) (old new : Bounds) → Keeps g d old → ((row : RowName) → place_at new row ≡ place_at old row) → Keeps g d new
 same_keeps g d old new keeps same = record {
   kept = keeps.kept;
   placed = same_placed d.state.reservations old new same keeps.placed;

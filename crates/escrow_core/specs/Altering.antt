@@ -56,17 +56,17 @@ pub record Adds (old : TableDef) (text : CheckText) (added : AddedChecks) : Type
   pub count : length old.checks + added.count ≡ length added.table.checks
 
 -- the added checks, the open reservations, and the places that count them over all checks of the table
-pub record Judge : Type 0 where
+pub record AddedJudge : Type 0 where
   pub added : AddedChecks
   pub reservations : List Reservation
   pub addition : Bounds
 
 -- the amounts of a row: those of its place, if it has one
-abbrev pub amounts_by : Judge → Row → List ℤ
+abbrev pub amounts_by : AddedJudge → Row → List ℤ
 amounts_by judge row = unwrap_or (option_map (λ (place : Place). place.amounts) (place_at judge.addition row.name)) row.amounts
 
 -- what the open reservations of a row, some of them or none, could break of the added checks
-abbrev pub violation_by : Judge → Row → Option Violation
+abbrev pub violation_by : AddedJudge → Row → Option Violation
 violation_by judge row = broken (new_ones judge.added) (amounts_by judge row) [] (of_row row.name judge.reservations)
 
 -- the added checks are some of a table's, and an addition was prepared for the reserved rows of the table

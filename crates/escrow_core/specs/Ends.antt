@@ -12,7 +12,7 @@ use Rattle.escrow_rows.specs.Answers.{IsUsable}
 use Rattle.escrow_machine.specs.declared.settled.Settled.{Settled}
 use Rattle.escrow_machine.specs.declared.settled.Stop.{Stop}
 use Rattle.escrow_machine.specs.Settle.{AreCounts, IsStop, after_ends}
-use Rattle.escrow_core.specs.Seen.{Seen}
+use Rattle.escrow_core.specs.Database.{Database}
 use Rattle.escrow_core.specs.Serves.{AreAfterEnds}
 
 -- each entry of a plan is a COMMIT, and no session is named twice
@@ -32,7 +32,7 @@ left_after (entry ∷ plan) reservations = left_after plan (others entry.0 reser
 
 -- A plan was settled, or stopped at a COMMIT that failed. A store that a fault has shut stays shut. After a crash the
 -- disk has what it might have had before, or what some first entries of the plan make, if the store was open.
-pub record Settles {S : Type 0} (g : Ghosts S) (plan : List (ℕ × End)) (old : Seen S) (result : Result Settled Stop) (new : Seen S) : Type 0 where
+pub record Settles {S : Type 0} (g : Ghosts S) (plan : List (ℕ × End)) (old : Database S) (result : Result Settled Stop) (new : Database S) : Type 0 where
   pub ok : HasCleanDisk (state g new.store) → OnOk result (new.state ≡ after_ends old.state plan)
   pub counts : IfOk result (λ done. AreCounts plan old.state.reservations done)
   pub left : OnOk result (new.state.reservations ≡ left_after plan old.state.reservations)

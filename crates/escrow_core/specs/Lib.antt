@@ -1,8 +1,8 @@
 pub mod Altering
 pub mod Beside
+pub mod Database
 pub mod Ends
 pub mod Inside
 pub mod Left
-pub mod Seen
 pub mod Serves
 pub mod Serving

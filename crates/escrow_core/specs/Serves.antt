@@ -16,7 +16,7 @@ use Rattle.escrow_machine.specs.declared.reply.Reply.TheVariants as reply
 use Rattle.escrow_machine.specs.Promised.{asks_store, reads_rows}
 use Rattle.escrow_machine.specs.Reply.{failure_of, is_refused, tells_write}
 use Rattle.escrow_machine.specs.Settle.{settled}
-use Rattle.escrow_core.specs.Seen.{Seen}
+use Rattle.escrow_core.specs.Database.{Database}
 use Rattle.escrow_machine.specs.State.{State}
 use Rattle.escrow_machine.specs.Step.{step, StepOrRefusal}
 use Rattle.escrow_machine.specs.Transition.{transition_of}
@@ -39,7 +39,7 @@ AreAfterEnds plan s trees = (n : ℕ) × AreHeldOf (settled (take n plan) s) tre
 -- nothing, whatever the disk did. A store that a fault has shut stays shut. After a crash the disk has what it might
 -- have had before, or what the step makes, if the store was open. After a reply that says that the store was written,
 -- it has the tables and rows of the new state.
-pub record Serves {S : Type 0} (g : Ghosts S) (session : ℕ) (asked : Statement) (old : Seen S) (answer : Reply) (new : Seen S) : Type 0 where
+pub record Serves {S : Type 0} (g : Ghosts S) (session : ℕ) (asked : Statement) (old : Database S) (answer : Reply) (new : Database S) : Type 0 where
   pub event : HasCleanDisk (state g new.store) → StepOrRefusal old.state session asked answer new.state
   pub early : (r : Refusal) → first_refusal (transition_of old.state session asked).early ≡ Some r → (answer ≡ reply.Refused r) × (new ≡ old)
   pub apart : asks_store old.state session asked ≡ false → (new.store ≡ old.store) × ¬ (failure_of answer ≡ Some failure.Store)

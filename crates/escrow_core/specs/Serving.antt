@@ -6,7 +6,7 @@ use Rattle.sqlite.specs.Held.{state}
 use Rattle.sqlite.specs.State.{Survives}
 use Rattle.sqlite_trees.specs.declared.store.Store.{Ghosts}
 use Rattle.escrow_rows.specs.Answers.{IsUsable}
-use Rattle.escrow_core.specs.Seen.{Seen}
+use Rattle.escrow_core.specs.Database.{Database}
 use Rattle.escrow_core.specs.Serves.{AreHeldOf, Serves}
 use Rattle.sqlite_trees.specs.Tree.{Trees}
 use Rattle.escrow_num.specs.declared.refusal.Refusal.{Refusal}
@@ -25,7 +25,7 @@ use Rattle.escrow_machine.specs.State.{State}
 use Rattle.escrow_machine.specs.Transition.{transition_of}
 
 -- A call read the store: the state stays as it is, and a store that a fault has shut stays shut.
-pub record OnlyReads {S : Type 0} (g : Ghosts S) (old new : Seen S) : Type 0 where
+pub record OnlyReads {S : Type 0} (g : Ghosts S) (old new : Database S) : Type 0 where
   pub same : new.state ≡ old.state
   pub usable : IsUsable (state g new.store) → IsUsable (state g old.store)
   pub survives : Survives (state g old.store) (state g new.store) (λ _. ⊥)
@@ -45,7 +45,7 @@ answer_of (Ok answer) = answer
 answer_of (Err refusal) = reply.Refused refusal
 
 -- a statement of a session is served, and the result of a call is its answer
-abbrev pub Answers : {S : Type 0} → Ghosts S → ℕ → Statement → Seen S → Result Reply Refusal → Seen S → Type 0
+abbrev pub Answers : {S : Type 0} → Ghosts S → ℕ → Statement → Database S → Result Reply Refusal → Database S → Type 0
 Answers g session asked old result new = Serves g session asked old (answer_of result) new
 
 -- a call fails exactly if a statement is refused early, with its first early refusal

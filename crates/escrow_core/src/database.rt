@@ -58,16 +58,16 @@ impl<S: Alter + Drop> Drop for Database<S> {
 }
 
 impl<S: Alter> Model for Database<S> {
-    ghost use Rattle.escrow_core.specs.Inside.{seen_of, Holds};
-    ghost use Rattle.escrow_core.specs.Seen.{Seen, seen_code};
+    ghost use Rattle.escrow_core.specs.Inside.{database_of, Holds};
+    ghost use Rattle.escrow_core.specs.Database.{Database, database_code};
 
-    ghost Value = { Seen S };
+    ghost Value = { Database S };
 
-    ghost coded = { seen_code S.code };
+    ghost coded = { database_code S.code };
 
-    ghost view = { λ d. seen_of d.tables d.reserved.txns };
+    ghost view = { λ d. database_of d.tables d.reserved.txns };
 
-    ghost invariant = { λ d. Holds S.Store (seen_of d.tables d.reserved.txns) d.reserved.places d.recent };
+    ghost invariant = { λ d. Holds S.Store (database_of d.tables d.reserved.txns) d.reserved.places d.recent };
 }
 
 impl<S: Alter> Database<S> {
@@ -81,7 +81,7 @@ impl<S: Alter> Database<S> {
     ghost use Rattle.escrow_num.specs.declared.failure.Failure.TheVariants.{Store};
     ghost use Rattle.escrow_machine.specs.Promised.{asks_store, is_promised, reads_rows};
     ghost use Rattle.escrow_machine.specs.Reply.{failure_of, is_refused, tells_write};
-    ghost use Rattle.escrow_core.specs.Seen.{IsKept};
+    ghost use Rattle.escrow_core.specs.Database.{IsKept};
     ghost use Rattle.escrow_core.specs.Serves.{AreAfter, AreHeldOf};
     ghost use Rattle.escrow_core.specs.Serving.{Answers};
     ghost use Rattle.escrow_machine.specs.State.{has_open, is_open, opened};

@@ -5,10 +5,10 @@ use Rattle.std.proofs.lemmas.List.{length-map}
 use Rattle.sqlite_trees.specs.declared.store.Store.{Ghosts}
 use Rattle.escrow_num.specs.Session.{IsSession}
 use Rattle.escrow_transcript.specs.declared.entry.Entry.{Entry}
-use Rattle.escrow_core.specs.Seen.{Seen}
+use Rattle.escrow_core.specs.Database.{Database}
 use Rattle.escrow_shards.specs.Begun.{Begun}
 use Rattle.escrow_shards.specs.Closing.{Closing, all_entries, opening_of}
-use Rattle.escrow_shards.specs.Opened.{AreRead, IsRead, seen_at}
+use Rattle.escrow_shards.specs.Opened.{AreRead, IsRead, database_at}
 use Rattle.escrow_shards.specs.Piece.{Piece}
 use Rattle.escrow_shards.specs.Receipts.{receipts_of}
 use Rattle.escrow_shards.specs.Seat.{Seat}
@@ -31,33 +31,33 @@ map_at f (y ∷ xs) (suc i) x at = map_at f xs i x at
 
 -- DATABASES
 
-read_at : {S : Type 0} (g : Ghosts S) (olds news : List (Seen S)) (i : ℕ) (old new : Seen S) → AreRead g olds news → slice_get olds i ≡ Some old → slice_get news i ≡ Some new → IsRead g old new
+read_at : {S : Type 0} (g : Ghosts S) (olds news : List (Database S)) (i : ℕ) (old new : Database S) → AreRead g olds news → slice_get olds i ≡ Some old → slice_get news i ≡ Some new → IsRead g old new
 read_at g [] news i old new all at there = absurd (none_some old at)
 read_at g (o ∷ olds) [] i old new all at there = absurd all
 read_at {S} g (o ∷ olds) (n ∷ news) zero old new all at there =
-    subst (λ (x : Seen S). IsRead g x new) (some_same o old at) (subst (λ (y : Seen S). IsRead g o y) (some_same n new there) all.0)
+    subst (λ (x : Database S). IsRead g x new) (some_same o old at) (subst (λ (y : Database S). IsRead g o y) (some_same n new there) all.0)
 read_at g (o ∷ olds) (n ∷ news) (suc i) old new all at there = read_at g olds news i old new all.1 at there
 
-read_long : {S : Type 0} (g : Ghosts S) (olds news : List (Seen S)) → AreRead g olds news → length news ≡ length olds
+read_long : {S : Type 0} (g : Ghosts S) (olds news : List (Database S)) → AreRead g olds news → length news ≡ length olds
 read_long g [] [] all = refl
 read_long g [] (n ∷ news) all = absurd all
 read_long g (o ∷ olds) [] all = absurd all
 read_long g (o ∷ olds) (n ∷ news) all = ap suc (read_long g olds news all.1)
 
-pub openings_long : {S : Type 0} (g : Ghosts S) (databases : List (Seen S)) (openings : List (Begun S)) → AreRead g databases (map seen_at openings) → length openings ≡ length databases
-openings_long g databases openings read = sym (length-map openings seen_at) ∙ read_long g databases (map seen_at openings) read
+pub openings_long : {S : Type 0} (g : Ghosts S) (databases : List (Database S)) (openings : List (Begun S)) → AreRead g databases (map database_at openings) → length openings ≡ length databases
+openings_long g databases openings read = sym (length-map openings database_at) ∙ read_long g databases (map database_at openings) read
 
 closed_long : {S : Type 0} (closed : List (Closing S)) (openings : List (Begun S)) → map opening_of closed ≡ openings → length closed ≡ length openings
 closed_long {S} closed openings same = sym (length-map closed opening_of) ∙ ap (length {A = Begun S}) same
 
-pub are_histories : {S : Type 0} (g : Ghosts S) (databases : List (Seen S)) (sharing : Sharing S) (seats : List Seat) (parts : List (Piece S)) (closed : List (Closing S))
-    → AreRead g databases (map seen_at sharing.openings) → AreWhole g sharing seats parts closed → AreHistories g databases parts closed
+pub are_histories : {S : Type 0} (g : Ghosts S) (databases : List (Database S)) (sharing : Sharing S) (seats : List Seat) (parts : List (Piece S)) (closed : List (Closing S))
+    → AreRead g databases (map database_at sharing.openings) → AreWhole g sharing seats parts closed → AreHistories g databases parts closed
 are_histories {S} g databases sharing seats parts closed read whole = record {
   count = closed_long closed sharing.openings whole.openings ∙ openings_long g databases sharing.openings read;
   each = λ place database c at there.
       record {
-        began = read_at g databases (map seen_at sharing.openings) place database (seen_at c.opening) read at
-            (map_at seen_at sharing.openings place c.opening (ap (λ (os : List (Begun S)). slice_get os place) (sym whole.openings) ∙ map_at opening_of closed place c there));
+        began = read_at g databases (map database_at sharing.openings) place database (database_at c.opening) read at
+            (map_at database_at sharing.openings place c.opening (ap (λ (os : List (Begun S)). slice_get os place) (sym whole.openings) ∙ map_at opening_of closed place c there));
         whole = whole.each place c there;
       };
 }

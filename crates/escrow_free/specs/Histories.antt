@@ -2,9 +2,9 @@
 use Rattle.std.specs.Prelude.{◌≡◌, ℕ, ◌+◌, List, [], ◌∷◌, length, slice_get, Some}
 use Rattle.sqlite_trees.specs.declared.store.Store.{Ghosts}
 use Rattle.escrow_transcript.specs.declared.entry.Entry.{Entry}
-use Rattle.escrow_core.specs.Seen.{Seen}
+use Rattle.escrow_core.specs.Database.{Database}
 use Rattle.escrow_shards.specs.Closing.{Closing, IsWhole, all_entries}
-use Rattle.escrow_shards.specs.Opened.{IsRead, seen_at}
+use Rattle.escrow_shards.specs.Opened.{IsRead, database_at}
 use Rattle.escrow_shards.specs.Piece.{Piece}
 
 -- the histories of databases, from a place on: each is the entries of its parts, followed by those of its last
@@ -19,12 +19,12 @@ histories parts closed = histories_from 0 parts closed
 
 -- The history of a database began as the database was handed in, and is whole. If the disk returned what was written,
 -- the history is one legal run of the machine, from the state that was handed in to the state that is handed back.
-pub record IsHistory {S : Type 0} (g : Ghosts S) (place : ℕ) (parts : List (Piece S)) (database : Seen S) (c : Closing S) : Type 0 where
-  pub began : IsRead g database (seen_at c.opening)
+pub record IsHistory {S : Type 0} (g : Ghosts S) (place : ℕ) (parts : List (Piece S)) (database : Database S) (c : Closing S) : Type 0 where
+  pub began : IsRead g database (database_at c.opening)
   pub whole : IsWhole g place parts c
 
 -- there is a history for each database, by place: each began as its database was handed in, and is whole
-pub record AreHistories {S : Type 0} (g : Ghosts S) (databases : List (Seen S)) (parts : List (Piece S)) (closed : List (Closing S)) : Type 0 where
+pub record AreHistories {S : Type 0} (g : Ghosts S) (databases : List (Database S)) (parts : List (Piece S)) (closed : List (Closing S)) : Type 0 where
   pub count : length closed ≡ length databases
-  pub each : (place : ℕ) (database : Seen S) (c : Closing S) → slice_get databases place ≡ Some database → slice_get closed place ≡ Some c
+  pub each : (place : ℕ) (database : Database S) (c : Closing S) → slice_get databases place ≡ Some database → slice_get closed place ≡ Some c
       → IsHistory g place parts database c

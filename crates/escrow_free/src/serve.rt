@@ -1,9 +1,9 @@
 ghost use Rattle.std.specs.Prelude.{◌≡◌, ◌≢◌, ◌↔◌, ◌≤◌, true, List, [], length, map, replicate, vec_len, IfErr, IfOk, IfSome, IsErrOf, OnOk};
 ghost use Rattle.std.specs.Io.KnownBytes.{IsAtEnd};
 ghost use Rattle.escrow_num.specs.declared.session.TheConstants.Session.{MAX};
-ghost use Rattle.escrow_core.specs.Seen.{Seen};
+ghost use Rattle.escrow_core.specs.Database.{Database};
 ghost use Rattle.escrow_stats.specs.Tally.{tally_of};
-ghost use Rattle.escrow_shards.specs.Opened.{any_open, AreRead, seen_at};
+ghost use Rattle.escrow_shards.specs.Opened.{any_open, AreRead, database_at};
 ghost use Rattle.escrow_shards.specs.Seat.{new_seats};
 ghost use Rattle.escrow_free.specs.FreeOutput.{ServesFree};
 ghost use Rattle.escrow_free.specs.Histories.{AreHistories, histories};
@@ -146,7 +146,7 @@ fn serve_stage<
     requires passes { stage.passes.items ≡ new_seats (length stage.shared.openings) MAX }
 
     // This holds for whichever databases were read when the sharing began.
-    ensures legal { IfOk result (λ audit. (databases : List (Seen S)) → AreRead S.Store databases (map seen_at stage.shared.openings)
+    ensures legal { IfOk result (λ audit. (databases : List (Database S)) → AreRead S.Store databases (map database_at stage.shared.openings)
         → AreHistories S.Store databases audit.parts.items audit.closed.items) }
     ensures output { IfOk result (λ audit. IfSome (R.remaining reader.old) (λ script.
         ServesFree script (histories audit.parts.items audit.closed.items) (W.contents writer.old) (W.contents writer.new))) }

@@ -1,7 +1,7 @@
 //! Databases that are shared for a script, and what is found when the sharing ends.
 ghost use Rattle.std.specs.Prelude.{◌≡◌, ◌≢◌, ◌↔◌, ◌≤◌, true, false, length, map, vec_len, IfOk, IfErr, MatchResult, OnOk};
 ghost use Rattle.escrow_num.specs.declared.session.TheConstants.Session.{MAX};
-ghost use Rattle.escrow_shards.specs.Opened.{any_open, AreRead, seen_at};
+ghost use Rattle.escrow_shards.specs.Opened.{any_open, AreRead, database_at};
 ghost use Rattle.escrow_shards.specs.Seat.{new_seats};
 ghost use Rattle.escrow_shards.specs.Whole.{AreWhole};
 
@@ -30,7 +30,7 @@ pub(crate) fn share<S: Alter + Drop>(
 ) -> Result<Stage<S, Locked<S>>, FreeFault>
     requires some { 1 ≤ vec_len databases }
     requires few { vec_len databases ≤ MAX_DATABASES }
-    ensures read { IfOk result (λ stage. AreRead S.Store databases.items (map seen_at stage.shared.openings)) }
+    ensures read { IfOk result (λ stage. AreRead S.Store databases.items (map database_at stage.shared.openings)) }
     ensures sessions { IfOk result (λ stage. stage.shared.sessions ≡ MAX) }
     ensures passes { IfOk result (λ stage. stage.passes.items ≡ new_seats (length databases.items) MAX) }
     ensures closed { OnOk result (any_open databases.items ≡ false) }
@@ -54,7 +54,7 @@ pub(crate) fn share_watched<'r, S: Alter + Drop, T: Wait>(
 ) -> Result<Stage<S, Watched<S, &'r T>>, FreeFault>
     requires some { 1 ≤ vec_len databases }
     requires few { vec_len databases ≤ MAX_DATABASES }
-    ensures read { IfOk result (λ stage. AreRead S.Store databases.items (map seen_at stage.shared.openings)) }
+    ensures read { IfOk result (λ stage. AreRead S.Store databases.items (map database_at stage.shared.openings)) }
     ensures sessions { IfOk result (λ stage. stage.shared.sessions ≡ MAX) }
     ensures passes { IfOk result (λ stage. stage.passes.items ≡ new_seats (length databases.items) MAX) }
     ensures closed { OnOk result (any_open databases.items ≡ false) }

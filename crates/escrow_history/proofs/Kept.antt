@@ -18,7 +18,7 @@ use Rattle.escrow_machine.specs.Reply.{failure_of}
 use Rattle.escrow_machine.specs.State.{State}
 use Rattle.escrow_machine.specs.Step.{IsRun, IsStep, StepOrRefusal, may_fail}
 use Rattle.escrow_machine.proofs.LawsMemory.{shown_stays}
-use Rattle.escrow_core.specs.Seen.{Seen}
+use Rattle.escrow_core.specs.Database.{Database}
 use Rattle.escrow_transcript.specs.declared.base.Base.{Base}
 use Rattle.escrow_transcript.specs.declared.entry.Entry.{Entry}
 use Rattle.escrow_transcript.specs.declared.transcript.TheConstants.Transcript.{MAX_ENTRIES, MAX_NUMBER}
@@ -38,7 +38,7 @@ use Rattle.escrow_history.proofs.NeverFull.{never_told}
 
 module _ {S : Type 0} (g : Ghosts S) where
   -- a transcript begins at a base, which is what the database holds
-  pub begun_keeps : {Z : Type 0} (d : Seen S) (base : Base) (entries : Vec Entry Z) → entries.items ≡ [] → (HasCleanDisk (state g d.store) → d.state ≡ started base.image)
+  pub begun_keeps : {Z : Type 0} (d : Database S) (base : Base) (entries : Vec Entry Z) → entries.items ≡ [] → (HasCleanDisk (state g d.store) → d.state ≡ started base.image)
       → base.before + MAX_ENTRIES ≤ MAX_NUMBER → IsKept g (history_of d base entries)
   begun_keeps d base entries none is numbers = record {
     legal = λ clean. rw none (subst (IsLegal base []) (sym (is clean)) (nothing_is_legal base));
@@ -66,7 +66,7 @@ module _ {S : Type 0} (g : Ghosts S) where
       }
 
   -- what was entered of a run is what COMMITs make of a database and its transcript
-  pub commits_made : {Z : Type 0} (d after : Seen S) (base : Base) (entries room more : Vec Entry Z) (sessions : List ℕ) (events : List Event) (answers told : List Reply)
+  pub commits_made : {Z : Type 0} (d after : Database S) (base : Base) (entries room more : Vec Entry Z) (sessions : List ℕ) (events : List Event) (answers told : List Reply)
       (outcomes : List (Result Committed Failure)) → events ≡ asked_by sessions → length answers ≡ length events → told ≡ answers
       → (HasCleanDisk (state g after.store) → IsRun d.state events answers after.state) → room.items ≡ entries.items
       → base.before + vec_len room ≡ base.before + length entries.items → AreEntered (base.before + vec_len room) told outcomes

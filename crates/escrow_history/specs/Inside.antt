@@ -5,7 +5,7 @@ use Rattle.escrow_num.specs.declared.refusal.Refusal.TheVariants as refusal
 use Rattle.escrow_machine.specs.declared.reply.Reply.{Reply}
 use Rattle.escrow_machine.specs.declared.reply.Reply.TheVariants as reply
 use Rattle.escrow_machine.specs.Reply.{failure_of, holds_memory}
-use Rattle.escrow_core.specs.Seen.{Seen}
+use Rattle.escrow_core.specs.Database.{Database}
 use Rattle.escrow_transcript.specs.declared.base.Base.{Base}
 use Rattle.escrow_transcript.specs.declared.entry.Entry.{Entry}
 use Rattle.escrow_transcript.specs.declared.transcript.TheConstants.Transcript.{MAX_ENTRIES}
@@ -16,7 +16,7 @@ abbrev pub room_of : {Z : Type 0} → Vec Entry Z → ℕ
 room_of entries = min (vec_capacity entries) MAX_ENTRIES - vec_len entries
 
 -- the history of a database, a base and entries
-abbrev pub history_of : {S Z : Type 0} → Seen S → Base → Vec Entry Z → History S
+abbrev pub history_of : {S Z : Type 0} → Database S → Base → Vec Entry Z → History S
 history_of d base entries = record { store = d.store; state = d.state; base = base; entries = entries.items; room = room_of entries }
 
 -- whether a reply is no answer: it reports a failure, or only a transcript gives it

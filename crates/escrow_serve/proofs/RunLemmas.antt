@@ -10,7 +10,7 @@ use Rattle.sqlite.specs.State.{HasCleanDisk}
 use Rattle.sqlite_trees.specs.declared.store.Store.{Ghosts}
 use Rattle.sqlite_trees.proofs.ListLemmas.{all-slice_get}
 use Rattle.escrow_statement.specs.declared.statement.Statement.{Statement}
-use Rattle.escrow_core.specs.Seen.{Seen}
+use Rattle.escrow_core.specs.Database.{Database}
 use Rattle.escrow_machine.specs.declared.event.Event.{Event}
 use Rattle.escrow_machine.specs.declared.event.Event.TheVariants as event
 use Rattle.escrow_machine.specs.declared.reply.Reply.{Reply}
@@ -74,21 +74,21 @@ asked_none parts all = λ place part found. all-slice_get (λ (p : Part). p.even
 -- THE DATABASES SERVE WHAT IS ASKED
 
 -- a part was run, and what it was answered is kept from the last on
-pub part_ran : {S : Type 0} (g : Ghosts S) (old new : Seen S) (part : Part) (left : List Event) (answers kept : List Reply) → left ≡ [] → kept ≡ reverse answers
+pub part_ran : {S : Type 0} (g : Ghosts S) (old new : Database S) (part : Part) (left : List Event) (answers kept : List Reply) → left ≡ [] → kept ≡ reverse answers
     → (HasCleanDisk (state g new.store) → IsRun old.state part.events.items answers new.state)
     → (left ≡ []) × (HasCleanDisk (state g new.store) → IsRun old.state part.events.items (reverse kept) new.state)
 part_ran g old new part left answers kept none is run =
     (none, λ clean. subst (λ (rs : List Reply). IsRun old.state part.events.items rs new.state) (sym (ap reverse is ∙ reverse-reverse answers)) (run clean))
 
 -- the parts up to a place were run, and those from there on weren't
-pub record RunUpTo {S : Type 0} (g : Ghosts S) (olds news : List (Seen S)) (parts afters : List Part) (count : ℕ) : Type 0 where
+pub record RunUpTo {S : Type 0} (g : Ghosts S) (olds news : List (Database S)) (parts afters : List Part) (count : ℕ) : Type 0 where
   pub databases : length news ≡ length olds
   pub same_parts : length afters ≡ length parts
-  pub ran : (place : ℕ) (old new : Seen S) (part after : Part) → place < count → slice_get olds place ≡ Some old → slice_get news place ≡ Some new
+  pub ran : (place : ℕ) (old new : Database S) (part after : Part) → place < count → slice_get olds place ≡ Some old → slice_get news place ≡ Some new
       → slice_get parts place ≡ Some part → slice_get afters place ≡ Some after → HasRun g old part new after
   pub waits : (place : ℕ) → count ≤ place → (slice_get news place ≡ slice_get olds place) × (slice_get afters place ≡ slice_get parts place)
 
-pub run_none : {S : Type 0} (g : Ghosts S) (olds : List (Seen S)) (parts : List Part) → RunUpTo g olds olds parts parts 0
+pub run_none : {S : Type 0} (g : Ghosts S) (olds : List (Database S)) (parts : List Part) → RunUpTo g olds olds parts parts 0
 run_none g olds parts = record {
   databases = refl;
   same_parts = refl;
@@ -96,7 +96,7 @@ run_none g olds parts = record {
   waits = λ place from. (refl, refl);
 }
 
-pub run_more : {S : Type 0} (g : Ghosts S) (olds news : List (Seen S)) (parts afters : List Part) (count : ℕ) (old new : Seen S) (part after : Part)
+pub run_more : {S : Type 0} (g : Ghosts S) (olds news : List (Database S)) (parts afters : List Part) (count : ℕ) (old new : Database S) (part after : Part)
     → slice_get news count ≡ Some old → slice_get afters count ≡ Some part → HasRun g old part new after → RunUpTo g olds news parts afters count
     → RunUpTo g olds (slice_set news count new) parts (slice_set afters count after) (count + 1)
 run_more {S} g olds news parts afters count old new part after found has run up = record {
@@ -111,8 +111,8 @@ run_more {S} g olds news parts afters count old new part after found has run up 
         let e = sym (get_set_same news count new (slice_get_within news count old found)) ∙ subst (λ (p : ℕ). slice_get (slice_set news count new) p ≡ Some now) here f2 in cc in
         let is_left : after ≡ left =
         let e = sym (get_set_same afters count after (slice_get_within afters count part has)) ∙ subst (λ (p : ℕ). slice_get (slice_set afters count after) p ≡ Some left) here f4 in cc in
-        subst (λ (d : Seen S). HasRun g d asked now left) is_was (subst (λ (p : Part). HasRun g old p now left) is_asked
-        (subst (λ (d : Seen S). HasRun g old part d left) is_now (subst (λ (p : Part). HasRun g old part new p) is_left run)))
+        subst (λ (d : Database S). HasRun g d asked now left) is_was (subst (λ (p : Part). HasRun g old p now left) is_asked
+        (subst (λ (d : Database S). HasRun g old part d left) is_now (subst (λ (p : Part). HasRun g old part new p) is_left run)))
     | inr apart ↦ up.ran place was now asked left (omega (arith, below, apart)) f1 (sym (get_set_other news count place new apart) ∙ f2) f3
         (sym (get_set_other afters count place after apart) ∙ f4)
   ];
@@ -122,11 +122,11 @@ run_more {S} g olds news parts afters count old new part after found has run up 
       (get_set_other news count place new apart ∙ waits.0, get_set_other afters count place after apart ∙ waits.1);
 }
 
-pub run_all : {S : Type 0} (g : Ghosts S) (olds news : List (Seen S)) (parts afters : List Part) (count : ℕ) → length olds ≤ count → RunUpTo g olds news parts afters count → HaveRun g olds parts news afters
+pub run_all : {S : Type 0} (g : Ghosts S) (olds news : List (Database S)) (parts afters : List Part) (count : ℕ) → length olds ≤ count → RunUpTo g olds news parts afters count → HaveRun g olds parts news afters
 run_all g olds news parts afters count all up = λ place old new part after f1. up.ran place old new part after (omega (arith, slice_get_within olds place old f1)) f1
 
 -- so no line waits
-pub emptied : {S : Type 0} (g : Ghosts S) (olds news : List (Seen S)) (parts afters : List Part) → length news ≡ length olds → length parts ≡ length olds → length afters ≡ length parts
+pub emptied : {S : Type 0} (g : Ghosts S) (olds news : List (Database S)) (parts afters : List Part) → length news ≡ length olds → length parts ≡ length olds → length afters ≡ length parts
     → HaveRun g olds parts news afters → AreAsked afters []
 emptied g olds news parts afters count parted same ran = λ place after found.
     let within = slice_get_within afters place after found in
@@ -136,7 +136,7 @@ emptied g olds news parts afters count parted same ran = λ place after found.
     (ran place old.0 new.0 part.0 after old.1 new.1 part.1 found).0
 
 -- and each line has its reply
-pub runs_all : {S : Type 0} (g : Ghosts S) (olds news : List (Seen S)) (parts afters : List Part) (items : List Item) → length news ≡ length olds → length parts ≡ length olds
+pub runs_all : {S : Type 0} (g : Ghosts S) (olds news : List (Database S)) (parts afters : List Part) (items : List Item) → length news ≡ length olds → length parts ≡ length olds
     → length afters ≡ length parts → AreAsked parts items → HaveRun g olds parts news afters → HaveCleanDisks g news → Runs (states_of olds) (states_of news) items afters
 runs_all {S} g olds news parts afters items count parted same asked ran clean = record {
   count = length-map news state_in ∙ count ∙ sym (length-map olds state_in);
@@ -145,7 +145,7 @@ runs_all {S} g olds news parts afters items count parted same asked ran clean = 
       let old = get_image state_in olds place before f1 in
       let new = get_image state_in news place after f2 in
       let was = get_within parts place (omega (arith, slice_get_within afters place part f3, same)) in
-      let run = (ran place old.0 new.0 was.0 part old.1 new.1 was.1 f3).1 (all-slice_get (λ (d : Seen S). HasCleanDisk (state g d.store)) news place new.0 new.1 clean) in
+      let run = (ran place old.0 new.0 was.0 part old.1 new.1 was.1 f3).1 (all-slice_get (λ (d : Database S). HasCleanDisk (state g d.store)) news place new.0 new.1 clean) in
       subst (λ (s : State). IsRun s (events_at place items) (reverse part.answers.items) after) old.2
       (subst (λ (s : State). IsRun old.0.state (events_at place items) (reverse part.answers.items) s) new.2
       (subst (λ (es : List Event). IsRun old.0.state es (reverse part.answers.items) new.0.state) (asked place was.0 was.1) run));

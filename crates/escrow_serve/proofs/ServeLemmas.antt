@@ -10,7 +10,7 @@ use Rattle.sqlite_trees.specs.declared.store.Store.{Ghosts}
 use Rattle.escrow_num.specs.declared.refusal.Refusal.{Refusal}
 use Rattle.escrow_machine.specs.declared.reply.Reply.{Reply}
 use Rattle.escrow_machine.specs.Reply.{holds_memory, restart_reply}
-use Rattle.escrow_core.specs.Seen.{Seen}
+use Rattle.escrow_core.specs.Database.{Database}
 use Rattle.escrow_machine.specs.State.{State}
 use Rattle.escrow_script.specs.declared.fault.ServeFault.{ServeFault}
 use Rattle.escrow_machine.specs.Step as machine
@@ -35,7 +35,7 @@ use Rattle.escrow_script.specs.Script.{most_bytes, HasEnded, TakesLine, Spends, 
 
 -- databases, as contracts show them
 abbrev pub Databases : Type 0 → Type 0
-Databases S = List (Seen S)
+Databases S = List (Database S)
 
 -- How a script stands: some of its lines were served, and left such states and totals; what they write was
 -- written but for what is gathered; and there were no more of them than the bytes that were spent.
@@ -290,12 +290,12 @@ nothing_served states totals bytes (inl reads) = line_of_none states totals byte
 nothing_served states totals bytes (inr reads) = line_of_none states totals bytes [] join reads (λ sittings. (refl, refl))
 
 -- the state of one database, and those after it changes
-state_at : {S : Type 0} (databases : Databases S) (place : ℕ) (database : Seen S) → slice_get databases place ≡ Some database
+state_at : {S : Type 0} (databases : Databases S) (place : ℕ) (database : Database S) → slice_get databases place ≡ Some database
     → slice_get (states_of databases) place ≡ Some (state_in database)
 state_at databases place database found = slice_get-map state_in databases place ∙ ap (option_map state_in) found
 
 -- the line of a statement is answered by the database at its place
-pub serves_place : {S : Type 0} (databases : Databases S) (totals : List Totals) (place session : ℕ) (bytes text name out : List ℕ) (old after : Seen S) (own counted : Totals)
+pub serves_place : {S : Type 0} (databases : Databases S) (totals : List Totals) (place session : ℕ) (bytes text name out : List ℕ) (old after : Database S) (own counted : Totals)
     → Reads (length databases) bytes (statement place session text) → old ≡ slice_index_or databases place old → own ≡ slice_index_or totals place own → length totals ≡ length databases
     → name ≡ database_name place → TextServed name old.state own session text out after.state counted
     → LineServed (states_of databases) totals bytes out (states_of (slice_set databases place after)) (slice_set totals place counted)
@@ -308,7 +308,7 @@ serves_place databases totals place session bytes text name out old after own co
     (state_at databases place old found) has is_name served)
 
 -- so is the line of a restart
-pub restarts_place : {S : Type 0} (databases : Databases S) (totals : List Totals) (place : ℕ) (bytes name : List ℕ) (answer : Reply) (old after : Seen S) (own counted : Totals)
+pub restarts_place : {S : Type 0} (databases : Databases S) (totals : List Totals) (place : ℕ) (bytes name : List ℕ) (answer : Reply) (old after : Database S) (own counted : Totals)
     → Reads (length databases) bytes (restart place) → old ≡ slice_index_or databases place old → own ≡ slice_index_or totals place own → length totals ≡ length databases
     → name ≡ database_name place → machine.IsServed old.state event.Restart answer after.state → counted ≡ totals_after answer own
     → LineServed (states_of databases) totals bytes (rendered_whole name answer) (states_of (slice_set databases place after)) (slice_set totals place counted)

@@ -4,7 +4,7 @@ use Rattle.std.specs.List.{AllByRecursion}
 use Rattle.sqlite.specs.Held.{state}
 use Rattle.sqlite.specs.State.{HasCleanDisk}
 use Rattle.sqlite_trees.specs.declared.store.Store.{Ghosts}
-use Rattle.escrow_core.specs.Seen.{Seen}
+use Rattle.escrow_core.specs.Database.{Database}
 use Rattle.escrow_machine.specs.declared.event.Event.{Event}
 use Rattle.escrow_machine.specs.declared.event.Event.TheVariants as event
 use Rattle.escrow_machine.specs.State.{State}
@@ -73,15 +73,15 @@ IsWithin databases (waiting.Asked place session) = place < databases
 IsWithin databases _ = Unit {0}
 
 -- a part was run: its database served its events, and none is left
-abbrev pub HasRun : {S : Type 0} → Ghosts S → Seen S → Part → Seen S → Part → Type 0
+abbrev pub HasRun : {S : Type 0} → Ghosts S → Database S → Part → Database S → Part → Type 0
 HasRun g old part new after =
     (after.events.items ≡ [])
     × (HasCleanDisk (state g new.store) → IsRun old.state part.events.items (reverse after.answers.items) new.state)
 
 -- each part was run
-abbrev pub HaveRun : {S : Type 0} → Ghosts S → List (Seen S) → List Part → List (Seen S) → List Part → Type 0
+abbrev pub HaveRun : {S : Type 0} → Ghosts S → List (Database S) → List Part → List (Database S) → List Part → Type 0
 HaveRun {S} g olds parts news afters =
-    (place : ℕ) (old new : Seen S) (part after : Part) → slice_get olds place ≡ Some old → slice_get news place ≡ Some new
+    (place : ℕ) (old new : Database S) (part after : Part) → slice_get olds place ≡ Some old → slice_get news place ≡ Some new
     → slice_get parts place ≡ Some part → slice_get afters place ≡ Some after → HasRun g old part new after
 
 -- the replies that parts have left, from the last one on, answer what lines ask from these states on

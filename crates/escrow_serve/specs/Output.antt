@@ -11,7 +11,7 @@ use Rattle.escrow_sql.specs.Parser.{Asks, IsFaultIn}
 use Rattle.sqlite.specs.State.{HasCleanDisk}
 use Rattle.escrow_machine.specs.declared.reply.Reply.{Reply}
 use Rattle.escrow_machine.specs.declared.reply.Reply.TheVariants as reply
-use Rattle.escrow_core.specs.Seen.{Seen}
+use Rattle.escrow_core.specs.Database.{Database}
 use Rattle.escrow_machine.specs.State.{State}
 use Rattle.escrow_machine.specs.Step as machine
 use Rattle.escrow_machine.specs.Step.{StepOrRefusal}
@@ -25,15 +25,15 @@ use Rattle.escrow_script.specs.Written.{fault_refusal, no_line_text, Leaves}
 use Rattle.escrow_script.specs.Line.{Reading, nothing, join, restart, statement, no_line, database_name, Reads, lines_of}
 
 -- the state of a database, as contracts see it
-abbrev pub state_in : {S : Type 0} → Seen S → State
+abbrev pub state_in : {S : Type 0} → Database S → State
 state_in database = database.state
 
 -- the states of databases, by place
-abbrev pub states_of : {S : Type 0} → List (Seen S) → List State
+abbrev pub states_of : {S : Type 0} → List (Database S) → List State
 states_of databases = map state_in databases
 
 -- the disk of each database's store returned what was written
-abbrev pub HaveCleanDisks : {S : Type 0} → Ghosts S → List (Seen S) → Type 0
+abbrev pub HaveCleanDisks : {S : Type 0} → Ghosts S → List (Database S) → Type 0
 HaveCleanDisks g databases = AllByRecursion (λ database. HasCleanDisk (state g database.store)) databases
 
 -- a text is a statement, and its reply is the machine's step or its refusal

@@ -2,7 +2,7 @@
 use Rattle.std.proofs.Common.{◌≡◌, ◌≢◌, ◌⊎◌, ℕ, Bool, true, zero, suc, ◌+◌, List, [], ◌∷◌, ◌++◌, length, Some, arith, refl, sym, ap, ap₂, subst, ◌∙◌, inl, inr}
 use Rattle.std.specs.Prelude.{Result, Ok, Err, IsTrue, OnOk, is_ok, is_err, if◌then◌else◌, false, slice_get, replicate}
 use Rattle.std.proofs.lemmas.Bool.{true≢false}
-use Rattle.sqlite.specs.Effect.{Database}
+use Rattle.sqlite.specs.Effect.{Database as Stored}
 use Rattle.sqlite.specs.Held.{state}
 use Rattle.sqlite_schema.specs.declared.schema.Index.{Index}
 use Rattle.sqlite_schema.specs.declared.schema.Schema.{Schema}
@@ -14,7 +14,7 @@ use Rattle.escrow_cells.specs.Tables.{no_schema}
 use Rattle.sqlite.specs.State.{HasCleanDisk}
 use Rattle.escrow_recover.specs.Holds.{Holds}
 use Rattle.escrow_recover.specs.Migrated.{HoldsBefore}
-use Rattle.escrow_core.specs.Seen.{Seen}
+use Rattle.escrow_core.specs.Database.{Database}
 use Rattle.escrow_machine.specs.State.{State, empty}
 use Rattle.escrow_server.specs.declared.fault.RunFault.{RunFault}
 use Rattle.escrow_server.specs.Opened.{IsOpened}
@@ -22,7 +22,7 @@ use Rattle.escrow_serve.specs.Output.{HaveCleanDisks, states_of}
 use Rattle.escrow_server.specs.Program.{empty_states, AreFound, IsFound, StartsAs}
 
 -- what is held was held before it was opened, in the known format or in the one before
-pub held_either : (s : State) (old new : Database) (migrated : Bool) → Holds s.catalog s.rows new → (migrated ≡ false → new ≡ old)
+pub held_either : (s : State) (old new : Stored) (migrated : Bool) → Holds s.catalog s.rows new → (migrated ≡ false → new ≡ old)
     → (IsTrue migrated → HoldsBefore s.catalog s.rows old) → Holds s.catalog s.rows old ⊎ HoldsBefore s.catalog s.rows old
 held_either s old new false holds same before = inl (subst (Holds s.catalog s.rows) (same refl) holds)
 held_either s old new true holds same before = inr (before refl)
@@ -54,11 +54,11 @@ each_more P [] s each here (suc place) t found = absurd (cc)
 each_more P (first ∷ states) s each here zero t found = each zero t found
 each_more P (first ∷ states) s each here (suc place) t found = each_more (λ p. P (suc p)) states s (λ p u at. each (suc p) u at) here place t found
 
-states_more : {S : Type 0} (databases : List (Seen S)) (d : Seen S) → states_of (databases ++ d ∷ []) ≡ states_of databases ++ d.state ∷ []
+states_more : {S : Type 0} (databases : List (Database S)) (d : Database S) → states_of (databases ++ d ∷ []) ≡ states_of databases ++ d.state ∷ []
 states_more [] d = refl
 states_more (first ∷ databases) d = ap (λ (rest : List State). first.state ∷ rest) (states_more databases d)
 
-clean_more : {S : Type 0} (g : Ghosts S) (databases : List (Seen S)) (d : Seen S) → HaveCleanDisks g (databases ++ d ∷ []) → HaveCleanDisks g databases × HasCleanDisk (state g d.store)
+clean_more : {S : Type 0} (g : Ghosts S) (databases : List (Database S)) (d : Database S) → HaveCleanDisks g (databases ++ d ∷ []) → HaveCleanDisks g databases × HasCleanDisk (state g d.store)
 clean_more g [] d used = (tt, used.0)
 clean_more g (first ∷ databases) d used = let rest = clean_more g databases d used.1 in ((used.0, rest.0), rest.1)
 
@@ -66,10 +66,10 @@ length_more : (states : List State) (s : State) → length (states ++ s ∷ []) 
 length_more [] s = refl
 length_more (first ∷ states) s = let rest = length_more states s in omega (arith, rest)
 
-pub found_none : (may_hold : ℕ → Database → Type 0) → AreFound may_hold 0 []
+pub found_none : (may_hold : ℕ → Stored → Type 0) → AreFound may_hold 0 []
 found_none may_hold = record { length_is = refl; each = λ place s found. absurd (cc) }
 
-pub found_more : {S : Type 0} (g : Ghosts S) (may_hold : ℕ → Database → Type 0) (count : ℕ) (databases : List (Seen S)) (d : Seen S)
+pub found_more : {S : Type 0} (g : Ghosts S) (may_hold : ℕ → Stored → Type 0) (count : ℕ) (databases : List (Database S)) (d : Database S)
     → (HaveCleanDisks g databases → AreFound may_hold count (states_of databases)) → (HasCleanDisk (state g d.store) → IsFound (may_hold count) d.state)
     → HaveCleanDisks g (databases ++ d ∷ []) → AreFound may_hold (count + 1) (states_of (databases ++ d ∷ []))
 found_more g may_hold count databases d are is used =
@@ -87,11 +87,11 @@ found_more g may_hold count databases d are is used =
 no_tables : (schema : Schema) → schema ≡ no_schema → HasTables schema → ⊥
 no_tables schema none has = let e : no_schema ≡ schema = sym none in let tables = ap (λ (s : Schema). s.tables) (e ∙ has.is) in cc
 
-no_store : (s : State) (db : Database) → db.schema ≡ no_schema → Holds s.catalog s.rows db ⊎ HoldsBefore s.catalog s.rows db → ⊥
+no_store : (s : State) (db : Stored) → db.schema ≡ no_schema → Holds s.catalog s.rows db ⊎ HoldsBefore s.catalog s.rows db → ⊥
 no_store s db none (inl holds) = no_tables db.schema none holds.image.store.tables
 no_store s db none (inr before) = no_tables db.schema none before.store.store.image.store.tables
 
-begins_empty : (db : Database) (s : State) → db.schema ≡ no_schema → StartsAs db s → s ≡ empty
+begins_empty : (db : Stored) (s : State) → db.schema ≡ no_schema → StartsAs db s → s ≡ empty
 begins_empty db s none (inl bare) = bare.1
 begins_empty db s none (inr holds) = absurd (no_store s db none holds.0)
 
@@ -107,7 +107,7 @@ found_empty count states found =
     ∙ ap (λ (n : ℕ). replicate n empty) found.length_is
 
 -- and so they do where all of them were opened
-pub opened_empty : {S : Type 0} (g : Ghosts S) (result : Result (Unit {0}) RunFault) (databases : List (Seen S)) (count : ℕ)
+pub opened_empty : {S : Type 0} (g : Ghosts S) (result : Result (Unit {0}) RunFault) (databases : List (Database S)) (count : ℕ)
     → (HaveCleanDisks g databases → OnOk result (AreFound (λ _ db. db.schema ≡ no_schema) count (states_of databases)))
     → (states : List State) → IsOpened g result databases states → states ≡ empty_states count
 opened_empty g (Ok done) databases count found states is = is.2 ∙ found_empty count (states_of databases) (found is.1)

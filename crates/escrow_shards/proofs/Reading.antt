@@ -8,34 +8,34 @@ use Rattle.sqlite.specs.State.{HasCleanDisk}
 use Rattle.sqlite_trees.specs.declared.store.Store.{Ghosts}
 use Rattle.escrow_num.specs.declared.refusal.Refusal.{Refusal}
 use Rattle.escrow_num.specs.declared.refusal.Refusal.TheVariants as refusal
-use Rattle.escrow_core.specs.Seen.{Seen}
+use Rattle.escrow_core.specs.Database.{Database}
 use Rattle.escrow_machine.specs.State.{has_open}
 use Rattle.escrow_history.specs.Calls.{IsFailed}
 use Rattle.escrow_shards.specs.Opened.{any_open, IsRead, AreRead}
 
 -- databases that weren't touched
-pub read_same : {S : Type 0} (g : Ghosts S) (xs : List (Seen S)) → AreRead g xs xs
+pub read_same : {S : Type 0} (g : Ghosts S) (xs : List (Database S)) → AreRead g xs xs
 read_same g [] = tt
 read_same g (x ∷ xs) = (record { unchanged = refl; clean = λ h. h }, read_same g xs)
 
 -- one more was read
-pub read_set : {S : Type 0} (g : Ghosts S) (olds news : List (Seen S)) (i : ℕ) (n m : Seen S) → AreRead g olds news → n ≡ get_or news i n → IsRead g n m
+pub read_set : {S : Type 0} (g : Ghosts S) (olds news : List (Database S)) (i : ℕ) (n m : Database S) → AreRead g olds news → n ≡ get_or news i n → IsRead g n m
     → AreRead g olds (set news i m)
 read_set g [] [] i n m read at more = tt
 read_set g [] (x ∷ xs) i n m read at more = absurd read
 read_set g (o ∷ os) [] i n m read at more = absurd read
 read_set g (o ∷ os) (x ∷ xs) zero n m read at more =
-    (record { unchanged = more.unchanged ∙ ap (λ (d : Seen _). d.state) at ∙ read.0.unchanged; clean = λ h. read.0.clean (subst (λ (d : Seen _). HasCleanDisk (state g d.store)) at (more.clean h)) }, read.1)
+    (record { unchanged = more.unchanged ∙ ap (λ (d : Database _). d.state) at ∙ read.0.unchanged; clean = λ h. read.0.clean (subst (λ (d : Database _). HasCleanDisk (state g d.store)) at (more.clean h)) }, read.1)
 read_set g (o ∷ os) (x ∷ xs) (suc i) n m read at more = (read.0, read_set g os xs i n m read.1 at more)
 
 -- where nothing is open nothing is opened
-pub closed_at : {S : Type 0} (g : Ghosts S) (olds news : List (Seen S)) (i : ℕ) (n : Seen S) → AreRead g olds news → any_open olds ≡ false
+pub closed_at : {S : Type 0} (g : Ghosts S) (olds news : List (Database S)) (i : ℕ) (n : Database S) → AreRead g olds news → any_open olds ≡ false
     → i < length news → n ≡ get_or news i n → has_open n.state ≡ false
 closed_at g [] [] i n read closed below at = absurd (omega arith)
 closed_at g [] (x ∷ xs) i n read closed below at = absurd read
 closed_at g (o ∷ os) [] i n read closed below at = absurd read
 closed_at g (o ∷ os) (x ∷ xs) zero n read closed below at =
-    ap (λ (d : Seen _). has_open d.state) at ∙ ap has_open read.0.unchanged ∙ (or_parts (has_open o.state) (any_open os) closed).0
+    ap (λ (d : Database _). has_open d.state) at ∙ ap has_open read.0.unchanged ∙ (or_parts (has_open o.state) (any_open os) closed).0
 closed_at g (o ∷ os) (x ∷ xs) (suc i) n read closed below at =
     closed_at g os xs i n read.1 (or_parts (has_open o.state) (any_open os) closed).1 (omega arith) at
 

@@ -4,26 +4,26 @@ use Rattle.std.specs.List.{list_any}
 use Rattle.sqlite.specs.Held.{state}
 use Rattle.sqlite.specs.State.{HasCleanDisk}
 use Rattle.sqlite_trees.specs.declared.store.Store.{Ghosts}
-use Rattle.escrow_core.specs.Seen.{Seen}
+use Rattle.escrow_core.specs.Database.{Database}
 use Rattle.escrow_machine.specs.State.{has_open}
 use Rattle.escrow_shards.specs.Begun.{Begun}
 
 -- whether something is open in some database
-abbrev pub any_open : {S : Type 0} → List (Seen S) → Bool
+abbrev pub any_open : {S : Type 0} → List (Database S) → Bool
 any_open databases = list_any (λ d. has_open d.state) databases
 
 -- A database is unchanged but for its store: it was only read. Its disk is clean only if it was clean before.
-pub record IsRead {S : Type 0} (g : Ghosts S) (old new : Seen S) : Type 0 where
+pub record IsRead {S : Type 0} (g : Ghosts S) (old new : Database S) : Type 0 where
   pub unchanged : new.state ≡ old.state
   pub clean : HasCleanDisk (state g new.store) → HasCleanDisk (state g old.store)
 
 -- each of several databases was only read
-abbrev pub AreRead : {S : Type 0} → Ghosts S → List (Seen S) → List (Seen S) → Type 0
+abbrev pub AreRead : {S : Type 0} → Ghosts S → List (Database S) → List (Database S) → Type 0
 AreRead g [] [] = Unit {0}
 AreRead g [] (n ∷ news) = ⊥
 AreRead g (o ∷ olds) [] = ⊥
 AreRead g (o ∷ olds) (n ∷ news) = IsRead g o n × AreRead g olds news
 
 -- a database as it was at an opening
-abbrev pub seen_at : {S : Type 0} → Begun S → Seen S
-seen_at b = record { store = b.store; state = b.state }
+abbrev pub database_at : {S : Type 0} → Begun S → Database S
+database_at b = record { store = b.store; state = b.state }

@@ -38,14 +38,14 @@ impl<S: Alter> Start<S> {
     ghost use Rattle.sqlite.specs.State.{HasCleanDisk};
     ghost use Rattle.escrow_transcript.specs.Image.{started};
     ghost use Rattle.escrow_stats.specs.Watching.{IsNewBoard};
-    ghost use Rattle.escrow_shards.specs.Opened.{seen_at};
+    ghost use Rattle.escrow_shards.specs.Opened.{database_at};
 
     /// Makes what a database needs to be shared as it is, at a base. Fails only if memory is
     /// refused.
     pub(crate) fn new(alloc: Global, base: Base, database: &Database<S>) -> Result<Self, AllocError>
         requires first { base.before ≡ 0 }
         requires whole { HasCleanDisk (state S.Store database.now.store) → database.now.state ≡ started base.image }
-        ensures { IfOk result (λ s. seen_at s ≡ database.now) }
+        ensures { IfOk result (λ s. database_at s ≡ database.now) }
     {
         let copied = base.copy(alloc)?;
         Ok(Start {
@@ -56,7 +56,7 @@ impl<S: Alter> Start<S> {
 
     /// Puts the database under its lock. Takes no memory, and makes no store call.
     pub(crate) fn begin(self, alloc: Global, database: Database<S>) -> Shard<S, Locked<S>>
-        requires { seen_at self ≡ database }
+        requires { database_at self ≡ database }
         ensures { result ≡ self }
     {
         // The contract of `base` says what the type of openings keeps.
@@ -79,7 +79,7 @@ impl<S: Alter> Start<S> {
         database: Database<S>,
         board: Board<S, R>,
     ) -> Shard<S, Watched<S, R>>
-        requires seen { seen_at self ≡ database }
+        requires seen { database_at self ≡ database }
         requires board { IsNewBoard self.base board }
         ensures { result ≡ self }
     {

@@ -59,9 +59,9 @@ pub(crate) struct AddedJudge<'a> {
 }
 
 impl<'a> Model for AddedJudge<'a> {
-    ghost use Rattle.escrow_core.specs.Altering.{Judge, CanJudge};
+    ghost use Rattle.escrow_core.specs.Altering.{AddedJudge, CanJudge};
 
-    ghost Value = { Judge };
+    ghost Value = { AddedJudge };
 
     ghost view = { λ j. record { added = j.added.now; reservations = j.reserved.now.txns.reservations; addition = j.addition.now } };
 

@@ -6,7 +6,7 @@ ghost use Rattle.escrow_schema.specs.Plan.{is_literal};
 ghost use Rattle.escrow_core.specs.Beside.{is_passing};
 
 use crate::database::Database;
-use crate::database::held::Held;
+use crate::database::held::HeldBack;
 use escrow_machine::{Event, Reply};
 use escrow_num::{End, Failure, Refusal, Session};
 use escrow_statement::{Assign, Assigned, Statement};
@@ -19,7 +19,7 @@ impl<S: Alter> Database<S> {
     ghost use Rattle.sqlite.specs.State.{HasCleanDisk, Survives};
     ghost use Rattle.escrow_journal.specs.Reservations.{own};
     ghost use Rattle.escrow_machine.specs.Held.{IsServedBeside, holds};
-    ghost use Rattle.escrow_core.specs.Seen.{IsKept};
+    ghost use Rattle.escrow_core.specs.Database.{IsKept};
     ghost use Rattle.escrow_rows.specs.Answers.{IsUsable};
     ghost use Rattle.escrow_core.specs.Beside.{AreAllSettled, Joins};
     ghost use Rattle.escrow_core.specs.Serves.{AreHeldOf};
@@ -32,7 +32,7 @@ impl<S: Alter> Database<S> {
         alloc: Global,
         event: &Event,
         are_shared: bool,
-        held: &mut Held,
+        held: &mut HeldBack,
         place: usize,
     ) -> Option<Reply>
         ensures joins { IfSome result (λ reply. Joins (HasCleanDisk (state S.Store self.new.store)) event.now place held.old self.old.state reply held.new self.new.state) }

@@ -7,15 +7,15 @@ use std::marker::Model;
 /// COMMITs that are held back, in the order in which they were asked: the plan that writes them,
 /// and the places of their replies.
 #[derive(Drop)]
-pub(crate) struct Held {
-    plan: [(Session, End); Held::MAX],
-    places: [usize; Held::MAX],
+pub(crate) struct HeldBack {
+    plan: [(Session, End); HeldBack::MAX],
+    places: [usize; HeldBack::MAX],
     count: usize,
 }
 
-impl Model for Held {
+impl Model for HeldBack {
     ghost use Rattle.escrow_core.specs.Beside.{HeldBack};
-    ghost use Rattle.escrow_core.specs.declared.database.held.TheConstants.Held.{MAX};
+    ghost use Rattle.escrow_core.specs.declared.database.held.TheConstants.HeldBack.{MAX};
     ghost use Rattle.std.specs.Prelude.{◌≡◌, ◌≤◌, length, take};
 
     ghost Value = { HeldBack };
@@ -25,7 +25,7 @@ impl Model for Held {
     ghost invariant = { λ h. (h.count ≤ MAX) × (length h.plan ≡ MAX) × (length h.places ≡ MAX) };
 }
 
-impl Held {
+impl HeldBack {
     ghost use Rattle.std.specs.Prelude.{OnSome, IfNone};
     ghost use Rattle.escrow_core.specs.Beside.{none_held, with_held};
 
@@ -36,7 +36,7 @@ impl Held {
     pub fn new() -> Self
         ensures { result ≡ none_held }
     {
-        Held {
+        HeldBack {
             plan: [(Session::FIRST, End::Commit); Self::MAX],
             places: [0; Self::MAX],
             count: 0,

@@ -3,7 +3,7 @@ ghost use Rattle.std.specs.List.{AllByRecursion};
 ghost use Rattle.std.specs.Vec.{vec_len, vec_capacity};
 
 use crate::database::Database;
-use crate::database::held::Held;
+use crate::database::held::HeldBack;
 use escrow_machine::{Event, Reply};
 use escrow_num::{Refusal, Session};
 use sqlite::Alter;
@@ -11,7 +11,7 @@ use std::alloc::{AllocError, Global};
 
 impl<S: Alter> Database<S> {
     ghost use Rattle.std.specs.Prelude.{◌≡◌, IfOk, IsTrue, OnErr};
-    ghost use Rattle.sqlite.specs.Held.{Held as Shown, state};
+    ghost use Rattle.sqlite.specs.Held.{HeldBack as Shown, state};
     ghost use Rattle.sqlite.specs.State.{HasCleanDisk, Survives};
     ghost use Rattle.sqlite_trees.specs.Tree.{Trees};
     ghost use Rattle.escrow_rows.specs.Answers.{IsUsable};
@@ -56,7 +56,7 @@ impl<S: Alter> Database<S> {
         ensures usable { IsUsable (state S.Store self.new.store) → IsUsable (state S.Store self.old.store) }
         ensures crash { Survives (state S.Store self.old.store) (state S.Store self.new.store) (λ trees. IsTrue (state S.Store self.old.store).is_open × AreAfterSome self.old.state events.now (drop (length replies.old.items) replies.new.items) trees) }
     {
-        let mut held = Held::new();
+        let mut held = HeldBack::new();
         let are_shared = are_shared(events);
         for event in events {
             self.serve_next(alloc, event, are_shared, &mut held, replies);
@@ -73,7 +73,7 @@ impl<S: Alter> Database<S> {
         alloc: Global,
         event: &Event,
         are_shared: bool,
-        held: &mut Held,
+        held: &mut HeldBack,
         replies: &mut Vec<Reply>,
     )
         requires room { vec_len replies.old < vec_capacity replies.old }

@@ -3,7 +3,7 @@ ghost use Rattle.std.specs.Vec.{vec_capacity};
 ghost use Rattle.escrow_num.specs.Session.{IsSession};
 ghost use Rattle.escrow_machine.specs.State.{has_open};
 ghost use Rattle.escrow_history.specs.Calls.{IsFailed, IsNotBegun};
-ghost use Rattle.escrow_shards.specs.Opened.{any_open, seen_at, AreRead, IsRead};
+ghost use Rattle.escrow_shards.specs.Opened.{any_open, database_at, AreRead, IsRead};
 ghost use Rattle.escrow_shards.specs.Seat.{new_seats, new_seats_of};
 
 use crate::cause::{MakeFault, Unshared};
@@ -24,7 +24,7 @@ impl<S: Alter + Drop> Shared<S> {
     ghost use Rattle.std.specs.Prelude.{◌≡◌, ◌↔◌, ◌≤◌, true, false, map, length, vec_len, All, IfOk, IfErr, OnOk};
     ghost use Rattle.escrow_num.specs.Session.{IsSession};
     ghost use Rattle.escrow_shards.specs.declared.shared.TheConstants.{MAX_DATABASES};
-    ghost use Rattle.escrow_shards.specs.Opened.{any_open, seen_at, AreRead};
+    ghost use Rattle.escrow_shards.specs.Opened.{any_open, database_at, AreRead};
     ghost use Rattle.escrow_shards.specs.Seat.{new_seats};
     ghost use Rattle.escrow_shards.specs.Sharing.{HasSeat};
     ghost use Rattle.escrow_shards.specs.Watchers.{IsRefused};
@@ -45,7 +45,7 @@ impl<S: Alter + Drop> Shared<S> {
     ) -> Result<(Self, Vec<Pass>), MakeFault<S>>
         requires databases { (1 ≤ vec_len databases) × (vec_len databases ≤ MAX_DATABASES) }
         requires sessions { IsSession sessions }
-        ensures opened { IfOk result (λ r. AreRead S.Store databases.items (map seen_at r.0.openings)) }
+        ensures opened { IfOk result (λ r. AreRead S.Store databases.items (map database_at r.0.openings)) }
         ensures sessions { IfOk result (λ r. r.0.sessions ≡ sessions) }
         ensures passes { IfOk result (λ r. r.1.items ≡ new_seats (length databases.items) sessions) }
         ensures seats { IfOk result (λ r. All (HasSeat r.0) r.1.items) }
@@ -90,7 +90,7 @@ pub(super) fn prepare<S: Alter + Drop, L>(
 ) -> Result<Ready<S, L>, Refusal>
     requires { IsSession sessions }
     ensures read { AreRead S.Store databases.old.items databases.new.items }
-    ensures starts { IfOk result (λ r. map seen_at r.starts.items ≡ databases.new.items) }
+    ensures starts { IfOk result (λ r. map database_at r.starts.items ≡ databases.new.items) }
     ensures passes { IfOk result (λ r. r.passes.items ≡ new_seats (length databases.old.items) sessions) }
     ensures room { IfOk result (λ r. (r.shards.items ≡ []) × (vec_len databases.new ≤ vec_capacity r.shards)) }
     ensures len { vec_len databases.new ≡ vec_len databases.old }
@@ -130,7 +130,7 @@ fn starts_of<S: Alter + Drop>(
 ) -> Result<Vec<Start<S>>, Refusal>
     requires { any_open databases.old.items ≡ false }
     ensures read { AreRead S.Store databases.old.items databases.new.items }
-    ensures starts { IfOk result (λ s. map seen_at s.items ≡ databases.new.items) }
+    ensures starts { IfOk result (λ s. map database_at s.items ≡ databases.new.items) }
     ensures len { vec_len databases.new ≡ vec_len databases.old }
     ensures only { IfErr result IsFailed }
 {
@@ -146,7 +146,7 @@ fn starts_of<S: Alter + Drop>(
 fn start_of<S: Alter>(alloc: Global, database: &mut Database<S>) -> Result<Start<S>, Refusal>
     requires { has_open database.old.state ≡ false }
     ensures read { IsRead S.Store database.old database.new }
-    ensures start { IfOk result (λ s. seen_at s ≡ database.new) }
+    ensures start { IfOk result (λ s. database_at s ≡ database.new) }
     ensures only { IfErr result IsFailed }
 {
     let image = database.image(alloc)?;
@@ -193,7 +193,7 @@ fn into_shards<S: Alter + Drop>(
     mut starts: Vec<Start<S>>,
     mut shards: Vec<Shard<S, Locked<S>>>,
 ) -> Vec<Shard<S, Locked<S>>>
-    requires seen { map seen_at starts.items ≡ databases.items }
+    requires seen { map database_at starts.items ≡ databases.items }
     requires empty { shards.items ≡ [] }
     requires room { vec_len databases ≤ vec_capacity shards }
     ensures { result.items ≡ starts.items }

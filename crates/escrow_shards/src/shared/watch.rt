@@ -1,6 +1,6 @@
 ghost use Rattle.std.specs.Prelude.{◌≡◌, ◌≤◌, [], ◌++◌, map, length, vec_len, IfOk, IfErr};
 ghost use Rattle.std.specs.Vec.{vec_capacity};
-ghost use Rattle.escrow_shards.specs.Opened.{seen_at};
+ghost use Rattle.escrow_shards.specs.Opened.{database_at};
 ghost use Rattle.escrow_shards.specs.Watchers.{AreNewWatchers, IsUnwatched, new_board};
 
 use crate::cause::{MakeFault, Unshared};
@@ -22,7 +22,7 @@ impl<S: Alter + Drop, R: Wait + Copy + Drop> Shared<S, Watched<S, R>> {
     ghost use Rattle.escrow_num.specs.Session.{IsSession};
     ghost use Rattle.escrow_stats.specs.declared.board.TheConstants.{MAX_WATCHERS};
     ghost use Rattle.escrow_shards.specs.declared.shared.TheConstants.{MAX_DATABASES};
-    ghost use Rattle.escrow_shards.specs.Opened.{any_open, seen_at, AreRead};
+    ghost use Rattle.escrow_shards.specs.Opened.{any_open, database_at, AreRead};
     ghost use Rattle.escrow_shards.specs.Seat.{new_seats};
     ghost use Rattle.escrow_shards.specs.Sharing.{HasSeat};
     ghost use Rattle.escrow_shards.specs.Watchers.{AreNewWatchers, IsUnshared};
@@ -47,7 +47,7 @@ impl<S: Alter + Drop, R: Wait + Copy + Drop> Shared<S, Watched<S, R>> {
     ) -> Result<(Self, Vec<Pass>, Vec<Watcher<S>>), MakeFault<S>>
         requires databases { (1 ≤ vec_len databases) × (vec_len databases ≤ MAX_DATABASES) }
         requires sessions { IsSession sessions }
-        ensures opened { IfOk result (λ r. AreRead S.Store databases.items (map seen_at r.0.openings)) }
+        ensures opened { IfOk result (λ r. AreRead S.Store databases.items (map database_at r.0.openings)) }
         ensures sessions { IfOk result (λ r. r.0.sessions ≡ sessions) }
         ensures passes { IfOk result (λ r. r.1.items ≡ new_seats (length databases.items) sessions) }
         ensures seats { IfOk result (λ r. All (HasSeat r.0) r.1.items) }
@@ -139,7 +139,7 @@ fn into_watched<S: Alter + Drop, R: Wait + Drop>(
     mut boards: Vec<Board<S, R>>,
     mut shards: Vec<Shard<S, Watched<S, R>>>,
 ) -> Vec<Shard<S, Watched<S, R>>>
-    requires seen { map seen_at starts.items ≡ databases.items }
+    requires seen { map database_at starts.items ≡ databases.items }
     requires boards { boards.items ≡ map new_board starts.items }
     requires empty { shards.items ≡ [] }
     requires room { vec_len databases ≤ vec_capacity shards }

@@ -1,6 +1,6 @@
 use Rattle.std.proofs.Common.{◌≡◌, ◌+◌, ℕ, List, [], ◌∷◌, ◌++◌, false, ap, sym, subst, ◌∙◌}
 use Rattle.std.specs.Prelude.{is_err, vec_len}
-use Rattle.escrow_core.specs.Seen.{Seen}
+use Rattle.escrow_core.specs.Database.{Database}
 use Rattle.escrow_serve.specs.Output.{states_of, HaveCleanDisks}
 use Rattle.escrow_server.specs.Program.{AreFound}
 use Rattle.escrow_server.proofs.FoundLemmas.{found_more, if_pushed}
@@ -16,7 +16,7 @@ loop-place-preserved g c =
     let may_hold = g.O.OpenStore.may_hold c.args.stores.now in
     record {
       len = len ∙ ap (λ (n : ℕ). n + 1) c.loop-place.invariant.len;
-      found = λ used. subst (λ (ds : List (Seen g.row.S.Denot)). AreFound may_hold (c.loop-place.place + 1) (states_of ds)) (sym more)
+      found = λ used. subst (λ (ds : List (Database g.row.S.Denot)). AreFound may_hold (c.loop-place.place + 1) (states_of ds)) (sym more)
           (found_more g.S.Store may_hold c.loop-place.place old d c.loop-place.invariant.found c.in-Ok-open_database.ensures
-          (subst (λ (ds : List (Seen g.row.S.Denot)). HaveCleanDisks g.S.Store ds) more used));
+          (subst (λ (ds : List (Database g.row.S.Denot)). HaveCleanDisks g.S.Store ds) more used));
     }

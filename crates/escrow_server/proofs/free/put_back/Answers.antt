@@ -1,7 +1,7 @@
 use Rattle.std.proofs.Common.{◌≡◌, ◌∷◌, [], ◌++◌, length, map, refl, ap, ap₂, ◌∙◌, append_assoc, sym, add-one, arith}
 use Rattle.std.specs.Vec.Iter.{into_iter_items}
 use Rattle.std.proofs.lemmas.List.{map_push, append-nil, nil_from_length}
-use Rattle.escrow_core.specs.Seen.{Seen}
+use Rattle.escrow_core.specs.Database.{Database}
 use Rattle.escrow_server.specs.Free.{ended_of}
 use Rattle.escrow_server.proofs.free.put_back.Goals as goal
 
@@ -24,7 +24,7 @@ loop-ended-preserved g c =
       rest = append_assoc at.yielded (c.in-Some.ended ∷ []) _ ∙ rw (← steps) at.invariant.rest;
       long = (let l = at.invariant.long in let gone = c.in-Some.ensures.steps.1 in let one = ap length steps ∙ sym (add-one _) in omega (arith, l, gone, one));
       so_far = c.push_reserved.ensures.items
-          ∙ ap₂ (λ xs (x : Seen _). xs ++ x ∷ []) at.invariant.so_far (ap₂ (λ s t. record { store = s; state = t }) c.into_parts-database.ensures.store c.into_parts-database.ensures.state)
+          ∙ ap₂ (λ xs (x : Database _). xs ++ x ∷ []) at.invariant.so_far (ap₂ (λ s t. record { store = s; state = t }) c.into_parts-database.ensures.store c.into_parts-database.ensures.state)
           ∙ sym (map_push ended_of at.yielded c.in-Some.ended);
       count = (let l = at.invariant.count in let gone = c.in-Some.ensures.steps.1 in let more = c.push_reserved.ensures.len in omega (arith, l, gone, more));
       wide = rw c.push_reserved.ensures.capacity at.invariant.wide;

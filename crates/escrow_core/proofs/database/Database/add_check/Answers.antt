@@ -15,7 +15,7 @@ use Rattle.escrow_machine.specs.State.{State}
 use Rattle.escrow_machine.specs.declared.reply.Reply.TheVariants as reply
 use Rattle.escrow_machine.proofs.Shapes.{few_reservations, is_table_found}
 use Rattle.escrow_core.specs.Altering.{Adds, adds}
-use Rattle.escrow_core.specs.Inside.{seen_of}
+use Rattle.escrow_core.specs.Inside.{database_of}
 use Rattle.escrow_core.proofs.Altering.{MayAlter, add_refused, alter_fails, alter_holds, alter_serves, altered_place, alters_like, amounts_cover, can_judge, few_amounts, judges_old, may_add_check, read_holds, read_only_reads, rows_judged, some_is, with_named}
 use Rattle.escrow_core.proofs.Serving.{HasLooked, early_since, fails, handed_on, look_failed, look_refused, refusal_serves, since_look, still_clean, unwritten_holds}
 use Rattle.escrow_core.proofs.database.Database.add_check.Given as given
@@ -35,7 +35,7 @@ record IsPlanned (g : given.Over) (c : In_ok-place g) : Type 0 where
 
 planned : (g : given.Over) (c : In_ok-place g) → IsPlanned g c
 planned g c =
-    let s = (seen_of c.self.inside.tables c.self.inside.reserved.txns).state in
+    let s = (database_of c.self.inside.tables c.self.inside.reserved.txns).state in
     let there = some_is (λ (old : TableDef). Adds old c.args.text.now c.in_ok-place.added) (table_named s.catalog c.args.table) (rw (← c.self.view_is) at c.in_ok-place.ensures.added) in
     record {
       old = there.0;
@@ -48,7 +48,7 @@ pub prepare-requires-clause-placed : goal.prepare-requires-clause-placed
 prepare-requires-clause-placed g c = c.self.invariant.keeps.placed
 
 pub prepare-requires-clause-many : goal.prepare-requires-clause-many
-prepare-requires-clause-many g c = few_reservations (seen_of c.self.inside.tables c.self.inside.reserved.txns).state c.self.invariant.keeps.kept.orderly
+prepare-requires-clause-many g c = few_reservations (database_of c.self.inside.tables c.self.inside.reserved.txns).state c.self.invariant.keeps.kept.orderly
 
 pub prepare-requires-clause-few : goal.prepare-requires-clause-few
 prepare-requires-clause-few g c =
@@ -88,8 +88,8 @@ invariant_of-self g c =
 
 pub returns-in_err-violation : goal.returns-in_err-violation
 returns-in_err-violation g c =
-    let d = seen_of c.self.inside.tables c.self.inside.reserved.txns in
-    let mid = seen_of c.first_violation.new.self c.self.inside.reserved.txns in
+    let d = database_of c.self.inside.tables c.self.inside.reserved.txns in
+    let mid = database_of c.first_violation.new.self c.self.inside.reserved.txns in
     let asked = adds c.args.table c.args.text.now in
     let only_reads = read_only_reads g.S.Store c.self.inside.tables c.first_violation.new.self c.self.inside.reserved.txns c.first_violation.ensures.reads in
     let f = c.in_err-violation.field-0.0 in
@@ -100,10 +100,10 @@ returns-in_err-violation g c =
 
 -- what was found is the machine's answer
 judged : (g : given.Over) (c : In_ok-violation g) → HasCleanDisk (state g.S.Store c.first_violation.new.self.store)
-    → c.in_ok-violation.field-0 ≡ added_violation (seen_of c.self.inside.tables c.self.inside.reserved.txns).state c.args.table c.args.text.now
+    → c.in_ok-violation.field-0 ≡ added_violation (database_of c.self.inside.tables c.self.inside.reserved.txns).state c.args.table c.args.text.now
 judged g c clean =
     let p = planned g (goal.at.In_ok-violation g c).In_ok-place in
-    let s = (seen_of c.self.inside.tables c.self.inside.reserved.txns).state in
+    let s = (database_of c.self.inside.tables c.self.inside.reserved.txns).state in
     let was = still_clean _ _ _ c.first_violation.ensures.reads.survives clean in
     let can = can_judge c.self.inside.tables.catalog c.args.table p.old c.args.text.now c.in_ok-place.added c.self.inside.reserved c.in_ok-addition.addition p.named p.is_table p.adds
     c.self.invariant.keeps.placed (rw c.as_slice.ensures at c.in_ok-addition.ensures.prepared) in
@@ -117,8 +117,8 @@ invariant_of-self-in-Some g c =
 
 pub returns-in-Some : goal.returns-in-Some
 returns-in-Some g c =
-    let d = seen_of c.self.inside.tables c.self.inside.reserved.txns in
-    let mid = seen_of c.first_violation.new.self c.self.inside.reserved.txns in
+    let d = database_of c.self.inside.tables c.self.inside.reserved.txns in
+    let mid = database_of c.first_violation.new.self c.self.inside.reserved.txns in
     let table = c.args.table in
     let text = c.args.text.now in
     let at = (goal.at.returns-in-Some g c).In_ok-violation in
@@ -132,7 +132,7 @@ returns-in-Some g c =
 
 -- the rows were read
 looked : (g : given.Over) (c : In_default g)
-    → HasLooked g.S.Store c.args.session (adds c.args.table c.args.text.now) (seen_of c.self.inside.tables c.self.inside.reserved.txns) (seen_of c.first_violation.new.self c.self.inside.reserved.txns)
+    → HasLooked g.S.Store c.args.session (adds c.args.table c.args.text.now) (database_of c.self.inside.tables c.self.inside.reserved.txns) (database_of c.first_violation.new.self c.self.inside.reserved.txns)
 looked g c = record {
   only_reads = read_only_reads g.S.Store c.self.inside.tables c.first_violation.new.self c.self.inside.reserved.txns c.first_violation.ensures.reads;
   asks = refl;
@@ -141,13 +141,13 @@ looked g c = record {
 
 -- nothing refuses it
 may : (g : given.Over) (c : In_default g)
-    → (old : TableDef) × MayAlter g.S.Store c.args.session (adds c.args.table c.args.text.now) (seen_of c.first_violation.new.self c.self.inside.reserved.txns) c.args.table old c.in_ok-place.added.table
+    → (old : TableDef) × MayAlter g.S.Store c.args.session (adds c.args.table c.args.text.now) (database_of c.first_violation.new.self c.self.inside.reserved.txns) c.args.table old c.in_ok-place.added.table
 may g c =
     let at = (goal.at.In_default g c).In_ok-violation in
     let p = planned g (goal.at.In_ok-violation g at).In_ok-place in
-    let mid = seen_of c.first_violation.new.self c.self.inside.reserved.txns in
+    let mid = database_of c.first_violation.new.self c.self.inside.reserved.txns in
     let asked = adds c.args.table c.args.text.now in
-    let early = early_since g.S.Store c.args.session asked (seen_of c.self.inside.tables c.self.inside.reserved.txns) mid (looked g c) in
+    let early = early_since g.S.Store c.args.session asked (database_of c.self.inside.tables c.self.inside.reserved.txns) mid (looked g c) in
     let named : table_named mid.state.catalog c.args.table ≡ Some p.old = rw c.first_violation.ensures.reads.catalog p.named in (
       p.old,
       may_add_check g.S.Store c.args.session c.args.table c.args.text.now mid p.old c.in_ok-place.added early named p.is_table p.adds
@@ -178,13 +178,13 @@ invariant_of-self-in_err-redefine g c =
 
 pub returns-in_err-redefine : goal.returns-in_err-redefine
 returns-in_err-redefine g c =
-    let d = seen_of c.self.inside.tables c.self.inside.reserved.txns in
-    let mid = seen_of c.first_violation.new.self c.self.inside.reserved.txns in
+    let d = database_of c.self.inside.tables c.self.inside.reserved.txns in
+    let mid = database_of c.first_violation.new.self c.self.inside.reserved.txns in
     let asked = adds c.args.table c.args.text.now in
     let at = (goal.at.returns-in_err-redefine g c).In_default in
     let m = may g at in
     rw (← c.self.view_is)
-    (since_look g.S.Store c.args.session asked d mid (looked g at) (seen_of c.redefine.new.self c.self.inside.reserved.txns) _
+    (since_look g.S.Store c.args.session asked d mid (looked g at) (database_of c.redefine.new.self c.self.inside.reserved.txns) _
     (alter_fails g.S.Store c.args.session asked c.first_violation.new.self c.redefine.new.self c.self.inside.reserved.txns c.args.table m.0 c.in_ok-place.added.table m.1
     c.from_residual-in_err-redefine.result c.in_err-redefine.field-0.0 c.from_residual-in_err-redefine.ensures.1 c.in_err-redefine.ensures))
 
@@ -210,11 +210,11 @@ invariant_of-self-2 g c =
 
 pub returns : goal.returns
 returns g c =
-    let d = seen_of c.self.inside.tables c.self.inside.reserved.txns in
-    let mid = seen_of c.first_violation.new.self c.self.inside.reserved.txns in
+    let d = database_of c.self.inside.tables c.self.inside.reserved.txns in
+    let mid = database_of c.first_violation.new.self c.self.inside.reserved.txns in
     let asked = adds c.args.table c.args.text.now in
     let at = (goal.at.returns g c).In_default in
     let m = may g at in
     rw (← c.self.view_is, c.adopt.ensures.txns)
-    (since_look g.S.Store c.args.session asked d mid (looked g at) (seen_of c.redefine.new.self c.self.inside.reserved.txns) (reply.Altered c.args.table)
+    (since_look g.S.Store c.args.session asked d mid (looked g at) (database_of c.redefine.new.self c.self.inside.reserved.txns) (reply.Altered c.args.table)
     (alter_serves g.S.Store c.args.session asked c.first_violation.new.self c.redefine.new.self c.self.inside.reserved.txns c.args.table m.0 c.in_ok-place.added.table m.1 c.in_ok-redefine.ensures))

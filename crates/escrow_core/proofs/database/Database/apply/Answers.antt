@@ -2,7 +2,7 @@ use Rattle.std.specs.Prelude.{◌≡◌, false, length, nat_lt, true}
 use Rattle.std.proofs.Common.{sym, ap, ◌∙◌}
 use Rattle.escrow_journal.specs.Open.{Open}
 use Rattle.escrow_journal.specs.Reservations.{own}
-use Rattle.escrow_core.specs.Seen.{Seen}
+use Rattle.escrow_core.specs.Database.{Database}
 use Rattle.escrow_core.proofs.Committing.{holds_none, holds_some, just_ended, just_ended_holds}
 use Rattle.escrow_core.proofs.Together.{one_counted, one_done, one_failed}
 use Rattle.escrow_core.proofs.database.Database.apply.Given as given
@@ -28,7 +28,7 @@ returns-then-is_empty-clause-done g c =
 holds : (g : given.Over) (c : After-is_empty g) → false ≡ c.is_empty.result → nat_lt 0 (length (own c.args.session c.args.self.now.state.reservations)) ≡ true
 holds g c some =
     holds_some c.all.result.now (own c.args.session c.args.self.now.state.reservations)
-    (mine g c ∙ ap (λ (d : Seen _). own c.args.session d.state.reservations) c.self.view_is) (some ∙ c.is_empty.ensures)
+    (mine g c ∙ ap (λ (d : Database _). own c.args.session d.state.reservations) c.self.view_is) (some ∙ c.is_empty.ensures)
 
 pub returns-clause-count : goal.returns-clause-count
 returns-clause-count g c =

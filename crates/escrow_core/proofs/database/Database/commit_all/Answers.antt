@@ -3,8 +3,8 @@ use Rattle.std.proofs.lemmas.List.{length-map}
 use Rattle.escrow_journal.specs.Open.{Open}
 use Rattle.escrow_machine.proofs.Shapes.{few_reservations}
 use Rattle.escrow_core.specs.Ends.{left_after}
-use Rattle.escrow_core.specs.Inside.{seen_of}
-use Rattle.escrow_core.specs.Seen.{Seen}
+use Rattle.escrow_core.specs.Inside.{database_of}
+use Rattle.escrow_core.specs.Database.{Database}
 use Rattle.escrow_core.proofs.Committing.{as_many, given as are_given}
 use Rattle.escrow_core.proofs.Serving.{unwritten_holds, unwritten_same}
 use Rattle.escrow_core.proofs.Together.{all_left, together_done, together_holds, together_survives}
@@ -30,7 +30,7 @@ apply-written-requires-clause-given g c = λ clean.
     (c.self.invariant.keeps.amounts clean) amounts)
 
 pub end_all-requires : goal.end_all-requires
-end_all-requires g c = few_reservations (seen_of c.self.inside.tables c.self.inside.reserved.txns).state c.self.invariant.keeps.kept.orderly
+end_all-requires g c = few_reservations (database_of c.self.inside.tables c.self.inside.reserved.txns).state c.self.invariant.keeps.kept.orderly
 
 pub invariant_of-self : goal.invariant_of-self
 invariant_of-self g c =
@@ -54,7 +54,7 @@ returns-in-Ok-clause-done g c =
 pub returns-in-Ok-clause-left : goal.returns-in-Ok-clause-left
 returns-in-Ok-clause-left g c =
     ap (λ (o : Open). o.reservations) c.end_all.ensures.txns ∙ all_left c.args.plan.now c.self.inside.reserved.txns
-    ∙ ap (λ (d : Seen _). left_after c.args.plan.now d.state.reservations) c.self.view_is
+    ∙ ap (λ (d : Database _). left_after c.args.plan.now d.state.reservations) c.self.view_is
 
 pub returns-in-Ok-clause-crash : goal.returns-in-Ok-clause-crash
 returns-in-Ok-clause-crash g c =
@@ -64,7 +64,7 @@ returns-in-Ok-clause-crash g c =
 pub returns-in-Err-clause-failed : goal.returns-in-Err-clause-failed
 returns-in-Err-clause-failed g c =
     let writes = rw c.in-Err.is at c.apply-written.ensures in
-    unwritten_same g.S.Store c.self.inside.tables c.apply-written.new.self c.self.inside.reserved.txns _ _ writes ∙ ap (λ (d : Seen _). d.state) c.self.view_is
+    unwritten_same g.S.Store c.self.inside.tables c.apply-written.new.self c.self.inside.reserved.txns _ _ writes ∙ ap (λ (d : Database _). d.state) c.self.view_is
 
 pub returns-in-Err-clause-crash : goal.returns-in-Err-clause-crash
 returns-in-Err-clause-crash g c =

@@ -3,7 +3,7 @@ use Rattle.escrow_num.specs.declared.refusal.Refusal.TheVariants as refusal
 use Rattle.escrow_statement.specs.declared.statement.Statement.TheVariants as statement
 use Rattle.escrow_machine.specs.declared.reply.Reply.TheVariants as reply
 use Rattle.escrow_schema.specs.Catalog.{with_table}
-use Rattle.escrow_core.specs.Inside.{seen_of}
+use Rattle.escrow_core.specs.Inside.{database_of}
 use Rattle.escrow_core.proofs.Creating.{full_refused, may_create, new_table}
 use Rattle.escrow_core.proofs.Serving.{Any, MayWrite, failure_serves, refusal_serves, refused, unwritten_holds, write_holds, write_serves}
 use Rattle.escrow_core.proofs.database.Database.create.Given as given
@@ -16,7 +16,7 @@ returns-in_err-table g c =
 
 pub returns-then-len-ge-MAX_TABLES : goal.returns-then-len-ge-MAX_TABLES
 returns-then-len-ge-MAX_TABLES g c =
-    let d = seen_of c.self.inside.tables c.self.inside.reserved.txns in
+    let d = database_of c.self.inside.tables c.self.inside.reserved.txns in
     let text = c.args.text.now in
     let early = rw (← c.self.view_is) at c.in_ok-table.ensures.early in
     let full = rw c.len.ensures.len at c.if-len-ge-MAX_TABLES.true in
@@ -25,14 +25,14 @@ returns-then-len-ge-MAX_TABLES g c =
 pub create-requires-clause-new : goal.create-requires-clause-new
 create-requires-clause-new g c =
     let early = rw (← c.self.view_is) at c.in_ok-table.ensures.early in
-    new_table (seen_of c.self.inside.tables c.self.inside.reserved.txns).state c.args.session c.args.text.now c.in_ok-table.table early c.in_ok-table.ensures.table
+    new_table (database_of c.self.inside.tables c.self.inside.reserved.txns).state c.args.session c.args.text.now c.in_ok-table.table early c.in_ok-table.ensures.table
 
 -- nothing refuses it
 may : (g : given.Over) (c : After-create g)
-    → MayWrite g.S.Store c.args.session (statement.Create c.args.text.now) (seen_of c.self.inside.tables c.self.inside.reserved.txns) (reply.Created c.args.text.now.table)
-    (record (seen_of c.self.inside.tables c.self.inside.reserved.txns).state { catalog = with_table c.in_ok-table.table c.self.inside.tables.catalog }) Any
+    → MayWrite g.S.Store c.args.session (statement.Create c.args.text.now) (database_of c.self.inside.tables c.self.inside.reserved.txns) (reply.Created c.args.text.now.table)
+    (record (database_of c.self.inside.tables c.self.inside.reserved.txns).state { catalog = with_table c.in_ok-table.table c.self.inside.tables.catalog }) Any
 may g c =
-    may_create g.S.Store c.args.session c.args.text.now (seen_of c.self.inside.tables c.self.inside.reserved.txns) c.in_ok-table.table (rw (← c.self.view_is) at c.in_ok-table.ensures.early) c.in_ok-table.ensures.table
+    may_create g.S.Store c.args.session c.args.text.now (database_of c.self.inside.tables c.self.inside.reserved.txns) c.in_ok-table.table (rw (← c.self.view_is) at c.in_ok-table.ensures.early) c.in_ok-table.ensures.table
     (rw c.len.ensures.len at c.if-len-ge-MAX_TABLES.false)
 
 pub returns-in_err-create : goal.returns-in_err-create

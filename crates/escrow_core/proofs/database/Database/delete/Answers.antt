@@ -6,7 +6,7 @@ use Rattle.escrow_schema.specs.Rows.{row_named, without_row}
 use Rattle.escrow_machine.proofs.Refusals.{none_there}
 use Rattle.escrow_num.specs.Order.{same_row}
 use Rattle.escrow_reserved.proofs.Reading.{gone_too, kept_without, left_without}
-use Rattle.escrow_core.specs.Inside.{seen_of}
+use Rattle.escrow_core.specs.Inside.{database_of}
 use Rattle.escrow_core.proofs.Deleting.{delete_lack, delete_reserved, may_delete, reserved_stands}
 use Rattle.escrow_core.proofs.Serving.{MayWrite, late_refused, early_serves, failure_serves, reads_itself, refusal_told, tried, tried_some, unwritten_holds, write_holds, write_serves}
 use Rattle.escrow_core.proofs.database.Database.delete.Given as given
@@ -20,7 +20,7 @@ returns-in_err-place g c =
 -- a row that is reserved stands
 pub returns-then-is_reserved : goal.returns-then-is_reserved
 returns-then-is_reserved g c =
-    let d = seen_of c.self.inside.tables c.self.inside.reserved.txns in
+    let d = database_of c.self.inside.tables c.self.inside.reserved.txns in
     let text = c.args.text.now in
     let name = c.in_ok-name.name in
     let early = rw (← c.self.view_is) at (sym c.in_ok-place.ensures.early) in
@@ -32,11 +32,11 @@ returns-then-is_reserved g c =
 
 -- it may be taken out
 may : (g : given.Over) (c : After-forget g)
-    → MayWrite g.S.Store c.args.session (statement.Delete c.args.text.now) (seen_of c.self.inside.tables c.self.inside.reserved.txns)
+    → MayWrite g.S.Store c.args.session (statement.Delete c.args.text.now) (database_of c.self.inside.tables c.self.inside.reserved.txns)
     (tried (row_named c.self.inside.tables.rows c.in_ok-name.name) refusal.NoSuchRow reply.Deleted)
-    (record (seen_of c.self.inside.tables c.self.inside.reserved.txns).state { rows = without_row c.in_ok-name.name c.self.inside.tables.rows }) (λ row. same_row c.in_ok-name.name row ≡ false)
+    (record (database_of c.self.inside.tables c.self.inside.reserved.txns).state { rows = without_row c.in_ok-name.name c.self.inside.tables.rows }) (λ row. same_row c.in_ok-name.name row ≡ false)
 may g c =
-    may_delete g.S.Store c.args.session c.args.text.now c.in_ok-name.name (seen_of c.self.inside.tables c.self.inside.reserved.txns) (rw (← c.self.view_is) at c.in_ok-name.ensures)
+    may_delete g.S.Store c.args.session c.args.text.now c.in_ok-name.name (database_of c.self.inside.tables c.self.inside.reserved.txns) (rw (← c.self.view_is) at c.in_ok-name.ensures)
     (rw (← c.self.view_is) at (sym c.in_ok-place.ensures.early)) (sym c.is_reserved.ensures ∙ c.if-is_reserved.false)
 
 pub returns-in_err-delete : goal.returns-in_err-delete
@@ -48,8 +48,8 @@ returns-in_err-delete g c =
 -- it isn't there
 pub returns-then-not-branch : goal.returns-then-not-branch
 returns-then-not-branch g c =
-    let d = seen_of c.self.inside.tables c.self.inside.reserved.txns in
-    let after = seen_of c.delete.new.self c.self.inside.reserved.txns in
+    let d = database_of c.self.inside.tables c.self.inside.reserved.txns in
+    let after = database_of c.delete.new.self c.self.inside.reserved.txns in
     let text = c.args.text.now in
     let name = c.in_ok-name.name in
     let early = rw (← c.self.view_is) at (sym c.in_ok-place.ensures.early) in

@@ -5,7 +5,7 @@ use Rattle.escrow_schema.specs.Catalog.{table_named}
 use Rattle.escrow_schema.specs.declared.table.TableDef.{TableDef}
 use Rattle.escrow_machine.proofs.Safe.{some_at}
 use Rattle.escrow_core.specs.Altering.{drops}
-use Rattle.escrow_core.specs.Inside.{seen_of}
+use Rattle.escrow_core.specs.Inside.{database_of}
 use Rattle.escrow_core.proofs.Altering.{MayAlter, alter_fails, alter_holds, alter_serves, altered_place, alters_like, checks_without, may_drop_check}
 use Rattle.escrow_core.proofs.Serving.{early_serves, unwritten_holds}
 use Rattle.escrow_core.proofs.database.Database.drop_check.Given as given
@@ -18,14 +18,14 @@ returns-in_err-place g c =
 
 -- nothing refuses it
 may : (g : given.Over) (c : In_ok-altered g)
-    → MayAlter g.S.Store c.args.session (drops c.args.table c.args.name) (seen_of c.self.inside.tables c.self.inside.reserved.txns) c.args.table c.table.result.now c.in_ok-altered.altered
+    → MayAlter g.S.Store c.args.session (drops c.args.table c.args.name) (database_of c.self.inside.tables c.self.inside.reserved.txns) c.args.table c.table.result.now c.in_ok-altered.altered
 may g c =
-    let s = (seen_of c.self.inside.tables c.self.inside.reserved.txns).state in
+    let s = (database_of c.self.inside.tables c.self.inside.reserved.txns).state in
     let old = c.table.result.now in
     let named : table_named s.catalog c.args.table ≡ Some old = c.table.ensures.named c.args.table (rw (← c.self.view_is) at c.in_ok-place.ensures.place) in
     let at : declared_place old c.args.name ≡ Some c.in_ok-place.index =
     some_at (λ (t : TableDef). declared_place t c.args.name ≡ Some c.in_ok-place.index) (table_named s.catalog c.args.table) old named (rw (← c.self.view_is) at c.in_ok-place.ensures.index) in
-    may_drop_check g.S.Store c.args.session c.args.table c.args.name (seen_of c.self.inside.tables c.self.inside.reserved.txns) old c.in_ok-altered.altered c.in_ok-place.index
+    may_drop_check g.S.Store c.args.session c.args.table c.args.name (database_of c.self.inside.tables c.self.inside.reserved.txns) old c.in_ok-altered.altered c.in_ok-place.index
     (rw (← c.self.view_is) at (sym c.in_ok-place.ensures.early)) named at c.in_ok-altered.ensures.made c.in_ok-altered.ensures.table
 
 pub redefine-requires-clause-place : goal.redefine-requires-clause-place

@@ -4,7 +4,7 @@ use Rattle.escrow_statement.specs.declared.statement.Statement.TheVariants as st
 use Rattle.escrow_machine.specs.declared.reply.Reply.TheVariants as reply
 use Rattle.escrow_machine.specs.Transition.{after_drop}
 use Rattle.escrow_reserved.proofs.Reading.{kept_without, left_without}
-use Rattle.escrow_core.specs.Inside.{seen_of}
+use Rattle.escrow_core.specs.Inside.{database_of}
 use Rattle.escrow_core.proofs.Dropping.{may_drop}
 use Rattle.escrow_core.proofs.Serving.{MayWrite, early_serves, failure_serves, unwritten_holds, write_holds, write_serves}
 use Rattle.escrow_core.proofs.database.Database.drop_table.Given as given
@@ -20,10 +20,10 @@ drop_table-requires g c = (c.args.name, rw (← c.self.view_is) at c.in_ok-place
 
 -- nothing refuses it
 may : (g : given.Over) (c : After-drop_table g)
-    → MayWrite g.S.Store c.args.session (statement.Drop c.args.name) (seen_of c.self.inside.tables c.self.inside.reserved.txns) (reply.Dropped c.args.name) (after_drop (seen_of c.self.inside.tables c.self.inside.reserved.txns).state c.args.name)
+    → MayWrite g.S.Store c.args.session (statement.Drop c.args.name) (database_of c.self.inside.tables c.self.inside.reserved.txns) (reply.Dropped c.args.name) (after_drop (database_of c.self.inside.tables c.self.inside.reserved.txns).state c.args.name)
     (λ row. bytes_eq row.table c.args.name ≡ false)
 may g c =
-    may_drop g.S.Store c.args.session c.args.name (seen_of c.self.inside.tables c.self.inside.reserved.txns) (rw (← c.self.view_is) at (sym c.in_ok-place.ensures.early))
+    may_drop g.S.Store c.args.session c.args.name (database_of c.self.inside.tables c.self.inside.reserved.txns) (rw (← c.self.view_is) at (sym c.in_ok-place.ensures.early))
 
 pub returns-in_err-drop_table : goal.returns-in_err-drop_table
 returns-in_err-drop_table g c =

@@ -8,8 +8,8 @@ use Rattle.escrow_machine.specs.declared.reply.Reply.TheVariants as reply
 use Rattle.escrow_schema.specs.Rows.{row_named}
 use Rattle.escrow_machine.specs.State.{State}
 use Rattle.escrow_tables.specs.Calls.{with_new}
-use Rattle.escrow_core.specs.Inside.{seen_of}
-use Rattle.escrow_core.specs.Seen.{Seen}
+use Rattle.escrow_core.specs.Inside.{database_of}
+use Rattle.escrow_core.specs.Database.{Database}
 use Rattle.escrow_core.specs.Serving.{unless_stands}
 use Rattle.escrow_core.proofs.Inserting.{IsAsked, is_made, made_row, may_insert, put_none, put_reply, room_left, row_refused, store_refused}
 use Rattle.escrow_core.proofs.Serving.{Any, MayWrite, failure_serves, look_refused, refusal_serves, refusal_told, still_clean, told_or_failed, unwritten_holds, write_holds, write_serves}
@@ -26,7 +26,7 @@ placed : (g : given.Over) (c : After-count g) → place_named c.self.inside.tabl
 placed g c = rw (← c.self.view_is) at c.in_ok-place.ensures.place
 
 -- the row that is made
-asked : (g : given.Over) (c : After-count g) → IsAsked g.S.Store (seen_of c.self.inside.tables c.self.inside.reserved.txns) c.args.session c.args.text.now c.in_ok-place.row c.table.result.now c.count.result
+asked : (g : given.Over) (c : After-count g) → IsAsked g.S.Store (database_of c.self.inside.tables c.self.inside.reserved.txns) c.args.session c.args.text.now c.in_ok-place.row c.table.result.now c.count.result
 asked g c = record {
   made = rw (← c.self.view_is) at c.in_ok-place.ensures.row;
   early = rw (← c.self.view_is) at c.in_ok-place.ensures.early;
@@ -35,12 +35,12 @@ asked g c = record {
 }
 
 asked_now : (g : given.Over) (c : After-count g) → IsAsked g.S.Store c.args.self.now c.args.session c.args.text.now c.in_ok-place.row c.table.result.now c.count.result
-asked_now g c = subst (λ (d : Seen _). IsAsked g.S.Store d c.args.session c.args.text.now c.in_ok-place.row c.table.result.now c.count.result) c.self.view_is (asked g c)
+asked_now g c = subst (λ (d : Database _). IsAsked g.S.Store d c.args.session c.args.text.now c.in_ok-place.row c.table.result.now c.count.result) c.self.view_is (asked g c)
 
 pub row_refusal-requires-clause-fits : goal.row_refusal-requires-clause-fits
 row_refusal-requires-clause-fits g c =
     let is = asked g (goal.at.row_refusal-requires-clause-fits g c).After-count in
-    made_row (seen_of c.self.inside.tables c.self.inside.reserved.txns).state c.args.text.now c.in_ok-place.row c.table.result.now is.named is.made
+    made_row (database_of c.self.inside.tables c.self.inside.reserved.txns).state c.args.text.now c.in_ok-place.row c.table.result.now is.named is.made
 
 -- its room or a check refuses it, unless a row has its name
 pub row_exists_or-requires : goal.row_exists_or-requires
@@ -63,26 +63,26 @@ returns-in-Some g c =
 
 pub insert-requires-clause-place : goal.insert-requires-clause-place
 insert-requires-clause-place g c =
-    let s : State = (seen_of c.self.inside.tables c.self.inside.reserved.txns).state in
+    let s : State = (database_of c.self.inside.tables c.self.inside.reserved.txns).state in
     let at = (goal.at.insert-requires-clause-place g c).After-count in
     subst (λ (n : _). place_named s.catalog n ≡ Some c.in_ok-place.place) (sym (is_made s c.args.text.now c.in_ok-place.row (asked g at).made).table_name) (placed g at)
 
 pub insert-requires-clause-fits : goal.insert-requires-clause-fits
 insert-requires-clause-fits g c =
-    let s : State = (seen_of c.self.inside.tables c.self.inside.reserved.txns).state in
+    let s : State = (database_of c.self.inside.tables c.self.inside.reserved.txns).state in
     (is_made s c.args.text.now c.in_ok-place.row (asked g (goal.at.insert-requires-clause-fits g c).After-count).made).has_table
 
 pub insert-requires-clause-room : goal.insert-requires-clause-room
 insert-requires-clause-room g c =
-    let d = seen_of c.self.inside.tables c.self.inside.reserved.txns in
+    let d = database_of c.self.inside.tables c.self.inside.reserved.txns in
     room_left g.S.Store d c.args.session c.args.text.now c.in_ok-place.row c.table.result.now c.count.result (asked g (goal.at.insert-requires-clause-room g c).After-count) (sym c.in_default.is ∙ c.row_refusal.ensures)
 
 -- neither refuses it
 may : (g : given.Over) (c : After-insert g)
-    → MayWrite g.S.Store c.args.session (statement.Insert c.args.text.now) (seen_of c.self.inside.tables c.self.inside.reserved.txns) (put_reply (row_named c.self.inside.tables.rows c.in_ok-place.row.name))
-    (record (seen_of c.self.inside.tables c.self.inside.reserved.txns).state { rows = with_new c.in_ok-place.row c.self.inside.tables.rows }) Any
+    → MayWrite g.S.Store c.args.session (statement.Insert c.args.text.now) (database_of c.self.inside.tables c.self.inside.reserved.txns) (put_reply (row_named c.self.inside.tables.rows c.in_ok-place.row.name))
+    (record (database_of c.self.inside.tables c.self.inside.reserved.txns).state { rows = with_new c.in_ok-place.row c.self.inside.tables.rows }) Any
 may g c =
-    may_insert g.S.Store (seen_of c.self.inside.tables c.self.inside.reserved.txns) c.args.session c.args.text.now c.in_ok-place.row c.table.result.now c.count.result (asked g (goal.at.After-insert g c).After-count)
+    may_insert g.S.Store (database_of c.self.inside.tables c.self.inside.reserved.txns) c.args.session c.args.text.now c.in_ok-place.row c.table.result.now c.count.result (asked g (goal.at.After-insert g c).After-count)
     (sym c.in_default.is ∙ c.row_refusal.ensures)
 
 pub returns-in_err-insert : goal.returns-in_err-insert
@@ -114,7 +114,7 @@ invariant_of-self-2 g c =
 
 pub row_exists_or-requires-2 : goal.row_exists_or-requires-2
 row_exists_or-requires-2 g c =
-    let s : State = (seen_of c.self.inside.tables c.self.inside.reserved.txns).state in
+    let s : State = (database_of c.self.inside.tables c.self.inside.reserved.txns).state in
     let at = (goal.at.row_exists_or-requires-2 g c).After-count in
     let writes = rw c.if-branch.false at c.in_ok-insert.ensures.writes in
     subst (λ catalog. place_named catalog c.in_ok-place.row.name.table ≡ Some c.in_ok-place.place) (sym (writes.kept_catalog refl))
@@ -122,7 +122,7 @@ row_exists_or-requires-2 g c =
 
 pub returns : goal.returns
 returns g c =
-    let d = seen_of c.self.inside.tables c.self.inside.reserved.txns in
+    let d = database_of c.self.inside.tables c.self.inside.reserved.txns in
     let after = c.row_exists_or-2.new.self in
     let asks = statement.Insert c.args.text.now in
     let row = c.in_ok-place.row in

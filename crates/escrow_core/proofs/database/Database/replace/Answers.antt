@@ -5,7 +5,7 @@ use Rattle.escrow_machine.specs.declared.reply.Reply.TheVariants as reply
 use Rattle.escrow_machine.specs.Asked.{row_name}
 use Rattle.escrow_schema.specs.Rows.{row_named, with_plain}
 use Rattle.escrow_machine.proofs.Refusals.{none_there}
-use Rattle.escrow_core.specs.Inside.{seen_of}
+use Rattle.escrow_core.specs.Inside.{database_of}
 use Rattle.escrow_core.proofs.Serving.{Any, MayWrite, failure_serves, reads_itself, refused, refusal_told, tried, tried_some, unwritten_holds, write_holds, write_serves}
 use Rattle.escrow_core.proofs.Updating.{MayReplace, may_write, plain_lacks, plain_open, replaced_fit}
 use Rattle.escrow_core.proofs.database.Database.replace.Given as given
@@ -20,7 +20,7 @@ returns-then-is_open g c =
     (plain_open d.state c.args.session text c.args.key c.args.values c.requires.plan (sym c.is_open.ensures ∙ c.if-is_open.true))
 
 -- no transaction is open
-may : (g : given.Over) (c : After-as_slice g) → MayReplace g.S.Store (seen_of c.self.inside.tables c.self.inside.reserved.txns) c.args.session c.args.text.now c.args.key c.as_slice.result.now
+may : (g : given.Over) (c : After-as_slice g) → MayReplace g.S.Store (database_of c.self.inside.tables c.self.inside.reserved.txns) c.args.session c.args.text.now c.args.key c.as_slice.result.now
 may g c = record {
   planned = rw (← c.self.view_is, ← c.as_slice.ensures) at c.requires.plan;
   closed = rw (← c.self.view_is) at (sym c.is_open.ensures ∙ c.if-is_open.false);
@@ -29,13 +29,13 @@ may g c = record {
 pub set_plain-requires-clause-fits : goal.set_plain-requires-clause-fits
 set_plain-requires-clause-fits g c =
     let at = (goal.at.set_plain-requires-clause-fits g c).After-as_slice in
-    replaced_fit g.S.Store (seen_of c.self.inside.tables c.self.inside.reserved.txns) c.args.session c.args.text.now c.args.key c.as_slice.result.now (may g at) c.self.invariant.keeps.kept
+    replaced_fit g.S.Store (database_of c.self.inside.tables c.self.inside.reserved.txns) c.args.session c.args.text.now c.args.key c.as_slice.result.now (may g at) c.self.invariant.keeps.kept
 
 writes : (g : given.Over) (c : After-as_slice g)
-    → MayWrite g.S.Store c.args.session (statement.Update c.args.text.now) (seen_of c.self.inside.tables c.self.inside.reserved.txns)
+    → MayWrite g.S.Store c.args.session (statement.Update c.args.text.now) (database_of c.self.inside.tables c.self.inside.reserved.txns)
     (tried (row_named c.self.inside.tables.rows (row_name c.args.text.now.table c.args.key)) refusal.NoSuchRow reply.Updated)
-    (record (seen_of c.self.inside.tables c.self.inside.reserved.txns).state { rows = with_plain (row_name c.args.text.now.table c.args.key) c.as_slice.result.now c.self.inside.tables.rows }) Any
-writes g c = may_write g.S.Store (seen_of c.self.inside.tables c.self.inside.reserved.txns) c.args.session c.args.text.now c.args.key c.as_slice.result.now (may g c)
+    (record (database_of c.self.inside.tables c.self.inside.reserved.txns).state { rows = with_plain (row_name c.args.text.now.table c.args.key) c.as_slice.result.now c.self.inside.tables.rows }) Any
+writes g c = may_write g.S.Store (database_of c.self.inside.tables c.self.inside.reserved.txns) c.args.session c.args.text.now c.args.key c.as_slice.result.now (may g c)
 
 pub returns-in_err-set_plain : goal.returns-in_err-set_plain
 returns-in_err-set_plain g c =
@@ -50,8 +50,8 @@ invariant_of-self g c =
 -- it doesn't stand
 pub returns-then-not-branch : goal.returns-then-not-branch
 returns-then-not-branch g c =
-    let d = seen_of c.self.inside.tables c.self.inside.reserved.txns in
-    let after = seen_of c.set_plain.new.self c.self.inside.reserved.txns in
+    let d = database_of c.self.inside.tables c.self.inside.reserved.txns in
+    let after = database_of c.set_plain.new.self c.self.inside.reserved.txns in
     let text = c.args.text.now in
     let at = (goal.at.returns-then-not-branch g c).After-as_slice in
     let is = may g at in

@@ -4,7 +4,7 @@ use Rattle.escrow_num.specs.Session.{IsSession}
 use Rattle.escrow_bounds.specs.Bounds.{place_at}
 use Rattle.escrow_machine.specs.Asked.{row_name}
 use Rattle.escrow_machine.specs.State.{State}
-use Rattle.escrow_core.specs.Inside.{seen_of}
+use Rattle.escrow_core.specs.Inside.{database_of}
 use Rattle.escrow_reserved.proofs.Places.{from_some, reserved_placed}
 use Rattle.escrow_core.proofs.Serving.{left_by}
 use Rattle.escrow_core.proofs.Updating.{IsPlanned, beside_granted, beside_refused, grant_keeps, room_for_one, short_plan}
@@ -13,7 +13,7 @@ use Rattle.escrow_core.proofs.database.Database.reserve.Goals as goal
 use Rattle.escrow_core.proofs.database.Database.reserve.Goals.{After-grant}
 
 -- what is planned, of a row that has a place
-planned : (g : given.Over) (c : After-grant g) → IsPlanned (seen_of c.self.inside.tables c.self.inside.reserved.txns).state c.args.text.now (row_name c.args.text.now.table c.args.key) c.args.changes
+planned : (g : given.Over) (c : After-grant g) → IsPlanned (database_of c.self.inside.tables c.self.inside.reserved.txns).state c.args.text.now (row_name c.args.text.now.table c.args.key) c.args.changes
 planned g c = record {
   table = refl;
   plan = rw (← c.self.view_is) at c.requires.plan;
@@ -34,18 +34,18 @@ grant-requires-clause-placed g c =
 
 pub grant-requires-clause-short : goal.grant-requires-clause-short
 grant-requires-clause-short g c =
-    let s : State = (seen_of c.self.inside.tables c.self.inside.reserved.txns).state in
+    let s : State = (database_of c.self.inside.tables c.self.inside.reserved.txns).state in
     short_plan s c.args.text.now c.args.key c.args.changes c.self.invariant.keeps.kept.orderly (rw (← c.self.view_is) at c.requires.plan)
 
 pub grant-requires-clause-room : goal.grant-requires-clause-room
 grant-requires-clause-room g c =
-    let s : State = (seen_of c.self.inside.tables c.self.inside.reserved.txns).state in
+    let s : State = (database_of c.self.inside.tables c.self.inside.reserved.txns).state in
     let of_session : IsSession c.args.session = rw c.get.ensures.value at c.get.ensures.within in
     room_for_one s c.args.session c.args.text.now c.args.key c.args.changes c.self.invariant.keeps.kept.orderly of_session (rw (← c.self.view_is) at c.requires.plan)
 
 pub returns-in_err-id : goal.returns-in_err-id
 returns-in_err-id g c =
-    let d = seen_of c.self.inside.tables c.self.inside.reserved.txns in
+    let d = database_of c.self.inside.tables c.self.inside.reserved.txns in
     let places = c.self.inside.reserved.places in
     let name = row_name c.args.text.now.table c.args.key in
     let at_grant = (goal.at.returns-in_err-id g c).After-grant in
@@ -55,7 +55,7 @@ returns-in_err-id g c =
 
 pub invariant_of-self-2 : goal.invariant_of-self-2
 invariant_of-self-2 g c = record {
-  keeps = (let d = seen_of c.self.inside.tables c.self.inside.reserved.txns in
+  keeps = (let d = database_of c.self.inside.tables c.self.inside.reserved.txns in
       let places = c.self.inside.reserved.places in
       let name = row_name c.args.text.now.table c.args.key in
       let at_grant = (goal.at.invariant_of-self-2 g c).After-grant in
@@ -70,7 +70,7 @@ invariant_of-self-2 g c = record {
 
 pub returns : goal.returns
 returns g c =
-    let d = seen_of c.self.inside.tables c.self.inside.reserved.txns in
+    let d = database_of c.self.inside.tables c.self.inside.reserved.txns in
     let places = c.self.inside.reserved.places in
     let name = row_name c.args.text.now.table c.args.key in
     let at_grant = (goal.at.returns g c).After-grant in

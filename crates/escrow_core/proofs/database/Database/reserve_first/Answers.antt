@@ -10,8 +10,8 @@ use Rattle.escrow_machine.specs.State.{State, is_reserved}
 use Rattle.escrow_machine.proofs.Safe.{some_at}
 use Rattle.escrow_machine.proofs.Shapes.{covered}
 use Rattle.escrow_reserved.specs.Placed.{amounts_named}
-use Rattle.escrow_core.specs.Inside.{seen_of}
-use Rattle.escrow_core.specs.Seen.{Seen}
+use Rattle.escrow_core.specs.Inside.{database_of}
+use Rattle.escrow_core.specs.Database.{Database}
 use Rattle.escrow_core.specs.Serving.{OnlyReads}
 use Rattle.escrow_core.proofs.Serving.{left_by}
 use Rattle.escrow_core.proofs.Updating.{IsPlanned, first_fails, first_granted, first_keeps, first_lacks, first_refused, room_for_one, same_keeps, short_plan, still_planned}
@@ -31,8 +31,8 @@ returns-in_default g c =
     c.amounts.ensures.only_reads (λ clean. rw c.in_default.is at (c.in_ok-amounts.ensures.told clean))
 
 -- the state since the row was looked for is the one before
-same : (g : given.Over) (c : After-as_slice g) → (seen_of c.self.inside.tables c.self.inside.reserved.txns).state ≡ c.args.self.now.state
-same g c = ap (λ (d : Seen _). d.state) c.self.view_is ∙ c.amounts.ensures.only_reads.same
+same : (g : given.Over) (c : After-as_slice g) → (database_of c.self.inside.tables c.self.inside.reserved.txns).state ≡ c.args.self.now.state
+same g c = ap (λ (d : Database _). d.state) c.self.view_is ∙ c.amounts.ensures.only_reads.same
 
 -- the row's table, which has its amounts
 named : (g : given.Over) (c : After-as_slice g) → table_named c.self.inside.tables.catalog c.args.name.table ≡ Some c.table.result.now
@@ -48,13 +48,13 @@ grant_first-requires-clause-covered g c =
     rw (c.as_slice-checks.ensures, c.as_slice.ensures) (covered c.table.result.now c.in-Some.amounts c.table.ensures.table (many g c))
 
 -- it is looked at, planned, and not reserved
-looked : (g : given.Over) (c : After-as_slice g) → OnlyReads g.S.Store c.args.self.now (seen_of c.self.inside.tables c.self.inside.reserved.txns)
+looked : (g : given.Over) (c : After-as_slice g) → OnlyReads g.S.Store c.args.self.now (database_of c.self.inside.tables c.self.inside.reserved.txns)
 looked g c = rw (← c.self.view_is) at c.amounts.ensures.only_reads
 
-planned : (g : given.Over) (c : After-as_slice g) → IsPlanned (seen_of c.self.inside.tables c.self.inside.reserved.txns).state c.args.text.now c.args.name c.args.changes
-planned g c = still_planned c.args.self.now.state (seen_of c.self.inside.tables c.self.inside.reserved.txns).state c.args.text.now c.args.name c.args.changes (looked g c).same (record { table = c.requires.table; plan = c.requires.plan })
+planned : (g : given.Over) (c : After-as_slice g) → IsPlanned (database_of c.self.inside.tables c.self.inside.reserved.txns).state c.args.text.now c.args.name c.args.changes
+planned g c = still_planned c.args.self.now.state (database_of c.self.inside.tables c.self.inside.reserved.txns).state c.args.text.now c.args.name c.args.changes (looked g c).same (record { table = c.requires.table; plan = c.requires.plan })
 
-free : (g : given.Over) (c : After-as_slice g) → is_reserved (seen_of c.self.inside.tables c.self.inside.reserved.txns).state c.args.name ≡ false
+free : (g : given.Over) (c : After-as_slice g) → is_reserved (database_of c.self.inside.tables c.self.inside.reserved.txns).state c.args.name ≡ false
 free g c = subst (λ (s : State). is_reserved s c.args.name ≡ false) (sym (looked g c).same) c.requires.first
 
 read : (g : given.Over) (c : After-as_slice g) → HasCleanDisk (state g.S.Store c.self.inside.tables.store) → amounts_named c.self.inside.tables.rows c.args.name ≡ Some c.in-Some.amounts
@@ -63,18 +63,18 @@ read g c clean =
 
 pub grant_first-requires-clause-short : goal.grant_first-requires-clause-short
 grant_first-requires-clause-short g c =
-    short_plan (seen_of c.self.inside.tables c.self.inside.reserved.txns).state c.args.text.now c.args.name.key c.args.changes c.self.invariant.keeps.kept.orderly (planned g c).plan
+    short_plan (database_of c.self.inside.tables c.self.inside.reserved.txns).state c.args.text.now c.args.name.key c.args.changes c.self.invariant.keeps.kept.orderly (planned g c).plan
 
 pub grant_first-requires-clause-room : goal.grant_first-requires-clause-room
 grant_first-requires-clause-room g c =
     let of_session : IsSession c.args.session = rw c.get.ensures.value at c.get.ensures.within in
-    room_for_one (seen_of c.self.inside.tables c.self.inside.reserved.txns).state c.args.session c.args.text.now c.args.name.key c.args.changes c.self.invariant.keeps.kept.orderly of_session (planned g c).plan
+    room_for_one (database_of c.self.inside.tables c.self.inside.reserved.txns).state c.args.session c.args.text.now c.args.name.key c.args.changes c.self.invariant.keeps.kept.orderly of_session (planned g c).plan
 
 -- a refusal leaves each row the place that it had
 pub invariant_of-self : goal.invariant_of-self
 invariant_of-self g c = record {
   keeps = rw c.in_err-id.ensures.refused
-      (same_keeps g.S.Store (seen_of c.self.inside.tables c.self.inside.reserved.txns) c.self.inside.reserved.places c.grant_first.new.self.places c.self.invariant.keeps c.in_err-id.ensures.same);
+      (same_keeps g.S.Store (database_of c.self.inside.tables c.self.inside.reserved.txns) c.self.inside.reserved.places c.grant_first.new.self.places c.self.invariant.keeps c.in_err-id.ensures.same);
   known = c.self.invariant.known;
   read = c.self.invariant.read;
 }
@@ -83,7 +83,7 @@ pub returns-in_err-id : goal.returns-in_err-id
 returns-in_err-id g c =
     let at = (goal.at.returns-in_err-id g c).After-as_slice in
     rw (c.in_err-id.ensures.refused, left_by _ _ c.from_residual-in_err-id.ensures.1)
-    (first_refused g.S.Store c.args.session c.args.text.now c.args.name c.args.changes c.args.self.now (seen_of c.self.inside.tables c.self.inside.reserved.txns)
+    (first_refused g.S.Store c.args.session c.args.text.now c.args.name c.args.changes c.args.self.now (database_of c.self.inside.tables c.self.inside.reserved.txns)
     (record { table = c.requires.table; plan = c.requires.plan }) c.requires.first (looked g at)
     c.table.result.now c.in-Some.amounts c.self.invariant.keeps.kept.orderly (named g at) (many g at) (read g at) c.in_err-id.field-0.0
     (rw (c.as_slice-checks.ensures, c.as_slice.ensures) at c.in_err-id.ensures.only))
@@ -94,7 +94,7 @@ invariant_of-self-2 g c = record {
       let made = rw (c.as_slice-checks.ensures, c.as_slice.ensures) at c.in_ok-id.ensures.made in
       let of_session : IsSession c.args.session = rw c.get.ensures.value at c.get.ensures.within in
       rw c.in_ok-id.ensures.granted
-      (first_keeps g.S.Store c.args.session c.args.text.now c.args.name c.args.changes (seen_of c.self.inside.tables c.self.inside.reserved.txns) c.self.inside.reserved.places c.grant_first.new.self.places
+      (first_keeps g.S.Store c.args.session c.args.text.now c.args.name c.args.changes (database_of c.self.inside.tables c.self.inside.reserved.txns) c.self.inside.reserved.places c.grant_first.new.self.places
       (planned g at) c.self.invariant.keeps of_session c.table.result.now c.in-Some.amounts made.0 (named g at) (many g at) (read g at) made.1
       (rw (c.as_slice-checks.ensures, c.as_slice.ensures) at c.in_ok-id.ensures.free) made.2 c.in_ok-id.ensures.others));
   known = c.self.invariant.known;
@@ -105,7 +105,7 @@ pub returns : goal.returns
 returns g c =
     let at = (goal.at.returns g c).After-as_slice in
     rw (c.in_ok-id.ensures.id, c.in_ok-id.ensures.granted)
-    (first_granted g.S.Store c.args.session c.args.text.now c.args.name c.args.changes c.args.self.now (seen_of c.self.inside.tables c.self.inside.reserved.txns)
+    (first_granted g.S.Store c.args.session c.args.text.now c.args.name c.args.changes c.args.self.now (database_of c.self.inside.tables c.self.inside.reserved.txns)
     (record { table = c.requires.table; plan = c.requires.plan }) c.requires.first (looked g at)
     c.table.result.now c.in-Some.amounts c.self.invariant.keeps.kept.orderly (named g at) (many g at) (read g at)
     (rw (c.as_slice-checks.ensures, c.as_slice.ensures) at c.in_ok-id.ensures.free))

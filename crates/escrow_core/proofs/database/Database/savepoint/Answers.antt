@@ -4,7 +4,7 @@ use Rattle.escrow_statement.specs.declared.statement.Statement.TheVariants as st
 use Rattle.escrow_machine.specs.State.{open_in}
 use Rattle.escrow_journal.specs.Open.{savepoint_refusal}
 use Rattle.escrow_machine.specs.declared.reply.Reply.TheVariants as reply
-use Rattle.escrow_core.specs.Inside.{seen_of}
+use Rattle.escrow_core.specs.Inside.{database_of}
 use Rattle.escrow_machine.specs.Transition.{after_savepoint}
 use Rattle.escrow_machine.proofs.Accepted.{savepoint_room}
 use Rattle.escrow_machine.proofs.Refusals.{no_reason}
@@ -15,7 +15,7 @@ use Rattle.escrow_core.proofs.database.Database.savepoint.Goals as goal
 
 pub returns-in_err-mark : goal.returns-in_err-mark
 returns-in_err-mark g c =
-    let d = seen_of c.self.inside.tables c.self.inside.reserved.txns in
+    let d = database_of c.self.inside.tables c.self.inside.reserved.txns in
     let s = d.state in
     let session = c.args.session in
     let name = c.args.name in
@@ -26,7 +26,7 @@ returns-in_err-mark g c =
 
 pub invariant_of-self-2 : goal.invariant_of-self-2
 invariant_of-self-2 g c = record {
-  keeps = (let d = seen_of c.self.inside.tables c.self.inside.reserved.txns in
+  keeps = (let d = database_of c.self.inside.tables c.self.inside.reserved.txns in
       let s = d.state in
       let session = c.args.session in
       let name = c.args.name in
@@ -46,7 +46,7 @@ invariant_of-self-2 g c = record {
 
 pub returns : goal.returns
 returns g c =
-    let d = seen_of c.self.inside.tables c.self.inside.reserved.txns in
+    let d = database_of c.self.inside.tables c.self.inside.reserved.txns in
     let s = d.state in
     let session = c.args.session in
     let name = c.args.name in

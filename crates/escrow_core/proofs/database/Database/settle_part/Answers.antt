@@ -4,7 +4,7 @@ use Rattle.sqlite.specs.Held.{state}
 use Rattle.sqlite.proofs.StateLemmas.{survives_then, survives_weaker}
 use Rattle.escrow_machine.proofs.Settling.{stops}
 use Rattle.escrow_core.specs.Ends.{IsGroup, Settles}
-use Rattle.escrow_core.specs.Seen.{Seen}
+use Rattle.escrow_core.specs.Database.{Database}
 use Rattle.escrow_core.proofs.Parts.{after_all, commits_counts, first_commits, settles_after}
 use Rattle.escrow_core.proofs.database.Database.settle_part.Goals as goal
 use Rattle.escrow_core.proofs.database.Database.settle_part.Goals.{then-part-gt1+in-Err+else-not-store_answers, else-part-gt1}
@@ -65,6 +65,6 @@ returns g c =
           settles_after g.S.Store part old at new result (w.store_answers.ensures.reads.same ∙ w.in-Err.ensures.failed)
           (λ clean. w.store_answers.ensures.open clean w.if-not-store_answers.false)
           (λ still. w.commit_all.ensures.usable (w.store_answers.ensures.reads.usable still)) survives
-          (subst (λ (d : Seen _). Settles g.S.Store part d result new) w.self-is c.settle_each.ensures)
-      | else-part-gt1 w ↦ subst (λ (d : Seen _). Settles g.S.Store part d result new) w.self-is c.settle_each.ensures
+          (subst (λ (d : Database _). Settles g.S.Store part d result new) w.self-is c.settle_each.ensures)
+      | else-part-gt1 w ↦ subst (λ (d : Database _). Settles g.S.Store part d result new) w.self-is c.settle_each.ensures
     ]

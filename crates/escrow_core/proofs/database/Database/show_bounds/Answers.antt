@@ -15,8 +15,8 @@ use Rattle.escrow_machine.specs.Bounds.{bounds_in, bounds_over}
 use Rattle.escrow_machine.specs.State.{State, is_reserved}
 use Rattle.escrow_machine.proofs.Safe.{some_at}
 use Rattle.escrow_reserved.specs.Placed.{IsOfTable, amounts_named}
-use Rattle.escrow_core.specs.Inside.{seen_of}
-use Rattle.escrow_core.specs.Seen.{Seen}
+use Rattle.escrow_core.specs.Inside.{database_of}
+use Rattle.escrow_core.specs.Database.{Database}
 use Rattle.escrow_reserved.proofs.Places.{from_some, reserved_placed}
 use Rattle.escrow_core.proofs.Queries.{bounds_answers, bounds_lack}
 use Rattle.escrow_core.proofs.Serving.{answered, early_refused, left_by, look_answered, look_refused}
@@ -49,7 +49,7 @@ row_bounds-requires-clause-of_table g c =
 
 pub returns-then-is_reserved : goal.returns-then-is_reserved
 returns-then-is_reserved g c = λ session.
-    let d = seen_of c.self.inside.tables c.self.inside.reserved.txns in
+    let d = database_of c.self.inside.tables c.self.inside.reserved.txns in
     let text = c.args.text.now in
     let name = c.in_ok-name.name in
     let places = c.self.inside.reserved.places in
@@ -88,14 +88,14 @@ returns g c = λ session.
     let amounts = c.in-Some.amounts in
     let early = sym (c.in_ok-place.ensures.early session) in
     let is_name : read ≡ name = c.in_ok-name.ensures in
-    let same : (seen_of c.self-2.inside.tables c.self-2.inside.reserved.txns).state ≡ d.state = ap (λ (v : Seen _). v.state) c.self-2.view_is ∙ c.amounts.ensures.only_reads.same in
+    let same : (database_of c.self-2.inside.tables c.self-2.inside.reserved.txns).state ≡ d.state = ap (λ (v : Database _). v.state) c.self-2.view_is ∙ c.amounts.ensures.only_reads.same in
     let placed = subst (λ (s : State). place_named s.catalog text.table ≡ Some c.in_ok-place.place) (sym same) c.in_ok-place.ensures.place in
     let named_now : table_named d.state.catalog text.table ≡ Some table = subst (λ (s : State). table_named s.catalog text.table ≡ Some table) same (c.table-table-2.ensures.named text.table placed) in
     let many : length amounts ≡ length (reservables table.columns) =
     some_at (λ (t : TableDef). length amounts ≡ length (reservables t.columns)) (table_named d.state.catalog text.table) table named_now (rw (c.in-Some.is, c.in_ok-name.ensures) at c.in_ok-amounts.ensures.many) in
     let free : is_reserved d.state name ≡ false =
     subst (λ (n : RowName). is_reserved d.state n ≡ false) is_name
-    (subst (λ (v : Seen _). is_reserved v.state read ≡ false) c.self.view_is (sym c.is_reserved.ensures ∙ c.if-is_reserved.false)) in
+    (subst (λ (v : Database _). is_reserved v.state read ≡ false) c.self.view_is (sym c.is_reserved.ensures ∙ c.if-is_reserved.false)) in
     let shown : c.in_ok-free_bounds.field-0 ≡ bounds_in d.state.reservations table name amounts =
     c.in_ok-free_bounds.ensures ∙ ap (bounds_over [] table) c.as_slice.ensures ∙ free_same table amounts name d.state.reservations c.table-table-2.ensures.table many free in
     rw shown

@@ -1,5 +1,5 @@
 use Rattle.std.proofs.Common.{refl, ap, map}
-use Rattle.escrow_shards.specs.Opened.{seen_at}
+use Rattle.escrow_shards.specs.Opened.{database_at}
 use Rattle.escrow_shards.proofs.Reading.{read_same, read_set, closed_at}
 use Rattle.escrow_shards.proofs.UnderLocks.{so_far_more, bound_at}
 use Rattle.escrow_shards.proofs.shared.make.starts_of.Goals as goal
@@ -15,7 +15,7 @@ returns-in_err-starts-clause-read g c = read_same g.S.Store c.args.databases.now
 pub loop-i-init : goal.loop-i-init
 loop-i-init g c = record {
   read = read_same g.S.Store c.args.databases.now.items;
-  so_far = ap (λ bs. map seen_at bs) c.in_ok-starts.ensures.items;
+  so_far = ap (λ bs. map database_at bs) c.in_ok-starts.ensures.items;
   as_long = refl;
 }
 

@@ -1,7 +1,7 @@
 use Rattle.std.proofs.Common.{◌≡◌, length, map, refl, sym, ap, ◌∙◌, subst}
 use Rattle.escrow_num.specs.declared.refusal.Refusal.TheVariants as refusal
 use Rattle.escrow_shards.specs.declared.cause.Unshared.TheVariants as unshared
-use Rattle.escrow_shards.specs.Opened.{seen_at, AreRead}
+use Rattle.escrow_shards.specs.Opened.{database_at, AreRead}
 use Rattle.escrow_shards.specs.Sharing.{Sharing}
 use Rattle.escrow_shards.proofs.NewSeats.{all_have_seats}
 use Rattle.escrow_shards.proofs.UnderLocks.{as_many, few_of}
@@ -9,7 +9,7 @@ use Rattle.escrow_shards.proofs.shared.make.Shared+S.make.Goals as goal
 
 pub returns-in-Ok-clause-opened : goal.returns-in-Ok-clause-opened
 returns-in-Ok-clause-opened g c =
-    subst (λ ds. AreRead g.S.Store c.args.databases.items ds) (sym c.in-Ok.ensures.starts ∙ ap (λ bs. map seen_at bs) (sym c.into_shards-shards.ensures)) c.in-Ok.ensures.read
+    subst (λ ds. AreRead g.S.Store c.args.databases.items ds) (sym c.in-Ok.ensures.starts ∙ ap (λ bs. map database_at bs) (sym c.into_shards-shards.ensures)) c.in-Ok.ensures.read
 
 pub invariant_of-shared : goal.invariant_of-shared
 invariant_of-shared g c =
