@@ -31,15 +31,15 @@ use Rattle.escrow_history.specs.declared.committed.Committed.{Committed}
 use Rattle.escrow_history.specs.Calls.{Appends, Stays, IsFailed}
 use Rattle.escrow_history.specs.Commits.{Commits, commits_of}
 use Rattle.escrow_history.specs.Entered.{asked_by, AreEntered}
-use Rattle.escrow_history.specs.History.{History, IsKept}
-use Rattle.escrow_history.specs.Inside.{history_of, IsNotKept}
+use Rattle.escrow_history.specs.Audited.{Audited, IsKept}
+use Rattle.escrow_history.specs.Inside.{audited_of, IsNotKept}
 use Rattle.escrow_history.proofs.Entering.{asked_each, commits_few, entered_each, entered_numbered, entered_steps}
 use Rattle.escrow_history.proofs.NeverFull.{never_told}
 
 module _ {S : Type 0} (g : Ghosts S) where
   -- a transcript begins at a base, which is what the database holds
   pub begun_keeps : {Z : Type 0} (d : Database S) (base : Base) (entries : Vec Entry Z) → entries.items ≡ [] → (HasCleanDisk (state g d.store) → d.state ≡ started base.image)
-      → base.before + MAX_ENTRIES ≤ MAX_NUMBER → IsKept g (history_of d base entries)
+      → base.before + MAX_ENTRIES ≤ MAX_NUMBER → IsKept g (audited_of d base entries)
   begun_keeps d base entries none is numbers = record {
     legal = λ clean. rw none (subst (IsLegal base []) (sym (is clean)) (nothing_is_legal base));
     few = rw none (omega arith);
@@ -47,7 +47,7 @@ module _ {S : Type 0} (g : Ghosts S) where
   }
 
   -- nothing changed
-  pub stayed_keeps : (old new : History S) → IsKept g old → (HasCleanDisk (state g new.store) → HasCleanDisk (state g old.store)) → Stays g old new → IsKept g new
+  pub stayed_keeps : (old new : Audited S) → IsKept g old → (HasCleanDisk (state g new.store) → HasCleanDisk (state g old.store)) → Stays g old new → IsKept g new
   stayed_keeps old new kept was stays = record {
     legal = λ clean. rw (stays.base, stays.entries, stays.unchanged clean) (kept.legal (was clean));
     few = rw stays.entries kept.few;
@@ -55,7 +55,7 @@ module _ {S : Type 0} (g : Ghosts S) where
   }
 
   -- there is one entry more
-  pub appended_keeps : (old new : History S) (session : ℕ) (asked : Statement) (number : ℕ) (answer : Reply) → IsKept g old → length old.entries < MAX_ENTRIES
+  pub appended_keeps : (old new : Audited S) (session : ℕ) (asked : Statement) (number : ℕ) (answer : Reply) → IsKept g old → length old.entries < MAX_ENTRIES
       → (HasCleanDisk (state g new.store) → HasCleanDisk (state g old.store)) → Appends g old session asked number answer new → IsKept g new
   appended_keeps old new session asked number answer kept room was appends =
       let e : Entry = record { number = number; session = session; statement = asked; reply = answer } in
@@ -70,7 +70,7 @@ module _ {S : Type 0} (g : Ghosts S) where
       (outcomes : List (Result Committed Failure)) → events ≡ asked_by sessions → length answers ≡ length events → told ≡ answers
       → (HasCleanDisk (state g after.store) → IsRun d.state events answers after.state) → room.items ≡ entries.items
       → base.before + vec_len room ≡ base.before + length entries.items → AreEntered (base.before + vec_len room) told outcomes
-      → more.items ≡ room.items ++ commits_of sessions outcomes → Commits g (history_of d base entries) sessions outcomes (history_of after base more)
+      → more.items ≡ room.items ++ commits_of sessions outcomes → Commits g (audited_of d base entries) sessions outcomes (audited_of after base more)
   commits_made d after base entries room more sessions events answers told outcomes asked each is run same before entered added =
       let begins = base.before + length entries.items in
       let read : AreEntered begins answers outcomes = subst (λ (n : ℕ). AreEntered n answers outcomes) before (subst (λ (rs : List Reply). AreEntered (base.before + vec_len room) rs outcomes) is entered) in
@@ -83,7 +83,7 @@ module _ {S : Type 0} (g : Ghosts S) where
       }
 
   -- there is an entry more for each COMMIT that was served
-  pub committed_keeps : (old new : History S) (sessions : List ℕ) (outcomes : List (Result Committed Failure)) → IsKept g old → length old.entries + length sessions ≤ MAX_ENTRIES
+  pub committed_keeps : (old new : Audited S) (sessions : List ℕ) (outcomes : List (Result Committed Failure)) → IsKept g old → length old.entries + length sessions ≤ MAX_ENTRIES
       → (HasCleanDisk (state g new.store) → HasCleanDisk (state g old.store)) → Commits g old sessions outcomes new → IsKept g new
   committed_keeps old new sessions outcomes kept room was commits =
       let more = commits_of sessions outcomes in

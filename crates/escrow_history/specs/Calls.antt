@@ -16,7 +16,7 @@ use Rattle.escrow_machine.specs.State.{State}
 use Rattle.escrow_machine.specs.Step.{IsStep}
 use Rattle.escrow_history.specs.declared.served.Unserved.{Unserved}
 use Rattle.escrow_history.specs.declared.served.Unserved.TheVariants.{Full, Failed}
-use Rattle.escrow_history.specs.History.{History}
+use Rattle.escrow_history.specs.Audited.{Audited}
 
 -- whether a reply is an answer: it doesn't say that the statement wasn't served, as 51, 52 and 60 do
 pub record IsAnswer (answer : Reply) : Type 0 where
@@ -26,7 +26,7 @@ pub record IsAnswer (answer : Reply) : Type 0 where
 
 -- A statement of a session was served. If the disk returned what was written, this was a step of the machine. The
 -- statement is the one new entry, with the next number. The reply is an answer, whatever the disk did.
-pub record Appends {S : Type 0} (g : Ghosts S) (old : History S) (session : ℕ) (asked : Statement) (number : ℕ) (answer : Reply) (new : History S) : Type 0 where
+pub record Appends {S : Type 0} (g : Ghosts S) (old : Audited S) (session : ℕ) (asked : Statement) (number : ℕ) (answer : Reply) (new : Audited S) : Type 0 where
   pub step : HasCleanDisk (state g new.store) → IsStep old.state session asked answer new.state
   pub succeeds : failure_of answer ≡ None
   pub answers : IsAnswer answer
@@ -35,7 +35,7 @@ pub record Appends {S : Type 0} (g : Ghosts S) (old : History S) (session : ℕ)
   pub entries : new.entries ≡ old.entries ++ (record { number = number; session = session; statement = asked; reply = answer }) ∷ []
 
 -- Nothing changed: neither the base and the entries, nor, if the disk returned what was written, the state.
-pub record Stays {S : Type 0} (g : Ghosts S) (old new : History S) : Type 0 where
+pub record Stays {S : Type 0} (g : Ghosts S) (old new : Audited S) : Type 0 where
   pub base : new.base ≡ old.base
   pub entries : new.entries ≡ old.entries
   pub unchanged : HasCleanDisk (state g new.store) → new.state ≡ old.state

@@ -9,7 +9,7 @@ use Rattle.escrow_machine.specs.declared.reply.Reply.TheVariants as reply
 use Rattle.escrow_transcript.specs.declared.entry.Entry.{Entry}
 use Rattle.escrow_transcript.specs.Legal.{AreSteps, AreNumbered}
 use Rattle.escrow_history.specs.declared.committed.Committed.{Committed}
-use Rattle.escrow_history.specs.History.{History}
+use Rattle.escrow_history.specs.Audited.{Audited}
 
 -- the entry of a COMMIT that was served
 abbrev pub commit_of : ℕ → Committed → Entry
@@ -25,7 +25,7 @@ commits_of [] outcomes = []
 -- Sessions asked for COMMITs, one after another, and each has its outcome. If the disk returned what was written, those
 -- that were served are steps of the machine, from the state before to the state after. They are the new entries, with
 -- the next numbers.
-pub record Commits {S : Type 0} (g : Ghosts S) (old : History S) (sessions : List ℕ) (outcomes : List (Result Committed Failure)) (new : History S) : Type 0 where
+pub record Commits {S : Type 0} (g : Ghosts S) (old : Audited S) (sessions : List ℕ) (outcomes : List (Result Committed Failure)) (new : Audited S) : Type 0 where
   pub each : length outcomes ≡ length sessions
   pub steps : HasCleanDisk (state g new.store) → AreSteps old.state (commits_of sessions outcomes) new.state
   pub numbered : AreNumbered (old.base.before + length old.entries) (commits_of sessions outcomes)

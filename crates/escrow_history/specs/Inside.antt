@@ -9,15 +9,15 @@ use Rattle.escrow_core.specs.Database.{Database}
 use Rattle.escrow_transcript.specs.declared.base.Base.{Base}
 use Rattle.escrow_transcript.specs.declared.entry.Entry.{Entry}
 use Rattle.escrow_transcript.specs.declared.transcript.TheConstants.Transcript.{MAX_ENTRIES}
-use Rattle.escrow_history.specs.History.{History}
+use Rattle.escrow_history.specs.Audited.{Audited}
 
 -- for how many more entries a list has room: as many as it can take without growing, and a transcript may have
 abbrev pub room_of : {Z : Type 0} → Vec Entry Z → ℕ
 room_of entries = min (vec_capacity entries) MAX_ENTRIES - vec_len entries
 
 -- the history of a database, a base and entries
-abbrev pub history_of : {S Z : Type 0} → Database S → Base → Vec Entry Z → History S
-history_of d base entries = record { store = d.store; state = d.state; base = base; entries = entries.items; room = room_of entries }
+abbrev pub audited_of : {S Z : Type 0} → Database S → Base → Vec Entry Z → Audited S
+audited_of d base entries = record { store = d.store; state = d.state; base = base; entries = entries.items; room = room_of entries }
 
 -- whether a reply is no answer: it reports a failure, or only a transcript gives it
 abbrev pub IsNoAnswer : Reply → Failure → Type 0

@@ -37,16 +37,16 @@ impl<S: Alter + Drop> Drop for Audited<S> {
 }
 
 impl<S: Alter> Model for Audited<S> {
-    ghost use Rattle.escrow_history.specs.History.{History, IsKept, history_code};
-    ghost use Rattle.escrow_history.specs.Inside.{history_of};
+    ghost use Rattle.escrow_history.specs.Audited.{Audited, IsKept, audited_code};
+    ghost use Rattle.escrow_history.specs.Inside.{audited_of};
 
-    ghost Value = { History S };
+    ghost Value = { Audited S };
 
-    ghost coded = { history_code S.code };
+    ghost coded = { audited_code S.code };
 
-    ghost view = { λ a. history_of a.database a.base a.entries };
+    ghost view = { λ a. audited_of a.database a.base a.entries };
 
-    ghost invariant = { λ a. IsKept S.Store (history_of a.database a.base a.entries) };
+    ghost invariant = { λ a. IsKept S.Store (audited_of a.database a.base a.entries) };
 }
 
 impl<S: Alter> Audited<S> {
@@ -60,7 +60,7 @@ impl<S: Alter> Audited<S> {
     ghost use Rattle.escrow_transcript.specs.Legal.{IsLegal};
     ghost use Rattle.escrow_history.specs.Calls.{Appends, Stays, NeedsAnEntry, IsNoRoom, IsNotBegun, IsNotDrained};
     ghost use Rattle.escrow_history.specs.Commits.{Commits};
-    ghost use Rattle.escrow_history.specs.History.{IsKept};
+    ghost use Rattle.escrow_history.specs.Audited.{IsKept};
 
     /// Makes a transcript for a database. It begins at what the database holds, and at the first
     /// number.

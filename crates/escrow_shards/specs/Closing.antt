@@ -8,7 +8,7 @@ use Rattle.sqlite_trees.specs.declared.store.Store.{Ghosts}
 use Rattle.escrow_transcript.specs.declared.base.Base.{Base}
 use Rattle.escrow_transcript.specs.declared.entry.Entry.{Entry}
 use Rattle.escrow_transcript.specs.Legal.{AreSteps, AreNumbered}
-use Rattle.escrow_history.specs.History.{History, history_code}
+use Rattle.escrow_history.specs.Audited.{Audited, audited_code}
 use Rattle.escrow_shards.specs.Begun.{Begun, begun_code}
 use Rattle.escrow_shards.specs.Piece.{Piece, parts_of, entries_of}
 
@@ -16,12 +16,12 @@ use Rattle.escrow_shards.specs.Piece.{Piece, parts_of, entries_of}
 -- parts of its history were handed out
 pub record Closing (S : Type 0) : Type 0 where
   pub opening : Begun S
-  pub history : History S
+  pub history : Audited S
   pub parts : ℕ
 
 abbrev pub closing_code : {S : Type 0} → Coded S → Coded (Closing S)
 closing_code {S} store =
-    code_by (Begun S × (History S × ℕ)) (coded× (begun_code store) (coded× (history_code store) coded_ℕ))
+    code_by (Begun S × (Audited S × ℕ)) (coded× (begun_code store) (coded× (audited_code store) coded_ℕ))
     (λ c. (c.opening, (c.history, c.parts))) (λ p. record { opening = p.0; history = p.1.0; parts = p.1.1 }) (λ _. refl)
 
 -- where a database began

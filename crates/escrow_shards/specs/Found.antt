@@ -2,7 +2,7 @@
 use Rattle.std.specs.Prelude.{◌≡◌, ℕ, ◌<◌, List, length, slice_get, Some}
 use Rattle.std.specs.List.{AllByRecursion}
 use Rattle.sqlite_trees.specs.declared.store.Store.{Ghosts}
-use Rattle.escrow_history.specs.History.{IsKept}
+use Rattle.escrow_history.specs.Audited.{IsKept}
 use Rattle.escrow_shards.specs.declared.cause.Cause.{Cause}
 use Rattle.escrow_shards.specs.declared.cause.Cause.TheVariants as cause
 use Rattle.escrow_shards.specs.Begun.{IsBegun}

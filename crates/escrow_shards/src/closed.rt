@@ -33,7 +33,7 @@ impl<S: Alter> Model for Closed<S> {
 impl<S: Alter> Closed<S> {
     ghost use Rattle.std.specs.Prelude.{◌≡◌, ◌↔◌, ◌<◌, [], IfSome, IfNone, IsTrue};
     ghost use Rattle.std.specs.List.{AllByRecursion};
-    ghost use Rattle.escrow_history.specs.History.{IsKept};
+    ghost use Rattle.escrow_history.specs.Audited.{IsKept};
     ghost use Rattle.escrow_shards.specs.Begun.{IsBegun};
     ghost use Rattle.escrow_shards.specs.Closing.{HasAllParts, all_entries};
     ghost use Rattle.escrow_shards.specs.Receipts.{receipts_of};

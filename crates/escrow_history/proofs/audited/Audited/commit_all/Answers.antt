@@ -2,15 +2,15 @@ use Rattle.std.proofs.Common.{◌≡◌, ◌+◌, ◌≤◌, ◌++◌, List, len
 use Rattle.escrow_machine.specs.declared.reply.Reply.{Reply}
 use Rattle.escrow_transcript.specs.declared.transcript.TheConstants.Transcript.{MAX_ENTRIES}
 use Rattle.escrow_history.specs.Entered.{asked_by}
-use Rattle.escrow_history.specs.Inside.{history_of}
+use Rattle.escrow_history.specs.Inside.{audited_of}
 use Rattle.escrow_history.proofs.Kept.{commits_made, committed_keeps}
 use Rattle.escrow_history.proofs.audited.Audited.commit_all.Goals as goal
 
 pub invariant_of-self-2 : goal.invariant_of-self-2
 invariant_of-self-2 g c =
     let d = c.self.inside.database in
-    let old = history_of d c.self.inside.base c.self.inside.entries in
-    let new = history_of c.run_into.new.self c.self.inside.base c.enter_all.new.entries in
+    let old = audited_of d c.self.inside.base c.self.inside.entries in
+    let new = audited_of c.run_into.new.self c.self.inside.base c.enter_all.new.entries in
     let sessions = c.args.sessions.now in
     let served = c.run_into.ensures.served in
     let events_value = c.deref.ensures.value in

@@ -3,7 +3,7 @@ use Rattle.escrow_statement.specs.declared.statement.Statement.{Statement}
 use Rattle.escrow_machine.specs.declared.reply.Reply.{Reply}
 use Rattle.escrow_transcript.specs.declared.entry.Entry.{Entry}
 use Rattle.escrow_transcript.specs.declared.transcript.TheConstants.Transcript.{MAX_ENTRIES}
-use Rattle.escrow_history.specs.Inside.{history_of}
+use Rattle.escrow_history.specs.Inside.{audited_of}
 use Rattle.escrow_history.proofs.Kept.{appended_keeps, on_err, served_step, stayed_keeps, unserved_stays}
 use Rattle.escrow_history.proofs.Promised.{promised_is_kept}
 use Rattle.escrow_history.proofs.audited.Audited.serve.Goals as goal
@@ -11,8 +11,8 @@ use Rattle.escrow_history.proofs.audited.Audited.serve.Goals as goal
 pub invariant_of-self-in_err-asked-2 : goal.invariant_of-self-in_err-asked-2
 invariant_of-self-in_err-asked-2 g c =
     let d = c.self.inside.database in
-    let old = history_of d c.self.inside.base c.self.inside.entries in
-    let new = history_of c.step-reply.new.self c.self.inside.base c.reserve.new.self in
+    let old = audited_of d c.self.inside.base c.self.inside.entries in
+    let new = audited_of c.step-reply.new.self c.self.inside.base c.reserve.new.self in
     stayed_keeps g.S.Store old new c.self.invariant (λ clean. omega (arith, c.step-reply.ensures.crash.clean, clean)) (record {
       base = refl;
       entries = c.reserve.ensures.items;
@@ -40,8 +40,8 @@ returns-in_err-asked-2-clause-promised g c =
 pub invariant_of-self-2 : goal.invariant_of-self-2
 invariant_of-self-2 g c =
     let d = c.self.inside.database in
-    let old = history_of d c.self.inside.base c.self.inside.entries in
-    let new = history_of c.step-reply.new.self c.self.inside.base c.keep.new.entries in
+    let old = audited_of d c.self.inside.base c.self.inside.entries in
+    let new = audited_of c.step-reply.new.self c.self.inside.base c.keep.new.entries in
     let number = c.self.inside.base.before + c.len-2.result + 1 in
     let done = c.in_ok-asked-2 in
     let room : length old.entries < MAX_ENTRIES = omega (arith, c.len.ensures, c.self.inside.entries.ok.0, c.self.invariant.few, c.if-len-eq-MAX_ENTRIES.false) in
