@@ -18,7 +18,7 @@ use Rattle.escrow_transcript.specs.Legal.{IsLegal}
 use Rattle.escrow_transcript.proofs.Legals.{one_more_is_legal}
 use Rattle.escrow_history.specs.Audited.{Audited}
 use Rattle.escrow_history.specs.Calls.{Appends, Stays}
-use Rattle.escrow_stats.specs.Watching.{Boarded, IsPrefix}
+use Rattle.escrow_stats.specs.Watching.{Board, IsPrefix}
 use Rattle.escrow_shards.specs.Piece.{Piece}
 use Rattle.escrow_shards.specs.Shown.{doubts_of, EndsWith, IsShown}
 
@@ -46,11 +46,11 @@ module _ {S : Type 0} (g : Ghosts S) where
       go zero m few none = let is = none refl in omega (arith, is)
       go (suc n) m few none = omega (arith, few)
 
-  pub more_doubts : (old new : Held S) (b : Boarded) → (HasCleanDisk (state g new) → HasCleanDisk (state g old)) → b.doubts ≤ doubts_of g old → b.doubts ≤ doubts_of g new
+  pub more_doubts : (old new : Held S) (b : Board) → (HasCleanDisk (state g new) → HasCleanDisk (state g old)) → b.doubts ≤ doubts_of g old → b.doubts ≤ doubts_of g new
   more_doubts old new b clean fewer = let rise = doubts_rise old new clean in omega (arith, rise, fewer)
 
   -- nothing was served
-  pub stays_shown : (old new : Audited S) (b : Boarded) → IsShown g old b → Stays g old new → (HasCleanDisk (state g new.store) → HasCleanDisk (state g old.store)) → IsShown g new b
+  pub stays_shown : (old new : Audited S) (b : Board) → IsShown g old b → Stays g old new → (HasCleanDisk (state g new.store) → HasCleanDisk (state g old.store)) → IsShown g new b
   stays_shown old new b shown stays clean = record {
     first = shown.first;
     legal = λ now. subst (λ (s : State). IsLegal b.base b.entries s) (sym (stays.unchanged now)) (shown.legal (clean now));
@@ -60,7 +60,7 @@ module _ {S : Type 0} (g : Ghosts S) where
     fewer = more_doubts old.store new.store b clean shown.fewer;
   }
 
-  module _ (old new : Audited S) (b : Boarded) (session : ℕ) (asked : Statement) (number : ℕ) (answer : Reply) (shown : IsShown g old b)
+  module _ (old new : Audited S) (b : Board) (session : ℕ) (asked : Statement) (number : ℕ) (answer : Reply) (shown : IsShown g old b)
       (appends : Appends g old session asked number answer new) (clean : HasCleanDisk (state g new.store) → HasCleanDisk (state g old.store)) where
     -- the entry that was added
     abbrev pub added : Entry
@@ -75,7 +75,7 @@ module _ {S : Type 0} (g : Ghosts S) where
         (let a = next_number in let z = shown.first in omega (arith, a, z))
 
     -- one statement was served
-    pub more_shown : (after : Boarded) → after.base ≡ b.base → after.entries ≡ b.entries ++ added ∷ [] → IsPrefix after.shown after.entries → after.doubts ≤ doubts_of g new.store
+    pub more_shown : (after : Board) → after.base ≡ b.base → after.entries ≡ b.entries ++ added ∷ [] → IsPrefix after.shown after.entries → after.doubts ≤ doubts_of g new.store
         → IsShown g new after
     more_shown after base entries begins fewer = record {
       first = ap (λ (x : Base). x.before) base ∙ shown.first;
@@ -98,7 +98,7 @@ module _ {S : Type 0} (g : Ghosts S) where
     }
 
   -- a part was handed out, or not
-  pub drained_shown : (r : Result (Piece S) Refusal) (old new : Audited S) (b : Boarded) (parts : Piece S → Type 0) (same : Type 0) → IsShown g old b
+  pub drained_shown : (r : Result (Piece S) Refusal) (old new : Audited S) (b : Board) (parts : Piece S → Type 0) (same : Type 0) → IsShown g old b
       → IfOk r (λ p. (new.base ≡ p.end) × ((new.entries ≡ []) × parts p))
       → IfOk r (λ p. p.end.before ≡ old.base.before + length old.entries) → new.state ≡ old.state → OnErr r (Stays g old new × same)
       → (HasCleanDisk (state g new.store) → HasCleanDisk (state g old.store)) → IsShown g new b

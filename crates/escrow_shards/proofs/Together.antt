@@ -18,7 +18,7 @@ use Rattle.escrow_transcript.proofs.Steps.{steps_join}
 use Rattle.escrow_history.specs.declared.committed.Committed.{Committed}
 use Rattle.escrow_history.specs.Commits.{Commits, commits_of}
 use Rattle.escrow_history.specs.Audited.{Audited, IsKept}
-use Rattle.escrow_stats.specs.Watching.{Boarded, IsLegalFrom, IsPrefix}
+use Rattle.escrow_stats.specs.Watching.{Board, IsLegalFrom, IsPrefix}
 use Rattle.escrow_shards.specs.Shown.{doubts_of, EndsWith, IsShown}
 
 -- the front of a legal transcript, up to an entry, is legal
@@ -35,7 +35,7 @@ part_is all front more before is long = take_rest all before ∙ ap (drop before
 pub within_all : (all front more : List Entry) (before : ℕ) → all ≡ front ++ more → length front ≡ before → before ≤ length all
 within_all all front more before is long = let n = ap length is ∙ length-append front more in omega (arith, n, long)
 
-module _ {S : Type 0} (g : Ghosts S) (old new : Audited S) (b : Boarded) (sessions : List ℕ) (outcomes : List (Result Committed Failure))
+module _ {S : Type 0} (g : Ghosts S) (old new : Audited S) (b : Board) (sessions : List ℕ) (outcomes : List (Result Committed Failure))
     (shown : IsShown g old b) (commits : Commits g old sessions outcomes new) (clean : HasCleanDisk (state g new.store) → HasCleanDisk (state g old.store)) where
   -- the entries more
   abbrev pub more : List Entry
@@ -63,7 +63,7 @@ module _ {S : Type 0} (g : Ghosts S) (old new : Audited S) (b : Boarded) (sessio
       }
 
   -- all of them were shown
-  pub all_shown : (after : Boarded) → after.base ≡ b.base → after.entries ≡ b.entries ++ more → IsPrefix after.shown after.entries → after.doubts ≤ doubts_of g new.store
+  pub all_shown : (after : Board) → after.base ≡ b.base → after.entries ≡ b.entries ++ more → IsPrefix after.shown after.entries → after.doubts ≤ doubts_of g new.store
       → IsShown g new after
   all_shown after base entries begins fewer = record {
     first = ap (λ (x : Base). x.before) base ∙ shown.first;

@@ -8,18 +8,18 @@ use Rattle.sqlite_trees.specs.View.{doubt}
 use Rattle.escrow_transcript.specs.declared.entry.Entry.{Entry}
 use Rattle.escrow_transcript.specs.Legal.{IsLegal}
 use Rattle.escrow_history.specs.Audited.{Audited, audited_code}
-use Rattle.escrow_stats.specs.Watching.{Boarded, boarded_code, IsPrefix}
+use Rattle.escrow_stats.specs.Watching.{Board, board_code, IsPrefix}
 
 -- what contracts see of a watched database: the database with its transcript, how many parts of its history were handed
 -- out, and the board
 pub record Viewed (S : Type 0) : Type 0 where
   pub history : Audited S
   pub parts : ℕ
-  pub board : Boarded
+  pub board : Board
 
 abbrev pub viewed_code : {S : Type 0} → Coded S → Coded (Viewed S)
 viewed_code {S} store =
-    code_by (Audited S × (ℕ × Boarded)) (coded× (audited_code store) (coded× coded_ℕ boarded_code))
+    code_by (Audited S × (ℕ × Board)) (coded× (audited_code store) (coded× coded_ℕ board_code))
     (λ w. (w.history, (w.parts, w.board))) (λ p. record { history = p.0; parts = p.1.0; board = p.1.1 }) (λ _. refl)
 
 -- the doubts of the disk below a connection: 0 as long as it returned what was written (HasCleanDisk)
@@ -34,7 +34,7 @@ EndsWith entries last = (earlier : List Entry) × (entries ≡ earlier ++ last)
 -- list is legal, from where the history begins to the state found. Its length is the last entry's number, and it ends
 -- with the transcript's entries. It begins with the list whose totals are shown, for which the disk was no more in
 -- doubt than now.
-pub record IsShown {S : Type 0} (g : Ghosts S) (h : Audited S) (b : Boarded) : Type 0 where
+pub record IsShown {S : Type 0} (g : Ghosts S) (h : Audited S) (b : Board) : Type 0 where
   pub first : b.base.before ≡ 0
   pub legal : HasCleanDisk (state g h.store) → IsLegal b.base b.entries h.state
   pub long : length b.entries ≡ h.base.before + length h.entries

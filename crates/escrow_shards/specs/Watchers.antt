@@ -2,20 +2,20 @@
 use Rattle.std.specs.Prelude.{◌≡◌, ◌⊎◌, ℕ, List, [], ◌∷◌, ◌++◌, length, All}
 use Rattle.escrow_num.specs.declared.refusal.Refusal.TheVariants as refusal
 use Rattle.escrow_history.specs.Calls.{IsNotBegun}
-use Rattle.escrow_stats.specs.Watching.{Boarded, Watching, IsNewWatcher}
+use Rattle.escrow_stats.specs.Watching.{Board, Watcher, IsNewWatcher}
 use Rattle.escrow_shards.specs.Begun.{Begun}
 use Rattle.escrow_shards.specs.declared.cause.Unshared.{Unshared}
 use Rattle.escrow_shards.specs.declared.cause.Unshared.TheVariants as unshared
 
 -- the board of an opening, before anything was served
-abbrev pub new_board : {S : Type 0} → Begun S → Boarded
+abbrev pub new_board : {S : Type 0} → Begun S → Board
 new_board o = record { base = o.base; entries = []; shown = []; doubts = 0 }
 
 -- `count` watchers that have read nothing for each opening, in order of the openings
-abbrev pub AreNewWatchers : {S : Type 0} → ℕ → List (Begun S) → List Watching → Type 0
+abbrev pub AreNewWatchers : {S : Type 0} → ℕ → List (Begun S) → List Watcher → Type 0
 AreNewWatchers count [] watchers = watchers ≡ []
 AreNewWatchers count (o ∷ openings) watchers =
-    (mine : List Watching) × ((others : List Watching) × ((watchers ≡ mine ++ others) × ((length mine ≡ count) × (All (IsNewWatcher o.base) mine × AreNewWatchers count openings others))))
+    (mine : List Watcher) × ((others : List Watcher) × ((watchers ≡ mine ++ others) × ((length mine ≡ count) × (All (IsNewWatcher o.base) mine × AreNewWatchers count openings others))))
 
 -- why there are no boards and watchers: memory, or no place to read at
 abbrev pub IsUnwatched : Unshared → Type 0

@@ -13,7 +13,7 @@ use Rattle.escrow_stats.specs.declared.tally.Tally.{Tally}
 use Rattle.escrow_stats.specs.Tally.{tally_of}
 use Rattle.sqlite_trees.specs.declared.store.Store.{Ghosts}
 use Rattle.escrow_stats.specs.declared.known.Known.{Known}
-use Rattle.escrow_stats.specs.Watching.{Boarded, IsAlwaysClean, IsPrefix, IsLegalFrom, replies_of}
+use Rattle.escrow_stats.specs.Watching.{Board, IsAlwaysClean, IsPrefix, IsLegalFrom, replies_of}
 use Rattle.escrow_stats.specs.Prefixes.{IsBoard, IsNamed, IsPosted, IsPostOf, MayShow, newcomer}
 use Rattle.escrow_stats.proofs.Rule.{last_post, whole_front}
 
@@ -32,19 +32,19 @@ waits (Ok done) old new p start all is idle posted = inr (p, (is ∙ ap (λ (ps 
 waits (Err back) old new p start all is idle posted = inl (is.1 ∙ idle)
 
 -- what a board is, by what is known at its end that writes
-abbrev pub boarded : Base → Known → Boarded
+abbrev pub boarded : Base → Known → Board
 boarded start v = record { base = start; entries = v.entries; shown = v.shown; doubts = v.doubts }
 
 -- what its caller says of an entry more
-pub may_show : {S : Type 0} (g : Ghosts S) (named start : Base) (v : Known) (old : Boarded) (e more : Entry) (doubts : ℕ) → boarded start v ≡ old → named ≡ start → e ≡ more
+pub may_show : {S : Type 0} (g : Ghosts S) (named start : Base) (v : Known) (old : Board) (e more : Entry) (doubts : ℕ) → boarded start v ≡ old → named ≡ start → e ≡ more
     → (doubts ≡ 0 → IsLegalFrom old.base (old.entries ++ e ∷ [])) → (IsAlwaysClean g → doubts ≡ 0) → old.doubts ≤ doubts → MayShow g named (v.entries ++ more ∷ []) doubts v
 may_show g named start v old e more doubts is same picked legal always fewer = record {
   legal = λ none.
       subst (λ (b : Base). IsLegalFrom b (v.entries ++ more ∷ [])) (sym same)
       (subst (λ (x : Entry). IsLegalFrom start (v.entries ++ x ∷ [])) picked
-      (subst (λ (b : Boarded). IsLegalFrom b.base (b.entries ++ e ∷ [])) (sym is) (legal none)));
+      (subst (λ (b : Board). IsLegalFrom b.base (b.entries ++ e ∷ [])) (sym is) (legal none)));
   always = always;
-  more = subst (λ (b : Boarded). b.doubts ≤ doubts) (sym is) fewer;
+  more = subst (λ (b : Board). b.doubts ≤ doubts) (sym is) fewer;
 }
 
 -- what never fails tells what it tells of success

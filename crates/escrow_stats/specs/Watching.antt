@@ -30,44 +30,44 @@ IsAlwaysClean {S} g = (connection : Held S) → HasCleanDisk (state g connection
 
 -- What contracts see of a watcher: the base where the history of its database begins; the entries whose totals it read
 -- last; and the doubts of the disk when these were shown, 0 as long as it returned what was written.
-pub record Watching : Type 0 where
+pub record Watcher : Type 0 where
   pub base : Base
   pub entries : List Entry
   pub doubts : ℕ
 
-abbrev pub watching_code : Coded Watching
-watching_code =
+abbrev pub watcher_code : Coded Watcher
+watcher_code =
     code_by (Base × (List Entry × ℕ)) (coded× base_row.the_row.coded (coded× (coded_list entry_row.the_row.coded) coded_ℕ))
     (λ w. (w.base, (w.entries, w.doubts))) (λ p. record { base = p.0; entries = p.1.0; doubts = p.1.1 }) (λ _. refl)
 
 -- What always holds of a watcher: if the disk returned what was written, its entries are a legal transcript from the
 -- base. A store whose disk always does leaves no doubt.
-pub record IsSound {S : Type 0} (g : Ghosts S) (w : Watching) : Type 0 where
+pub record IsSound {S : Type 0} (g : Ghosts S) (w : Watcher) : Type 0 where
   pub legal : w.doubts ≡ 0 → IsLegalFrom w.base w.entries
   pub always : IsAlwaysClean g → w.doubts ≡ 0
 
 -- a watcher of a history from a base. It has read nothing, and knows of no doubt
-pub record IsNewWatcher (start : Base) (w : Watching) : Type 0 where
+pub record IsNewWatcher (start : Base) (w : Watcher) : Type 0 where
   pub begins : w.base ≡ start
   pub unread : w.entries ≡ []
   pub sure : w.doubts ≡ 0
 
 -- What contracts see of a board: the base where the history of its database begins; all entries since, and a prefix of
 -- them whose totals it shows; and the doubts of the disk when these were shown.
-pub record Boarded : Type 0 where
+pub record Board : Type 0 where
   pub base : Base
   pub entries : List Entry
   pub shown : List Entry
   pub doubts : ℕ
 
-abbrev pub boarded_code : Coded Boarded
-boarded_code =
+abbrev pub board_code : Coded Board
+board_code =
     code_by (Base × (List Entry × (List Entry × ℕ)))
     (coded× base_row.the_row.coded (coded× (coded_list entry_row.the_row.coded) (coded× (coded_list entry_row.the_row.coded) coded_ℕ)))
     (λ b. (b.base, (b.entries, (b.shown, b.doubts)))) (λ p. record { base = p.0; entries = p.1.0; shown = p.1.1.0; doubts = p.1.1.1 }) (λ _. refl)
 
 -- a board of a history from a base, with nothing served yet
-pub record IsNewBoard (start : Base) (b : Boarded) : Type 0 where
+pub record IsNewBoard (start : Base) (b : Board) : Type 0 where
   pub begins : b.base ≡ start
   pub unserved : b.entries ≡ []
   pub unshown : b.shown ≡ []

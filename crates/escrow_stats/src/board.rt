@@ -45,11 +45,11 @@ impl<S: Alter, R: Wait + Drop> Model for Board<S, R> {
     ghost use Rattle.std.specs.Prelude.{drop};
     ghost use Rattle.left_right.specs.Sides.{view as seen};
     ghost use Rattle.escrow_stats.specs.Prefixes.{IsBoard};
-    ghost use Rattle.escrow_stats.specs.Watching.{Boarded, boarded_code};
+    ghost use Rattle.escrow_stats.specs.Watching.{Board, board_code};
 
-    ghost Value = { Boarded };
+    ghost Value = { Board };
 
-    ghost coded = { boarded_code };
+    ghost coded = { board_code };
 
     ghost view = { λ b. record { base = b.base.value; entries = (seen b.writer.desk.place).entries; shown = (seen b.writer.desk.place).shown; doubts = (seen b.writer.desk.place).doubts } };
 

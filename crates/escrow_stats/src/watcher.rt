@@ -27,11 +27,11 @@ type Reading<S> = Reader<Shown, Known, Prefixes<S>>;
 impl<S: Alter> Model for Watcher<S> {
     ghost use Rattle.left_right.specs.Sides.{view as seen};
     ghost use Rattle.escrow_stats.specs.Prefixes.{IsWatcher};
-    ghost use Rattle.escrow_stats.specs.Watching.{Watching, watching_code};
+    ghost use Rattle.escrow_stats.specs.Watching.{Watcher, watcher_code};
 
-    ghost Value = { Watching };
+    ghost Value = { Watcher };
 
-    ghost coded = { watching_code };
+    ghost coded = { watcher_code };
 
     ghost view = { λ w. record { base = w.base.value.value; entries = (seen w.reader.place).shown; doubts = (seen w.reader.place).doubts } };
 

@@ -4,7 +4,7 @@ use Rattle.left_right.specs.Sides.{view as seen}
 use Rattle.escrow_transcript.specs.declared.entry.Entry.{Entry}
 use Rattle.escrow_stats.specs.declared.known.Known.{Known}
 use Rattle.escrow_stats.specs.Tally.{tally_of}
-use Rattle.escrow_stats.specs.Watching.{Boarded, replies_of}
+use Rattle.escrow_stats.specs.Watching.{Board, replies_of}
 use Rattle.escrow_stats.specs.Prefixes.{IsPostOf, Writes}
 use Rattle.escrow_stats.proofs.Posting.{may_show, tallied_more, waits}
 use Rattle.escrow_stats.proofs.board.Board.post_as.Goals as goal
@@ -16,7 +16,7 @@ replace_with-requires g c =
     let shown = c.self.inside.writer.desk.shown.value in
     let named = shown.post.value.base.value.value in
     let known : Known = seen c.self.inside.writer.desk.place in
-    let number = c.requires.number.0 ∙ ap (λ (b : Boarded). length b.entries + 1) (sym c.self.view_is) in
+    let number = c.requires.number.0 ∙ ap (λ (b : Board). length b.entries + 1) (sym c.self.view_is) in
     let totals = tallied_more c.self.inside.totals c.with-totals.result known.entries c.args.entry.now c.args.entry.now.number number c.requires.number.1 board.tallied c.with-totals.ensures.tally in
     let posted : IsPostOf named (known.entries ++ g.N.Next.more ∷ []) (record { totals = c.with-totals.result; count = c.args.entry.now.number; base = c.of.result }) = record {
       named = ap (λ b. b.value) c.of.ensures ∙ sym board.writes.shows;
@@ -37,7 +37,7 @@ invariant_of-self g c =
     let board = c.self.invariant in
     let done = c.replace_with.ensures in
     let known : Known = seen c.self.inside.writer.desk.place in
-    let number = c.requires.number.0 ∙ ap (λ (b : Boarded). length b.entries + 1) (sym c.self.view_is) in
+    let number = c.requires.number.0 ∙ ap (λ (b : Board). length b.entries + 1) (sym c.self.view_is) in
     let totals = tallied_more c.self.inside.totals c.with-totals.result known.entries c.args.entry.now c.args.entry.now.number number c.requires.number.1 board.tallied c.with-totals.ensures.tally in
     let same : (seen c.append.new.self.desk.place).entries ++ g.N.Next.more ∷ [] ≡ known.entries ++ g.N.Next.more ∷ [] = rw c.append.ensures.desk refl in
     record {
