@@ -6,13 +6,13 @@ use Rattle.sqlite_trees.specs.declared.store.Store.{Ghosts}
 use Rattle.escrow_num.specs.Session.{IsSession}
 use Rattle.escrow_transcript.specs.declared.entry.Entry.{Entry}
 use Rattle.escrow_core.specs.Database.{Database}
-use Rattle.escrow_shards.specs.Begun.{Begun}
-use Rattle.escrow_shards.specs.Closing.{Closing, all_entries, opening_of}
+use Rattle.escrow_shards.specs.Opening.{Opening}
+use Rattle.escrow_shards.specs.Closed.{Closed, all_entries, opening_of}
 use Rattle.escrow_shards.specs.Opened.{AreRead, IsRead, database_at}
-use Rattle.escrow_shards.specs.Piece.{Piece}
+use Rattle.escrow_shards.specs.Part.{Part}
 use Rattle.escrow_shards.specs.Receipts.{receipts_of}
-use Rattle.escrow_shards.specs.Seat.{Seat}
-use Rattle.escrow_shards.specs.Sharing.{Sharing}
+use Rattle.escrow_shards.specs.Pass.{Pass}
+use Rattle.escrow_shards.specs.Shared.{Shared}
 use Rattle.escrow_shards.specs.Whole.{AreWhole, HasItsReceipts}
 use Rattle.escrow_script.specs.Line.{lines_of}
 use Rattle.escrow_free.specs.Desks.{desk_of, pass_of, answers_of, seat_after}
@@ -44,37 +44,37 @@ read_long g [] (n ∷ news) all = absurd all
 read_long g (o ∷ olds) [] all = absurd all
 read_long g (o ∷ olds) (n ∷ news) all = ap suc (read_long g olds news all.1)
 
-pub openings_long : {S : Type 0} (g : Ghosts S) (databases : List (Database S)) (openings : List (Begun S)) → AreRead g databases (map database_at openings) → length openings ≡ length databases
+pub openings_long : {S : Type 0} (g : Ghosts S) (databases : List (Database S)) (openings : List (Opening S)) → AreRead g databases (map database_at openings) → length openings ≡ length databases
 openings_long g databases openings read = sym (length-map openings database_at) ∙ read_long g databases (map database_at openings) read
 
-closed_long : {S : Type 0} (closed : List (Closing S)) (openings : List (Begun S)) → map opening_of closed ≡ openings → length closed ≡ length openings
-closed_long {S} closed openings same = sym (length-map closed opening_of) ∙ ap (length {A = Begun S}) same
+closed_long : {S : Type 0} (closed : List (Closed S)) (openings : List (Opening S)) → map opening_of closed ≡ openings → length closed ≡ length openings
+closed_long {S} closed openings same = sym (length-map closed opening_of) ∙ ap (length {A = Opening S}) same
 
-pub are_histories : {S : Type 0} (g : Ghosts S) (databases : List (Database S)) (sharing : Sharing S) (seats : List Seat) (parts : List (Piece S)) (closed : List (Closing S))
-    → AreRead g databases (map database_at sharing.openings) → AreWhole g sharing seats parts closed → AreHistories g databases parts closed
-are_histories {S} g databases sharing seats parts closed read whole = record {
+pub are_histories : {S : Type 0} (g : Ghosts S) (databases : List (Database S)) (sharing : Shared S) (passes : List Pass) (parts : List (Part S)) (closed : List (Closed S))
+    → AreRead g databases (map database_at sharing.openings) → AreWhole g sharing passes parts closed → AreHistories g databases parts closed
+are_histories {S} g databases sharing passes parts closed read whole = record {
   count = closed_long closed sharing.openings whole.openings ∙ openings_long g databases sharing.openings read;
   each = λ place database c at there.
       record {
         began = read_at g databases (map database_at sharing.openings) place database (database_at c.opening) read at
-            (map_at database_at sharing.openings place c.opening (ap (λ (os : List (Begun S)). slice_get os place) (sym whole.openings) ∙ map_at opening_of closed place c there));
+            (map_at database_at sharing.openings place c.opening (ap (λ (os : List (Opening S)). slice_get os place) (sym whole.openings) ∙ map_at opening_of closed place c there));
         whole = whole.each place c there;
       };
 }
 
 -- HISTORIES
 
-pub long_histories : {S : Type 0} (place : ℕ) (parts : List (Piece S)) (closed : List (Closing S)) → length (histories_from place parts closed) ≡ length closed
+pub long_histories : {S : Type 0} (place : ℕ) (parts : List (Part S)) (closed : List (Closed S)) → length (histories_from place parts closed) ≡ length closed
 long_histories place parts [] = refl
 long_histories place parts (c ∷ closed) = ap suc (long_histories (place + 1) parts closed)
 
 -- a history is that of the database at its place
-pub record HistoryAt {S : Type 0} (place : ℕ) (parts : List (Piece S)) (closed : List (Closing S)) (i : ℕ) (entries : List Entry) : Type 0 where
-  pub closing : Closing S
+pub record HistoryAt {S : Type 0} (place : ℕ) (parts : List (Part S)) (closed : List (Closed S)) (i : ℕ) (entries : List Entry) : Type 0 where
+  pub closing : Closed S
   pub there : slice_get closed i ≡ Some closing
   pub same : entries ≡ all_entries (place + i) parts closing
 
-pub history_at : {S : Type 0} (place : ℕ) (parts : List (Piece S)) (closed : List (Closing S)) (i : ℕ) (entries : List Entry) → slice_get (histories_from place parts closed) i ≡ Some entries
+pub history_at : {S : Type 0} (place : ℕ) (parts : List (Part S)) (closed : List (Closed S)) (i : ℕ) (entries : List Entry) → slice_get (histories_from place parts closed) i ≡ Some entries
     → HistoryAt place parts closed i entries
 history_at place parts [] i entries at = absurd (none_some entries at)
 history_at place parts (c ∷ closed) zero entries at = record {
@@ -92,7 +92,7 @@ history_at place parts (c ∷ closed) (suc i) entries at =
 
 -- THE OUTPUT
 
-pub serves_free : {S : Type 0} (g : Ghosts S) (sharing : Sharing S) (parts : List (Piece S)) (closed : List (Closing S)) (script : List ℕ) (desks : List Desk) (old_bytes new_bytes : Option (List ℕ))
+pub serves_free : {S : Type 0} (g : Ghosts S) (sharing : Shared S) (parts : List (Part S)) (closed : List (Closed S)) (script : List ℕ) (desks : List Desk) (old_bytes new_bytes : Option (List ℕ))
     → AreWhole g sharing (map pass_of desks) parts closed → IsServed (length sharing.openings) script desks old_bytes new_bytes
     → ServesFree script (histories parts closed) old_bytes new_bytes
 serves_free {S} g sharing parts closed script desks old_bytes new_bytes whole served = record {
@@ -121,9 +121,9 @@ serves_free {S} g sharing parts closed script desks old_bytes new_bytes whole se
       its history.closing history.there ∙ ap (receipts_of session) entry
 
 -- where the bytes of the script are known
-pub serves_each : {S : Type 0} (g : Ghosts S) (sharing : Sharing S) (parts : List (Piece S)) (closed : List (Closing S)) (script : Option (List ℕ)) (desks : List Desk) (seats : List Seat)
-    (old_bytes new_bytes : Option (List ℕ)) → seats ≡ map pass_of desks → AreWhole g sharing seats parts closed
+pub serves_each : {S : Type 0} (g : Ghosts S) (sharing : Shared S) (parts : List (Part S)) (closed : List (Closed S)) (script : Option (List ℕ)) (desks : List Desk) (passes : List Pass)
+    (old_bytes new_bytes : Option (List ℕ)) → passes ≡ map pass_of desks → AreWhole g sharing passes parts closed
     → IfSome script (λ bytes. IsServed (length sharing.openings) bytes desks old_bytes new_bytes) → IfSome script (λ bytes. ServesFree bytes (histories parts closed) old_bytes new_bytes)
-serves_each g sharing parts closed None desks seats old_bytes new_bytes same whole served = tt
-serves_each g sharing parts closed (Some bytes) desks seats old_bytes new_bytes same whole served =
-    serves_free g sharing parts closed bytes desks old_bytes new_bytes (subst (λ (s : List Seat). AreWhole g sharing s parts closed) same whole) served
+serves_each g sharing parts closed None desks passes old_bytes new_bytes same whole served = tt
+serves_each g sharing parts closed (Some bytes) desks passes old_bytes new_bytes same whole served =
+    serves_free g sharing parts closed bytes desks old_bytes new_bytes (subst (λ (s : List Pass). AreWhole g sharing s parts closed) same whole) served

@@ -3,10 +3,10 @@ use Rattle.std.proofs.Common.{◌≡◌, ◌≢◌, ◌⊎◌, ℕ, ◌<◌, Lis
 use Rattle.std.specs.List.{AllByRecursion, AllZip}
 use Rattle.std.proofs.lemmas.Option.{slice_get_read}
 use Rattle.escrow_statement.specs.declared.statement.Request.{Request}
-use Rattle.escrow_shards.specs.Seat.{Seat}
-use Rattle.escrow_shards.specs.Sharing.{Sharing, HasSeat}
+use Rattle.escrow_shards.specs.Pass.{Pass}
+use Rattle.escrow_shards.specs.Shared.{Shared, HasPass}
 use Rattle.escrow_sessions.specs.Fed.{of}
-use Rattle.escrow_sessions.specs.Serving.{IsDone, AreDone, HasItsSeat, Serves}
+use Rattle.escrow_sessions.specs.Serving.{IsDone, AreDone, HasItsPass, Serves}
 use Rattle.escrow_sessions.specs.declared.done.Done.{Done}
 use Rattle.escrow_sessions.specs.declared.done.Given.{Given}
 use Rattle.escrow_sessions.specs.declared.feed.Feed.{Feed}
@@ -17,25 +17,25 @@ use Rattle.escrow_sessions.proofs.Places.{some_same, long_set, set_cases, at_bel
 use Rattle.escrow_sessions.proofs.Placing.{of_here, of_else}
 
 -- at first no feed has a request
-pub dealt_none : (seats : List Seat) (feeds : List Feed) → AllZip IsNewFeed seats feeds → AreDealt seats [] feeds
-dealt_none seats feeds all = record {
-  count = sym (zip_long IsNewFeed seats feeds all);
+pub dealt_none : (passes : List Pass) (feeds : List Feed) → AllZip IsNewFeed passes feeds → AreDealt passes [] feeds
+dealt_none passes feeds all = record {
+  count = sym (zip_long IsNewFeed passes feeds all);
   each = λ place seat feed at there.
-      let its = beside IsNewFeed seats feeds place seat all at in
+      let its = beside IsNewFeed passes feeds place seat all at in
       subst (IsNewFeed seat) (some_same its.0 feed (sym its.1.0 ∙ there)) its.1.1;
 }
 
 -- one item more was dealt out
-pub dealt_one : (seats : List Seat) (items : List (ℕ × Request)) (now : List Feed) (place : ℕ) (r : Request) (feed next : Feed) → AreDealt seats items now → place < length now → feed ≡ get_or now place feed
-    → IsAdded feed r next → AreDealt seats (items ++ (place, r) ∷ []) (set now place next)
-dealt_one seats items now place r feed next before below read added = record {
+pub dealt_one : (passes : List Pass) (items : List (ℕ × Request)) (now : List Feed) (place : ℕ) (r : Request) (feed next : Feed) → AreDealt passes items now → place < length now → feed ≡ get_or now place feed
+    → IsAdded feed r next → AreDealt passes (items ++ (place, r) ∷ []) (set now place next)
+dealt_one passes items now place r feed next before below read added = record {
   count = long_set now place next ∙ before.count;
   each = λ p seat last at there. moved p seat last at (set_cases now place p next last there);
 } where
   here : slice_get now place ≡ Some feed
   here = slice_get_read now (length now) place feed refl below read
 
-  moved : (p : ℕ) (seat : Seat) (last : Feed) → slice_get seats p ≡ Some seat → ((p ≡ place) × (next ≡ last)) ⊎ ((p ≢ place) × (slice_get now p ≡ Some last))
+  moved : (p : ℕ) (seat : Pass) (last : Feed) → slice_get passes p ≡ Some seat → ((p ≡ place) × (next ≡ last)) ⊎ ((p ≢ place) × (slice_get now p ≡ Some last))
       → (last.pass ≡ seat) × (last.requests.items ≡ of p (items ++ (place, r) ∷ []))
   moved p seat last at (inl same) =
       let was = before.each p seat feed at (ap (slice_get now) same.0 ∙ here) in
@@ -46,44 +46,44 @@ dealt_one seats items now place r feed next before below read added = record {
       let was = before.each p seat last at away.1 in (was.0, was.1 ∙ sym (of_else p place r items (λ same. apart (sym same))))
 
 -- feeds of passes that are for databases and sessions are too
-pub dealt_seats : {S : Type 0} (sharing : Sharing S) (seats : List Seat) (items : List (ℕ × Request)) (feeds : List Feed) → AllByRecursion (HasSeat sharing) seats → AreDealt seats items feeds
-    → AllByRecursion (HasItsSeat sharing) feeds
-dealt_seats sharing seats items feeds have dealt = all_of_each (HasItsSeat sharing) feeds (λ place feed there.
-    let seat = at_below seats place (subst (λ n. place < n) dealt.count (below_at feeds place feed there)) in
-    subst (HasSeat sharing) (sym (dealt.each place seat.0 feed seat.1 there).0) (all_at (HasSeat sharing) seats place seat.0 have seat.1))
+pub dealt_seats : {S : Type 0} (sharing : Shared S) (passes : List Pass) (items : List (ℕ × Request)) (feeds : List Feed) → AllByRecursion (HasPass sharing) passes → AreDealt passes items feeds
+    → AllByRecursion (HasItsPass sharing) feeds
+dealt_seats sharing passes items feeds have dealt = all_of_each (HasItsPass sharing) feeds (λ place feed there.
+    let seat = at_below passes place (subst (λ n. place < n) dealt.count (below_at feeds place feed there)) in
+    subst (HasPass sharing) (sym (dealt.each place seat.0 feed seat.1 there).0) (all_at (HasPass sharing) passes place seat.0 have seat.1))
 
 -- the answers to the requests of a feed are those to its items
-answered : (seats : List Seat) (items : List (ℕ × Request)) (feeds : List Feed) (place : ℕ) (seat : Seat) (feed : Feed) (gs : List Given) (end : Seat) → AreDealt seats items feeds
-    → slice_get seats place ≡ Some seat → slice_get feeds place ≡ Some feed → Serves feed.pass feed.requests.items gs end → Serves seat (of place items) gs end
-answered seats items feeds place seat feed gs end dealt at there serves =
+answered : (passes : List Pass) (items : List (ℕ × Request)) (feeds : List Feed) (place : ℕ) (seat : Pass) (feed : Feed) (gs : List Given) (end : Pass) → AreDealt passes items feeds
+    → slice_get passes place ≡ Some seat → slice_get feeds place ≡ Some feed → Serves feed.pass feed.requests.items gs end → Serves seat (of place items) gs end
+answered passes items feeds place seat feed gs end dealt at there serves =
     let is = dealt.each place seat feed at there in
-    subst (λ (s : Seat). Serves s (of place items) gs end) is.0 (subst (λ (rs : List Request). Serves feed.pass rs gs end) is.1 serves)
+    subst (λ (s : Pass). Serves s (of place items) gs end) is.0 (subst (λ (rs : List Request). Serves feed.pass rs gs end) is.1 serves)
 
 -- the desks of what was done with the feeds
-pub dealt_served : (seats : List Seat) (items : List (ℕ × Request)) (feeds : List Feed) (done : List Done) (desks : List Desk) → AreDealt seats items feeds → AreDone feeds done → AllZip IsDoneDesk done desks
-    → ArePassesServed seats items desks
-dealt_served seats items feeds done desks dealt were all = record {
+pub dealt_served : (passes : List Pass) (items : List (ℕ × Request)) (feeds : List Feed) (done : List Done) (desks : List Desk) → AreDealt passes items feeds → AreDone feeds done → AllZip IsDoneDesk done desks
+    → ArePassesServed passes items desks
+dealt_served passes items feeds done desks dealt were all = record {
   count = sym (zip_long _ done desks all) ∙ sym (zip_long _ feeds done were) ∙ dealt.count;
   each = λ place seat desk at there.
-      let feed = at_below feeds place (subst (λ n. place < n) (sym dealt.count) (below_at seats place seat at)) in
+      let feed = at_below feeds place (subst (λ n. place < n) (sym dealt.count) (below_at passes place seat at)) in
       let worker = beside (λ (f : Feed) (d : Done). IsDone f.pass f.requests.items d) feeds done place feed.0 were feed.1 in
       let its = beside IsDoneDesk done desks place worker.0 all worker.1.0 in
       let same : its.0 ≡ desk = some_same its.0 desk (sym its.1.0 ∙ there) in
       let serves : Serves seat (of place items) (worker.0).answers.items (worker.0).pass =
-      answered seats items feeds place seat feed.0 (worker.0).answers.items (worker.0).pass dealt at feed.1 worker.1.1.serves in
+      answered passes items feeds place seat feed.0 (worker.0).answers.items (worker.0).pass dealt at feed.1 worker.1.1.serves in
       let given : Serves seat (of place items) (answers_of its.0) (worker.0).pass =
       subst (λ (gs : List Given). Serves seat (of place items) gs (worker.0).pass) (sym its.1.1.1) serves in
       let passed : Serves seat (of place items) (answers_of its.0) (its.0).pass =
-      subst (λ (p : Seat). Serves seat (of place items) (answers_of its.0) p) (sym its.1.1.0) given in
+      subst (λ (p : Pass). Serves seat (of place items) (answers_of its.0) p) (sym its.1.1.0) given in
       subst (λ (d : Desk). Serves seat (of place items) (answers_of d) d.pass) same passed;
 }
 
 -- the desks of feeds that weren't served
-pub dealt_unserved : (seats : List Seat) (items : List (ℕ × Request)) (feeds : List Feed) (desks : List Desk) → AreDealt seats items feeds → AllZip IsUnservedDesk feeds desks → ArePassesServed seats items desks
-dealt_unserved seats items feeds desks dealt all = record {
+pub dealt_unserved : (passes : List Pass) (items : List (ℕ × Request)) (feeds : List Feed) (desks : List Desk) → AreDealt passes items feeds → AllZip IsUnservedDesk feeds desks → ArePassesServed passes items desks
+dealt_unserved passes items feeds desks dealt all = record {
   count = sym (zip_long IsUnservedDesk feeds desks all) ∙ dealt.count;
   each = λ place seat desk at there.
-      let feed = at_below feeds place (subst (λ n. place < n) (sym dealt.count) (below_at seats place seat at)) in
+      let feed = at_below feeds place (subst (λ n. place < n) (sym dealt.count) (below_at passes place seat at)) in
       let its = beside IsUnservedDesk feeds desks place feed.0 all feed.1 in
       let same : its.0 ≡ desk = some_same its.0 desk (sym its.1.0 ∙ there) in
       let is = dealt.each place seat feed.0 at feed.1 in

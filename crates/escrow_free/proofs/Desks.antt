@@ -5,25 +5,25 @@ use Rattle.std.proofs.lemmas.List.{length-append}
 use Rattle.escrow_num.specs.Session.{IsSession}
 use Rattle.escrow_num.specs.declared.session.TheConstants.Session.{MAX}
 use Rattle.escrow_statement.specs.declared.statement.Request.{Request}
-use Rattle.escrow_shards.specs.Seat.{Seat, new_seat, new_seats, new_seats_of}
-use Rattle.escrow_shards.specs.Sharing.{Sharing, HasSeat}
-use Rattle.escrow_shards.proofs.NewSeats.{passes_have_places}
+use Rattle.escrow_shards.specs.Pass.{Pass, new_pass, new_passes, new_passes_of}
+use Rattle.escrow_shards.specs.Shared.{Shared, HasPass}
+use Rattle.escrow_shards.proofs.NewPasses.{passes_have_places}
 use Rattle.escrow_sessions.specs.Fed.{of}
 use Rattle.escrow_sessions.specs.Serving.{Serves}
 use Rattle.escrow_sessions.specs.declared.done.Given.{Given}
 use Rattle.escrow_stats.specs.Tally.{tally_of}
 use Rattle.escrow_stats.specs.declared.tally.Tally.{Tally}
-use Rattle.escrow_free.specs.Desks.{desk_of, answers_of, IsNewDesk, HasDesk, HaveSeats, AreServed, AreTotals, seat_after, Fits}
+use Rattle.escrow_free.specs.Desks.{desk_of, answers_of, IsNewDesk, HasDesk, HavePasses, AreServed, AreTotals, seat_after, Fits}
 use Rattle.escrow_free.specs.FreeOutput.{Taken}
 use Rattle.escrow_free.specs.declared.desk.Desk.{Desk}
 use Rattle.escrow_sessions.proofs.Places.{some_same, none_some, at_below, below_at, beside, all_of_each, zip_long}
 
 -- what no request was given
-pub record Nothing (seat : Seat) (gs : List Given) (new : Seat) : Type 0 where
+pub record Nothing (seat : Pass) (gs : List Given) (new : Pass) : Type 0 where
   pub none : gs ≡ []
   pub same : new ≡ seat
 
-pub nothing_served : (seat : Seat) (gs : List Given) (new : Seat) → Serves seat [] gs new → Nothing seat gs new
+pub nothing_served : (seat : Pass) (gs : List Given) (new : Pass) → Serves seat [] gs new → Nothing seat gs new
 nothing_served seat [] new h = record { none = refl; same = h }
 nothing_served seat (g ∷ gs) new h = absurd h
 
@@ -32,7 +32,7 @@ pub fits_served : (items : List (ℕ × Request)) (taken : List Taken) (old mid 
 fits_served items taken old mid served fits = λ place session desk is at.
     let before = at_below old (desk_of place session) (subst (λ n. desk_of place session < n) served.count (below_at mid (desk_of place session) desk at)) in
     let was = nothing_served (seat_after place session taken) (answers_of before.0) (before.0).pass (fits place session before.0 is before.1) in
-    subst (λ (seat : Seat). Serves seat (of (desk_of place session) items) (answers_of desk) desk.pass) was.same (served.each (desk_of place session) before.0 desk before.1 at was.none)
+    subst (λ (seat : Pass). Serves seat (of (desk_of place session) items) (answers_of desk) desk.pass) was.same (served.each (desk_of place session) before.0 desk before.1 at was.none)
 
 -- no desk was asked: what is served is nothing
 pub none_served : (desks : List Desk) (items : List (ℕ × Request)) → items ≡ [] → AreServed desks items desks
@@ -52,30 +52,30 @@ session_within k = (omega arith, omega arith)
 place_again : (k : ℕ) → desk_of (k / MAX) (k % MAX + 1) ≡ k
 place_again k = omega arith
 
-pub all_have_desks : {S : Type 0} (sharing : Sharing S) (taken : List Taken) (desks : List Desk) → HaveSeats sharing desks → Fits [] taken desks → AllByRecursion (HasDesk sharing) desks
-all_have_desks sharing taken desks seats fits = all_of_each (HasDesk sharing) desks each where
+pub all_have_desks : {S : Type 0} (sharing : Shared S) (taken : List Taken) (desks : List Desk) → HavePasses sharing desks → Fits [] taken desks → AllByRecursion (HasDesk sharing) desks
+all_have_desks sharing taken desks passes fits = all_of_each (HasDesk sharing) desks each where
   each : (k : ℕ) (desk : Desk) → slice_get desks k ≡ Some desk → HasDesk sharing desk
   each k desk at =
-      let below : k < length sharing.openings * MAX = subst (λ n. k < n) seats.count (below_at desks k desk at) in
+      let below : k < length sharing.openings * MAX = subst (λ n. k < n) passes.count (below_at desks k desk at) in
       let here : slice_get desks (desk_of (k / MAX) (k % MAX + 1)) ≡ Some desk = ap (slice_get desks) (place_again k) ∙ at in
       let is = session_within k in
       let was = nothing_served (seat_after (k / MAX) (k % MAX + 1) taken) (answers_of desk) desk.pass (fits (k / MAX) (k % MAX + 1) desk is here) in
-      subst (HasSeat sharing) (sym was.same)
+      subst (HasPass sharing) (sym was.same)
       (record {
         database = place_within k (length sharing.openings) below;
-        session = subst (λ n. k % MAX + 1 ≤ n) (sym seats.sessions) is.1;
+        session = subst (λ n. k % MAX + 1 ≤ n) (sym passes.sessions) is.1;
       })
 
 -- AT THE BEGINNING
 
-as_many_of : (d sessions : ℕ) → length (new_seats_of d sessions) ≡ sessions
+as_many_of : (d sessions : ℕ) → length (new_passes_of d sessions) ≡ sessions
 as_many_of d zero = refl
-as_many_of d (suc k) = let more = as_many_of d k in let e = length-append (new_seats_of d k) (new_seat d (k + 1) ∷ []) in omega arith
+as_many_of d (suc k) = let more = as_many_of d k in let e = length-append (new_passes_of d k) (new_pass d (k + 1) ∷ []) in omega arith
 
-as_many : (databases : ℕ) → length (new_seats databases MAX) ≡ databases * MAX
+as_many : (databases : ℕ) → length (new_passes databases MAX) ≡ databases * MAX
 as_many zero = omega arith
 as_many (suc d) =
-    let a = as_many d in let b = as_many_of d MAX in let e = length-append (new_seats d MAX) (new_seats_of d MAX) in omega arith
+    let a = as_many d in let b = as_many_of d MAX in let e = length-append (new_passes d MAX) (new_passes_of d MAX) in omega arith
 
 place_below : (n place session : ℕ) → desk_of place session < n * MAX → place < n
 place_below n place session below = omega arith
@@ -96,17 +96,17 @@ pub totals_new : (n : ℕ) (totals : List Tally) → totals ≡ replicate n (tal
 totals_new n totals are = λ place session tally is at.
     all_alike n (desk_of place session) (tally_of []) tally (ap (λ (ts : List Tally). slice_get ts (desk_of place session)) (sym are) ∙ at)
 
-pub new_long : (n : ℕ) (seats : List Seat) (desks : List Desk) → seats ≡ new_seats n MAX → AllZip IsNewDesk seats desks → length desks ≡ n * MAX
-new_long n seats desks same all = sym (zip_long IsNewDesk seats desks all) ∙ ap (length {A = Seat}) same ∙ as_many n
+pub new_long : (n : ℕ) (passes : List Pass) (desks : List Desk) → passes ≡ new_passes n MAX → AllZip IsNewDesk passes desks → length desks ≡ n * MAX
+new_long n passes desks same all = sym (zip_long IsNewDesk passes desks all) ∙ ap (length {A = Pass}) same ∙ as_many n
 
-pub fits_new : (n : ℕ) (seats : List Seat) (desks : List Desk) → seats ≡ new_seats n MAX → AllZip IsNewDesk seats desks → Fits [] [] desks
-fits_new n seats desks same all = λ place session desk is at.
-    let below = place_below n place session (subst (λ k. desk_of place session < k) (new_long n seats desks same all) (below_at desks (desk_of place session) desk at)) in
-    let there : slice_get seats (desk_of place session) ≡ Some (new_seat place (session - 1 + 1)) =
-    ap (λ (xs : List Seat). slice_get xs (desk_of place session)) same ∙ passes_have_places n MAX place (session - 1) below (before_most session is) in
-    let new = beside IsNewDesk seats desks (desk_of place session) (new_seat place (session - 1 + 1)) all there in
+pub fits_new : (n : ℕ) (passes : List Pass) (desks : List Desk) → passes ≡ new_passes n MAX → AllZip IsNewDesk passes desks → Fits [] [] desks
+fits_new n passes desks same all = λ place session desk is at.
+    let below = place_below n place session (subst (λ k. desk_of place session < k) (new_long n passes desks same all) (below_at desks (desk_of place session) desk at)) in
+    let there : slice_get passes (desk_of place session) ≡ Some (new_pass place (session - 1 + 1)) =
+    ap (λ (xs : List Pass). slice_get xs (desk_of place session)) same ∙ passes_have_places n MAX place (session - 1) below (before_most session is) in
+    let new = beside IsNewDesk passes desks (desk_of place session) (new_pass place (session - 1 + 1)) all there in
     let it : new.0 ≡ desk = some_same new.0 desk (sym new.1.0 ∙ at) in
     let pass : desk.pass ≡ seat_after place session [] =
-    ap (λ (d : Desk). d.pass) (sym it) ∙ new.1.1.0 ∙ ap (new_seat place) (seat_again session is) in
+    ap (λ (d : Desk). d.pass) (sym it) ∙ new.1.1.0 ∙ ap (new_pass place) (seat_again session is) in
     let none : answers_of desk ≡ [] = ap answers_of (sym it) ∙ new.1.1.1 in
     subst (λ (gs : List Given). Serves (seat_after place session []) [] gs desk.pass) (sym none) pass

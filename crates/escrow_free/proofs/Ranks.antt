@@ -4,7 +4,7 @@ use Rattle.std.specs.List.{AllByRecursion}
 use Rattle.std.proofs.lemmas.Bool.{eq-eqb, ne_eqb, cases_eq}
 use Rattle.std.proofs.lemmas.List.{length-replicate}
 use Rattle.escrow_statement.specs.declared.statement.Request.{Request}
-use Rattle.escrow_shards.specs.Sharing.{Sharing, HasSeat}
+use Rattle.escrow_shards.specs.Shared.{Shared, HasPass}
 use Rattle.escrow_sessions.specs.Fed.{of}
 use Rattle.escrow_sessions.specs.Serving.{Serves}
 use Rattle.escrow_free.specs.Desks.{answers_of, HasDesk, ArePassesServed, AreServed}
@@ -113,7 +113,7 @@ parted_none (true ∷ marks) = parted_none marks
 parted_none (false ∷ marks) = parted_none marks
 
 -- the passes are those of desks
-pub parted_seats : {S : Type 0} (sharing : Sharing S) (marks : List Bool) (desks : List Desk) → AllByRecursion (HasDesk sharing) desks → AllByRecursion (HasSeat sharing) (parted marks desks)
+pub parted_seats : {S : Type 0} (sharing : Shared S) (marks : List Bool) (desks : List Desk) → AllByRecursion (HasDesk sharing) desks → AllByRecursion (HasPass sharing) (parted marks desks)
 parted_seats sharing [] desks all = tt
 parted_seats sharing (true ∷ marks) [] all = parted_seats sharing marks [] all
 parted_seats sharing (false ∷ marks) [] all = parted_seats sharing marks [] all

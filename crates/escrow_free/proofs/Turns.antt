@@ -11,7 +11,7 @@ use Rattle.escrow_stats.specs.Tally.{tally_of}
 use Rattle.escrow_stats.specs.declared.tally.Tally.{Tally}
 use Rattle.escrow_shards.specs.declared.answer.Answer.TheVariants as answer
 use Rattle.escrow_shards.specs.declared.receipt.Receipt.{Receipt}
-use Rattle.escrow_shards.specs.Seat.{Seat}
+use Rattle.escrow_shards.specs.Pass.{Pass}
 use Rattle.escrow_sessions.specs.Fed.{of}
 use Rattle.escrow_sessions.specs.Serving.{IsGiven, Serves}
 use Rattle.escrow_sessions.specs.declared.done.Given.{Given}
@@ -73,28 +73,28 @@ taken_else p s place session (t ∷ taken) r apart =
 
 -- THE RECEIPTS OF A PASS ONLY GROW
 
-given_grows : (r : Request) (g : Given) (old new : Seat) → IsGiven r g old new → length old.receipts ≤ length new.receipts
+given_grows : (r : Request) (g : Given) (old new : Pass) → IsGiven r g old new → length old.receipts ≤ length new.receipts
 given_grows (request.Statement asked) (given.Reply (answer.Served r)) old new h =
     let one : Receipt = record { number = h.1.0; statement = asked; reply = r } in
-    let same : length new.receipts ≡ length (old.receipts ++ one ∷ []) = ap (λ (s : Seat). length s.receipts) h.1.1 in
+    let same : length new.receipts ≡ length (old.receipts ++ one ∷ []) = ap (λ (s : Pass). length s.receipts) h.1.1 in
     omega (arith, same, length-append old.receipts (one ∷ []))
 given_grows (request.Statement asked) (given.Reply (answer.Unserved cause)) old new h =
-    let same : length new.receipts ≡ length old.receipts = ap (λ (s : Seat). length s.receipts) h.1 in omega (arith, same)
+    let same : length new.receipts ≡ length old.receipts = ap (λ (s : Pass). length s.receipts) h.1 in omega (arith, same)
 given_grows (request.Statement asked) (given.Totals totals) old new h = absurd h
 given_grows request.Statistics (given.Reply a) old new h = absurd h
 given_grows request.Statistics (given.Totals totals) old new h =
-    let same : length new.receipts ≡ length old.receipts = ap (λ (s : Seat). length s.receipts) h.1 in omega (arith, same)
+    let same : length new.receipts ≡ length old.receipts = ap (λ (s : Pass). length s.receipts) h.1 in omega (arith, same)
 
-serving_grows : (seat : Seat) (rs : List Request) (gs : List Given) (pass : Seat) → Serves seat rs gs pass → length seat.receipts ≤ length pass.receipts
-serving_grows seat rs [] pass same = let e : length pass.receipts ≡ length seat.receipts = ap (λ (s : Seat). length s.receipts) same in omega (arith, e)
+serving_grows : (seat : Pass) (rs : List Request) (gs : List Given) (pass : Pass) → Serves seat rs gs pass → length seat.receipts ≤ length pass.receipts
+serving_grows seat rs [] pass same = let e : length pass.receipts ≡ length seat.receipts = ap (λ (s : Pass). length s.receipts) same in omega (arith, e)
 serving_grows seat [] (g ∷ gs) pass none = absurd none
 serving_grows seat (r ∷ rs) (g ∷ gs) pass h =
     let first = given_grows r g seat h.0 h.1.0 in let more = serving_grows h.0 rs gs pass h.1.1 in omega (arith, first, more)
 
 -- A TURN
 
--- what a line does as its statement is given an answer, which leads to a seat, and to totals that count it
-record Turned (place session : ℕ) (taken : List Taken) (asked : Statement) (out : List ℕ) (mid : Seat) (counted totals : Tally) : Type 0 where
+-- what a line does as its statement is given an answer, which leads to a pass, and to totals that count it
+record Turned (place session : ℕ) (taken : List Taken) (asked : Statement) (out : List ℕ) (mid : Pass) (counted totals : Tally) : Type 0 where
   took : List Taken
   does : Does taken place session (request.Statement asked) out took
   here : seat_after place session took ≡ mid
@@ -106,12 +106,12 @@ replies_more : (place session : ℕ) (taken : List Taken) (r : Receipt) → repl
 replies_more place session taken r =
     ap (map (λ (x : Receipt). x.reply)) (taken_here place session taken r) ∙ map-append (λ (x : Receipt). x.reply) (taken_by place session taken) (r ∷ [])
 
-given_turns : (place session : ℕ) (taken : List Taken) (asked : Statement) (g : Given) (mid pass : Seat) (counted totals : Tally) → IsGiven (request.Statement asked) g (seat_after place session taken) mid
+given_turns : (place session : ℕ) (taken : List Taken) (asked : Statement) (g : Given) (mid pass : Pass) (counted totals : Tally) → IsGiven (request.Statement asked) g (seat_after place session taken) mid
     → length mid.receipts ≤ length pass.receipts → IsCounted (Some g) pass counted totals
     → Turned place session taken asked (given_text (database_name place) session (Some g)) mid counted totals
 given_turns place session taken asked (given.Reply (answer.Served r)) mid pass counted totals h most counts =
     let one : Receipt = record { number = h.1.0; statement = asked; reply = r } in
-    let long : length mid.receipts ≡ length (taken_by place session taken ++ one ∷ []) = ap (λ (s : Seat). length s.receipts) h.1.1 in
+    let long : length mid.receipts ≡ length (taken_by place session taken ++ one ∷ []) = ap (λ (s : Pass). length s.receipts) h.1.1 in
     let few : length (replies_by place session taken) < length pass.receipts =
     omega (arith, long, most, length-append (taken_by place session taken) (one ∷ []), length-map (taken_by place session taken) (λ (x : Receipt). x.reply)) in
     record {
@@ -131,12 +131,12 @@ given_turns place session taken asked (given.Reply (answer.Unserved cause)) mid 
 given_turns place session taken asked (given.Totals shown) mid pass counted totals h most counts = absurd h
 
 -- the next answer of a desk, whichever it is
-record NextTurned (place session : ℕ) (taken : List Taken) (asked : Statement) (rs : List Request) (out : List ℕ) (news : List Given) (pass : Seat) (counted totals : Tally) : Type 0 where
-  mid : Seat
+record NextTurned (place session : ℕ) (taken : List Taken) (asked : Statement) (rs : List Request) (out : List ℕ) (news : List Given) (pass : Pass) (counted totals : Tally) : Type 0 where
+  mid : Pass
   turned : Turned place session taken asked out mid counted totals
   serves : Serves mid rs news pass
 
-next_turns : (place session : ℕ) (taken : List Taken) (asked : Statement) (rs : List Request) (next : Option Given) (olds news : List Given) (pass : Seat) (counted totals : Tally) → IsNext olds next news
+next_turns : (place session : ℕ) (taken : List Taken) (asked : Statement) (rs : List Request) (next : Option Given) (olds news : List Given) (pass : Pass) (counted totals : Tally) → IsNext olds next news
     → IsCounted next pass counted totals → Serves (seat_after place session taken) (request.Statement asked ∷ rs) olds pass
     → NextTurned place session taken asked rs (given_text (database_name place) session next) news pass counted totals
 next_turns place session taken asked rs (Some g) olds news pass counted totals is counts serves =
@@ -185,9 +185,9 @@ module _ (place session : ℕ) (desks : List Desk) (totals : List Tally) (old ne
     found (inl same) =
         let one = one_desk p s place session is is_session same.0 in
         let here : Serves turn.mid (of (desk_of place session) items) (answers_of new) new.pass =
-        subst (λ (seat : Seat). Serves turn.mid (of (desk_of place session) items) (answers_of new) seat) (sym pass) turn.serves in
+        subst (λ (seat : Pass). Serves turn.mid (of (desk_of place session) items) (answers_of new) seat) (sym pass) turn.serves in
         let mine : Serves (seat_after place session turn.turned.took) (of (desk_of place session) items) (answers_of new) new.pass =
-        subst (λ (seat : Seat). Serves seat (of (desk_of place session) items) (answers_of new) new.pass) (sym turn.turned.here) here in
+        subst (λ (seat : Pass). Serves seat (of (desk_of place session) items) (answers_of new) new.pass) (sym turn.turned.here) here in
         let its : Serves (seat_after place session turn.turned.took) (of (desk_of place session) items) (answers_of desk) desk.pass =
         subst (λ (d : Desk). Serves (seat_after place session turn.turned.took) (of (desk_of place session) items) (answers_of d) d.pass) same.1 mine in
         subst (λ (q : ℕ). Serves (seat_after q s turn.turned.took) (of (desk_of q s) items) (answers_of desk) desk.pass) (sym one.0)

@@ -8,8 +8,8 @@ use Rattle.escrow_machine.specs.declared.reply.Reply.{Reply}
 use Rattle.escrow_stats.specs.Tally.{tally_of}
 use Rattle.escrow_stats.specs.declared.tally.Tally.{Tally}
 use Rattle.escrow_shards.specs.declared.answer.Answer.TheVariants as answer
-use Rattle.escrow_shards.specs.Seat.{Seat}
-use Rattle.escrow_shards.specs.Sharing.{Sharing, HasSeat}
+use Rattle.escrow_shards.specs.Pass.{Pass}
+use Rattle.escrow_shards.specs.Shared.{Shared, HasPass}
 use Rattle.escrow_sessions.specs.Fed.{of}
 use Rattle.escrow_sessions.specs.Serving.{Serves}
 use Rattle.escrow_sessions.specs.declared.done.Done.{Done}
@@ -24,14 +24,14 @@ abbrev pub desk_of : ℕ → ℕ → ℕ
 desk_of place session = place * MAX + (session - 1)
 
 -- the pass of a desk, and its answers that aren't printed yet
-abbrev pub pass_of : Desk → Seat
+abbrev pub pass_of : Desk → Pass
 pass_of desk = desk.pass
 
 abbrev pub answers_of : Desk → List Given
 answers_of desk = into_iter_items desk.answers
 
 -- a desk of a pass, without answers
-abbrev pub IsNewDesk : Seat → Desk → Type 0
+abbrev pub IsNewDesk : Pass → Desk → Type 0
 IsNewDesk seat desk = (desk.pass ≡ seat) × (answers_of desk ≡ [])
 
 -- a desk of what a worker did
@@ -48,18 +48,18 @@ IsNext old (Some g) new = old ≡ g ∷ new
 IsNext old None new = (old ≡ []) × (new ≡ [])
 
 -- a desk's pass is for one of the databases and sessions
-abbrev pub HasDesk : {S : Type 0} → Sharing S → Desk → Type 0
-HasDesk sharing desk = HasSeat sharing desk.pass
+abbrev pub HasDesk : {S : Type 0} → Shared S → Desk → Type 0
+HasDesk sharing desk = HasPass sharing desk.pass
 
 -- each session of each database has a desk
-pub record HaveSeats {S : Type 0} (sharing : Sharing S) (desks : List Desk) : Type 0 where
+pub record HavePasses {S : Type 0} (sharing : Shared S) (desks : List Desk) : Type 0 where
   pub sessions : sharing.sessions ≡ MAX
   pub count : length desks ≡ length sharing.openings * MAX
 
 -- passes were served: each has a desk, whose answers are those to the requests of the items that name its place
-pub record ArePassesServed (seats : List Seat) (items : List (ℕ × Request)) (served : List Desk) : Type 0 where
-  pub count : length served ≡ length seats
-  pub each : (place : ℕ) (seat : Seat) (desk : Desk) → slice_get seats place ≡ Some seat → slice_get served place ≡ Some desk
+pub record ArePassesServed (passes : List Pass) (items : List (ℕ × Request)) (served : List Desk) : Type 0 where
+  pub count : length served ≡ length passes
+  pub each : (place : ℕ) (seat : Pass) (desk : Desk) → slice_get passes place ≡ Some seat → slice_get served place ≡ Some desk
       → Serves seat (of place items) (answers_of desk) desk.pass
 
 -- desks were served: if a desk had no answers left, its answers are those to the requests of the items that name it
@@ -69,13 +69,13 @@ pub record AreServed (old : List Desk) (items : List (ℕ × Request)) (new : Li
       → answers_of before ≡ [] → Serves before.pass (of place items) (answers_of after) after.pass
 
 -- the totals of a session count what it was given, as long as it has more receipts than were counted before
-abbrev pub IsCounted : Option Given → Seat → Tally → Tally → Type 0
+abbrev pub IsCounted : Option Given → Pass → Tally → Tally → Type 0
 IsCounted (Some (given.Reply (answer.Served reply))) seat old new =
     (replies : List Reply) → length replies < length seat.receipts → old ≡ tally_of replies → new ≡ tally_of (replies ++ reply ∷ [])
 IsCounted _ seat old new = new ≡ old
 
 -- the pass of a session whose lines took these receipts
-abbrev pub seat_after : ℕ → ℕ → List Taken → Seat
+abbrev pub seat_after : ℕ → ℕ → List Taken → Pass
 seat_after place session taken = record { database = place; session = session; receipts = taken_by place session taken }
 
 -- THE DESKS FIT what lines took. From a pass with the receipts that a session's lines took so far, the desk's remaining

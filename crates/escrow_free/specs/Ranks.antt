@@ -1,7 +1,7 @@
 -- Helps: the desks that a phase uses, by their ranks among these.
 use Rattle.std.specs.Prelude.{ℕ, zero, suc, ◌+◌, Bool, true, false, if◌then◌else◌, List, [], ◌∷◌, slice_set, slice_index}
 use Rattle.escrow_statement.specs.declared.statement.Request.{Request}
-use Rattle.escrow_shards.specs.Seat.{Seat}
+use Rattle.escrow_shards.specs.Pass.{Pass}
 use Rattle.escrow_free.specs.declared.desk.Desk.{Desk}
 
 -- each item marks the desk that it names
@@ -26,7 +26,7 @@ abbrev pub renamed : List ℕ → ℕ × Request → ℕ × Request
 renamed ranks item = (slice_index ranks item.0, item.1)
 
 -- the passes of the desks that are marked
-abbrev pub parted : List Bool → List Desk → List Seat
+abbrev pub parted : List Bool → List Desk → List Pass
 parted [] desks = []
 parted (mark ∷ marks) [] = parted marks []
 parted (true ∷ marks) (desk ∷ desks) = desk.pass ∷ parted marks desks

@@ -1,7 +1,7 @@
 //! The sessions of a phase, served at the same time.
 ghost use Rattle.std.specs.Prelude.{◌≡◌, ◌≢◌, ◌<◌, length, All, MatchResult};
 ghost use Rattle.std.specs.List.{AllByRecursion};
-ghost use Rattle.escrow_shards.specs.Sharing.{HasSeat};
+ghost use Rattle.escrow_shards.specs.Shared.{HasPass};
 ghost use Rattle.escrow_free.specs.Desks.{ArePassesServed, AreServed, HasDesk};
 
 use crate::audience::Audience;
@@ -89,7 +89,7 @@ fn serve_passes<S: Alter + Send, L: UnderLock<S> + Send, R: Threads + Wait + Syn
     items: Vec<(usize, Request)>,
     gate: &G,
 ) -> Result<Vec<Desk>, FreeFault>
-    requires seats { AllByRecursion (HasSeat shared.now) passes.items }
+    requires seats { AllByRecursion (HasPass shared.now) passes.items }
     requires places { All (λ x. x.0 < length passes.items) items.items }
     ensures { MatchResult result (λ served. ArePassesServed passes.items items.items served.items) (λ fault. fault ≢ FreeFault.Open) }
 {

@@ -4,11 +4,11 @@ ghost use Rattle.escrow_num.specs.declared.session.TheConstants.Session.{MAX};
 ghost use Rattle.escrow_core.specs.Database.{Database};
 ghost use Rattle.escrow_stats.specs.Tally.{tally_of};
 ghost use Rattle.escrow_shards.specs.Opened.{any_open, AreRead, database_at};
-ghost use Rattle.escrow_shards.specs.Seat.{new_seats};
+ghost use Rattle.escrow_shards.specs.Pass.{new_passes};
 ghost use Rattle.escrow_free.specs.FreeOutput.{ServesFree};
 ghost use Rattle.escrow_free.specs.Histories.{AreHistories, histories};
 ghost use Rattle.escrow_free.specs.Phases.{IsServed};
-ghost use Rattle.escrow_free.specs.Desks.{Fits, HaveSeats};
+ghost use Rattle.escrow_free.specs.Desks.{Fits, HavePasses};
 
 use crate::audience::{Audience, Nobody};
 use crate::desk::{Desk, desks_of, passes_of};
@@ -143,7 +143,7 @@ fn serve_stage<
 ) -> Result<Audit<S>, FreeFault>
     requires few { length stage.shared.openings ≤ MAX_DATABASES }
     requires sessions { stage.shared.sessions ≡ MAX }
-    requires passes { stage.passes.items ≡ new_seats (length stage.shared.openings) MAX }
+    requires passes { stage.passes.items ≡ new_passes (length stage.shared.openings) MAX }
 
     // This holds for whichever databases were read when the sharing began.
     ensures legal { IfOk result (λ audit. (databases : List (Database S)) → AreRead S.Store databases (map database_at stage.shared.openings)
@@ -194,7 +194,7 @@ fn serve_phases<
     audience: &mut A,
 ) -> Result<Served<S>, FreeFault>
     requires few { length shared.now.openings ≤ MAX_DATABASES }
-    requires seats { HaveSeats shared.now desks.items }
+    requires seats { HavePasses shared.now desks.items }
     requires fits { Fits [] [] desks.items }
     ensures served { IfOk result (λ s. IfSome (R.remaining reader.old) (λ script.
         IsServed (length shared.now.openings) script s.desks.items (W.contents writer.old) (W.contents writer.new))) }

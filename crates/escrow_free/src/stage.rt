@@ -2,7 +2,7 @@
 ghost use Rattle.std.specs.Prelude.{◌≡◌, ◌≢◌, ◌↔◌, ◌≤◌, true, false, length, map, vec_len, IfOk, IfErr, MatchResult, OnOk};
 ghost use Rattle.escrow_num.specs.declared.session.TheConstants.Session.{MAX};
 ghost use Rattle.escrow_shards.specs.Opened.{any_open, AreRead, database_at};
-ghost use Rattle.escrow_shards.specs.Seat.{new_seats};
+ghost use Rattle.escrow_shards.specs.Pass.{new_passes};
 ghost use Rattle.escrow_shards.specs.Whole.{AreWhole};
 
 use crate::fault::FreeFault;
@@ -32,7 +32,7 @@ pub(crate) fn share<S: Alter + Drop>(
     requires few { vec_len databases ≤ MAX_DATABASES }
     ensures read { IfOk result (λ stage. AreRead S.Store databases.items (map database_at stage.shared.openings)) }
     ensures sessions { IfOk result (λ stage. stage.shared.sessions ≡ MAX) }
-    ensures passes { IfOk result (λ stage. stage.passes.items ≡ new_seats (length databases.items) MAX) }
+    ensures passes { IfOk result (λ stage. stage.passes.items ≡ new_passes (length databases.items) MAX) }
     ensures closed { OnOk result (any_open databases.items ≡ false) }
     ensures open { IfErr result (λ fault. (fault ≡ FreeFault.Open) ↔ (any_open databases.items ≡ true)) }
 {
@@ -56,7 +56,7 @@ pub(crate) fn share_watched<'r, S: Alter + Drop, T: Wait>(
     requires few { vec_len databases ≤ MAX_DATABASES }
     ensures read { IfOk result (λ stage. AreRead S.Store databases.items (map database_at stage.shared.openings)) }
     ensures sessions { IfOk result (λ stage. stage.shared.sessions ≡ MAX) }
-    ensures passes { IfOk result (λ stage. stage.passes.items ≡ new_seats (length databases.items) MAX) }
+    ensures passes { IfOk result (λ stage. stage.passes.items ≡ new_passes (length databases.items) MAX) }
     ensures closed { OnOk result (any_open databases.items ≡ false) }
     ensures open { IfErr result (λ fault. (fault ≡ FreeFault.Open) ↔ (any_open databases.items ≡ true)) }
 {

@@ -9,8 +9,8 @@ use Rattle.escrow_machine.specs.State.{State}
 use Rattle.escrow_transcript.specs.declared.entry.Entry.{Entry}
 use Rattle.escrow_transcript.specs.Legal.{AreNumbered, AreSteps}
 use Rattle.escrow_core.specs.Database.{Database}
-use Rattle.escrow_shards.specs.Closing.{Closing, WasClean, all_entries}
-use Rattle.escrow_shards.specs.Piece.{Piece}
+use Rattle.escrow_shards.specs.Closed.{Closed, WasClean, all_entries}
+use Rattle.escrow_shards.specs.Part.{Part}
 use Rattle.escrow_free.specs.FreeOutput.{ServesFree}
 use Rattle.escrow_free.specs.Histories.{histories, AreHistories}
 use Rattle.escrow_free.proofs.Closing.{history_at, long_histories}
@@ -29,14 +29,14 @@ state_at [] place s at = absurd (cc)
 state_at (d ∷ databases) zero s at = let same : d.state ≡ s = cc in (d, refl, same)
 state_at (d ∷ databases) (suc place) s at = state_at databases place s at
 
-pub was_clean : {S : Type 0} (g : Ghosts S) (place : ℕ) (parts : List (Piece S)) (c : Closing S) → HoldCleanDisks g → WasClean g place parts c
+pub was_clean : {S : Type 0} (g : Ghosts S) (place : ℕ) (parts : List (Part S)) (c : Closed S) → HoldCleanDisks g → WasClean g place parts c
 was_clean g place parts c clean = record {
   at_opening = clean c.opening.store;
   at_parts = everywhere _ _ (λ p. clean p.store);
   at_close = clean c.history.store;
 }
 
-run_of : {S : Type 0} (g : Ghosts S) (databases : List (Database S)) (parts : List (Piece S)) (closed : List (Closing S)) (place : ℕ) (s : State) (entries : List Entry)
+run_of : {S : Type 0} (g : Ghosts S) (databases : List (Database S)) (parts : List (Part S)) (closed : List (Closed S)) (place : ℕ) (s : State) (entries : List Entry)
     → HoldCleanDisks g → AreHistories g databases parts closed → slice_get (states_of databases) place ≡ Some s → slice_get (histories parts closed) place ≡ Some entries → RunsFrom s entries
 run_of g databases parts closed place s entries clean are at there =
     let found = state_at databases place s at in
@@ -49,7 +49,7 @@ run_of g databases parts closed place s entries clean are at there =
     let from = subst (λ (t : State). AreSteps t (all_entries place parts c) end) (is.began.unchanged ∙ found.2) run.run in
     (end, subst (λ (es : List Entry). AreSteps s es end) all from, subst (AreNumbered 0) all run.numbered)
 
-pub are_runs : {S : Type 0} (g : Ghosts S) (databases : List (Database S)) (parts : List (Piece S)) (closed : List (Closing S)) → HoldCleanDisks g → AreHistories g databases parts closed
+pub are_runs : {S : Type 0} (g : Ghosts S) (databases : List (Database S)) (parts : List (Part S)) (closed : List (Closed S)) → HoldCleanDisks g → AreHistories g databases parts closed
     → AreRuns (states_of databases) (histories parts closed)
 are_runs g databases parts closed clean are = record {
   count = long_histories 0 parts closed ∙ are.count ∙ sym (length-map databases state_in);
@@ -57,7 +57,7 @@ are_runs g databases parts closed clean are = record {
 }
 
 -- so the output is that of such runs
-pub runs_free : {S : Type 0} (g : Ghosts S) (databases : List (Database S)) (parts : List (Piece S)) (closed : List (Closing S)) (script old_bytes new_bytes : Option (List ℕ))
+pub runs_free : {S : Type 0} (g : Ghosts S) (databases : List (Database S)) (parts : List (Part S)) (closed : List (Closed S)) (script old_bytes new_bytes : Option (List ℕ))
     → HoldCleanDisks g → AreHistories g databases parts closed → IfSome script (λ bytes. ServesFree bytes (histories parts closed) old_bytes new_bytes)
     → IfSome script (λ bytes. RunsFree bytes (states_of databases) old_bytes new_bytes)
 runs_free g databases parts closed script old_bytes new_bytes clean are serves =

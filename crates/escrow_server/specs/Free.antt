@@ -7,8 +7,8 @@ use Rattle.escrow_machine.specs.State.{State}
 use Rattle.escrow_transcript.specs.declared.entry.Entry.{Entry}
 use Rattle.escrow_transcript.specs.Legal.{AreNumbered, AreSteps}
 use Rattle.escrow_core.specs.Database.{Database}
-use Rattle.escrow_shards.specs.Closing.{Closing}
-use Rattle.escrow_shards.specs.Piece.{Piece}
+use Rattle.escrow_shards.specs.Closed.{Closed}
+use Rattle.escrow_shards.specs.Part.{Part}
 use Rattle.escrow_free.specs.FreeOutput.{ServesFree}
 use Rattle.escrow_free.specs.Histories.{AreHistories}
 
@@ -32,9 +32,9 @@ RunsFree script states old_bytes new_bytes =
     (histories : List (List Entry)) × AreRuns states histories × ServesFree script histories old_bytes new_bytes
 
 -- a database as it came out of its lock
-abbrev pub ended_of : {S : Type 0} → Closing S → Database S
+abbrev pub ended_of : {S : Type 0} → Closed S → Database S
 ended_of c = record { store = c.history.store; state = c.history.state }
 
 -- Databases were handed back, each at the place where it was handed in, as its history ends.
 abbrev pub AreEnded : {S : Type 0} → Ghosts S → List (Database S) → List (Database S) → Type 0
-AreEnded {S} g old new = (parts : List (Piece S)) × (closed : List (Closing S)) × AreHistories g old parts closed × (new ≡ map ended_of closed)
+AreEnded {S} g old new = (parts : List (Part S)) × (closed : List (Closed S)) × AreHistories g old parts closed × (new ≡ map ended_of closed)

@@ -4,7 +4,7 @@ use Rattle.std.specs.Iterator.{Yields}
 use Rattle.std.specs.List.{AllZip}
 use Rattle.std.specs.Vec.Iter.{into_iter_items}
 use Rattle.escrow_statement.specs.declared.statement.Request.{Request}
-use Rattle.escrow_shards.specs.Seat.{Seat}
+use Rattle.escrow_shards.specs.Pass.{Pass}
 use Rattle.escrow_sessions.specs.Serving.{IsDone, AreDone}
 use Rattle.escrow_sessions.specs.Work.{gives_listed, IsAbsent, IsServed, IsWorked, IsWorker, IsWorkerOf, CameOf}
 use Rattle.escrow_sessions.specs.declared.done.Done.{Done}
@@ -29,23 +29,23 @@ listed_all [] s t u same none = rw same none.0
 listed_all (x ∷ xs) s t u first none = first.1 ∙ ap (λ ys. x ∷ ys) (listed_all xs first.0 t u first.2 none)
 
 -- a worker that served nothing did nothing
-pub absent_done : (seat : Seat) (requests : List Request) (d : Done) → IsAbsent seat d → IsDone seat requests d
+pub absent_done : (seat : Pass) (requests : List Request) (d : Done) → IsAbsent seat d → IsDone seat requests d
 absent_done seat requests d absent = record {
   serves = rw absent.answers absent.pass;
   ended = rw absent.ended (ap length absent.answers);
 }
 
 -- a list was served up to its end
-pub listed_served : (seat : Seat) (source new : Listed) (d : Done) → IsServed gives_listed seat source d new → IsDone seat (into_iter_items source.left) d
+pub listed_served : (seat : Pass) (source new : Listed) (d : Done) → IsServed gives_listed seat source d new → IsDone seat (into_iter_items source.left) d
 listed_served seat source new d served = rw (listed_all served.requests source served.drained.0 new served.drained.1 served.drained.2) served.done
 
 -- what came of a worker over a list
-worked_done : (seat : Seat) (source : Listed) (r : Worked Listed) → IsWorked gives_listed seat source r → IsDone seat (into_iter_items source.left) r.done
+worked_done : (seat : Pass) (source : Listed) (r : Worked Listed) → IsWorked gives_listed seat source r → IsDone seat (into_iter_items source.left) r.done
 worked_done seat source r (inl served) = listed_served seat source r.source r.done served
 worked_done seat source r (inr absent) = absent_done seat (into_iter_items source.left) r.done absent.0
 
 -- of the worker of a feed
-pub listed_done : (w : Worker Listed) (r : Worked Listed) → ((seat : Seat) (source : Listed) → IsWorker gives_listed seat source w → IsWorked gives_listed seat source r) → CameOf w r.done
+pub listed_done : (w : Worker Listed) (r : Worked Listed) → ((seat : Pass) (source : Listed) → IsWorker gives_listed seat source w → IsWorked gives_listed seat source r) → CameOf w r.done
 listed_done w r came f of = rw (← of.1) (worked_done f.pass of.0 r (came f.pass of.0 of.2))
 
 -- all of them

@@ -5,27 +5,27 @@ use Rattle.escrow_statement.specs.declared.statement.Request.{Request}
 use Rattle.escrow_statement.specs.declared.statement.Request.TheVariants as request
 use Rattle.escrow_statement.specs.declared.statement.Statement.{Statement}
 use Rattle.escrow_machine.specs.declared.reply.Reply.{Reply}
-use Rattle.escrow_shards.specs.Seat.{Seat}
+use Rattle.escrow_shards.specs.Pass.{Pass}
 use Rattle.escrow_shards.specs.declared.answer.Answer.TheVariants.{Served, Unserved}
 use Rattle.escrow_sessions.specs.declared.done.Given.{Given}
 use Rattle.escrow_sessions.specs.declared.done.Given.TheVariants as given
 use Rattle.escrow_sessions.specs.Laws.{calls_in, served_in, Gained}
 use Rattle.escrow_sessions.specs.Serving.{Serves}
 
-gained_none : (old : Seat) → Gained old old []
+gained_none : (old : Pass) → Gained old old []
 gained_none old = record { database = refl; session = refl; calls = sym (append-nil (calls_in old.receipts)) }
 
-gained_same : (old mid new : Seat) (served : List (Statement × Reply)) → mid ≡ old → Gained mid new served → Gained old new served
+gained_same : (old mid new : Pass) (served : List (Statement × Reply)) → mid ≡ old → Gained mid new served → Gained old new served
 gained_same old mid new served same rest = rw (← same) rest
 
-gained_one : (old mid new : Seat) (asked : Statement) (reply : Reply) (served : List (Statement × Reply)) → Gained old mid ((asked, reply) ∷ []) → Gained mid new served → Gained old new ((asked, reply) ∷ served)
+gained_one : (old mid new : Pass) (asked : Statement) (reply : Reply) (served : List (Statement × Reply)) → Gained old mid ((asked, reply) ∷ []) → Gained mid new served → Gained old new ((asked, reply) ∷ served)
 gained_one old mid new asked reply served first rest = record {
   database = rest.database ∙ first.database;
   session = rest.session ∙ first.session;
   calls = rest.calls ∙ ap (λ cs. cs ++ served) first.calls ∙ append_assoc (calls_in old.receipts) ((asked, reply) ∷ []) served;
 }
 
-pub gained : (old new : Seat) (requests : List Request) (answers : List Given) → Serves old requests answers new → Gained old new (served_in requests answers)
+pub gained : (old new : Pass) (requests : List Request) (answers : List Given) → Serves old requests answers new → Gained old new (served_in requests answers)
 gained old new [] [] same = rw same (gained_none old)
 gained old new (r ∷ rs) [] same = rw same (gained_none old)
 gained old new [] (g ∷ gs) none = absurd none

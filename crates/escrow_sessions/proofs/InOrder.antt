@@ -2,7 +2,7 @@
 use Rattle.std.proofs.Common.{◌≡◌, ◌+◌, List, [], ◌∷◌, ◌++◌, length, Option, Some, None, refl, sym, ap, ◌∙◌, length-append, arith}
 use Rattle.std.specs.Iterator.{Yields, YieldsThen}
 use Rattle.escrow_statement.specs.declared.statement.Request.{Request}
-use Rattle.escrow_shards.specs.Seat.{Seat}
+use Rattle.escrow_shards.specs.Pass.{Pass}
 use Rattle.escrow_sessions.specs.Serving.{IsGiven, Serves}
 use Rattle.escrow_sessions.specs.Work.{IsServedSoFar, IsServed}
 use Rattle.escrow_sessions.specs.declared.done.Done.{Done}
@@ -20,7 +20,7 @@ module _ {Q A : Type 0} (gives : Q → Option A → Q → Type 0) where
   then_one xs x s t u first one = then_more xs (x ∷ []) s t u first (u, one, refl)
 
 -- an answer more to a request more
-pub serves_one : (old : Seat) (rs : List Request) (gs : List Given) (now new : Seat) (r : Request) (g : Given) → Serves old rs gs now → length gs ≡ length rs → IsGiven r g now new
+pub serves_one : (old : Pass) (rs : List Request) (gs : List Given) (now new : Pass) (r : Request) (g : Given) → Serves old rs gs now → length gs ≡ length rs → IsGiven r g now new
     → Serves old (rs ++ r ∷ []) (gs ++ g ∷ []) new
 serves_one old [] [] now new r g same long given = (new, (rw (← same) given, refl))
 serves_one old (q ∷ rs) [] now new r g same long given = absurd (omega (arith, long))
@@ -29,14 +29,14 @@ serves_one old (q ∷ rs) (h ∷ gs) now new r g first long given =
     (first.0, (first.1.0, serves_one first.0 rs gs now new r g first.1.1 (omega (arith, long)) given))
 
 -- the same answers, where there are more requests
-pub serves_first : (old : Seat) (rs more : List Request) (gs : List Given) (new : Seat) → Serves old rs gs new → Serves old (rs ++ more) gs new
+pub serves_first : (old : Pass) (rs more : List Request) (gs : List Given) (new : Pass) → Serves old rs gs new → Serves old (rs ++ more) gs new
 serves_first old rs more [] new same = same
 serves_first old [] more (g ∷ gs) new none = absurd none
 serves_first old (r ∷ rs) more (g ∷ gs) new first = (first.0, (first.1.0, serves_first first.0 rs more gs new first.1.1))
 
-module _ {Q : Type 0} (gives : Q → Option Request → Q → Type 0) (seat : Seat) (old : Q) where
+module _ {Q : Type 0} (gives : Q → Option Request → Q → Type 0) (seat : Pass) (old : Q) where
   -- one more request was given, and answered
-  pub so_far_one : (gs : List Given) (now new : Seat) (s u : Q) (r : Request) (g : Given) → IsServedSoFar gives seat old gs now s → gives s (Some r) u → IsGiven r g now new
+  pub so_far_one : (gs : List Given) (now new : Pass) (s u : Q) (r : Request) (g : Given) → IsServedSoFar gives seat old gs now s → gives s (Some r) u → IsGiven r g now new
       → IsServedSoFar gives seat old (gs ++ g ∷ []) new u
   so_far_one gs now new s u r g before one given = record {
     requests = before.requests ++ r ∷ [];

@@ -6,7 +6,7 @@ use Rattle.std.proofs.lemmas.Bool.{eq-eqb, ne_eqb}
 use Rattle.std.proofs.lemmas.List.{map-append, append-nil}
 use Rattle.std.proofs.lemmas.Option.{slice_get_read}
 use Rattle.escrow_statement.specs.declared.statement.Request.{Request}
-use Rattle.escrow_shards.specs.Seat.{Seat}
+use Rattle.escrow_shards.specs.Pass.{Pass}
 use Rattle.escrow_sessions.specs.Fed.{of, AreFed}
 use Rattle.escrow_sessions.specs.Serving.{IsDone}
 use Rattle.escrow_sessions.specs.Slots.{IsSlot, messages, JoinsAs, IsNewSlot, AreFurther, IsEnded, AreEnded, AreEndedBefore}
@@ -40,32 +40,32 @@ message_more sent requests r = append_assoc sent (messages requests) (One r ∷ 
 
 -- one item more was sent
 pub further_one : (items : List (ℕ × Request)) (old now : List Slot) (place : ℕ) (r : Request) (slot next : Slot) → AreFurther items old now → place < length now → slot ≡ get_or now place slot
-    → ((seat : Seat) (sent : List Item) → IsSlot seat sent slot → IsSlot seat (sent ++ One r ∷ []) next) → AreFurther (items ++ (place, r) ∷ []) old (set now place next)
+    → ((pass : Pass) (sent : List Item) → IsSlot pass sent slot → IsSlot pass (sent ++ One r ∷ []) next) → AreFurther (items ++ (place, r) ∷ []) old (set now place next)
 further_one items old now place r slot next before below read sends = record {
   count = long_set now place next ∙ before.count;
-  each = λ p first last seat sent at_old at_new is. moved p first last seat sent at_old is (set_cases now place p next last at_new);
+  each = λ p first last pass sent at_old at_new is. moved p first last pass sent at_old is (set_cases now place p next last at_new);
 } where
   there : slice_get now place ≡ Some slot
   there = slice_get_read now (length now) place slot refl below read
 
-  moved : (p : ℕ) (first last : Slot) (seat : Seat) (sent : List Item) → slice_get old p ≡ Some first → IsSlot seat sent first
-      → ((p ≡ place) × (next ≡ last)) ⊎ ((p ≢ place) × (slice_get now p ≡ Some last)) → IsSlot seat (sent ++ messages (of p (items ++ (place, r) ∷ []))) last
-  moved p first last seat sent at_old is (inl same) =
+  moved : (p : ℕ) (first last : Slot) (pass : Pass) (sent : List Item) → slice_get old p ≡ Some first → IsSlot pass sent first
+      → ((p ≡ place) × (next ≡ last)) ⊎ ((p ≢ place) × (slice_get now p ≡ Some last)) → IsSlot pass (sent ++ messages (of p (items ++ (place, r) ∷ []))) last
+  moved p first last pass sent at_old is (inl same) =
       let at : slice_get now p ≡ Some slot = ap (slice_get now) same.0 ∙ there in
-      let so_far : IsSlot seat (sent ++ messages (of p items)) slot = before.each p first slot seat sent at_old at is in
+      let so_far : IsSlot pass (sent ++ messages (of p items)) slot = before.each p first slot pass sent at_old at is in
       let more : (sent ++ messages (of p items)) ++ One r ∷ [] ≡ sent ++ messages (of p (items ++ (place, r) ∷ [])) =
       message_more sent (of p items) r ∙ ap (λ rs. sent ++ messages rs) (sym (subst (λ q. of p (items ++ (q, r) ∷ []) ≡ of p items ++ r ∷ []) same.0 (of_here p r items))) in
-      subst (λ ms. IsSlot seat ms last) more (subst (IsSlot seat ((sent ++ messages (of p items)) ++ One r ∷ [])) same.1 (sends seat (sent ++ messages (of p items)) so_far))
-  moved p first last seat sent at_old is (inr away) =
+      subst (λ ms. IsSlot pass ms last) more (subst (IsSlot pass ((sent ++ messages (of p items)) ++ One r ∷ [])) same.1 (sends pass (sent ++ messages (of p items)) so_far))
+  moved p first last pass sent at_old is (inr away) =
       let apart = away.0 in
-      subst (λ rs. IsSlot seat (sent ++ messages rs) last) (sym (of_else p place r items (λ same. apart (sym same)))) (before.each p first last seat sent at_old away.1 is)
+      subst (λ rs. IsSlot pass (sent ++ messages rs) last) (sym (of_else p place r items (λ same. apart (sym same)))) (before.each p first last pass sent at_old away.1 is)
 
 -- at first nothing was sent
 pub further_none : (slots : List Slot) → AreFurther [] slots slots
 further_none slots = record {
   count = refl;
-  each = λ p first last seat sent at_old at_new is.
-      subst (λ ms. IsSlot seat ms last) (sym (append-nil sent)) (subst (IsSlot seat sent) (some_same first last (sym at_old ∙ at_new)) is);
+  each = λ p first last pass sent at_old at_new is.
+      subst (λ ms. IsSlot pass ms last) (sym (append-nil sent)) (subst (IsSlot pass sent) (some_same first last (sym at_old ∙ at_new)) is);
 }
 
 -- THE END
@@ -106,22 +106,22 @@ ended_all n old new past all = record {
 
 -- ALL TOGETHER
 
-pub all_fed : (seats : List Seat) (items : List (ℕ × Request)) (new fed ended : List Slot) (done : List Done)
-    → AllZip IsNewSlot seats new → AreFurther items new fed → AreEnded fed ended → AllZip JoinsAs ended done → AreFed seats items done
-all_fed seats items new fed ended done begun further over joined = record {
-  count = sym (zip_long JoinsAs ended done joined) ∙ over.count ∙ further.count ∙ sym (zip_long IsNewSlot seats new begun);
+pub all_fed : (passes : List Pass) (items : List (ℕ × Request)) (new fed ended : List Slot) (done : List Done)
+    → AllZip IsNewSlot passes new → AreFurther items new fed → AreEnded fed ended → AllZip JoinsAs ended done → AreFed passes items done
+all_fed passes items new fed ended done begun further over joined = record {
+  count = sym (zip_long JoinsAs ended done joined) ∙ over.count ∙ further.count ∙ sym (zip_long IsNewSlot passes new begun);
   each = each;
 } where
-  each : (place : ℕ) (seat : Seat) (d : Done) → slice_get seats place ≡ Some seat → slice_get done place ≡ Some d → IsDone seat (of place items) d
-  each place seat d at_seat at_done =
-      let first = beside IsNewSlot seats new place seat begun at_seat in
+  each : (place : ℕ) (pass : Pass) (d : Done) → slice_get passes place ≡ Some pass → slice_get done place ≡ Some d → IsDone pass (of place items) d
+  each place pass d at_seat at_done =
+      let first = beside IsNewSlot passes new place pass begun at_seat in
       let below = below_at new place first.0 first.1.0 in
       let second = at_below fed place (subst (λ n. place < n) (sym further.count) below) in
       let third = at_below ended place (subst (λ n. place < n) (sym (over.count ∙ further.count)) below) in
       let last = beside JoinsAs ended done place third.0 joined third.1 in
-      let sent : IsSlot seat (messages (of place items)) second.0 = further.each place first.0 second.0 seat [] first.1.0 second.1 first.1.1 in
-      let to_end = over.each place second.0 third.0 second.1 third.1 seat (messages (of place items)) sent in
-      subst (IsDone seat (of place items)) (some_same last.0 d (sym last.1.0 ∙ at_done)) (last.1.1 seat (of place items) to_end)
+      let sent : IsSlot pass (messages (of place items)) second.0 = further.each place first.0 second.0 pass [] first.1.0 second.1 first.1.1 in
+      let to_end = over.each place second.0 third.0 second.1 third.1 pass (messages (of place items)) sent in
+      subst (IsDone pass (of place items)) (some_same last.0 d (sym last.1.0 ∙ at_done)) (last.1.1 pass (of place items) to_end)
 
 -- THE ITEMS
 

@@ -4,7 +4,7 @@ use Rattle.escrow_statement.specs.declared.statement.Request.{Request}
 use Rattle.escrow_statement.specs.declared.statement.Request.TheVariants as request
 use Rattle.escrow_statement.specs.declared.statement.Statement.{Statement}
 use Rattle.escrow_machine.specs.declared.reply.Reply.{Reply}
-use Rattle.escrow_shards.specs.Seat.{Seat}
+use Rattle.escrow_shards.specs.Pass.{Pass}
 use Rattle.escrow_shards.specs.declared.answer.Answer.TheVariants.{Served}
 use Rattle.escrow_shards.specs.declared.receipt.Receipt.{Receipt}
 use Rattle.escrow_sessions.specs.declared.done.Given.{Given}
@@ -29,11 +29,11 @@ served_in rs [] = []
 served_in [] gs = []
 
 -- what a pass gained is what was served: a receipt for each of these statements with its reply, in order, and no others
-pub record Gained (old new : Seat) (served : List (Statement × Reply)) : Type 0 where
+pub record Gained (old new : Pass) (served : List (Statement × Reply)) : Type 0 where
   pub database : new.database ≡ old.database
   pub session : new.session ≡ old.session
   pub calls : calls_in new.receipts ≡ calls_in old.receipts ++ served
 
 -- if requests have answers (Serves), the pass gains exactly the receipts of those that were served
 abbrev pub ReceiptsAreServed : Type 0
-ReceiptsAreServed = (old new : Seat) (requests : List Request) (answers : List Given) → Serves old requests answers new → Gained old new (served_in requests answers)
+ReceiptsAreServed = (old new : Pass) (requests : List Request) (answers : List Given) → Serves old requests answers new → Gained old new (served_in requests answers)

@@ -7,8 +7,8 @@ use Rattle.escrow_machine.specs.declared.reply.Reply.{Reply}
 use Rattle.escrow_stats.specs.Tally.{tally_of}
 use Rattle.escrow_stats.specs.declared.tally.Tally.{Tally}
 use Rattle.escrow_shards.specs.Answer.{IsAnswered}
-use Rattle.escrow_shards.specs.Seat.{Seat}
-use Rattle.escrow_shards.specs.Sharing.{Sharing, HasSeat}
+use Rattle.escrow_shards.specs.Pass.{Pass}
+use Rattle.escrow_shards.specs.Shared.{Shared, HasPass}
 use Rattle.escrow_shards.specs.declared.receipt.Receipt.{Receipt}
 use Rattle.escrow_sessions.specs.declared.done.Done.{Done}
 use Rattle.escrow_sessions.specs.declared.done.Ended.{Ended}
@@ -22,21 +22,21 @@ abbrev pub replies_of : List Receipt → List Reply
 replies_of receipts = map (λ r. r.reply) receipts
 
 -- the totals of a session's replies so far: those of its receipts
-abbrev pub totals_of : Seat → Tally
+abbrev pub totals_of : Pass → Tally
 totals_of seat = tally_of (replies_of seat.receipts)
 
 -- ONE REQUEST. A statement has the answer of a call. SHOW STATISTICS shows the totals so far, and changes nothing.
-abbrev pub IsGiven : Request → Given → Seat → Seat → Type 0
+abbrev pub IsGiven : Request → Given → Pass → Pass → Type 0
 IsGiven (request.Statement asked) (given.Reply answer) old new = IsAnswered answer asked old new
 IsGiven request.Statistics (given.Totals totals) old new = (totals ≡ totals_of old) × (new ≡ old)
 IsGiven (request.Statement asked) (given.Totals totals) old new = ⊥
 IsGiven request.Statistics (given.Reply answer) old new = ⊥
 
--- REQUESTS IN ORDER. The first requests have one answer each, which lead from a seat to a seat.
-abbrev pub Serves : Seat → List Request → List Given → Seat → Type 0
+-- REQUESTS IN ORDER. The first requests have one answer each, which lead from a pass to a pass.
+abbrev pub Serves : Pass → List Request → List Given → Pass → Type 0
 Serves old requests [] new = new ≡ old
 Serves old [] (g ∷ gs) new = ⊥
-Serves old (r ∷ rs) (g ∷ gs) new = (next : Seat) × (IsGiven r g old next × Serves next rs gs new)
+Serves old (r ∷ rs) (g ∷ gs) new = (next : Pass) × (IsGiven r g old next × Serves next rs gs new)
 
 -- how a worker ended, by how many answers there are: all, fewer, or none
 abbrev pub HasEnded : Ended → ℕ → ℕ → Type 0
@@ -44,8 +44,8 @@ HasEnded All requests answers = answers ≡ requests
 HasEnded Stopped requests answers = answers < requests
 HasEnded NotStarted requests answers = answers ≡ 0
 
--- WHAT A WORKER DID with its seat and its requests
-pub record IsDone (seat : Seat) (requests : List Request) (d : Done) : Type 0 where
+-- WHAT A WORKER DID with its pass and its requests
+pub record IsDone (seat : Pass) (requests : List Request) (d : Done) : Type 0 where
   pub serves : Serves seat requests d.answers.items d.pass
   pub ended : HasEnded d.ended (length requests) (length d.answers.items)
 
@@ -54,5 +54,5 @@ abbrev pub AreDone : List Feed → List Done → Type 0
 AreDone feeds done = AllZip (λ f d. IsDone f.pass f.requests.items d) feeds done
 
 -- a feed's pass is for one of the databases and sessions
-abbrev pub HasItsSeat : {S : Type 0} → Sharing S → Feed → Type 0
-HasItsSeat sharing f = HasSeat sharing f.pass
+abbrev pub HasItsPass : {S : Type 0} → Shared S → Feed → Type 0
+HasItsPass sharing f = HasPass sharing f.pass

@@ -1,7 +1,7 @@
 -- Helps: workers that are being fed through channels.
 use Rattle.std.specs.Prelude.{◌≡◌, ℕ, ◌<◌, ◌≤◌, List, [], ◌∷◌, ◌++◌, length, map, slice_get, Some}
 use Rattle.escrow_statement.specs.declared.statement.Request.{Request}
-use Rattle.escrow_shards.specs.Seat.{Seat}
+use Rattle.escrow_shards.specs.Pass.{Pass}
 use Rattle.escrow_sessions.specs.Fed.{of}
 use Rattle.escrow_sessions.specs.Line.{sent_on}
 use Rattle.escrow_sessions.specs.Serving.{IsDone}
@@ -19,7 +19,7 @@ pub record IsSentTo (old : FedWorker) (x : Item) (new : FedWorker) : Type 0 wher
   pub sent : sent_on new.line ≡ sent_on old.line ++ x ∷ []
 
 -- a worker to which these messages were sent, or one that couldn't be started
-abbrev pub IsSlot : Seat → List Item → Slot → Type 0
+abbrev pub IsSlot : Pass → List Item → Slot → Type 0
 IsSlot seat sent (Fed fed) = (fed.thread.promise.pass.value ≡ seat) × (sent_on fed.line ≡ sent)
 IsSlot seat sent (Absent d) = IsAbsent seat d
 
@@ -32,21 +32,21 @@ to_the_end requests = messages requests ++ End ∷ []
 
 -- what a slot returns, whatever was sent to it up to the end
 abbrev pub JoinsAs : Slot → Done → Type 0
-JoinsAs slot d = (seat : Seat) (requests : List Request) → IsSlot seat (to_the_end requests) slot → IsDone seat requests d
+JoinsAs slot d = (seat : Pass) (requests : List Request) → IsSlot seat (to_the_end requests) slot → IsDone seat requests d
 
 -- a worker to which nothing was sent yet
-abbrev pub IsNewSlot : Seat → Slot → Type 0
+abbrev pub IsNewSlot : Pass → Slot → Type 0
 IsNewSlot seat slot = IsSlot seat [] slot
 
 -- the requests of items were sent, each to the worker at its place
 pub record AreFurther (items : List (ℕ × Request)) (old new : List Slot) : Type 0 where
   pub count : length new ≡ length old
-  pub each : (place : ℕ) (before after : Slot) (seat : Seat) (sent : List Item) → slice_get old place ≡ Some before → slice_get new place ≡ Some after
+  pub each : (place : ℕ) (before after : Slot) (seat : Pass) (sent : List Item) → slice_get old place ≡ Some before → slice_get new place ≡ Some after
       → IsSlot seat sent before → IsSlot seat (sent ++ messages (of place items)) after
 
 -- the end was sent to a worker
 abbrev pub IsEnded : Slot → Slot → Type 0
-IsEnded before after = (seat : Seat) (sent : List Item) → IsSlot seat sent before → IsSlot seat (sent ++ End ∷ []) after
+IsEnded before after = (seat : Pass) (sent : List Item) → IsSlot seat sent before → IsSlot seat (sent ++ End ∷ []) after
 
 pub record AreEnded (old new : List Slot) : Type 0 where
   pub count : length new ≡ length old

@@ -3,7 +3,7 @@ use Rattle.std.specs.Prelude.{◌≡◌, ◌⊎◌, List, [], length, Option, No
 use Rattle.std.specs.Iterator.{Yields, YieldsThen, YieldsFirst}
 use Rattle.std.specs.Vec.Iter.{into_iter_items}
 use Rattle.escrow_statement.specs.declared.statement.Request.{Request}
-use Rattle.escrow_shards.specs.Seat.{Seat}
+use Rattle.escrow_shards.specs.Pass.{Pass}
 use Rattle.escrow_sessions.specs.Serving.{Serves, IsDone}
 use Rattle.escrow_sessions.specs.declared.done.Done.{Done}
 use Rattle.escrow_sessions.specs.declared.done.Ended.TheVariants.{NotStarted}
@@ -15,7 +15,7 @@ use Rattle.escrow_sessions.specs.declared.team.Worker.{Worker}
 use Rattle.escrow_sessions.specs.declared.team.Worker.TheVariants.{Started, Absent}
 
 -- nothing was served
-pub record IsAbsent (seat : Seat) (d : Done) : Type 0 where
+pub record IsAbsent (seat : Pass) (d : Done) : Type 0 where
   pub pass : d.pass ≡ seat
   pub answers : d.answers.items ≡ []
   pub ended : d.ended ≡ NotStarted
@@ -26,24 +26,24 @@ gives_listed = YieldsFirst (λ l. into_iter_items l.left)
 
 module _ {Q : Type 0} (gives : Q → Option Request → Q → Type 0) where
   -- a source returned requests, and each has its answer
-  pub record IsServedSoFar (seat : Seat) (old : Q) (answers : List Given) (now : Seat) (new : Q) : Type 0 where
+  pub record IsServedSoFar (seat : Pass) (old : Q) (answers : List Given) (now : Pass) (new : Q) : Type 0 where
     pub requests : List Request
     pub given : Yields gives old requests new
     pub serves : Serves seat requests answers now
     pub each : length answers ≡ length requests
 
   -- a source returned requests up to its end, and this is what was done with them
-  pub record IsServed (seat : Seat) (old : Q) (d : Done) (new : Q) : Type 0 where
+  pub record IsServed (seat : Pass) (old : Q) (d : Done) (new : Q) : Type 0 where
     pub requests : List Request
     pub drained : YieldsThen gives old requests None new
     pub done : IsDone seat requests d
 
   -- what a worker returns: it served all requests of its source, or none at all
-  abbrev pub IsWorked : Seat → Q → Worked Q → Type 0
+  abbrev pub IsWorked : Pass → Q → Worked Q → Type 0
   IsWorked seat old w = IsServed seat old w.done w.source ⊎ (IsAbsent seat w.done × (w.source ≡ old))
 
   -- what a worker will return, or has returned
-  abbrev pub IsWorker : Seat → Q → Worker Q → Type 0
+  abbrev pub IsWorker : Pass → Q → Worker Q → Type 0
   IsWorker seat old (Started h) = (h.promise.pass.value ≡ seat) × (h.promise.source.value ≡ old)
   IsWorker seat old (Absent w) = IsWorked seat old w
 

@@ -3,7 +3,7 @@ ghost use Rattle.std.specs.Iterator.{IsFinite, Drains, HoldsAlong};
 ghost use Rattle.std.specs.List.{AllByRecursion, AllZip};
 ghost use Rattle.std.specs.Vec.{vec_capacity};
 ghost use Rattle.escrow_statement.specs.declared.statement.Request.{Request};
-ghost use Rattle.escrow_shards.specs.Sharing.{HasSeat};
+ghost use Rattle.escrow_shards.specs.Shared.{HasPass};
 ghost use Rattle.escrow_sessions.specs.declared.feed.TheConstants.{MAX_WORKERS};
 ghost use Rattle.escrow_sessions.specs.Fed.{AreFed};
 ghost use Rattle.escrow_sessions.specs.Slots.{AreFurther, AreEnded, IsNewSlot, JoinsAs};
@@ -51,7 +51,7 @@ pub fn run_fed<
     items: I,
     gate: &G,
 ) -> Result<Vec<Done>, NotFed<I>>
-    requires seats { AllByRecursion (HasSeat shared.now) passes.items }
+    requires seats { AllByRecursion (HasPass shared.now) passes.items }
     requires can { I.can_next items }
     requires ends { IsFinite (I.remaining items) }
     requires places { HoldsAlong I.next_gives items (All (λ x. x.0 < length passes.items)) }
@@ -77,7 +77,7 @@ fn serve_fed<
     items: I,
     gate: &G,
 ) -> Result<Vec<Done>, NotFed<I>>
-    requires seats { AllByRecursion (H.has_seat hall.now) passes.items }
+    requires seats { AllByRecursion (H.has_pass hall.now) passes.items }
     requires can { I.can_next items }
     requires ends { IsFinite (I.remaining items) }
     requires places { HoldsAlong I.next_gives items (All (λ x. x.0 < length passes.items)) }
@@ -109,7 +109,7 @@ fn serve_fed<
         thread::scope_env(),
         rt,
         |scope| -> Vec<Done>
-            requires seats { AllByRecursion (H.has_seat hall.now) passes.items }
+            requires seats { AllByRecursion (H.has_pass hall.now) passes.items }
             requires can { I.can_next items }
             requires ends { IsFinite (I.remaining items) }
             requires places { HoldsAlong I.next_gives items (All (λ x. x.0 < length passes.items)) }
@@ -135,7 +135,7 @@ fn start_all<E, H: Hall + Sync, R: Wait + Sync, G: Gate + Sync>(
     passes: Vec<Pass>,
     slots: Vec<Slot>,
 ) -> Vec<Slot>
-    requires seats { AllByRecursion (H.has_seat crew.now.hall.now) passes.items }
+    requires seats { AllByRecursion (H.has_pass crew.now.hall.now) passes.items }
     requires empty { slots.items ≡ [] }
     requires room { vec_len passes ≤ vec_capacity slots }
     ensures { AllZip IsNewSlot passes.items result.items }
@@ -144,7 +144,7 @@ fn start_all<E, H: Hall + Sync, R: Wait + Sync, G: Gate + Sync>(
         passes,
         slots,
         |place, pass|
-            requires { H.has_seat crew.now.hall.now pass }
+            requires { H.has_pass crew.now.hall.now pass }
         { start_fed(crew, place, pass) },
     )
 }

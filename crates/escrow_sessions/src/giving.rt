@@ -25,10 +25,10 @@ pub(crate) fn give<H: Hall, R: Wait, G: Gate>(
     request: &Request,
     gate: &G,
 ) -> Given
-    requires seat { H.has_seat hall.now pass.old }
+    requires seat { H.has_pass hall.now pass.old }
     requires kept { AreKept totals.old (replies_of pass.old.receipts) }
     ensures given { IsGiven request.now result pass.old pass.new }
-    ensures seat { H.has_seat hall.now pass.new }
+    ensures seat { H.has_pass hall.now pass.new }
     ensures kept { AreKept totals.new (replies_of pass.new.receipts) }
 {
     match request {

@@ -8,10 +8,10 @@ use std::sync::Wait;
 /// not the store, so one proof suffices that threads may share it.
 pub(crate) trait Hall {
     ghost use Rattle.escrow_shards.specs.Answer.{IsAnswered};
-    ghost use Rattle.escrow_shards.specs.Seat.{Seat};
+    ghost use Rattle.escrow_shards.specs.Pass.{Pass};
 
-    /// Whether a seat is for one of its databases and sessions.
-    ghost has_seat: { Self → Seat → Type 0 };
+    /// Whether a pass is for one of its databases and sessions.
+    ghost has_pass: { Self → Pass → Type 0 };
 
     /// Serves a statement of the session of a pass, as [`Shared::call_gated`] does.
     fn serve<R: Wait, G: Gate>(
@@ -22,15 +22,15 @@ pub(crate) trait Hall {
         statement: &Statement,
         gate: &G,
     ) -> Answer
-        requires { has_seat self.now pass.old }
+        requires { has_pass self.now pass.old }
         ensures answered { IsAnswered result statement.now pass.old pass.new }
-        ensures seat { has_seat self.now pass.new };
+        ensures seat { has_pass self.now pass.new };
 }
 
 impl<S: Alter, L: UnderLock<S>> Hall for Shared<S, L> {
-    ghost use Rattle.escrow_shards.specs.Sharing.{HasSeat};
+    ghost use Rattle.escrow_shards.specs.Shared.{HasPass};
 
-    ghost has_seat = { HasSeat };
+    ghost has_pass = { HasPass };
 
     fn serve<R: Wait, G: Gate>(
         &self,

@@ -2,7 +2,7 @@ ghost use Rattle.std.specs.Prelude.{◌≡◌, ◌↔◌, ◌<◌, ◌≤◌, []
 ghost use Rattle.std.specs.List.{AllByRecursion, AllZip};
 ghost use Rattle.std.specs.Vec.{vec_capacity};
 ghost use Rattle.escrow_sessions.specs.declared.feed.TheConstants.{MAX_WORKERS};
-ghost use Rattle.escrow_sessions.specs.Serving.{AreDone, HasItsSeat, IsDone};
+ghost use Rattle.escrow_sessions.specs.Serving.{AreDone, HasItsPass, IsDone};
 ghost use Rattle.escrow_sessions.specs.Work.{IsWorkerOf, CameOf};
 
 use crate::crew::Crew;
@@ -42,7 +42,7 @@ pub fn run_sessions<
     feeds: Vec<Feed>,
     gate: &G,
 ) -> Result<Vec<Done>, NotRun>
-    requires { AllByRecursion (HasItsSeat shared.now) feeds.items }
+    requires { AllByRecursion (HasItsPass shared.now) feeds.items }
     ensures done { IfOk result (λ done. AreDone feeds.items done.items) }
     ensures within { OnOk result (length feeds.items ≤ MAX_WORKERS) }
     ensures back { IfErr result (λ e. e.feeds ≡ feeds) }
@@ -59,7 +59,7 @@ fn serve_lists<H: Hall + Sync, R: Threads + Wait + Sync, G: Gate + Sync>(
     feeds: Vec<Feed>,
     gate: &G,
 ) -> Result<Vec<Done>, NotRun>
-    requires { AllByRecursion (λ f. H.has_seat hall.now f.pass) feeds.items }
+    requires { AllByRecursion (λ f. H.has_pass hall.now f.pass) feeds.items }
     ensures done { IfOk result (λ done. AreDone feeds.items done.items) }
     ensures within { OnOk result (length feeds.items ≤ MAX_WORKERS) }
     ensures back { IfErr result (λ e. e.feeds ≡ feeds) }
@@ -83,7 +83,7 @@ fn serve_lists<H: Hall + Sync, R: Threads + Wait + Sync, G: Gate + Sync>(
         thread::scope_env(),
         rt,
         |scope| -> Vec<Done>
-            requires seats { AllByRecursion (λ f. H.has_seat hall.now f.pass) feeds.items }
+            requires seats { AllByRecursion (λ f. H.has_pass hall.now f.pass) feeds.items }
             requires no_worker { workers.items ≡ [] }
             requires room { vec_len feeds ≤ vec_capacity workers }
             requires none_done { done.items ≡ [] }
@@ -106,7 +106,7 @@ fn serve_here<H: Hall, R: Wait, G: Gate>(
     done: Vec<Done>,
     gate: &G,
 ) -> Vec<Done>
-    requires seats { AllByRecursion (λ f. H.has_seat hall.now f.pass) feeds.items }
+    requires seats { AllByRecursion (λ f. H.has_pass hall.now f.pass) feeds.items }
     requires none_done { done.items ≡ [] }
     requires done_fit { vec_len feeds ≤ vec_capacity done }
     ensures { AreDone feeds.items result.items }
@@ -115,7 +115,7 @@ fn serve_here<H: Hall, R: Wait, G: Gate>(
         feeds,
         done,
         |_, feed| -> Done
-            requires { H.has_seat hall.now feed.pass }
+            requires { H.has_pass hall.now feed.pass }
             ensures { IsDone feed.pass feed.requests.items result }
         { serve_listed(rt, alloc, hall, feed, gate) },
     )
@@ -129,7 +129,7 @@ fn serve_listed<H: Hall, R: Wait, G: Gate>(
     feed: Feed,
     gate: &G,
 ) -> Done
-    requires { H.has_seat hall.now feed.pass }
+    requires { H.has_pass hall.now feed.pass }
     ensures { IsDone feed.pass feed.requests.items result }
 {
     let Feed { pass, requests } = feed;
@@ -144,7 +144,7 @@ fn start_all<E, H: Hall + Sync, R: Wait + Sync, G: Gate + Sync>(
     feeds: Vec<Feed>,
     workers: Vec<Worker<Listed>>,
 ) -> Vec<Worker<Listed>>
-    requires seats { AllByRecursion (λ f. H.has_seat crew.now.hall.now f.pass) feeds.items }
+    requires seats { AllByRecursion (λ f. H.has_pass crew.now.hall.now f.pass) feeds.items }
     requires empty { workers.items ≡ [] }
     requires room { vec_len feeds ≤ vec_capacity workers }
     ensures { AllZip IsWorkerOf feeds.items result.items }
@@ -153,7 +153,7 @@ fn start_all<E, H: Hall + Sync, R: Wait + Sync, G: Gate + Sync>(
         feeds,
         workers,
         |place, feed| -> Worker<Listed>
-            requires { H.has_seat crew.now.hall.now feed.pass }
+            requires { H.has_pass crew.now.hall.now feed.pass }
             ensures { IsWorkerOf feed result }
         { start_listed(crew, place, feed) },
     )
@@ -165,7 +165,7 @@ fn start_listed<E, H: Hall + Sync, R: Wait + Sync, G: Gate + Sync>(
     place: u64,
     feed: Feed,
 ) -> Worker<Listed>
-    requires { H.has_seat crew.now.hall.now feed.pass }
+    requires { H.has_pass crew.now.hall.now feed.pass }
     ensures { IsWorkerOf feed result }
 {
     let Feed { pass, requests } = feed;

@@ -1,6 +1,6 @@
 //! A worker that is fed through a channel.
 ghost use Rattle.std.specs.Prelude.{[], ◌∷◌, ◌++◌, List};
-ghost use Rattle.escrow_shards.specs.Seat.{Seat};
+ghost use Rattle.escrow_shards.specs.Pass.{Pass};
 ghost use Rattle.escrow_sessions.specs.Slots.{IsSlot, JoinsAs};
 ghost use Rattle.escrow_sessions.specs.declared.rule.Item.{Item};
 
@@ -29,7 +29,7 @@ pub(crate) fn start_fed<E, H: Hall + Sync, R: Wait + Sync, G: Gate + Sync>(
     place: u64,
     pass: Pass,
 ) -> Slot
-    requires { H.has_seat crew.now.hall.now pass }
+    requires { H.has_pass crew.now.hall.now pass }
     ensures { IsSlot pass [] result }
 {
     let Ok((line, taker)) = open(crew.alloc) else {
@@ -51,7 +51,7 @@ pub(crate) fn start_fed<E, H: Hall + Sync, R: Wait + Sync, G: Gate + Sync>(
 impl Slot {
     /// Sends a message to the worker, if it was started. May wait until there is room.
     pub(crate) fn send<R: Wait>(&mut self, rt: &R, item: Item)
-        ensures { (seat : Seat) (sent : List Item) → IsSlot seat sent self.old → IsSlot seat (sent ++ item ∷ []) self.new }
+        ensures { (seat : Pass) (sent : List Item) → IsSlot seat sent self.old → IsSlot seat (sent ++ item ∷ []) self.new }
     {
         match self {
             Slot::Fed(fed) => fed.send(rt, item),

@@ -1,6 +1,6 @@
 //! Workers, each on a thread of its own.
 ghost use Rattle.std.specs.Prelude.{◌≡◌};
-ghost use Rattle.escrow_shards.specs.Seat.{Seat};
+ghost use Rattle.escrow_shards.specs.Pass.{Pass};
 ghost use Rattle.escrow_sessions.specs.Work.{IsWorked, IsWorker};
 
 use crate::crew::Crew;
@@ -53,7 +53,7 @@ pub(crate) fn start<
     G: Gate + Sync,
     Q: Source + Send + Drop + 's,
 >(crew: &Crew<'_, 's, E, H, R, G>, place: u64, pass: Pass, source: Q) -> Worker<Q>
-    requires { H.has_seat crew.now.hall.now pass }
+    requires { H.has_pass crew.now.hall.now pass }
     ensures { IsWorker Q.gives pass source result }
 {
     let work = Work {
@@ -83,7 +83,7 @@ fn attend<H: Hall, R: Wait, G: Gate, Q: Source>(
     pass: Pass,
     mut source: Q,
 ) -> Worked<Q>
-    requires { H.has_seat hall.now pass }
+    requires { H.has_pass hall.now pass }
     ensures { IsWorked Q.gives pass source result }
 {
     if absent.load(Ordering::SeqCst) == place {
@@ -103,7 +103,7 @@ fn attend<H: Hall, R: Wait, G: Gate, Q: Source>(
 impl<Q: Source + Drop> Worker<Q> {
     /// Waits for the worker's thread to end, and returns what the worker returned.
     pub(crate) fn join<R: Threads>(self, rt: &R) -> Worked<Q>
-        ensures { (pass : Seat) (source : Q) → IsWorker Q.gives pass source self → IsWorked Q.gives pass source result }
+        ensures { (pass : Pass) (source : Q) → IsWorker Q.gives pass source self → IsWorked Q.gives pass source result }
     {
         match self {
             Worker::Started(handle) => handle.join(rt),

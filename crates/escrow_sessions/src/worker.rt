@@ -23,7 +23,7 @@ pub(crate) fn serve<H: Hall, R: Wait, G: Gate, Q: Source>(
     source: &mut Q,
     gate: &G,
 ) -> Done
-    requires { H.has_seat hall.now pass }
+    requires { H.has_pass hall.now pass }
     ensures { IsServed Q.gives pass source.old result source.new }
 {
     let mut answers = Vec::new(alloc);

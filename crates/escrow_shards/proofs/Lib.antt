@@ -4,7 +4,7 @@ pub mod Crossing
 pub mod Following
 pub mod Kept
 pub mod Matching
-pub mod NewSeats
+pub mod NewPasses
 pub mod NoPass
 pub mod Places
 pub mod Reading

@@ -4,7 +4,7 @@ use Rattle.std.proofs.Common.{◌≡◌, ◌↔◌, ◌==◌, ℕ, ◌+◌, ◌<
 use Rattle.std.proofs.lemmas.List.{drop_all, append_cancel_left}
 use Rattle.escrow_transcript.specs.declared.entry.Entry.{Entry}
 use Rattle.escrow_shards.specs.declared.receipt.Receipt.{Receipt}
-use Rattle.escrow_shards.specs.Piece.{Piece, parts_of, entries_of}
+use Rattle.escrow_shards.specs.Part.{Part, parts_of, entries_of}
 use Rattle.escrow_shards.specs.Receipts.{receipt_of, receipts_of}
 use Rattle.escrow_shards.proofs.Following.{parts_here, parts_past}
 use Rattle.escrow_shards.proofs.Rest.{rest_at, same_when}
@@ -98,13 +98,13 @@ module _ (session : ℕ) (receipts : List Receipt) (entries : List Entry) (from 
   fits_end i next past fits = (fits (drop next receipts)).1 (sym (ap (λ (es : List Entry). receipts_of session es ++ drop next receipts) (drop_all i entries past)))
 
 -- what a part of the database adds
-pub receipts_here : {S : Type 0} (d session : ℕ) (parts : List (Piece S)) (i : ℕ) (p : Piece S) → i < length parts → p ≡ get_or parts i p → (p.database == d) ≡ true
+pub receipts_here : {S : Type 0} (d session : ℕ) (parts : List (Part S)) (i : ℕ) (p : Part S) → i < length parts → p ≡ get_or parts i p → (p.database == d) ≡ true
     → receipts_of session (entries_of (parts_of d (drop i parts))) ≡ receipts_of session p.entries ++ receipts_of session (entries_of (parts_of d (drop (i + 1) parts)))
 receipts_here {S} d session parts i p below at of =
-    ap (λ (ps : List (Piece S)). receipts_of session (entries_of ps)) (parts_here d parts i p below at of)
+    ap (λ (ps : List (Part S)). receipts_of session (entries_of ps)) (parts_here d parts i p below at of)
     ∙ receipts_append session p.entries (entries_of (parts_of d (drop (i + 1) parts)))
 
-module _ {S : Type 0} (d session : ℕ) (receipts : List Receipt) (parts : List (Piece S)) where
+module _ {S : Type 0} (d session : ℕ) (receipts : List Receipt) (parts : List (Part S)) where
   -- the receipts of what is left of the parts
   abbrev pub left_of : ℕ → List Receipt
   left_of i = receipts_of session (entries_of (parts_of d (drop i parts)))
@@ -112,12 +112,12 @@ module _ {S : Type 0} (d session : ℕ) (receipts : List Receipt) (parts : List 
   abbrev pub FitParts : ℕ → ℕ → Type 0
   FitParts i next = (rest : List Receipt) → Begins receipts (receipts_of session (entries_of (parts_of d parts))) rest ↔ Begins (drop next receipts) (left_of i) rest
 
-  pub fit_parts_past : (i next : ℕ) (p : Piece S) → i < length parts → p ≡ get_or parts i p → (p.database == d) ≡ false → FitParts i next → FitParts (i + 1) next
+  pub fit_parts_past : (i next : ℕ) (p : Part S) → i < length parts → p ≡ get_or parts i p → (p.database == d) ≡ false → FitParts i next → FitParts (i + 1) next
   fit_parts_past i next p below at of fits rest =
-      subst (λ (ps : List (Piece S)). Begins receipts (receipts_of session (entries_of (parts_of d parts))) rest ↔ Begins (drop next receipts) (receipts_of session (entries_of ps)) rest)
+      subst (λ (ps : List (Part S)). Begins receipts (receipts_of session (entries_of (parts_of d parts))) rest ↔ Begins (drop next receipts) (receipts_of session (entries_of ps)) rest)
       (parts_past d parts i p below at of) (fits rest)
 
-  pub fit_parts_here : (i next end : ℕ) (p : Piece S) → i < length parts → p ≡ get_or parts i p → (p.database == d) ≡ true
+  pub fit_parts_here : (i next end : ℕ) (p : Part S) → i < length parts → p ≡ get_or parts i p → (p.database == d) ≡ true
       → Begins (drop next receipts) (receipts_of session p.entries) (drop end receipts) → FitParts i next → FitParts (i + 1) end
   fit_parts_here i next end p below at of took fits rest =
       let front = receipts_of session p.entries in
@@ -131,7 +131,7 @@ module _ {S : Type 0} (d session : ℕ) (receipts : List Receipt) (parts : List 
       ) in
       same_when (fits rest) step
 
-  pub fit_parts_none : (i next : ℕ) (p : Piece S) → i < length parts → p ≡ get_or parts i p → (p.database == d) ≡ true
+  pub fit_parts_none : (i next : ℕ) (p : Part S) → i < length parts → p ≡ get_or parts i p → (p.database == d) ≡ true
       → ((rest : List Receipt) → Begins (drop next receipts) (receipts_of session p.entries) rest → ⊥) → FitParts i next
       → (rest : List Receipt) → Begins receipts (receipts_of session (entries_of (parts_of d parts))) rest → ⊥
   fit_parts_none i next p below at of none fits rest all =
@@ -141,15 +141,15 @@ module _ {S : Type 0} (d session : ℕ) (receipts : List Receipt) (parts : List 
 
   pub fit_parts_end : (i next : ℕ) → length parts ≤ i → FitParts i next → Begins receipts (receipts_of session (entries_of (parts_of d parts))) (drop next receipts)
   fit_parts_end i next past fits =
-      (fits (drop next receipts)).1 (sym (ap (λ (ps : List (Piece S)). receipts_of session (entries_of (parts_of d ps)) ++ drop next receipts) (drop_all i parts past)))
+      (fits (drop next receipts)).1 (sym (ap (λ (ps : List (Part S)). receipts_of session (entries_of (parts_of d ps)) ++ drop next receipts) (drop_all i parts past)))
 
 -- what comes behind the receipts of the parts is just that of the last transcript
-pub last_fits : {S : Type 0} (session : ℕ) (receipts left : List Receipt) (parts : List (Piece S)) (last : List Entry)
+pub last_fits : {S : Type 0} (session : ℕ) (receipts left : List Receipt) (parts : List (Part S)) (last : List Entry)
     → Begins receipts (receipts_of session (entries_of parts)) left → receipts ≡ receipts_of session (entries_of parts ++ last) → left ≡ receipts_of session last
 last_fits session receipts left parts last front all =
     append_cancel_left (receipts_of session (entries_of parts)) left (receipts_of session last) (sym front ∙ all ∙ receipts_append session (entries_of parts) last)
 
-pub all_fit : {S : Type 0} (session : ℕ) (receipts left : List Receipt) (parts : List (Piece S)) (last : List Entry)
+pub all_fit : {S : Type 0} (session : ℕ) (receipts left : List Receipt) (parts : List (Part S)) (last : List Entry)
     → Begins receipts (receipts_of session (entries_of parts)) left → left ≡ receipts_of session last → receipts ≡ receipts_of session (entries_of parts ++ last)
 all_fit session receipts left parts last front rest =
     front ∙ ap (λ (l : List Receipt). receipts_of session (entries_of parts) ++ l) rest ∙ sym (receipts_append session (entries_of parts) last)

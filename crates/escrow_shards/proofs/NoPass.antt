@@ -6,11 +6,11 @@ use Rattle.escrow_transcript.specs.declared.entry.Entry.{Entry}
 use Rattle.escrow_shards.specs.declared.cause.Cause.{Cause}
 use Rattle.escrow_shards.specs.declared.cause.Cause.TheVariants as cause
 use Rattle.escrow_shards.specs.declared.receipt.Receipt.{Receipt}
-use Rattle.escrow_shards.specs.Closing.{Closing}
+use Rattle.escrow_shards.specs.Closed.{Closed}
 use Rattle.escrow_shards.specs.Found.{IsOfNoPass}
-use Rattle.escrow_shards.specs.Piece.{Piece, parts_of, entries_of}
+use Rattle.escrow_shards.specs.Part.{Part, parts_of, entries_of}
 use Rattle.escrow_shards.specs.Receipts.{receipts_of}
-use Rattle.escrow_shards.specs.Seat.{Seat, AreAllSeats}
+use Rattle.escrow_shards.specs.Pass.{Pass, AreAllPasses}
 use Rattle.escrow_shards.specs.Whole.{HasItsReceipts, HaveParts, IsTrueOf}
 use Rattle.escrow_shards.proofs.Following.{parts_here, parts_past}
 use Rattle.escrow_shards.proofs.Matching.{beside, receipts_append, receipts_cons, receipts_here}
@@ -38,28 +38,28 @@ has_receipt k (x ∷ xs) (suc i) e below at of none =
     (elim (x.session == k) as (λ (b : Bool). beside b x (receipts_of k xs) ≡ [] → ⊥) [ true ↦ λ is. absurd (cc) | false ↦ later ])
     (sym (receipts_cons k x xs) ∙ none)
 
-module _ {S : Type 0} (d : ℕ) (parts : List (Piece S)) where
+module _ {S : Type 0} (d : ℕ) (parts : List (Part S)) where
   -- what holds of all that is left holds of all
   abbrev pub AllLeft : (Entry → Type 0) → ℕ → Type 0
   AllLeft P i = AllByRecursion P (entries_of (parts_of d (drop i parts))) → AllByRecursion P (entries_of (parts_of d parts))
 
-  pub all_past : (P : Entry → Type 0) (i : ℕ) (p : Piece S) → i < length parts → p ≡ get_or parts i p → (p.database == d) ≡ false → AllLeft P i → AllLeft P (i + 1)
-  all_past P i p below at of left rest = left (subst (λ (ps : List (Piece S)). AllByRecursion P (entries_of ps)) (sym (parts_past d parts i p below at of)) rest)
+  pub all_past : (P : Entry → Type 0) (i : ℕ) (p : Part S) → i < length parts → p ≡ get_or parts i p → (p.database == d) ≡ false → AllLeft P i → AllLeft P (i + 1)
+  all_past P i p below at of left rest = left (subst (λ (ps : List (Part S)). AllByRecursion P (entries_of ps)) (sym (parts_past d parts i p below at of)) rest)
 
-  pub all_here : (P : Entry → Type 0) (i : ℕ) (p : Piece S) → i < length parts → p ≡ get_or parts i p → (p.database == d) ≡ true → AllByRecursion P p.entries
+  pub all_here : (P : Entry → Type 0) (i : ℕ) (p : Part S) → i < length parts → p ≡ get_or parts i p → (p.database == d) ≡ true → AllByRecursion P p.entries
       → AllLeft P i → AllLeft P (i + 1)
   all_here P i p below at of its left rest =
-      left (subst (λ (ps : List (Piece S)). AllByRecursion P (entries_of ps)) (sym (parts_here d parts i p below at of))
+      left (subst (λ (ps : List (Part S)). AllByRecursion P (entries_of ps)) (sym (parts_here d parts i p below at of))
       (all_append P p.entries (entries_of (parts_of d (drop (i + 1) parts))) its rest))
 
   -- a session that has no entry has none in what is left
   abbrev pub NoneLeft : ℕ → ℕ → Type 0
   NoneLeft i k = receipts_of k (entries_of (parts_of d parts)) ≡ [] → receipts_of k (entries_of (parts_of d (drop i parts))) ≡ []
 
-  pub none_past : (i k : ℕ) (p : Piece S) → i < length parts → p ≡ get_or parts i p → (p.database == d) ≡ false → NoneLeft i k → NoneLeft (i + 1) k
-  none_past i k p below at of left none = ap (λ (ps : List (Piece S)). receipts_of k (entries_of ps)) (sym (parts_past d parts i p below at of)) ∙ left none
+  pub none_past : (i k : ℕ) (p : Part S) → i < length parts → p ≡ get_or parts i p → (p.database == d) ≡ false → NoneLeft i k → NoneLeft (i + 1) k
+  none_past i k p below at of left none = ap (λ (ps : List (Part S)). receipts_of k (entries_of ps)) (sym (parts_past d parts i p below at of)) ∙ left none
 
-  pub none_at : (i k : ℕ) (p : Piece S) → i < length parts → p ≡ get_or parts i p → (p.database == d) ≡ true → NoneLeft i k
+  pub none_at : (i k : ℕ) (p : Part S) → i < length parts → p ≡ get_or parts i p → (p.database == d) ≡ true → NoneLeft i k
       → receipts_of k (entries_of (parts_of d parts)) ≡ [] → (receipts_of k p.entries ≡ []) × (receipts_of k (entries_of (parts_of d (drop (i + 1) parts))) ≡ [])
   none_at i k p below at of left none =
       both_empty (receipts_of k p.entries) (receipts_of k (entries_of (parts_of d (drop (i + 1) parts)))) (sym (receipts_here d k parts i p below at of) ∙ left none)
@@ -69,9 +69,9 @@ pub none_in : (k : ℕ) (xs ys : List Entry) → receipts_of k (xs ++ ys) ≡ []
 none_in k xs ys none = both_empty (receipts_of k xs) (receipts_of k ys) (sym (receipts_append k xs ys) ∙ none)
 
 -- a cause that tells of no pass is true, where passes and parts and receipts are as they should be
-pub of_no_pass : {S : Type 0} (sessions : ℕ) (seats : List Seat) (parts : List (Piece S)) (closed : List (Closing S)) (cause : Cause) → AreAllSeats (length closed) sessions seats
-    → HaveParts (length closed) parts closed → AllByRecursion (HasItsReceipts parts closed) seats → IsOfNoPass sessions parts closed cause → IsTrueOf sessions seats parts closed cause
-of_no_pass sessions seats parts closed (cause.Receipts d k) all have its found = (all, (have, inr (its, found)))
-of_no_pass sessions seats parts closed cause.Passes all have its found = absurd found
-of_no_pass sessions seats parts closed (cause.Parts d) all have its found = absurd found
-of_no_pass sessions seats parts closed cause.Memory all have its found = absurd found
+pub of_no_pass : {S : Type 0} (sessions : ℕ) (passes : List Pass) (parts : List (Part S)) (closed : List (Closed S)) (cause : Cause) → AreAllPasses (length closed) sessions passes
+    → HaveParts (length closed) parts closed → AllByRecursion (HasItsReceipts parts closed) passes → IsOfNoPass sessions parts closed cause → IsTrueOf sessions passes parts closed cause
+of_no_pass sessions passes parts closed (cause.Receipts d k) all have its found = (all, (have, inr (its, found)))
+of_no_pass sessions passes parts closed cause.Passes all have its found = absurd found
+of_no_pass sessions passes parts closed (cause.Parts d) all have its found = absurd found
+of_no_pass sessions passes parts closed cause.Memory all have its found = absurd found

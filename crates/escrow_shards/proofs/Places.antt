@@ -3,7 +3,7 @@ use Rattle.std.proofs.Common.{◌≡◌, ℕ, ◌+◌, ◌<◌, ◌≤◌, arith
 use Rattle.std.specs.List.{AllByRecursion, slice_get}
 use Rattle.std.proofs.lemmas.Option.{slice_get_read}
 use Rattle.escrow_shards.specs.Found.{IsAmong}
-use Rattle.escrow_shards.specs.Seat.{Seat, IsSeat}
+use Rattle.escrow_shards.specs.Pass.{Pass, IsPassOf}
 
 -- the item of a place
 pub there : {X : Type 0} (xs : List X) (i : ℕ) (x : X) → i < length xs → x ≡ get_or xs i x → slice_get xs i ≡ Some x
@@ -16,8 +16,8 @@ at_place P xs i x below at holds y found =
     let same : x ≡ y = cc in
     subst P same holds
 
--- seats are of the databases that there are
-pub all_among : (databases sessions : ℕ) (seats : List Seat) → AllByRecursion (IsSeat databases sessions) seats → AllByRecursion (IsAmong databases) seats
+-- passes are of the databases that there are
+pub all_among : (databases sessions : ℕ) (passes : List Pass) → AllByRecursion (IsPassOf databases sessions) passes → AllByRecursion (IsAmong databases) passes
 all_among databases sessions [] all = tt
 all_among databases sessions (s ∷ ss) all = (all.0.database, all_among databases sessions ss all.1)
 

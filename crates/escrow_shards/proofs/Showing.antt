@@ -19,7 +19,7 @@ use Rattle.escrow_transcript.proofs.Legals.{one_more_is_legal}
 use Rattle.escrow_history.specs.Audited.{Audited}
 use Rattle.escrow_history.specs.Calls.{Appends, Stays}
 use Rattle.escrow_stats.specs.Watching.{Board, IsPrefix}
-use Rattle.escrow_shards.specs.Piece.{Piece}
+use Rattle.escrow_shards.specs.Part.{Part}
 use Rattle.escrow_shards.specs.Shown.{doubts_of, EndsWith, IsShown}
 
 doubt_few : (clean : Bool) → doubt clean ≤ 1
@@ -98,7 +98,7 @@ module _ {S : Type 0} (g : Ghosts S) where
     }
 
   -- a part was handed out, or not
-  pub drained_shown : (r : Result (Piece S) Refusal) (old new : Audited S) (b : Board) (parts : Piece S → Type 0) (same : Type 0) → IsShown g old b
+  pub drained_shown : (r : Result (Part S) Refusal) (old new : Audited S) (b : Board) (parts : Part S → Type 0) (same : Type 0) → IsShown g old b
       → IfOk r (λ p. (new.base ≡ p.end) × ((new.entries ≡ []) × parts p))
       → IfOk r (λ p. p.end.before ≡ old.base.before + length old.entries) → new.state ≡ old.state → OnErr r (Stays g old new × same)
       → (HasCleanDisk (state g new.store) → HasCleanDisk (state g old.store)) → IsShown g new b

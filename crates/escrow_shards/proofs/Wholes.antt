@@ -11,14 +11,14 @@ use Rattle.escrow_transcript.specs.declared.base.Base.{Base}
 use Rattle.escrow_transcript.specs.declared.entry.Entry.{Entry}
 use Rattle.escrow_transcript.specs.Legal.{AreSteps, AreNumbered, IsLegal}
 use Rattle.escrow_transcript.proofs.Legals.{legals_join}
-use Rattle.escrow_shards.specs.Closing.{Closing, Follow, WasClean, IsOneRun, IsWhole, all_entries}
+use Rattle.escrow_shards.specs.Closed.{Closed, Follow, WasClean, IsOneRun, IsWhole, all_entries}
 use Rattle.escrow_shards.specs.Found.{IsSettled}
 use Rattle.escrow_shards.specs.Laws.{IsAlwaysClean, CloseHasNoPremise}
-use Rattle.escrow_shards.specs.Piece.{Piece, IsSound, parts_of, entries_of}
+use Rattle.escrow_shards.specs.Part.{Part, IsSound, parts_of, entries_of}
 
 -- sound parts that follow one another, each handed out by a clean disk, are legal with a last transcript
-pub joined : {S : Type 0} (g : Ghosts S) (number : ℕ) (base : Base) (ps : List (Piece S)) (count : ℕ) (last : Base) (entries : List Entry) (end : State)
-    → Follow number base ps count last → AllByRecursion (IsSound g) ps → AllByRecursion (λ (p : Piece S). HasCleanDisk (state g p.store)) ps
+pub joined : {S : Type 0} (g : Ghosts S) (number : ℕ) (base : Base) (ps : List (Part S)) (count : ℕ) (last : Base) (entries : List Entry) (end : State)
+    → Follow number base ps count last → AllByRecursion (IsSound g) ps → AllByRecursion (λ (p : Part S). HasCleanDisk (state g p.store)) ps
     → IsLegal last entries end → IsLegal base (entries_of ps ++ entries) end
 joined g number base [] count last entries end follow sound clean legal = subst (λ (b : Base). IsLegal b entries end) (sym follow.1) legal
 joined g number base (p ∷ ps) count last entries end follow sound clean legal =
@@ -29,24 +29,24 @@ joined g number base (p ∷ ps) count last entries end follow sound clean legal 
     (subst (λ (es : List Entry). IsLegal p.base es end) (sym (append_assoc p.entries (entries_of ps) entries)) whole)
 
 -- so all entries of a database are one run, from the state at its opening
-pub one_run : {S : Type 0} (g : Ghosts S) (d : ℕ) (parts : List (Piece S)) (c : Closing S) → IsSettled g d parts c → AllByRecursion (IsSound g) parts
+pub one_run : {S : Type 0} (g : Ghosts S) (d : ℕ) (parts : List (Part S)) (c : Closed S) → IsSettled g d parts c → AllByRecursion (IsSound g) parts
     → WasClean g d parts c → IsOneRun d parts c
 one_run {S} g d parts c settled sound clean =
     let legal : IsLegal c.opening.base (all_entries d parts c) c.history.state =
     joined g 0 c.opening.base (parts_of d parts) c.parts c.history.base c.history.entries c.history.state settled.whole
-    (all_filter (IsSound g) (λ (p : Piece S). p.database == d) parts sound) clean.at_parts (settled.kept.legal clean.at_close) in
+    (all_filter (IsSound g) (λ (p : Part S). p.database == d) parts sound) clean.at_parts (settled.kept.legal clean.at_close) in
     record {
       run = subst (λ (s : State). AreSteps s (all_entries d parts c) c.history.state) (sym (settled.begun.whole clean.at_opening)) legal.run;
       numbered = subst (λ (n : ℕ). AreNumbered n (all_entries d parts c)) settled.begun.first legal.numbered;
     }
 
-pub whole_from : {S : Type 0} (g : Ghosts S) (d : ℕ) (parts : List (Piece S)) (c : Closing S) → IsSettled g d parts c → AllByRecursion (IsSound g) parts → IsWhole g d parts c
+pub whole_from : {S : Type 0} (g : Ghosts S) (d : ℕ) (parts : List (Part S)) (c : Closed S) → IsSettled g d parts c → AllByRecursion (IsSound g) parts → IsWhole g d parts c
 whole_from g d parts c settled sound = record { whole = settled.whole; run = one_run g d parts c settled sound }
 
 -- a store that is always clean was clean at each moment
 pub close_has_no_premise : {S : Type 0} (g : Ghosts S) → IsAlwaysClean g → CloseHasNoPremise g
 close_has_no_premise {S} g always d parts c = record {
   at_opening = always c.opening.store;
-  at_parts = all_of (λ (p : Piece S). HasCleanDisk (state g p.store)) (λ p. always p.store) (parts_of d parts);
+  at_parts = all_of (λ (p : Part S). HasCleanDisk (state g p.store)) (λ p. always p.store) (parts_of d parts);
   at_close = always c.history.store;
 }

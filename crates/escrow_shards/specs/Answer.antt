@@ -6,7 +6,7 @@ use Rattle.escrow_statement.specs.declared.statement.Statement.{Statement}
 use Rattle.escrow_history.specs.Calls.{IsAnswer, IsFailed}
 use Rattle.escrow_shards.specs.declared.answer.Answer.{Answer}
 use Rattle.escrow_shards.specs.declared.answer.Answer.TheVariants.{Served, Unserved}
-use Rattle.escrow_shards.specs.Seat.{Seat}
+use Rattle.escrow_shards.specs.Pass.{Pass}
 
 -- why a statement isn't served: 51, 52 or 60
 abbrev pub IsUnserved : Refusal → Type 0
@@ -14,7 +14,7 @@ IsUnserved r = (r ≡ refusal.TranscriptFull) ⊎ IsFailed r
 
 -- The answer to a statement. If the statement was served, the reply is none of 51, 52 and 60, and the pass has one more
 -- receipt, with the statement and this reply. Otherwise the pass is unchanged.
-abbrev pub IsAnswered : Answer → Statement → Seat → Seat → Type 0
+abbrev pub IsAnswered : Answer → Statement → Pass → Pass → Type 0
 IsAnswered (Served reply) asked old new =
     IsAnswer reply
     × ((number : ℕ) × (new ≡ record old { receipts = old.receipts ++ (record { number = number; statement = asked; reply = reply }) ∷ [] }))

@@ -5,36 +5,36 @@ use Rattle.sqlite_trees.specs.declared.store.Store.{Ghosts}
 use Rattle.escrow_history.specs.Audited.{IsKept}
 use Rattle.escrow_shards.specs.declared.cause.Cause.{Cause}
 use Rattle.escrow_shards.specs.declared.cause.Cause.TheVariants as cause
-use Rattle.escrow_shards.specs.Begun.{IsBegun}
-use Rattle.escrow_shards.specs.Closing.{Closing, HasAllParts, IsWhole}
-use Rattle.escrow_shards.specs.Piece.{Piece}
-use Rattle.escrow_shards.specs.Seat.{Seat, AreAllSeats}
+use Rattle.escrow_shards.specs.Opening.{IsOpening}
+use Rattle.escrow_shards.specs.Closed.{Closed, HasAllParts, IsWhole}
+use Rattle.escrow_shards.specs.Part.{Part}
+use Rattle.escrow_shards.specs.Pass.{Pass, AreAllPasses}
 use Rattle.escrow_shards.specs.Whole.{AreOfSessions, HasItsReceipts, LacksPass}
 
--- a seat's database is one of the first `databases` databases
-abbrev pub IsAmong : ℕ → Seat → Type 0
-IsAmong databases seat = seat.database < databases
+-- a pass's database is one of the first `databases` databases
+abbrev pub IsAmong : ℕ → Pass → Type 0
+IsAmong databases pass = pass.database < databases
 
 -- all parts of a database are there, and what its types keep holds
-pub record IsSettled {S : Type 0} (g : Ghosts S) (d : ℕ) (parts : List (Piece S)) (c : Closing S) : Type 0 where
+pub record IsSettled {S : Type 0} (g : Ghosts S) (d : ℕ) (parts : List (Part S)) (c : Closed S) : Type 0 where
   pub whole : HasAllParts d parts c
-  pub begun : IsBegun g c.opening
+  pub begun : IsOpening g c.opening
   pub kept : IsKept g c.history
 
 -- each database is settled like this
-abbrev pub AreSettled : {S : Type 0} → Ghosts S → List (Piece S) → List (Closing S) → Type 0
-AreSettled {S} g parts closed = (d : ℕ) (c : Closing S) → slice_get closed d ≡ Some c → IsSettled g d parts c
+abbrev pub AreSettled : {S : Type 0} → Ghosts S → List (Part S) → List (Closed S) → Type 0
+AreSettled {S} g parts closed = (d : ℕ) (c : Closed S) → slice_get closed d ≡ Some c → IsSettled g d parts c
 
 -- a cause says that a session of a database has entries, and no pass
-abbrev pub IsOfNoPass : {S : Type 0} → ℕ → List (Piece S) → List (Closing S) → Cause → Type 0
+abbrev pub IsOfNoPass : {S : Type 0} → ℕ → List (Part S) → List (Closed S) → Cause → Type 0
 IsOfNoPass sessions parts closed (cause.Receipts d k) = LacksPass sessions d k parts closed
 IsOfNoPass sessions parts closed cause.Passes = ⊥
 IsOfNoPass sessions parts closed (cause.Parts d) = ⊥
 IsOfNoPass sessions parts closed cause.Memory = ⊥
 
 -- everything that a close finds, except which databases they are
-pub record AreFound {S : Type 0} (g : Ghosts S) (sessions : ℕ) (seats : List Seat) (parts : List (Piece S)) (closed : List (Closing S)) : Type 0 where
-  pub all_seats : AreAllSeats (length closed) sessions seats
-  pub each : (d : ℕ) (c : Closing S) → slice_get closed d ≡ Some c → IsWhole g d parts c
-  pub receipts : AllByRecursion (HasItsReceipts parts closed) seats
+pub record AreFound {S : Type 0} (g : Ghosts S) (sessions : ℕ) (passes : List Pass) (parts : List (Part S)) (closed : List (Closed S)) : Type 0 where
+  pub all_seats : AreAllPasses (length closed) sessions passes
+  pub each : (d : ℕ) (c : Closed S) → slice_get closed d ≡ Some c → IsWhole g d parts c
+  pub receipts : AllByRecursion (HasItsReceipts parts closed) passes
   pub asked : AreOfSessions sessions parts closed

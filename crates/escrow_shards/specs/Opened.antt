@@ -6,7 +6,7 @@ use Rattle.sqlite.specs.State.{HasCleanDisk}
 use Rattle.sqlite_trees.specs.declared.store.Store.{Ghosts}
 use Rattle.escrow_core.specs.Database.{Database}
 use Rattle.escrow_machine.specs.State.{has_open}
-use Rattle.escrow_shards.specs.Begun.{Begun}
+use Rattle.escrow_shards.specs.Opening.{Opening}
 
 -- whether something is open in some database
 abbrev pub any_open : {S : Type 0} → List (Database S) → Bool
@@ -25,5 +25,5 @@ AreRead g (o ∷ olds) [] = ⊥
 AreRead g (o ∷ olds) (n ∷ news) = IsRead g o n × AreRead g olds news
 
 -- a database as it was at an opening
-abbrev pub database_at : {S : Type 0} → Begun S → Database S
+abbrev pub database_at : {S : Type 0} → Opening S → Database S
 database_at b = record { store = b.store; state = b.state }

@@ -12,13 +12,13 @@ use Rattle.escrow_stats.specs.Watching.{Board, board_code, IsPrefix}
 
 -- what contracts see of a watched database: the database with its transcript, how many parts of its history were handed
 -- out, and the board
-pub record Viewed (S : Type 0) : Type 0 where
+pub record Watched (S : Type 0) : Type 0 where
   pub history : Audited S
   pub parts : ℕ
   pub board : Board
 
-abbrev pub viewed_code : {S : Type 0} → Coded S → Coded (Viewed S)
-viewed_code {S} store =
+abbrev pub watched_code : {S : Type 0} → Coded S → Coded (Watched S)
+watched_code {S} store =
     code_by (Audited S × (ℕ × Board)) (coded× (audited_code store) (coded× coded_ℕ board_code))
     (λ w. (w.history, (w.parts, w.board))) (λ p. record { history = p.0; parts = p.1.0; board = p.1.1 }) (λ _. refl)
 

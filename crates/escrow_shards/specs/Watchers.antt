@@ -3,16 +3,16 @@ use Rattle.std.specs.Prelude.{◌≡◌, ◌⊎◌, ℕ, List, [], ◌∷◌, �
 use Rattle.escrow_num.specs.declared.refusal.Refusal.TheVariants as refusal
 use Rattle.escrow_history.specs.Calls.{IsNotBegun}
 use Rattle.escrow_stats.specs.Watching.{Board, Watcher, IsNewWatcher}
-use Rattle.escrow_shards.specs.Begun.{Begun}
+use Rattle.escrow_shards.specs.Opening.{Opening}
 use Rattle.escrow_shards.specs.declared.cause.Unshared.{Unshared}
 use Rattle.escrow_shards.specs.declared.cause.Unshared.TheVariants as unshared
 
 -- the board of an opening, before anything was served
-abbrev pub new_board : {S : Type 0} → Begun S → Board
+abbrev pub new_board : {S : Type 0} → Opening S → Board
 new_board o = record { base = o.base; entries = []; shown = []; doubts = 0 }
 
 -- `count` watchers that have read nothing for each opening, in order of the openings
-abbrev pub AreNewWatchers : {S : Type 0} → ℕ → List (Begun S) → List Watcher → Type 0
+abbrev pub AreNewWatchers : {S : Type 0} → ℕ → List (Opening S) → List Watcher → Type 0
 AreNewWatchers count [] watchers = watchers ≡ []
 AreNewWatchers count (o ∷ openings) watchers =
     (mine : List Watcher) × ((others : List Watcher) × ((watchers ≡ mine ++ others) × ((length mine ≡ count) × (All (IsNewWatcher o.base) mine × AreNewWatchers count openings others))))

@@ -1,7 +1,7 @@
 //! Entries of sessions that have no pass.
 ghost use Rattle.std.specs.Prelude.{◌≡◌, ◌<◌, ◌++◌, [], IfSome, IfNone};
 ghost use Rattle.std.specs.List.{AllByRecursion};
-ghost use Rattle.escrow_shards.specs.Piece.{parts_of, entries_of};
+ghost use Rattle.escrow_shards.specs.Part.{parts_of, entries_of};
 ghost use Rattle.escrow_shards.specs.Receipts.{receipts_of};
 ghost use Rattle.escrow_shards.specs.Found.{IsOfNoPass};
 ghost use Rattle.escrow_shards.specs.Whole.{AreOfSessions, IsOfSessions};

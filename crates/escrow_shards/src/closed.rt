@@ -21,11 +21,11 @@ pub struct Closed<S: Alter> {
 }
 
 impl<S: Alter> Model for Closed<S> {
-    ghost use Rattle.escrow_shards.specs.Closing.{Closing, closing_code};
+    ghost use Rattle.escrow_shards.specs.Closed.{Closed, closed_code};
 
-    ghost Value = { Closing S };
+    ghost Value = { Closed S };
 
-    ghost coded = { closing_code S.code };
+    ghost coded = { closed_code S.code };
 
     ghost view = { λ c. record { opening = c.opening; history = c.audited; parts = c.parts } };
 }
@@ -34,8 +34,8 @@ impl<S: Alter> Closed<S> {
     ghost use Rattle.std.specs.Prelude.{◌≡◌, ◌↔◌, ◌<◌, [], IfSome, IfNone, IsTrue};
     ghost use Rattle.std.specs.List.{AllByRecursion};
     ghost use Rattle.escrow_history.specs.Audited.{IsKept};
-    ghost use Rattle.escrow_shards.specs.Begun.{IsBegun};
-    ghost use Rattle.escrow_shards.specs.Closing.{HasAllParts, all_entries};
+    ghost use Rattle.escrow_shards.specs.Opening.{IsOpening};
+    ghost use Rattle.escrow_shards.specs.Closed.{HasAllParts, all_entries};
     ghost use Rattle.escrow_shards.specs.Receipts.{receipts_of};
     ghost use Rattle.escrow_shards.specs.Whole.{IsOfSessions};
 
@@ -86,7 +86,7 @@ impl<S: Alter> Closed<S> {
     /// Returns whether all parts of its history are there, in order.
     pub(crate) fn has_all_parts(&self, database: usize, parts: &[Part<S>]) -> bool
         ensures whole { IsTrue result ↔ HasAllParts database parts.now self.now }
-        ensures begun { IsBegun S.Store self.now.opening }
+        ensures begun { IsOpening S.Store self.now.opening }
         ensures kept { IsKept S.Store self.now.history }
     {
         parts_follow(

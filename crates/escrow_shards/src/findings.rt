@@ -9,7 +9,7 @@ use crate::closed::Closed;
 use crate::follow::tell_parts;
 use crate::part::Part;
 use crate::pass::Pass;
-use crate::seats::are_all_seats;
+use crate::passes::are_all_passes;
 use sqlite::Alter;
 
 /// Returns the first cause of a mismatch, or `None` if everything fits together. It tests passes,
@@ -23,7 +23,7 @@ pub(crate) fn cause_of<S: Alter>(
     ensures none { IfNone result (AreFound S.Store sessions passes.now parts.now closed.now) }
     ensures some { IfSome result (λ cause. IsTrueOf sessions passes.now parts.now closed.now cause) }
 {
-    if !are_all_seats(closed.len(), sessions, passes) {
+    if !are_all_passes(closed.len(), sessions, passes) {
         return Some(Cause::Passes);
     }
     tell_parts(parts);

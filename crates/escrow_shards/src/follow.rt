@@ -1,7 +1,7 @@
 ghost use Rattle.std.specs.Prelude.{◌≡◌, ◌↔◌, IsTrue};
 ghost use Rattle.std.specs.List.{AllByRecursion};
-ghost use Rattle.escrow_shards.specs.Closing.{Follow};
-ghost use Rattle.escrow_shards.specs.Piece.{IsSound, parts_of};
+ghost use Rattle.escrow_shards.specs.Closed.{Follow};
+ghost use Rattle.escrow_shards.specs.Part.{IsSound, parts_of};
 
 use crate::part::Part;
 use escrow_transcript::Base;

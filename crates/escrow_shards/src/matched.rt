@@ -1,6 +1,6 @@
 ghost use Rattle.std.specs.Prelude.{◌≡◌, ◌↔◌, ◌≤◌, ◌==◌, ◌++◌, List, length, drop, IfSome, IfNone, IsTrue};
 ghost use Rattle.escrow_shards.specs.declared.receipt.Receipt.{Receipt as Kept};
-ghost use Rattle.escrow_shards.specs.Piece.{parts_of, entries_of};
+ghost use Rattle.escrow_shards.specs.Part.{parts_of, entries_of};
 ghost use Rattle.escrow_shards.specs.Receipts.{receipts_of};
 
 use crate::part::Part;

@@ -14,15 +14,15 @@ pub struct Opening<S: Alter> {
 }
 
 impl<S: Alter> Model for Opening<S> {
-    ghost use Rattle.escrow_shards.specs.Begun.{Begun, begun_code, IsBegun};
+    ghost use Rattle.escrow_shards.specs.Opening.{Opening, opening_code, IsOpening};
 
-    ghost Value = { Begun S };
+    ghost Value = { Opening S };
 
-    ghost coded = { begun_code S.code };
+    ghost coded = { opening_code S.code };
 
     ghost view = { λ o. record { base = o.base; store = o.was.value.store; state = o.was.value.state } };
 
-    ghost invariant = { λ o. IsBegun S.Store (record { base = o.base; store = o.was.value.store; state = o.was.value.state }) };
+    ghost invariant = { λ o. IsOpening S.Store (record { base = o.base; store = o.was.value.store; state = o.was.value.state }) };
 }
 
 impl<S: Alter> Opening<S> {
@@ -30,7 +30,7 @@ impl<S: Alter> Opening<S> {
     ghost use Rattle.sqlite.specs.Held.{state};
     ghost use Rattle.sqlite.specs.State.{HasCleanDisk};
     ghost use Rattle.escrow_transcript.specs.Image.{started};
-    ghost use Rattle.escrow_shards.specs.Begun.{IsBegun};
+    ghost use Rattle.escrow_shards.specs.Opening.{IsOpening};
 
     /// Returns the opening of a database as it is, at a base.
     pub(crate) fn new(base: Base, database: &Database<S>) -> Self
@@ -48,7 +48,7 @@ impl<S: Alter> Opening<S> {
     /// written, the base is the whole state of the database.
     pub fn base(&self) -> &Base
         ensures base { result.now ≡ self.now.base }
-        ensures begun { IsBegun S.Store self.now }
+        ensures begun { IsOpening S.Store self.now }
     {
         &self.base
     }

@@ -17,11 +17,11 @@ pub struct Part<S: Alter> {
 }
 
 impl<S: Alter> Model for Part<S> {
-    ghost use Rattle.escrow_shards.specs.Piece.{Piece, piece_code, IsSound};
+    ghost use Rattle.escrow_shards.specs.Part.{Part, part_code, IsSound};
 
-    ghost Value = { Piece S };
+    ghost Value = { Part S };
 
-    ghost coded = { piece_code S.code };
+    ghost coded = { part_code S.code };
 
     ghost view = { λ p. record { database = p.database; number = p.number; base = p.transcript.base; entries = p.transcript.entries; end = p.end; store = p.was.value.store } };
 
@@ -34,7 +34,7 @@ impl<S: Alter> Part<S> {
     ghost use Rattle.sqlite.specs.State.{HasCleanDisk};
     ghost use Rattle.escrow_transcript.specs.Image.{started};
     ghost use Rattle.escrow_transcript.specs.Legal.{IsLegal};
-    ghost use Rattle.escrow_shards.specs.Piece.{IsSound};
+    ghost use Rattle.escrow_shards.specs.Part.{IsSound};
 
     /// Returns a part that was just handed out of a database.
     pub(crate) fn new(

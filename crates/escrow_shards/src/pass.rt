@@ -24,9 +24,9 @@ impl Drop for Pass {
 }
 
 impl Model for Pass {
-    ghost use Rattle.escrow_shards.specs.Seat.{Seat};
+    ghost use Rattle.escrow_shards.specs.Pass.{Pass};
 
-    ghost Value = { Seat };
+    ghost Value = { Pass };
 
     ghost view = { λ p. record { database = p.database; session = p.session; receipts = p.receipts.items } };
 }
@@ -34,11 +34,11 @@ impl Model for Pass {
 impl Pass {
     ghost use Rattle.std.specs.Prelude.{◌≡◌, ◌↔◌, ◌∷◌, [], ◌++◌, IsTrue, OnOk, OnErr, vec_len};
     ghost use Rattle.escrow_num.specs.Session.{IsSession};
-    ghost use Rattle.escrow_shards.specs.Seat.{is_at, IsSeat, new_seat};
+    ghost use Rattle.escrow_shards.specs.Pass.{is_at, IsPassOf, new_pass};
 
     /// Returns a pass without receipts. Takes no memory.
     pub(crate) fn new(alloc: Global, database: usize, session: Session) -> Self
-        ensures { result ≡ new_seat database session }
+        ensures { result ≡ new_pass database session }
     {
         Pass {
             database,
@@ -79,8 +79,8 @@ impl Pass {
 
     /// Returns whether the pass is for one of the first `databases` databases and one of the first
     /// `sessions` sessions.
-    pub(crate) fn is_seat(&self, databases: usize, sessions: u8) -> bool
-        ensures { IsTrue result ↔ IsSeat databases sessions self.now }
+    pub(crate) fn is_pass_of(&self, databases: usize, sessions: u8) -> bool
+        ensures { IsTrue result ↔ IsPassOf databases sessions self.now }
     {
         self.database < databases && self.session.get() <= sessions
     }

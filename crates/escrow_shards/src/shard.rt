@@ -27,11 +27,11 @@ pub(crate) struct Shard<S: Alter, L> {
 }
 
 impl<S: Alter, L> Model for Shard<S, L> {
-    ghost use Rattle.escrow_shards.specs.Begun.{Begun, begun_code};
+    ghost use Rattle.escrow_shards.specs.Opening.{Opening, opening_code};
 
-    ghost Value = { Begun S };
+    ghost Value = { Opening S };
 
-    ghost coded = { begun_code S.code };
+    ghost coded = { opening_code S.code };
 
     ghost view = { λ s. s.opening };
 }

@@ -29,11 +29,11 @@ pub struct Shared<S: Alter, L = Locked<S>> {
 impl<S: Alter, L> Model for Shared<S, L> {
     ghost use Rattle.std.specs.Prelude.{◌≤◌, vec_len};
     ghost use Rattle.escrow_shards.specs.declared.shared.TheConstants.{MAX_DATABASES};
-    ghost use Rattle.escrow_shards.specs.Sharing.{Sharing, sharing_code};
+    ghost use Rattle.escrow_shards.specs.Shared.{Shared, shared_code};
 
-    ghost Value = { Sharing S };
+    ghost Value = { Shared S };
 
-    ghost coded = { sharing_code S.code };
+    ghost coded = { shared_code S.code };
 
     ghost view = { λ s. record { openings = s.shards.items; sessions = s.sessions } };
 
@@ -42,7 +42,7 @@ impl<S: Alter, L> Model for Shared<S, L> {
 
 impl<S: Alter, L: UnderLock<S>> Shared<S, L> {
     ghost use Rattle.std.specs.Prelude.{◌≡◌, ◌↔◌, length, IsTrue};
-    ghost use Rattle.escrow_shards.specs.Sharing.{HasSeat};
+    ghost use Rattle.escrow_shards.specs.Shared.{HasPass};
 
     /// Returns how many databases are shared. They are counted from 0.
     pub fn databases(&self) -> usize
@@ -59,8 +59,8 @@ impl<S: Alter, L: UnderLock<S>> Shared<S, L> {
     }
 
     /// Returns whether a pass is for one of these databases and sessions, as calls require.
-    pub fn has_seat(&self, pass: &Pass) -> bool
-        ensures { IsTrue result ↔ HasSeat self.now pass.now }
+    pub fn has_pass(&self, pass: &Pass) -> bool
+        ensures { IsTrue result ↔ HasPass self.now pass.now }
     {
         pass.database() < self.databases() && pass.session().get() <= self.sessions
     }

@@ -21,11 +21,11 @@ pub(crate) struct Start<S: Alter> {
 
 impl<S: Alter> Model for Start<S> {
     ghost use Rattle.std.specs.Prelude.{◌≡◌};
-    ghost use Rattle.escrow_shards.specs.Begun.{Begun, begun_code};
+    ghost use Rattle.escrow_shards.specs.Opening.{Opening, opening_code};
 
-    ghost Value = { Begun S };
+    ghost Value = { Opening S };
 
-    ghost coded = { begun_code S.code };
+    ghost coded = { opening_code S.code };
 
     ghost view = { λ s. s.opening };
 

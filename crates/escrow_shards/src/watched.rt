@@ -30,11 +30,11 @@ pub struct Watched<S: Alter, R: Wait + Drop> {
 }
 
 impl<S: Alter, R: Wait + Drop> Model for Watched<S, R> {
-    ghost use Rattle.escrow_shards.specs.Shown.{Viewed, viewed_code, IsShown};
+    ghost use Rattle.escrow_shards.specs.Shown.{Watched, watched_code, IsShown};
 
-    ghost Value = { Viewed S };
+    ghost Value = { Watched S };
 
-    ghost coded = { viewed_code S.code };
+    ghost coded = { watched_code S.code };
 
     ghost view = { λ w. record { history = w.locked.audited; parts = w.locked.parts; board = w.board } };
 

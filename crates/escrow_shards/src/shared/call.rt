@@ -15,7 +15,7 @@ impl<S: Alter, L: UnderLock<S>> Shared<S, L> {
     ghost use Rattle.std.specs.Prelude.{◌≡◌, ◌<◌, length, IfOk, IfErr};
     ghost use Rattle.escrow_history.specs.Calls.{IsNotDrained};
     ghost use Rattle.escrow_shards.specs.Answer.{IsAnswered};
-    ghost use Rattle.escrow_shards.specs.Sharing.{HasSeat};
+    ghost use Rattle.escrow_shards.specs.Shared.{HasPass};
 
     /// Serves one statement of the session of a pass, under the lock of its database. If the
     /// statement is served, the pass has one more receipt; otherwise the pass is unchanged. Room
@@ -27,7 +27,7 @@ impl<S: Alter, L: UnderLock<S>> Shared<S, L> {
         pass: &mut Pass,
         statement: &Statement,
     ) -> Answer
-        requires { HasSeat self.now pass.old }
+        requires { HasPass self.now pass.old }
         ensures { IsAnswered result statement.now pass.old pass.new }
     {
         self.call_gated(rt, alloc, pass, statement, &NoGate)
@@ -43,7 +43,7 @@ impl<S: Alter, L: UnderLock<S>> Shared<S, L> {
         statement: &Statement,
         gate: &G,
     ) -> Answer
-        requires { HasSeat self.now pass.old }
+        requires { HasPass self.now pass.old }
         ensures { IsAnswered result statement.now pass.old pass.new }
     {
         let n = (pass.receipts.len() as u64).saturating_add(1);

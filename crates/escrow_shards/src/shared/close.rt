@@ -1,6 +1,6 @@
 ghost use Rattle.std.specs.Prelude.{◌≡◌, ◌≤◌, map, vec_len};
 ghost use Rattle.escrow_shards.specs.declared.shared.TheConstants.{MAX_DATABASES};
-ghost use Rattle.escrow_shards.specs.Closing.{opening_of};
+ghost use Rattle.escrow_shards.specs.Closed.{opening_of};
 
 use crate::cause::{Audit, Mismatch};
 use crate::closed::Closed;
@@ -15,7 +15,7 @@ use sqlite::Alter;
 
 impl<S: Alter + Drop, L: UnderLock<S> + Drop> Shared<S, L> {
     ghost use Rattle.std.specs.Prelude.{◌≡◌, map, IfOk, IfErr};
-    ghost use Rattle.escrow_shards.specs.Closing.{opening_of};
+    ghost use Rattle.escrow_shards.specs.Closed.{opening_of};
     ghost use Rattle.escrow_shards.specs.Whole.{AreWhole, IsTrueOf};
 
     /// Ends the sharing. Takes all passes, and all parts that were handed out. Everything fits

@@ -4,7 +4,7 @@ ghost use Rattle.escrow_num.specs.Session.{IsSession};
 ghost use Rattle.escrow_machine.specs.State.{has_open};
 ghost use Rattle.escrow_history.specs.Calls.{IsFailed, IsNotBegun};
 ghost use Rattle.escrow_shards.specs.Opened.{any_open, database_at, AreRead, IsRead};
-ghost use Rattle.escrow_shards.specs.Seat.{new_seats, new_seats_of};
+ghost use Rattle.escrow_shards.specs.Pass.{new_passes, new_passes_of};
 
 use crate::cause::{MakeFault, Unshared};
 use crate::locked::Locked;
@@ -25,8 +25,8 @@ impl<S: Alter + Drop> Shared<S> {
     ghost use Rattle.escrow_num.specs.Session.{IsSession};
     ghost use Rattle.escrow_shards.specs.declared.shared.TheConstants.{MAX_DATABASES};
     ghost use Rattle.escrow_shards.specs.Opened.{any_open, database_at, AreRead};
-    ghost use Rattle.escrow_shards.specs.Seat.{new_seats};
-    ghost use Rattle.escrow_shards.specs.Sharing.{HasSeat};
+    ghost use Rattle.escrow_shards.specs.Pass.{new_passes};
+    ghost use Rattle.escrow_shards.specs.Shared.{HasPass};
     ghost use Rattle.escrow_shards.specs.Watchers.{IsRefused};
 
     /// Puts databases under locks, each with its opening beside it. Makes a pass without receipts
@@ -47,8 +47,8 @@ impl<S: Alter + Drop> Shared<S> {
         requires sessions { IsSession sessions }
         ensures opened { IfOk result (λ r. AreRead S.Store databases.items (map database_at r.0.openings)) }
         ensures sessions { IfOk result (λ r. r.0.sessions ≡ sessions) }
-        ensures passes { IfOk result (λ r. r.1.items ≡ new_seats (length databases.items) sessions) }
-        ensures seats { IfOk result (λ r. All (HasSeat r.0) r.1.items) }
+        ensures passes { IfOk result (λ r. r.1.items ≡ new_passes (length databases.items) sessions) }
+        ensures seats { IfOk result (λ r. All (HasPass r.0) r.1.items) }
         ensures closed { OnOk result (any_open databases.items ≡ false) }
         ensures back { IfErr result (λ f. AreRead S.Store databases.items f.databases.items) }
         ensures only { IfErr result (λ f. IsRefused f.cause) }
@@ -91,7 +91,7 @@ pub(super) fn prepare<S: Alter + Drop, L>(
     requires { IsSession sessions }
     ensures read { AreRead S.Store databases.old.items databases.new.items }
     ensures starts { IfOk result (λ r. map database_at r.starts.items ≡ databases.new.items) }
-    ensures passes { IfOk result (λ r. r.passes.items ≡ new_seats (length databases.old.items) sessions) }
+    ensures passes { IfOk result (λ r. r.passes.items ≡ new_passes (length databases.old.items) sessions) }
     ensures room { IfOk result (λ r. (r.shards.items ≡ []) × (vec_len databases.new ≤ vec_capacity r.shards)) }
     ensures len { vec_len databases.new ≡ vec_len databases.old }
     ensures closed { OnOk result (any_open databases.old.items ≡ false) }
@@ -158,7 +158,7 @@ fn start_of<S: Alter>(alloc: Global, database: &mut Database<S>) -> Result<Start
 /// only if memory is refused.
 fn new_passes(alloc: Global, databases: usize, sessions: u8) -> Result<Vec<Pass>, AllocError>
     requires { IsSession sessions }
-    ensures { IfOk result (λ passes. passes.items ≡ new_seats databases sessions) }
+    ensures { IfOk result (λ passes. passes.items ≡ new_passes databases sessions) }
 {
     let mut passes = Vec::new(alloc);
     for database in 0..databases {
@@ -175,7 +175,7 @@ fn add_passes(
     sessions: u8,
 ) -> Result<(), AllocError>
     requires { IsSession sessions }
-    ensures { OnOk result (passes.new.items ≡ passes.old.items ++ new_seats_of database sessions) }
+    ensures { OnOk result (passes.new.items ≡ passes.old.items ++ new_passes_of database sessions) }
 {
     for before in 0..sessions {
         let Some(session) = Session::new(before + 1) else {

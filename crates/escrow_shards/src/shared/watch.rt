@@ -23,8 +23,8 @@ impl<S: Alter + Drop, R: Wait + Copy + Drop> Shared<S, Watched<S, R>> {
     ghost use Rattle.escrow_stats.specs.declared.board.TheConstants.{MAX_WATCHERS};
     ghost use Rattle.escrow_shards.specs.declared.shared.TheConstants.{MAX_DATABASES};
     ghost use Rattle.escrow_shards.specs.Opened.{any_open, database_at, AreRead};
-    ghost use Rattle.escrow_shards.specs.Seat.{new_seats};
-    ghost use Rattle.escrow_shards.specs.Sharing.{HasSeat};
+    ghost use Rattle.escrow_shards.specs.Pass.{new_passes};
+    ghost use Rattle.escrow_shards.specs.Shared.{HasPass};
     ghost use Rattle.escrow_shards.specs.Watchers.{AreNewWatchers, IsUnshared};
 
     /// Does what [`Shared::make`] does, for databases that are watched. Also makes this many
@@ -49,8 +49,8 @@ impl<S: Alter + Drop, R: Wait + Copy + Drop> Shared<S, Watched<S, R>> {
         requires sessions { IsSession sessions }
         ensures opened { IfOk result (λ r. AreRead S.Store databases.items (map database_at r.0.openings)) }
         ensures sessions { IfOk result (λ r. r.0.sessions ≡ sessions) }
-        ensures passes { IfOk result (λ r. r.1.items ≡ new_seats (length databases.items) sessions) }
-        ensures seats { IfOk result (λ r. All (HasSeat r.0) r.1.items) }
+        ensures passes { IfOk result (λ r. r.1.items ≡ new_passes (length databases.items) sessions) }
+        ensures seats { IfOk result (λ r. All (HasPass r.0) r.1.items) }
         ensures watchers { IfOk result (λ r. AreNewWatchers watchers r.0.openings r.2.items) }
         ensures closed { OnOk result (any_open databases.items ≡ false) }
         ensures back { IfErr result (λ f. AreRead S.Store databases.items f.databases.items) }

@@ -92,7 +92,7 @@ fn ask<R: Wait>(
     statement: &Statement,
 ) -> Option<Reply> {
     // A call requires that the pass is for one of the databases and sessions, which this tells.
-    if !hall.has_seat(pass) {
+    if !hall.has_pass(pass) {
         return None;
     }
     match hall.call(rt, alloc, pass, statement) {

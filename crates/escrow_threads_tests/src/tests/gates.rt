@@ -128,7 +128,7 @@ fn gate_inside(rt: HostRuntime) {
     for (before, (place, text, is_served)) in ASKED.iter().enumerate() {
         let pass = passes.get_mut(*place).expect(&rt, "a pass");
         let receipts = pass.receipts().len();
-        assert!(rt; shared.has_seat(pass));
+        assert!(rt; shared.has_pass(pass));
         let answer = shared.call_gated(&rt, rt.alloc(), pass, &statement(&rt, text), &watch);
         let is_right = match &answer {
             Answer::Served(_) => *is_served,

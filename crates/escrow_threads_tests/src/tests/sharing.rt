@@ -55,7 +55,7 @@ pub fn ask<R: Wait + Abort + AllocGlobal, L: UnderLock<BlockStore>, G: Gate>(
     let asked = statement(rt, text);
     let receipts = pass.receipts().len();
     for _ in 0..2 {
-        assert!(rt; shared.has_seat(pass));
+        assert!(rt; shared.has_pass(pass));
         match shared.call_gated(rt, rt.alloc(), pass, &asked, gate) {
             Answer::Served(reply) => return reply,
             Answer::Unserved(Refusal::Memory) => assert_eq!(rt; pass.receipts().len(), receipts),

@@ -2,8 +2,8 @@
 //! replies, and what is returned.
 ghost use Rattle.std.specs.Prelude.{◌≡◌, length};
 ghost use Rattle.std.specs.List.{AllByRecursion};
-ghost use Rattle.escrow_shards.specs.Sharing.{HasSeat};
-ghost use Rattle.escrow_sessions.specs.Serving.{HasItsSeat};
+ghost use Rattle.escrow_shards.specs.Shared.{HasPass};
+ghost use Rattle.escrow_sessions.specs.Serving.{HasItsPass};
 
 use super::closes::check_hits;
 use super::databases::{COUNTER, HIT, check_shown};
@@ -135,11 +135,11 @@ pub fn feeds_of<R: Abort + AllocGlobal, L: UnderLock<BlockStore>>(
     passes: Vec<Pass>,
     work: Work,
 ) -> Vec<Feed>
-    ensures { AllByRecursion (HasItsSeat shared.now) result.items }
+    ensures { AllByRecursion (HasItsPass shared.now) result.items }
 {
     let mut feeds = Vec::new(rt.alloc());
     for pass in passes {
-        assert!(rt; shared.has_seat(&pass));
+        assert!(rt; shared.has_pass(&pass));
         let requests = requests_of(rt, work);
         if feeds.push(Feed { pass, requests }).is_err() {
             rt.panic("memory");
@@ -154,11 +154,11 @@ fn seated<R: Abort + AllocGlobal>(
     shared: &Shared<BlockStore>,
     passes: Vec<Pass>,
 ) -> Vec<Pass>
-    ensures { AllByRecursion (HasSeat shared.now) result.items }
+    ensures { AllByRecursion (HasPass shared.now) result.items }
 {
     let mut seated = Vec::new(rt.alloc());
     for pass in passes {
-        assert!(rt; shared.has_seat(&pass));
+        assert!(rt; shared.has_pass(&pass));
         if seated.push(pass).is_err() {
             rt.panic("memory");
         }

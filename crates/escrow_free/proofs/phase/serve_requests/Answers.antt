@@ -1,6 +1,6 @@
 use Rattle.std.proofs.Common.{◌≡◌, ◌<◌, false, All, length, map, replicate, sym, subst, ap, ap₂, ◌∙◌}
 use Rattle.std.specs.List.{AllByRecursion}
-use Rattle.escrow_shards.specs.Sharing.{HasSeat}
+use Rattle.escrow_shards.specs.Shared.{HasPass}
 use Rattle.escrow_free.specs.Desks.{ArePassesServed, AreServed}
 use Rattle.escrow_free.specs.Ranks.{marked_by, ranks_from, renamed, parted, rested, merged}
 use Rattle.escrow_free.proofs.Ranks.{marks_over, parted_seats, renamed_within, all_served}
@@ -11,7 +11,7 @@ rank_desks-requires g c = subst (λ n. All (λ x. x.0 < n) c.args.items.items) (
 
 pub serve_passes-requires-clause-seats : goal.serve_passes-requires-clause-seats
 serve_passes-requires-clause-seats g c κs within =
-    subst (AllByRecursion (HasSeat c.args.shared.now)) (sym c.in_ok-passes.ensures.passes) (parted_seats c.args.shared.now c.as_slice.result.now c.args.desks.items c.requires.seats)
+    subst (AllByRecursion (HasPass c.args.shared.now)) (sym c.in_ok-passes.ensures.passes) (parted_seats c.args.shared.now c.as_slice.result.now c.args.desks.items c.requires.seats)
 
 pub serve_passes-requires-clause-places : goal.serve_passes-requires-clause-places
 serve_passes-requires-clause-places g c κs within =

@@ -1,5 +1,5 @@
 use Rattle.std.proofs.lemmas.Option.{IfSome_then}
-use Rattle.escrow_shards.specs.Piece.{parts_of, entries_of}
+use Rattle.escrow_shards.specs.Part.{parts_of, entries_of}
 use Rattle.escrow_shards.proofs.NoPass.{none_in}
 use Rattle.escrow_shards.proofs.beyond.beyond_in_all.Goals as goal
 

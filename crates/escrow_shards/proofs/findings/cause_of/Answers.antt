@@ -8,7 +8,7 @@ use Rattle.escrow_shards.proofs.findings.cause_of.Goals as goal
 
 pub lacks_receipts-requires : goal.lacks_receipts-requires
 lacks_receipts-requires g c =
-    all_among (length c.args.closed.now) c.args.sessions c.args.passes.now (c.are_all_seats.ensures.0 c.if-not-are_all_seats.false).none_else
+    all_among (length c.args.closed.now) c.args.sessions c.args.passes.now (c.are_all_passes.ensures.0 c.if-not-are_all_passes.false).none_else
 
 -- what holds where nothing is found
 none_then : {X : Type 0} (r : Option X) {P Q : Type 0} → IfNone r P → (P → Q) → IfNone r Q
@@ -18,7 +18,7 @@ none_then (Some x) held f = tt
 pub returns-clause-none : goal.returns-clause-none
 returns-clause-none g c =
     none_then c.lacks_pass.result c.lacks_pass.ensures.none (λ asked. record {
-      all_seats = c.are_all_seats.ensures.0 c.if-not-are_all_seats.false;
+      all_seats = c.are_all_passes.ensures.0 c.if-not-are_all_passes.false;
       each = λ d x found. whole_from g.S.Store d c.args.parts.now x (c.in_default.ensures.none d x found) c.tell_parts.ensures;
       receipts = c.in_default-lacks_receipts.ensures.none;
       asked = asked;
@@ -26,7 +26,7 @@ returns-clause-none g c =
 
 pub returns-in-Some-lacks_receipts-clause-some : goal.returns-in-Some-lacks_receipts-clause-some
 returns-in-Some-lacks_receipts-clause-some g c = (
-  c.are_all_seats.ensures.0 c.if-not-are_all_seats.false,
+  c.are_all_passes.ensures.0 c.if-not-are_all_passes.false,
   (
     (λ d x below found. (c.in_default.ensures.none d x found).whole),
     inl (rw (c.database.ensures, c.session.ensures.session) c.in-Some-lacks_receipts.ensures.some),
@@ -36,5 +36,5 @@ returns-in-Some-lacks_receipts-clause-some g c = (
 pub returns-clause-some : goal.returns-clause-some
 returns-clause-some g c =
     IfSome_then c.lacks_pass.result c.lacks_pass.ensures.some (λ cause found.
-    of_no_pass c.args.sessions c.args.passes.now c.args.parts.now c.args.closed.now cause (c.are_all_seats.ensures.0 c.if-not-are_all_seats.false)
+    of_no_pass c.args.sessions c.args.passes.now c.args.parts.now c.args.closed.now cause (c.are_all_passes.ensures.0 c.if-not-are_all_passes.false)
     (λ d x below found. (c.in_default.ensures.none d x found).whole) c.in_default-lacks_receipts.ensures.none found)

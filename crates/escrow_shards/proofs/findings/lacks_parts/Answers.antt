@@ -1,7 +1,7 @@
 use Rattle.std.proofs.Common.{◌≡◌, ℕ, Some, true, below_more}
 use Rattle.std.specs.List.{slice_get}
 use Rattle.std.proofs.lemmas.Option.{slice_get_within}
-use Rattle.escrow_shards.specs.Closing.{Closing}
+use Rattle.escrow_shards.specs.Closed.{Closed}
 use Rattle.escrow_shards.specs.Found.{IsSettled}
 use Rattle.escrow_shards.proofs.Places.{there, at_place, below_end}
 use Rattle.escrow_shards.proofs.findings.lacks_parts.Goals as goal
@@ -20,7 +20,7 @@ returns-then-not-has_all_parts-clause-some g c = (
 
 pub loop-database-preserved : goal.loop-database-preserved
 loop-database-preserved g c = λ d x below found.
-    below_more (λ (i : ℕ). (y : Closing _) → slice_get c.args.closed.now i ≡ Some y → IsSettled g.S.Store i c.args.parts.now y) c.loop-database.database
+    below_more (λ (i : ℕ). (y : Closed _) → slice_get c.args.closed.now i ≡ Some y → IsSettled g.S.Store i c.args.parts.now y) c.loop-database.database
     (λ i b y at. c.loop-database.invariant i y b at)
     (at_place (IsSettled g.S.Store c.loop-database.database c.args.parts.now) c.args.closed.now c.loop-database.database c.index-closed-database.result c.loop-database-test.true c.index-closed-database.is
     (record { whole = c.has_all_parts.ensures.whole.0 c.if-not-has_all_parts.false; begun = c.has_all_parts.ensures.begun; kept = c.has_all_parts.ensures.kept }))

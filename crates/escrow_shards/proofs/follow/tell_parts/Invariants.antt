@@ -1,6 +1,6 @@
 use Rattle.std.proofs.Common.{drop}
 use Rattle.std.specs.List.{AllByRecursion}
-use Rattle.escrow_shards.specs.Piece.{IsSound}
+use Rattle.escrow_shards.specs.Part.{IsSound}
 use Rattle.escrow_shards.proofs.follow.tell_parts.Given as goal
 
 abbrev pub invariant-loop-part : goal.invariant-loop-part

@@ -1,4 +1,4 @@
-use Rattle.escrow_shards.proofs.NewSeats.{passes_have_places}
+use Rattle.escrow_shards.proofs.NewPasses.{passes_have_places}
 use Rattle.escrow_shards.proofs.laws.passes_have_places.Goals as goal
 
 pub returns : goal.returns

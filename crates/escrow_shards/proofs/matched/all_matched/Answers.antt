@@ -1,6 +1,6 @@
 use Rattle.std.proofs.Common.{[], ◌∙◌, sym}
 use Rattle.std.proofs.lemmas.List.{append-nil}
-use Rattle.escrow_shards.specs.Piece.{parts_of}
+use Rattle.escrow_shards.specs.Part.{parts_of}
 use Rattle.escrow_shards.specs.Receipts.{receipts_of}
 use Rattle.escrow_shards.proofs.Matching.{last_fits}
 use Rattle.escrow_shards.proofs.Rest.{is_false}

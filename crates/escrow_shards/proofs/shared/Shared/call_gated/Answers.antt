@@ -1,7 +1,7 @@
 use Rattle.std.proofs.Common.{◌≡◌, [], ◌∷◌, ◌++◌, ap, subst}
 use Rattle.std.specs.Prelude.{List}
 use Rattle.escrow_shards.specs.declared.receipt.Receipt.{Receipt}
-use Rattle.escrow_shards.specs.Seat.{Seat}
+use Rattle.escrow_shards.specs.Pass.{Pass}
 use Rattle.escrow_shards.proofs.Kept.{kept_last}
 use Rattle.escrow_shards.proofs.shared.Shared.call_gated.Goals as goal
 
@@ -15,10 +15,10 @@ returns-in-Ok-serve g c =
       (
         served.number,
         subst
-            (λ (old : Seat).
-            let new : Seat = record { database = inside.database; session = inside.session; receipts = c.push_reserved.new.self.items } in
+            (λ (old : Pass).
+            let new : Pass = record { database = inside.database; session = inside.session; receipts = c.push_reserved.new.self.items } in
             new ≡ record { database = old.database; session = old.session; receipts = old.receipts ++ (record { number = served.number; statement = c.args.statement.now; reply = served.reply }) ∷ [] })
             c.pass.view_is
-            (ap (λ (l : List Receipt). let seat : Seat = record { database = inside.database; session = inside.session; receipts = l } in seat) last),
+            (ap (λ (l : List Receipt). let seat : Pass = record { database = inside.database; session = inside.session; receipts = l } in seat) last),
       ),
     )

@@ -1,7 +1,7 @@
 use Rattle.std.proofs.Common.{◌≡◌, ◌∷◌, [], ◌++◌, length, map, refl, vec_len, ap, ap₂, ◌∙◌, append_assoc, sym, add-one}
 use Rattle.std.specs.Vec.Iter.{into_iter_items}
 use Rattle.std.proofs.lemmas.List.{map_push, append-nil, nil_from_length}
-use Rattle.escrow_shards.specs.Closing.{opening_of}
+use Rattle.escrow_shards.specs.Closed.{opening_of}
 use Rattle.escrow_shards.proofs.Places.{count_first, room_left, still_fits, one_less}
 use Rattle.escrow_shards.proofs.shared.close.out_of_locks.Goals as goal
 

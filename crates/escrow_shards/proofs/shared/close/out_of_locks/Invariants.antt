@@ -2,7 +2,7 @@ use Rattle.std.proofs.Common.{◌≡◌, ◌+◌, ◌≤◌, ◌++◌, length, m
 use Rattle.std.specs.Vec.{vec_capacity}
 use Rattle.std.specs.Vec.Iter.{into_iter_items, into_iter_len}
 use Rattle.escrow_shards.specs.declared.shared.TheConstants.{MAX_DATABASES}
-use Rattle.escrow_shards.specs.Closing.{opening_of}
+use Rattle.escrow_shards.specs.Closed.{opening_of}
 use Rattle.escrow_shards.proofs.shared.close.out_of_locks.Given as goal
 
 abbrev pub invariant-loop-shard : goal.invariant-loop-shard

@@ -1,7 +1,7 @@
 use Rattle.std.proofs.Common.{◌≡◌, ℕ, false, sym, ap, subst, inl, ◌∙◌}
 use Rattle.escrow_history.specs.Calls.{IsFailed}
 use Rattle.escrow_shards.specs.Opened.{any_open}
-use Rattle.escrow_shards.specs.Seat.{new_seats}
+use Rattle.escrow_shards.specs.Pass.{new_passes}
 use Rattle.escrow_shards.proofs.Reading.{failed_closed, of_err, read_same}
 use Rattle.escrow_shards.proofs.UnderLocks.{room_exact}
 use Rattle.escrow_shards.proofs.shared.make.prepare.Goals as goal
@@ -22,7 +22,7 @@ pub returns-clause-starts : goal.returns-clause-starts
 returns-clause-starts g c = c.in_ok-starts.ensures.starts
 
 pub returns-clause-passes : goal.returns-clause-passes
-returns-clause-passes g c = c.in_ok-passes.ensures ∙ ap (λ (n : ℕ). new_seats n c.args.sessions) (c.len-count.ensures ∙ c.args.databases.now.ok.0)
+returns-clause-passes g c = c.in_ok-passes.ensures ∙ ap (λ (n : ℕ). new_passes n c.args.sessions) (c.len-count.ensures ∙ c.args.databases.now.ok.0)
 
 pub returns-clause-room : goal.returns-clause-room
 returns-clause-room g c = (c.in_ok-shards.ensures.items, room_exact _ _ _ _ c.starts_of.ensures.len c.len-count.ensures c.in_ok-shards.ensures.exact)

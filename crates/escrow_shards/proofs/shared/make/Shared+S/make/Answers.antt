@@ -2,8 +2,8 @@ use Rattle.std.proofs.Common.{◌≡◌, length, map, refl, sym, ap, ◌∙◌, 
 use Rattle.escrow_num.specs.declared.refusal.Refusal.TheVariants as refusal
 use Rattle.escrow_shards.specs.declared.cause.Unshared.TheVariants as unshared
 use Rattle.escrow_shards.specs.Opened.{database_at, AreRead}
-use Rattle.escrow_shards.specs.Sharing.{Sharing}
-use Rattle.escrow_shards.proofs.NewSeats.{all_have_seats}
+use Rattle.escrow_shards.specs.Shared.{Shared}
+use Rattle.escrow_shards.proofs.NewPasses.{all_have_seats}
 use Rattle.escrow_shards.proofs.UnderLocks.{as_many, few_of}
 use Rattle.escrow_shards.proofs.shared.make.Shared+S.make.Goals as goal
 
@@ -19,7 +19,7 @@ invariant_of-shared g c =
 
 pub returns-in-Ok-clause-seats : goal.returns-in-Ok-clause-seats
 returns-in-Ok-clause-seats g c =
-    let sharing : Sharing g.row.S.Denot = record { openings = c.into_shards-shards.result.items; sessions = c.args.sessions } in
+    let sharing : Shared g.row.S.Denot = record { openings = c.into_shards-shards.result.items; sessions = c.args.sessions } in
     all_have_seats sharing (length c.args.databases.items) c.args.sessions c.in-Ok.ready.passes.items
     (as_many c.into_shards-shards.result.items c.in-Ok.ready.starts.items c.prepare.new.databases.items c.into_shards-shards.ensures c.in-Ok.ensures.starts
     ∙ sym c.prepare.new.databases.ok.0 ∙ c.prepare.ensures.len ∙ c.args.databases.ok.0)

@@ -1,9 +1,9 @@
 use Rattle.std.proofs.Common.{◌≡◌, length, refl, sym, subst, ap, ◌∙◌}
 use Rattle.escrow_num.specs.declared.refusal.Refusal.TheVariants as refusal
 use Rattle.escrow_shards.specs.declared.cause.Unshared.TheVariants as unshared
-use Rattle.escrow_shards.specs.Sharing.{Sharing}
+use Rattle.escrow_shards.specs.Shared.{Shared}
 use Rattle.escrow_shards.specs.Watchers.{AreNewWatchers}
-use Rattle.escrow_shards.proofs.NewSeats.{all_have_seats}
+use Rattle.escrow_shards.proofs.NewPasses.{all_have_seats}
 use Rattle.escrow_shards.proofs.Reading.{read_same}
 use Rattle.escrow_shards.proofs.UnderLocks.{as_many, few_of}
 use Rattle.escrow_shards.proofs.Watching.{unwatched_is}
@@ -24,7 +24,7 @@ invariant_of-shared g c =
 
 pub returns-in-Ok-boards_of-clause-seats : goal.returns-in-Ok-boards_of-clause-seats
 returns-in-Ok-boards_of-clause-seats g c =
-    let sharing : Sharing g.row.S.Denot = record { openings = c.into_watched-shards.result.items; sessions = c.args.sessions } in
+    let sharing : Shared g.row.S.Denot = record { openings = c.into_watched-shards.result.items; sessions = c.args.sessions } in
     all_have_seats sharing (length c.args.databases.items) c.args.sessions c.in-Ok.ready.passes.items
     (as_many c.into_watched-shards.result.items c.in-Ok.ready.starts.items c.prepare.new.databases.items c.into_watched-shards.ensures c.in-Ok.ensures.starts
     ∙ sym c.prepare.new.databases.ok.0 ∙ c.in-Ok.ensures.len ∙ c.args.databases.ok.0)

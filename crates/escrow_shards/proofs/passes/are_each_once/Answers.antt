@@ -1,7 +1,7 @@
 use Rattle.std.proofs.Common.{◌≡◌, ℕ, true, arith, below_more}
 use Rattle.escrow_shards.specs.Counted.{AreOnce}
 use Rattle.escrow_shards.proofs.Rest.{is_false, is_true}
-use Rattle.escrow_shards.proofs.seats.are_each_once.Goals as goal
+use Rattle.escrow_shards.proofs.passes.are_each_once.Goals as goal
 
 pub returns-then-not-are_once : goal.returns-then-not-are_once
 returns-then-not-are_once c = is_false (λ all.

@@ -1,23 +1,23 @@
 ghost use Rattle.std.specs.Prelude.{◌≡◌, ◌↔◌, ℕ, ◌<◌, IsTrue};
 ghost use Rattle.std.specs.List.{AllByRecursion};
-ghost use Rattle.escrow_shards.specs.Seat.{seats_at, IsSeat, AreAllSeats};
+ghost use Rattle.escrow_shards.specs.Pass.{passes_at, IsPassOf, AreAllPasses};
 ghost use Rattle.escrow_shards.specs.Counted.{AreOnce};
 
 use crate::pass::Pass;
 
 /// Returns whether each session of each database has one pass, and there are no others.
-pub(crate) fn are_all_seats(databases: usize, sessions: u8, passes: &[Pass]) -> bool
-    ensures { IsTrue result ↔ AreAllSeats databases sessions passes.now }
+pub(crate) fn are_all_passes(databases: usize, sessions: u8, passes: &[Pass]) -> bool
+    ensures { IsTrue result ↔ AreAllPasses databases sessions passes.now }
 {
-    are_seats(databases, sessions, passes) && are_each_once(databases, sessions, passes)
+    are_passes_of(databases, sessions, passes) && are_each_once(databases, sessions, passes)
 }
 
 /// Returns whether each pass is for one of these databases and sessions.
-fn are_seats(databases: usize, sessions: u8, passes: &[Pass]) -> bool
-    ensures { IsTrue result ↔ AllByRecursion (IsSeat databases sessions) passes.now }
+fn are_passes_of(databases: usize, sessions: u8, passes: &[Pass]) -> bool
+    ensures { IsTrue result ↔ AllByRecursion (IsPassOf databases sessions) passes.now }
 {
     for pass in passes {
-        if !pass.is_seat(databases, sessions) {
+        if !pass.is_pass_of(databases, sessions) {
             return false;
         }
     }
@@ -50,7 +50,7 @@ fn are_once(database: usize, sessions: u8, passes: &[Pass]) -> bool
 
 /// Returns how many passes are for a session of a database.
 fn count_at(database: usize, session: usize, passes: &[Pass]) -> usize
-    ensures { result ≡ seats_at database session passes.now }
+    ensures { result ≡ passes_at database session passes.now }
 {
     passes
         .iter()
