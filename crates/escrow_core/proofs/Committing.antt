@@ -15,7 +15,7 @@ use Rattle.escrow_bounds.specs.Bounds.{Bounds, place_at}
 use Rattle.escrow_journal.specs.Reservations.{own}
 use Rattle.escrow_tables.specs.Calls.{AreGiven}
 use Rattle.escrow_tables.specs.Tables.{Tables}
-use Rattle.escrow_journal.specs.Open.{Open, ended}
+use Rattle.escrow_journal.specs.Open.{Open, open_after_end}
 use Rattle.escrow_machine.specs.declared.reply.Reply.{Reply}
 use Rattle.escrow_machine.specs.declared.reply.Reply.TheVariants as reply
 use Rattle.escrow_schema.specs.Catalog.{table_named}
@@ -93,19 +93,19 @@ dropped_holds g t o left dropped old after recent holds is are placed orderly va
 
 module _ {S : Type 0} (g : Ghosts S) (session : ℕ) (t : Tables S) (o : Open) where
   -- the session holds no reservation
-  pub just_ended : own session o.reservations ≡ [] → Serves g session statement.Commit (database_of t o) (done session o) (database_of t (ended session o))
+  pub just_ended : own session o.reservations ≡ [] → Serves g session statement.Commit (database_of t o) (done session o) (database_of t (open_after_end session o))
   just_ended none =
       let s : State = (database_of t o).state in
       let event : StepOrRefusal s session statement.Commit (done session o) (after_rollback s session) =
       subst (λ (after : State). StepOrRefusal s session statement.Commit (done session o) after) (changes_none s session none) (commit_serves s session) in
       let quiet : nat_lt 0 (length (own session o.reservations)) ≡ false = subst (λ (mine : List Reservation). nat_lt 0 (length mine) ≡ false) (sym none) refl in
-      served_apart g session statement.Commit (database_of t o) (database_of t (ended session o)) (done session o) quiet refl event
+      served_apart g session statement.Commit (database_of t o) (database_of t (open_after_end session o)) (done session o) quiet refl event
 
-  pub just_ended_holds : (old : Bounds) (after : Reserved) (recent : ReadRows) → Holds g (database_of t o) old recent → after.txns ≡ ended session o → AreEnded end.Rollback (own session o.reservations) old after.places
+  pub just_ended_holds : (old : Bounds) (after : Reserved) (recent : ReadRows) → Holds g (database_of t o) old recent → after.txns ≡ open_after_end session o → AreEnded end.Rollback (own session o.reservations) old after.places
       → (ArePlaced o.reservations old → ArePlaced after.txns.reservations after.places) → Holds g (database_of t after.txns) after.places recent
   just_ended_holds old after recent holds is are placed =
       let s : State = (database_of t o).state in
-      dropped_holds g t o (ended session o) (own session o.reservations) old after recent holds is are placed (rollback_orderly s session holds.keeps.kept.orderly) (rollback_valid s session)
+      dropped_holds g t o (open_after_end session o) (own session o.reservations) old after recent holds is are placed (rollback_orderly s session holds.keeps.kept.orderly) (rollback_valid s session)
 
 -- the amounts that the places have of the rows of reservations are those of the rows
 given_one : (rows : List Row) (places : Bounds) (row : RowName) (amounts : List ℤ) → HaveAmounts rows places → (o : Option Place) → place_at places row ≡ o

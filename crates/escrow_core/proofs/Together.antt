@@ -24,7 +24,7 @@ use Rattle.escrow_bounds.specs.Moved.{amounts_after_all}
 use Rattle.escrow_bounds.specs.Bounds.{Bounds}
 use Rattle.escrow_bounds.proofs.Ending.{after_all-append}
 use Rattle.escrow_bounds.proofs.LawLemmas.{of_append}
-use Rattle.escrow_journal.specs.Open.{Open, ended}
+use Rattle.escrow_journal.specs.Open.{Open, open_after_end}
 use Rattle.escrow_journal.specs.Reservations.{own, others}
 use Rattle.escrow_machine.specs.Settle.{after_end, after_ends}
 use Rattle.escrow_machine.specs.declared.reply.Reply.TheVariants as reply
@@ -102,7 +102,7 @@ read_append first second (Some r) =
 -- the reservations that are left
 pub all_left : (plan : List (ℕ × End)) (o : Open) → (all_ended plan o).reservations ≡ left_after plan o.reservations
 all_left [] o = refl
-all_left (entry ∷ plan) o = all_left plan (ended entry.0 o)
+all_left (entry ∷ plan) o = all_left plan (open_after_end entry.0 o)
 
 -- THE STATE AFTER SEVERAL COMMITS
 
@@ -129,7 +129,7 @@ together_is [] s commits = ap (λ (rows : List Row). record s { rows = rows }) (
 together_is (entry ∷ plan) s commits =
     first_then (λ (t : State). t ≡ together (entry ∷ plan) s) s entry.0 entry.1 plan commits.0
     (together_is plan (after_commit s entry.0) commits.2
-    ∙ ap (λ (rows : List Row). record (with_open s (all_ended plan (ended entry.0 (open_in s)))) { rows = rows }) (first_applied entry.0 plan s.rows s.reservations commits.1))
+    ∙ ap (λ (rows : List Row). record (with_open s (all_ended plan (open_after_end entry.0 (open_in s)))) { rows = rows }) (first_applied entry.0 plan s.rows s.reservations commits.1))
 
 -- it is valid
 pub together_valid : (plan : List (ℕ × End)) (s : State) → AreCommits plan → IsValid s → IsValid (after_ends s plan)
@@ -158,7 +158,7 @@ together_amounts ((a, e) ∷ plan) s old new commits valid are have =
 together_tables : (plan : List (ℕ × End)) (o : Open) (catalog : List TableDef) (old new : Bounds) → AreAllEnded plan o old new → AreOfTables catalog old → AreOfTables catalog new
 together_tables [] o catalog old new same of_tables = subst (AreOfTables catalog) (sym same) of_tables
 together_tables (entry ∷ plan) o catalog old new are of_tables =
-    together_tables plan (ended entry.0 o) catalog are.0 new are.2 (ended_tables entry.1 (own entry.0 o.reservations) catalog old are.0 are.1 of_tables)
+    together_tables plan (open_after_end entry.0 o) catalog are.0 new are.2 (ended_tables entry.1 (own entry.0 o.reservations) catalog old are.0 are.1 of_tables)
 
 -- and so has what was read of a row
 together_read : (plan : List (ℕ × End)) (s : State) (recent : Option ReadRow) → AreCommits plan → IsValid s → IsRead s.rows recent

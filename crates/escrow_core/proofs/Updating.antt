@@ -309,9 +309,9 @@ module _ (s : State) (session : ℕ) (text : UpdateText) (name : RowName) (chang
 
   -- the step where it is accepted
   pub grant_step : IsAccepted s session (statement.Update text)
-      → StepOrRefusal s session (statement.Update text) (reply.Reserved s.next_id) (with_open s (txn.granted session name changes (open_in s)))
+      → StepOrRefusal s session (statement.Update text) (reply.Reserved s.next_id) (with_open s (txn.open_after_grant session name changes (open_in s)))
   grant_step accepted =
-      subst (λ (n : RowName). StepOrRefusal s session (statement.Update text) (reply.Reserved s.next_id) (with_open s (txn.granted session n changes (open_in s)))) (named_so text.table name planned.table)
+      subst (λ (n : RowName). StepOrRefusal s session (statement.Update text) (reply.Reserved s.next_id) (with_open s (txn.open_after_grant session n changes (open_in s)))) (named_so text.table name planned.table)
       (update_serves s session text (plan.Reserve name.key changes) accepted planned.plan)
 
 -- what is planned stays planned where the state is the same
@@ -334,9 +334,9 @@ module _ {S : Type 0} (g : Ghosts S) (session : ℕ) (text : UpdateText) (name :
         (λ _. refl)
 
     pub beside_granted : reason_against session place name changes (open_in d.state) ≡ None
-        → Serves g session (statement.Update text) d (reply.Reserved d.state.next_id) (record { store = d.store; state = with_open d.state (txn.granted session name changes (open_in d.state)) })
+        → Serves g session (statement.Update text) d (reply.Reserved d.state.next_id) (record { store = d.store; state = with_open d.state (txn.open_after_grant session name changes (open_in d.state)) })
     beside_granted none =
-        served_beside g session (statement.Update text) d (record { store = d.store; state = with_open d.state (txn.granted session name changes (open_in d.state)) }) (reply.Reserved d.state.next_id)
+        served_beside g session (statement.Update text) d (record { store = d.store; state = with_open d.state (txn.open_after_grant session name changes (open_in d.state)) }) (reply.Reserved d.state.next_id)
         refl refl (passes d.state session text name changes planned) refl (λ is. absurd (cc))
         (λ clean. grant_step d.state session text name changes planned
         (place_accepts d.state session text name changes planned place keeps.kept.orderly of_its_table (keeps.amounts clean name place at) none))
@@ -383,9 +383,9 @@ module _ {S : Type 0} (g : Ghosts S) (session : ℕ) (text : UpdateText) (name :
 
       -- granted: the store stays
       pub first_granted : why ≡ None
-          → Serves g session (statement.Update text) old (reply.Reserved mid.state.next_id) (record { store = mid.store; state = with_open mid.state (txn.granted session name changes (open_in mid.state)) })
+          → Serves g session (statement.Update text) old (reply.Reserved mid.state.next_id) (record { store = mid.store; state = with_open mid.state (txn.open_after_grant session name changes (open_in mid.state)) })
       first_granted none =
-          let new : Database S = record { store = mid.store; state = with_open mid.state (txn.granted session name changes (open_in mid.state)) } in
+          let new : Database S = record { store = mid.store; state = with_open mid.state (txn.open_after_grant session name changes (open_in mid.state)) } in
           let still_first : is_reserved mid.state name ≡ false = subst (λ (s : State). is_reserved s name ≡ false) (sym only_reads.same) first in
           after_look g session (statement.Update text) old mid new (reply.Reserved mid.state.next_id) only_reads asks early
           (served g session (statement.Update text) mid new (reply.Reserved mid.state.next_id) (asks_first mid.state session text name changes planned_now still_first)
@@ -402,7 +402,7 @@ module _ {S : Type 0} (g : Ghosts S) (session : ℕ) (text : UpdateText) (name :
       → AreOfTables d.state.catalog old → (HasCleanDisk (state g d.store) → HaveAmounts d.state.rows old)
       → reason_against session place name changes (open_in d.state) ≡ None
       → Becomes (TakesIn (deltas changes)) (place_at old name) (place_at new name) → OthersStay name old new
-      → Keeps g (record { store = d.store; state = with_open d.state (txn.granted session name changes (open_in d.state)) }) new
+      → Keeps g (record { store = d.store; state = with_open d.state (txn.open_after_grant session name changes (open_in d.state)) }) new
   grant_keeps place at others_placed of_tables amounts none becomes others =
       let s = d.state in
       let there : IsSome (place_at old name) = ap (λ (p : Option Place). is_some p) at in
@@ -414,7 +414,7 @@ module _ {S : Type 0} (g : Ghosts S) (session : ℕ) (text : UpdateText) (name :
       let accepted : HasCleanDisk (state g d.store) → IsAccepted s session (statement.Update text) = λ clean.
       place_accepts s session text name changes planned place kept.orderly (of_tables name place at) (amounts clean name place at) none in
       record {
-        kept = subst (λ (n : RowName). IsKept g (record { store = d.store; state = with_open s (txn.granted session n changes (open_in s)) })) same (record {
+        kept = subst (λ (n : RowName). IsKept g (record { store = d.store; state = with_open s (txn.open_after_grant session n changes (open_in s)) })) same (record {
           orderly = orderly;
           safe_rows = λ clean.
               let valid : IsValid s = record { orderly = kept.orderly; safe_rows = kept.safe_rows clean } in
@@ -432,7 +432,7 @@ pub first_keeps : {S : Type 0} (g : Ghosts S) (session : ℕ) (text : UpdateText
     → (HasCleanDisk (state g d.store) → amounts_named d.state.rows name ≡ Some amounts) → IsNew amounts table.checks place
     → reason_by session table.checks amounts (deltas changes) (of_row name d.state.reservations) (open_in d.state) ≡ None
     → Becomes (TakesIn (deltas changes)) (Some place) (place_at new name) → OthersStay name old new
-    → Keeps g (record { store = d.store; state = with_open d.state (txn.granted session name changes (open_in d.state)) }) new
+    → Keeps g (record { store = d.store; state = with_open d.state (txn.open_after_grant session name changes (open_in d.state)) }) new
 first_keeps g session text name changes d old new planned keeps of_session table amounts place named many read is_new none becomes others =
     let at = put_at name place old in
     let put = put_others name place old in

@@ -43,8 +43,8 @@ grant_refusal session o = first_refusal (
     ∷ [])
 
 -- one more reservation, at the end of the open ones, with the next id, which rises by one
-abbrev pub granted : ℕ → RowName → List (Option ℤ) → Open → Open
-granted session row changes o = record o {
+abbrev pub open_after_grant : ℕ → RowName → List (Option ℤ) → Open → Open
+open_after_grant session row changes o = record o {
   reservations = o.reservations ++ (record { id = o.next_id; session = session; row = row; changes = changes }) ∷ [];
   next_id = o.next_id + 1;
 }
@@ -55,8 +55,8 @@ savepoint_refusal session name o = refuse_if (nat_le MAX_SAVEPOINTS (length (own
 
 -- a savepoint of a session, the last of its own, in place of an earlier one of that name; it has the id that the next
 -- reservation takes
-abbrev pub saved : ℕ → List ℕ → Open → Open
-saved session name o = record o {
+abbrev pub open_after_savepoint : ℕ → List ℕ → Open → Open
+open_after_savepoint session name o = record o {
   savepoints = put_savepoint (record { session = session; name = name; id = o.next_id }) (without_savepoint session name o.savepoints);
 }
 
@@ -69,9 +69,9 @@ abbrev pub returned_to : Open → Savepoint → Open
 returned_to o p = record o { reservations = not_after p o.reservations; savepoints = through p.session p.name o.savepoints }
 
 -- the session has gone back to its savepoint of a name, if there is one
-abbrev pub cut_back : ℕ → List ℕ → Open → Open
-cut_back session name o = unwrap_or (option_map (returned_to o) (savepoint_of session name o.savepoints)) o
+abbrev pub open_after_rollback_to : ℕ → List ℕ → Open → Open
+open_after_rollback_to session name o = unwrap_or (option_map (returned_to o) (savepoint_of session name o.savepoints)) o
 
 -- the session's transaction has ended: none of its reservations and savepoints are left
-abbrev pub ended : ℕ → Open → Open
-ended session o = record o { reservations = others session o.reservations; savepoints = other_savepoints session o.savepoints }
+abbrev pub open_after_end : ℕ → Open → Open
+open_after_end session o = record o { reservations = others session o.reservations; savepoints = other_savepoints session o.savepoints }

@@ -10,7 +10,7 @@ use Rattle.escrow_statement.specs.declared.statement.InsertText.{InsertText}
 use Rattle.escrow_statement.specs.declared.statement.RowText.{RowText}
 use Rattle.escrow_statement.specs.declared.statement.TableChange.{TableChange}
 use Rattle.escrow_statement.specs.declared.statement.TableChange.TheVariants as change
-use Rattle.escrow_journal.specs.Open.{grant_refusal, granted, savepoint_refusal, saved, released, cut_back, ended}
+use Rattle.escrow_journal.specs.Open.{grant_refusal, open_after_grant, savepoint_refusal, open_after_savepoint, released, open_after_rollback_to, open_after_end}
 use Rattle.escrow_journal.specs.Reservations.{own}
 use Rattle.escrow_journal.specs.Savepoints.{savepoint_of}
 use Rattle.escrow_schema.specs.declared.catalog.TheConstants.Catalog.{MAX_TABLES}
@@ -79,24 +79,24 @@ update_reply s (plan.Plain key values) = reply.Updated
 
 -- the state after an UPDATE, by its plan: with one reservation more, or with other plain values in the row
 abbrev pub after_update : State → ℕ → List ℕ → Plan → State
-after_update s session table (plan.Reserve key changes) = with_open s (granted session (row_name table key) changes (open_in s))
+after_update s session table (plan.Reserve key changes) = with_open s (open_after_grant session (row_name table key) changes (open_in s))
 after_update s session table (plan.Plain key values) = record s { rows = with_plain (row_name table key) values s.rows }
 
 -- the session's reservations are applied to the committed rows, and its transaction has ended
 abbrev pub after_commit : State → ℕ → State
-after_commit s session = record (with_open s (ended session (open_in s))) { rows = applied s.rows (own session s.reservations) }
+after_commit s session = record (with_open s (open_after_end session (open_in s))) { rows = applied s.rows (own session s.reservations) }
 
 -- the session's reservations are dropped, and its transaction has ended
 abbrev pub after_rollback : State → ℕ → State
-after_rollback s session = with_open s (ended session (open_in s))
+after_rollback s session = with_open s (open_after_end session (open_in s))
 
 -- the session has a savepoint of a name, the last of its own
 abbrev pub after_savepoint : State → ℕ → List ℕ → State
-after_savepoint s session name = with_open s (saved session name (open_in s))
+after_savepoint s session name = with_open s (open_after_savepoint session name (open_in s))
 
 -- the session has gone back to its savepoint of a name
 abbrev pub after_rollback_to : State → ℕ → List ℕ → State
-after_rollback_to s session name = with_open s (cut_back session name (open_in s))
+after_rollback_to s session name = with_open s (open_after_rollback_to session name (open_in s))
 
 -- THE TABLE OF STATEMENTS: the transition of each
 unfoldable pub transition_of : State → ℕ → Statement → Transition

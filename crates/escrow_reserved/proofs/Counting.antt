@@ -22,7 +22,7 @@ use Rattle.escrow_bounds.specs.Bounds.{Bounds, place_at, Becomes, OthersStay}
 use Rattle.escrow_bounds.proofs.Counting.{counting_is, placed_is}
 use Rattle.escrow_bounds.proofs.LawLemmas.{add_counts}
 use Rattle.escrow_bounds.proofs.Reordering.{parts_count}
-use Rattle.escrow_journal.specs.Open.{Open, cut_back, grant_refusal, granted, returned_to}
+use Rattle.escrow_journal.specs.Open.{Open, open_after_rollback_to, grant_refusal, open_after_grant, returned_to}
 use Rattle.escrow_journal.specs.Reservations.{own, others}
 use Rattle.escrow_journal.specs.Savepoints.{savepoint_of, after, is_after, not_after}
 use Rattle.escrow_machine.specs.Walked.{IsShort}
@@ -88,7 +88,7 @@ free_of session checks amounts changes reservations o none = (passed (grant_refu
 -- one more is counted, the last
 pub granted_counts : (session : ℕ) (row : RowName) (changes : List (Option ℤ)) (o : Open) (old new : Bounds) → CountsAll old o.reservations → AllByRecursion IsShort o.reservations → length changes ≤ MAX_LEN
     → IsSome (place_at old row) → Becomes (TakesIn (deltas changes)) (place_at old row) (place_at new row) → OthersStay row old new
-    → AreCounted (record { txns = granted session row changes o; places = new })
+    → AreCounted (record { txns = open_after_grant session row changes o; places = new })
 granted_counts session row changes o old new counts short few there becomes others =
     let r : Reservation = record { id = o.next_id; session = session; row = row; changes = changes } in
     record {
@@ -98,7 +98,7 @@ granted_counts session row changes o old new counts short few there becomes othe
 
 -- what came after a savepoint, if there is one, and the rest
 pub later_first : (session : ℕ) (name : List ℕ) (o : Open) (later : List Reservation) (places : Bounds) → Some later ≡ option_map (λ p. after p o.reservations) (savepoint_of session name o.savepoints)
-    → CountsAll places o.reservations → CountsAll places (later ++ (cut_back session name o).reservations)
+    → CountsAll places o.reservations → CountsAll places (later ++ (open_after_rollback_to session name o).reservations)
 later_first session name o later places is counts = at (savepoint_of session name o.savepoints) is
   where
     at : (p : Option Savepoint) → Some later ≡ option_map (λ p. after p o.reservations) p → CountsAll places (later ++ (unwrap_or (option_map (returned_to o) p) o).reservations)
@@ -115,7 +115,7 @@ later_short session name o later is short = at (savepoint_of session name o.save
     at (Some p) is = subst (AllByRecursion IsShort) (sym (some_same is)) (all_filter IsShort (is_after p) o.reservations short)
 
 -- and the rest is short
-pub short_cut : (session : ℕ) (name : List ℕ) (o : Open) → AllByRecursion IsShort o.reservations → AllByRecursion IsShort (cut_back session name o).reservations
+pub short_cut : (session : ℕ) (name : List ℕ) (o : Open) → AllByRecursion IsShort o.reservations → AllByRecursion IsShort (open_after_rollback_to session name o).reservations
 short_cut session name o short = at (savepoint_of session name o.savepoints)
   where
     at : (p : Option Savepoint) → AllByRecursion IsShort (unwrap_or (option_map (returned_to o) p) o).reservations

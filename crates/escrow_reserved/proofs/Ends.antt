@@ -10,7 +10,7 @@ use Rattle.escrow_num.specs.declared.reservation.Reservation.{Reservation}
 use Rattle.escrow_num.specs.declared.session.End.{End}
 use Rattle.escrow_bounds.specs.Ended.{AreEnded}
 use Rattle.escrow_bounds.specs.Bounds.{Bounds}
-use Rattle.escrow_journal.specs.Open.{Open, ended}
+use Rattle.escrow_journal.specs.Open.{Open, open_after_end}
 use Rattle.escrow_journal.specs.Reservations.{own, others}
 use Rattle.escrow_machine.proofs.Choices.{append_all}
 use Rattle.escrow_reserved.specs.Ends.{AreAllEnded, all_ended}
@@ -35,19 +35,19 @@ all_own P (entry ∷ plan) reservations each =
     append_all P (own entry.0 reservations) (flat_map (λ (e : ℕ × End). own e.0 reservations) plan) (each entry.0) (all_own P plan reservations each)
 
 -- one transaction more has ended
-ended_push : (plan : List (ℕ × End)) (entry : ℕ × End) (o : Open) → all_ended (plan ++ entry ∷ []) o ≡ ended entry.0 (all_ended plan o)
+ended_push : (plan : List (ℕ × End)) (entry : ℕ × End) (o : Open) → all_ended (plan ++ entry ∷ []) o ≡ open_after_end entry.0 (all_ended plan o)
 ended_push [] entry o = refl
-ended_push (first ∷ plan) entry o = ended_push plan entry (ended first.0 o)
+ended_push (first ∷ plan) entry o = ended_push plan entry (open_after_end first.0 o)
 
 pub ended_more : (plan : List (ℕ × End)) (i : ℕ) (entry : ℕ × End) (o mid : Open) → i < length plan → entry ≡ get_or plan i entry
-    → mid ≡ all_ended (take i plan) o → ended entry.0 mid ≡ all_ended (take (i + 1) plan) o
+    → mid ≡ all_ended (take i plan) o → open_after_end entry.0 mid ≡ all_ended (take (i + 1) plan) o
 ended_more plan i entry o mid below is so_far =
-    ap (ended entry.0) so_far ∙ sym (ended_push (take i plan) entry o) ∙ ap (λ (p : List (ℕ × End)). all_ended p o) (sym (up_to plan i entry below is))
+    ap (open_after_end entry.0) so_far ∙ sym (ended_push (take i plan) entry o) ∙ ap (λ (p : List (ℕ × End)). all_ended p o) (sym (up_to plan i entry below is))
 
 places_push : (plan : List (ℕ × End)) (entry : ℕ × End) (o : Open) (old mid new : Bounds) → AreAllEnded plan o old mid
     → AreEnded entry.1 (own entry.0 (all_ended plan o).reservations) mid new → AreAllEnded (plan ++ entry ∷ []) o old new
 places_push [] entry o old mid new same last = (new, subst (λ (p : Bounds). AreEnded entry.1 (own entry.0 o.reservations) p new) same last, refl)
-places_push (first ∷ plan) entry o old mid new are last = (are.0, are.1, places_push plan entry (ended first.0 o) are.0 mid new are.2 last)
+places_push (first ∷ plan) entry o old mid new are last = (are.0, are.1, places_push plan entry (open_after_end first.0 o) are.0 mid new are.2 last)
 
 pub places_more : (plan : List (ℕ × End)) (i : ℕ) (entry : ℕ × End) (o left : Open) (old mid new : Bounds) → i < length plan → entry ≡ get_or plan i entry
     → left ≡ all_ended (take i plan) o → AreAllEnded (take i plan) o old mid → AreEnded entry.1 (own entry.0 left.reservations) mid new → AreAllEnded (take (i + 1) plan) o old new

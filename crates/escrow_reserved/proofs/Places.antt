@@ -34,7 +34,7 @@ use Rattle.escrow_bounds.specs.Held.{of_row}
 use Rattle.escrow_bounds.specs.Place.{Place, checks_of}
 use Rattle.escrow_bounds.specs.Moved.{all_moved, amounts_after_all}
 use Rattle.escrow_bounds.specs.Bounds.{Bounds, place_at, Becomes, OthersStay}
-use Rattle.escrow_journal.specs.Open.{Open, granted}
+use Rattle.escrow_journal.specs.Open.{Open, open_after_grant}
 use Rattle.escrow_journal.specs.Reservations.{own}
 use Rattle.escrow_bounds.proofs.LawLemmas.{other_way}
 use Rattle.escrow_bounds.proofs.Moving.{length-all_moved}
@@ -313,7 +313,7 @@ becomes_some before after changes there becomes = from_some before there (λ kep
 -- and its row is one that is reserved
 pub granted_placed : (session : ℕ) (row : RowName) (changes : List (Option ℤ)) (o : Open) (old new : Bounds)
     → ((other : RowName) → same_row row other ≡ false → is_some (place_at old other) ≡ list_any (λ r. same_row r.row other) o.reservations)
-    → IsSome (place_at new row) → OthersStay row old new → ArePlaced (granted session row changes o).reservations new
+    → IsSome (place_at new row) → OthersStay row old new → ArePlaced (open_after_grant session row changes o).reservations new
 granted_placed session row changes o old new before there others =
     let r : Reservation = record { id = o.next_id; session = session; row = row; changes = changes } in
     each_row (λ (other : RowName). is_some (place_at new other) ≡ list_any (λ x. same_row x.row other) (o.reservations ++ r ∷ [])) row

@@ -8,7 +8,7 @@ ghost use Rattle.escrow_bounds.specs.Altered.{TableGoes, IsOver, IsWithout, AreP
 ghost use Rattle.escrow_bounds.specs.Ended.{AreEnded};
 ghost use Rattle.escrow_bounds.specs.Held.{of_row, AllCount, CountsAll};
 ghost use Rattle.escrow_bounds.specs.Bounds.{place_at, OthersStay};
-ghost use Rattle.escrow_journal.specs.Open.{cut_back};
+ghost use Rattle.escrow_journal.specs.Open.{open_after_rollback_to};
 ghost use Rattle.escrow_journal.specs.Reservations.{own};
 ghost use Rattle.escrow_machine.specs.Walked.{IsShort};
 
@@ -61,7 +61,7 @@ impl Reserved {
     ghost use Rattle.escrow_bounds.specs.Counts.{IsNew, TakesIn};
     ghost use Rattle.escrow_bounds.specs.Place.{Place};
     ghost use Rattle.escrow_bounds.specs.Bounds.{Becomes};
-    ghost use Rattle.escrow_journal.specs.Open.{ended, grant_refusal, granted, released, saved, savepoint_refusal};
+    ghost use Rattle.escrow_journal.specs.Open.{open_after_end, grant_refusal, open_after_grant, released, open_after_savepoint, savepoint_refusal};
     ghost use Rattle.escrow_reserved.specs.Ends.{AreAllEnded, all_ended};
     ghost use Rattle.escrow_reserved.specs.Reserved.{AreAmounts, AreCounted, ArePlaced, Releases, nothing, reason_against, reason_by};
 
@@ -185,7 +185,7 @@ impl Reserved {
         requires room { grant_refusal session self.old.txns ≡ None → length self.old.txns.reservations < MAX_OPEN }
         ensures id { IfOk result (λ id. id ≡ self.old.txns.next_id) }
         ensures free { OnOk result (reason_by session checks.now amounts.now (deltas changes) (of_row row self.old.txns.reservations) self.old.txns ≡ None) }
-        ensures granted { OnOk result (self.new.txns ≡ granted session row changes self.old.txns) }
+        ensures granted { OnOk result (self.new.txns ≡ open_after_grant session row changes self.old.txns) }
         ensures made { OnOk result ((place : Place) × IsNew amounts.now checks.now place × Becomes (TakesIn (deltas changes)) (Some place) (place_at self.new.places row)) }
         ensures others { OthersStay row self.old.places self.new.places }
         ensures against { IfSome (reason_by session checks.now amounts.now (deltas changes) (of_row row self.old.txns.reservations) self.old.txns) (λ e. result ≡ Err e) }
@@ -243,7 +243,7 @@ impl Reserved {
         requires room { grant_refusal session self.old.txns ≡ None → length self.old.txns.reservations < MAX_OPEN }
         ensures id { IfOk result (λ id. id ≡ self.old.txns.next_id) }
         ensures free { OnOk result ((place : Place) → place_at self.old.places row ≡ Some place → reason_against session place row changes self.old.txns ≡ None) }
-        ensures granted { OnOk result (self.new.txns ≡ granted session row changes self.old.txns) }
+        ensures granted { OnOk result (self.new.txns ≡ open_after_grant session row changes self.old.txns) }
         ensures takes { OnOk result (Becomes (TakesIn (deltas changes)) (place_at self.old.places row) (place_at self.new.places row)) }
         ensures others { OthersStay row self.old.places self.new.places }
         ensures against { (place : Place) → place_at self.old.places row ≡ Some place → IfSome (reason_against session place row changes self.old.txns) (λ e. result ≡ Err e) }
@@ -290,7 +290,7 @@ impl Reserved {
         requires added { added.now ≡ deltas changes }
         requires room { length self.old.txns.reservations < MAX_OPEN }
         ensures id { IfOk result (λ id. id ≡ self.old.txns.next_id) }
-        ensures granted { OnOk result (self.new.txns ≡ granted session row changes self.old.txns) }
+        ensures granted { OnOk result (self.new.txns ≡ open_after_grant session row changes self.old.txns) }
         ensures takes { OnOk result (Becomes (TakesIn (deltas changes)) (place_at self.old.places row) (place_at self.new.places row)) }
         ensures others { OthersStay row self.old.places self.new.places }
         ensures refused { OnErr result (self.new.txns ≡ self.old.txns) }
@@ -313,7 +313,7 @@ impl Reserved {
     /// no memory.
     pub fn end(&mut self, session: Session, end: End) -> u32
         ensures count { result ≡ length (own session self.old.txns.reservations) }
-        ensures txns { self.new.txns ≡ ended session self.old.txns }
+        ensures txns { self.new.txns ≡ open_after_end session self.old.txns }
         ensures places { AreEnded end (own session self.old.txns.reservations) self.old.places self.new.places }
         ensures placed { ArePlaced self.old.txns.reservations self.old.places → ArePlaced self.new.txns.reservations self.new.places }
     {
@@ -347,7 +347,7 @@ impl Reserved {
     /// Takes no memory.
     pub fn cut(&mut self, session: Session, name: Name) -> Option<u32>
         ensures count { result ≡ released session name self.old.txns }
-        ensures txns { self.new.txns ≡ cut_back session name self.old.txns }
+        ensures txns { self.new.txns ≡ open_after_rollback_to session name self.old.txns }
         ensures places { (ended : List Held) × AreEnded Rollback ended self.old.places self.new.places }
         ensures placed { ArePlaced self.old.txns.reservations self.old.places → ArePlaced self.new.txns.reservations self.new.places }
     {
@@ -359,7 +359,7 @@ impl Reserved {
     /// has 64 of other names, however little memory there is. Otherwise it fails only if memory is
     /// refused. After an error nothing has changed.
     pub fn mark(&mut self, session: Session, name: Name) -> Result<(), Refusal>
-        ensures saved { OnOk result (self.new ≡ record self.old { txns = saved session name self.old.txns }) }
+        ensures saved { OnOk result (self.new ≡ record self.old { txns = open_after_savepoint session name self.old.txns }) }
         ensures unchanged { OnErr result (self.new ≡ self.old) }
         ensures refused { IfSome (savepoint_refusal session name self.old.txns) (λ e. result ≡ Err e) }
         ensures only { IfErr result (λ e. (savepoint_refusal session name self.old.txns ≡ Some e) ⊎ (e ≡ Refusal.Memory)) }
@@ -432,7 +432,7 @@ fn push_all<'a>(
 fn release_after(txns: &TxnTable, bounds: &mut Bounds, session: Session, name: Name)
     requires counts { CountsAll bounds.old txns.now.reservations }
     requires short { AllByRecursion IsShort txns.now.reservations }
-    ensures counts { CountsAll bounds.new (cut_back session name txns.now).reservations }
+    ensures counts { CountsAll bounds.new (open_after_rollback_to session name txns.now).reservations }
     ensures places { (ended : List Held) × AreEnded Rollback ended bounds.old bounds.new }
     ensures counting { AllCount bounds.old → AllCount bounds.new }
 {

@@ -10,7 +10,7 @@ use Rattle.escrow_journal.specs.Reservations.{own_savepoints}
 use Rattle.escrow_journal.specs.Savepoints.{is_named, savepoint_of, without_savepoint, put_savepoint, through, is_after, after, not_after}
 use Rattle.escrow_journal.proofs.Filters.{filter_all}
 use Rattle.escrow_txn.specs.Joined.{by_id, opened}
-use Rattle.escrow_journal.specs.Open.{Open, saved, released, returned_to, cut_back}
+use Rattle.escrow_journal.specs.Open.{Open, open_after_savepoint, released, returned_to, open_after_rollback_to}
 use Rattle.escrow_txn.proofs.Parts.{put_savepoint_is, through_is, all_as, filter_part}
 use Rattle.escrow_txn.proofs.Places.{IsAt}
 use Rattle.escrow_txn.proofs.Sessions.{reservations_of, savepoints_of, open_with, are_others, reservations_split, reservations_now, savepoints_split, savepoints_now, savepoints_kept, only_own, others_kept, savepoint_of_is}
@@ -24,7 +24,7 @@ other_unnamed : (session : ℕ) (name : List ℕ) (q : Savepoint) → (q.session
 other_unnamed session name q other = not_from_false (is_named session name q) (and_left (q.session == session) (bytes_eq q.name name) other)
 
 saved_own : (next : ℕ) (name : List ℕ) (journals : List Journal) (i : ℕ) (journal : Journal) → IsAt journal.session journals i journal
-    → opened (set journals i (marked name next journal)) next ≡ saved journal.session name (opened journals next)
+    → opened (set journals i (marked name next journal)) next ≡ open_after_savepoint journal.session name (opened journals next)
 saved_own next name journals i journal at =
     let rest = are_others journal.session journals i journal at in
     let session : ℕ = journal.session in
@@ -45,9 +45,9 @@ saved_own next name journals i journal at =
 
 -- where the journal has a savepoint more, it is put in its place among all
 pub saved_is : (session next : ℕ) (name : List ℕ) (journals : List Journal) (i : ℕ) (journal : Journal) → IsAt session journals i journal
-    → opened (set journals i (marked name next journal)) next ≡ saved session name (opened journals next)
+    → opened (set journals i (marked name next journal)) next ≡ open_after_savepoint session name (opened journals next)
 saved_is session next name journals i journal at =
-    subst (λ n. opened (set journals i (marked name next journal)) next ≡ saved n name (opened journals next)) at.number
+    subst (λ n. opened (set journals i (marked name next journal)) next ≡ open_after_savepoint n name (opened journals next)) at.number
     (saved_own next name journals i journal (own_place session journals i journal at))
 
 -- the session's savepoints of other names are its journal's
@@ -96,7 +96,7 @@ cut_found next name journals i journal at (Some p) found = returned_is journal.s
 
 -- where the journal is cut back all that is open is
 pub cut_is : (session next : ℕ) (name : List ℕ) (journals : List Journal) (i : ℕ) (journal : Journal) → IsAt session journals i journal
-    → opened (set journals i (cut_journal name journal)) next ≡ cut_back session name (opened journals next)
+    → opened (set journals i (cut_journal name journal)) next ≡ open_after_rollback_to session name (opened journals next)
 cut_is session next name journals i journal at =
     let here = own_place session journals i journal at in
     let o : Open = opened journals next in

@@ -15,7 +15,7 @@ use Rattle.escrow_journal.specs.Reservations.{reservation_before, own, others, o
 use Rattle.escrow_journal.specs.Savepoints.{is_named, savepoint_of}
 use Rattle.escrow_journal.proofs.Filters.{filter_all}
 use Rattle.escrow_txn.specs.Joined.{by_id, opened, IsBelow}
-use Rattle.escrow_journal.specs.Open.{Open, granted, ended}
+use Rattle.escrow_journal.specs.Open.{Open, open_after_grant, open_after_end}
 use Rattle.escrow_txn.proofs.ById.{by_id_rising, by_id_last, filter_by_id}
 use Rattle.escrow_txn.proofs.Parts.{filter_none, filter_part, filter_beside, find_part, all_as}
 use Rattle.escrow_txn.proofs.Places.{IsAt, all_append, all_flat, all_take, all_drop}
@@ -174,7 +174,7 @@ open_with next reservations savepoints = record { reservations = reservations; s
 
 -- where the journal is emptied the session's transaction is over
 pub ended_is : (session next : ℕ) (journals : List Journal) (i : ℕ) (journal : Journal) → IsAt session journals i journal
-    → opened (set journals i (empty_journal journal.session)) next ≡ ended session (opened journals next)
+    → opened (set journals i (empty_journal journal.session)) next ≡ open_after_end session (opened journals next)
 ended_is session next journals i journal at =
     let is_own : (n : ℕ) → n ≡ journal.session → not (n == session) ≡ false = λ n e. not_from_true (n == session) (eq-eqb n session (e ∙ at.number)) in
     let reservations : by_id (reservations_of (set journals i (empty_journal journal.session))) ≡ others session (by_id (reservations_of journals)) =
@@ -194,7 +194,7 @@ ended_is session next journals i journal at =
 pub granted_is : (session next : ℕ) (row : RowName) (changes : List (Option ℤ)) (journals : List Journal) (i : ℕ) (journal : Journal) → IsAt session journals i journal
     → AllByRecursion (IsBelow next) journals → IsBelow next journal
     → opened (set journals i (pushed (record { id = next; session = session; row = row; changes = changes }) journal)) (next + 1)
-    ≡ granted session row changes (opened journals next)
+    ≡ open_after_grant session row changes (opened journals next)
 granted_is session next row changes journals i journal at below below_here =
     let r : Reservation = record { id = next; session = session; row = row; changes = changes } in
     let before : List Reservation = reservations_of (take i journals) in

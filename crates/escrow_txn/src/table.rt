@@ -47,7 +47,7 @@ impl TxnTable {
     ghost use Rattle.std.specs.Prelude.{◌≡◌, ◌⊎◌, IfOk, IfErr, IfSome, IsErrOf, OnOk, OnErr, Err, Some, None, length, map, option_copied, option_map};
     ghost use Rattle.escrow_journal.specs.Reservations.{own, own_savepoints};
     ghost use Rattle.escrow_journal.specs.Savepoints.{savepoint_of, after};
-    ghost use Rattle.escrow_journal.specs.Open.{nothing_open, is_open, has_open, id_left, grant_refusal, granted, savepoint_refusal, saved, released, cut_back, ended};
+    ghost use Rattle.escrow_journal.specs.Open.{nothing_open, is_open, has_open, id_left, grant_refusal, open_after_grant, savepoint_refusal, open_after_savepoint, released, open_after_rollback_to, open_after_end};
 
     /// Returns a table in which nothing is open and the next id is 1. Fails only if memory is
     /// refused.
@@ -119,7 +119,7 @@ impl TxnTable {
         changes: Changes,
     ) -> Result<u64, Refusal>
         ensures id { IfOk result (λ id. id ≡ self.old.next_id) }
-        ensures granted { OnOk result (self.new ≡ granted session row changes self.old) }
+        ensures granted { OnOk result (self.new ≡ open_after_grant session row changes self.old) }
         ensures unchanged { OnErr result (self.new ≡ self.old) }
         ensures refused { IfSome (grant_refusal session self.old) (λ e. result ≡ Err e) }
         ensures only { IfErr result (λ e. (grant_refusal session self.old ≡ Some e) ⊎ (e ≡ Refusal.Memory)) }
@@ -143,7 +143,7 @@ impl TxnTable {
     /// doesn't count. Takes memory only if no other refusal applies. After an error nothing has
     /// changed.
     pub fn mark(&mut self, session: Session, name: Name) -> Result<(), Refusal>
-        ensures saved { OnOk result (self.new ≡ saved session name self.old) }
+        ensures saved { OnOk result (self.new ≡ open_after_savepoint session name self.old) }
         ensures unchanged { OnErr result (self.new ≡ self.old) }
         ensures refused { IfSome (savepoint_refusal session name self.old) (λ e. result ≡ Err e) }
         ensures only { IfErr result (λ e. (savepoint_refusal session name self.old ≡ Some e) ⊎ (e ≡ Refusal.Memory)) }
@@ -157,7 +157,7 @@ impl TxnTable {
     /// exactly if there is no such savepoint, and then nothing changes. Takes no memory.
     pub fn cut(&mut self, session: Session, name: Name) -> Option<u32>
         ensures count { result ≡ released session name self.old }
-        ensures cut { self.new ≡ cut_back session name self.old }
+        ensures cut { self.new ≡ open_after_rollback_to session name self.old }
     {
         self.journals[place_of_session(session)].cut(name)
     }
@@ -175,7 +175,7 @@ impl TxnTable {
     /// without reservations and savepoints. Takes no memory.
     pub fn take_all(&mut self, session: Session) -> SmallVec<Reservation, 4>
         ensures all { result.items ≡ own session self.old.reservations }
-        ensures ended { self.new ≡ ended session self.old }
+        ensures ended { self.new ≡ open_after_end session self.old }
     {
         self.journals[place_of_session(session)].take_all()
     }

@@ -1,7 +1,7 @@
 use Rattle.std.proofs.Common.{ap, ◌∙◌, set}
 use Rattle.escrow_journal.specs.Journal.{Journal}
 use Rattle.escrow_txn.specs.Joined.{opened}
-use Rattle.escrow_journal.specs.Open.{Open, released, cut_back}
+use Rattle.escrow_journal.specs.Open.{Open, released, open_after_rollback_to}
 use Rattle.escrow_txn.proofs.Kept.{cut_kept, journals_stay}
 use Rattle.escrow_txn.proofs.Marks.{cut_is, released_is}
 use Rattle.escrow_txn.proofs.Places.{IsAt, place_is}
@@ -27,4 +27,4 @@ pub returns-clause-cut : goal.returns-clause-cut
 returns-clause-cut c =
     ap (λ (journal : Journal). opened (set c.self.inside.journals.items c.place_of_session.result journal) c.self.inside.next_id) c.cut.ensures.cut
     ∙ cut_is c.args.session c.self.inside.next_id c.args.name c.self.inside.journals.items c.place_of_session.result c.index_mut.result.now (at c)
-    ∙ ap (λ (o : Open). cut_back c.args.session c.args.name o) c.self.view_is
+    ∙ ap (λ (o : Open). open_after_rollback_to c.args.session c.args.name o) c.self.view_is

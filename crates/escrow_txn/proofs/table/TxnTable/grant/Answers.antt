@@ -2,7 +2,7 @@ use Rattle.std.specs.Prelude.{◌≡◌, ◌+◌, None}
 use Rattle.std.proofs.Common.{refl, ap, sym, ◌∙◌, set, arith}
 use Rattle.escrow_num.specs.declared.reservation.Reservation.{Reservation}
 use Rattle.escrow_journal.specs.Journal.{Journal}
-use Rattle.escrow_journal.specs.Open.{Open, granted, grant_refusal}
+use Rattle.escrow_journal.specs.Open.{Open, open_after_grant, grant_refusal}
 use Rattle.escrow_journal.proofs.Free.{is_free}
 use Rattle.escrow_txn.specs.Joined.{opened}
 use Rattle.escrow_txn.proofs.Kept.{below_at, push_kept, journals_kept}
@@ -39,7 +39,7 @@ returns-clause-granted c =
     let below = below_at logs next c.args.session c.place_of_session.result journal c.self.invariant at in
     ap (λ (l : Journal). opened (set logs c.place_of_session.result l) (next + 1)) c.in_ok-push.ensures.pushed
     ∙ granted_is c.args.session next c.args.row c.args.changes logs c.place_of_session.result journal at c.self.invariant.below below
-    ∙ ap (λ (o : Open). granted c.args.session c.args.row c.args.changes o) c.self.view_is
+    ∙ ap (λ (o : Open). open_after_grant c.args.session c.args.row c.args.changes o) c.self.view_is
 
 pub returns-in_err-push-clause-only : goal.returns-in_err-push-clause-only
 returns-in_err-push-clause-only c =

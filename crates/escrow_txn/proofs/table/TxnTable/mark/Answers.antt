@@ -5,7 +5,7 @@ use Rattle.escrow_num.specs.declared.refusal.Refusal.TheVariants as refusal
 use Rattle.escrow_num.specs.Refusal.{refuse_if}
 use Rattle.escrow_journal.specs.Journal.{Journal, is_full_beside, marked}
 use Rattle.escrow_txn.specs.Joined.{opened}
-use Rattle.escrow_journal.specs.Open.{Open, saved, savepoint_refusal}
+use Rattle.escrow_journal.specs.Open.{Open, open_after_savepoint, savepoint_refusal}
 use Rattle.escrow_txn.proofs.Kept.{mark_kept, journals_stay}
 use Rattle.escrow_txn.proofs.Marks.{saved_is}
 use Rattle.escrow_txn.proofs.Places.{IsAt, place_is}
@@ -32,11 +32,11 @@ returns-clause-saved c =
     let next = c.self.inside.next_id in
     let after : Journal → Open = λ journal. opened (set c.self.inside.journals.items c.place_of_session.result journal) next in
     let old = c.index_mut.result.now in
-    on_ok_weaker {P = c.mark.new.self ≡ marked c.args.name next old} {Q = after c.mark.new.self ≡ saved c.args.session c.args.name c.args.self.now} c.mark.result
+    on_ok_weaker {P = c.mark.new.self ≡ marked c.args.name next old} {Q = after c.mark.new.self ≡ open_after_savepoint c.args.session c.args.name c.args.self.now} c.mark.result
     (λ is.
     ap after is
     ∙ saved_is c.args.session next c.args.name c.self.inside.journals.items c.place_of_session.result old (at c)
-    ∙ ap (λ (o : Open). saved c.args.session c.args.name o) c.self.view_is)
+    ∙ ap (λ (o : Open). open_after_savepoint c.args.session c.args.name o) c.self.view_is)
     c.mark.ensures.marked
 
 pub returns-clause-refused : goal.returns-clause-refused

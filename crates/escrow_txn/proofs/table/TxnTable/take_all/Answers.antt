@@ -2,7 +2,7 @@ use Rattle.std.proofs.Common.{ap, sym, ◌∙◌, set}
 use Rattle.escrow_journal.specs.Journal.{Journal}
 use Rattle.escrow_journal.specs.Reservations.{own}
 use Rattle.escrow_txn.specs.Joined.{opened}
-use Rattle.escrow_journal.specs.Open.{Open, ended}
+use Rattle.escrow_journal.specs.Open.{Open, open_after_end}
 use Rattle.escrow_txn.proofs.Kept.{empty_kept, journals_stay}
 use Rattle.escrow_txn.proofs.Places.{IsAt, place_is}
 use Rattle.escrow_txn.proofs.Sessions.{own_is, ended_is}
@@ -28,4 +28,4 @@ pub returns-clause-ended : goal.returns-clause-ended
 returns-clause-ended c =
     ap (λ (journal : Journal). opened (set c.self.inside.journals.items c.place_of_session.result journal) c.self.inside.next_id) c.take_all.ensures.none
     ∙ ended_is c.args.session c.self.inside.next_id c.self.inside.journals.items c.place_of_session.result c.index_mut.result.now (at c)
-    ∙ ap (λ (o : Open). ended c.args.session o) c.self.view_is
+    ∙ ap (λ (o : Open). open_after_end c.args.session o) c.self.view_is
