@@ -20,7 +20,7 @@ use Rattle.escrow_shards.specs.contracts.opening.Opening as Opening
 use Rattle.escrow_shards.specs.contracts.room.Room as Room
 use Rattle.escrow_shards.specs.contracts.shard.Shard as Shard
 use Rattle.escrow_shards.specs.contracts.shared.Shared as Shared
-use Rattle.escrow_shards.specs.contracts.waiting.Waiting as Waiting
+use Rattle.escrow_shards.specs.contracts.commit_queue.CommitQueue as CommitQueue
 use Rattle.escrow_shards.specs.contracts.watched.Watched as Watched
 use Rattle.escrow_shards.specs.contracts.watched.Watched.TheInside as Inside
 
@@ -34,8 +34,8 @@ entry_send : IsSend entry.the_row
 entry_send = Entry.the_send
 
 -- the COMMITs that wait
-waiting_send : IsSend Waiting.the_row
-waiting_send = search (sendable, crosses) depth 80 fits 20000
+queue_send : IsSend CommitQueue.the_row
+queue_send = search (sendable, crosses) depth 80 fits 20000
 
 module _ (S : RattleType) (g : Ghosts S.Denot) (store : IsSend S) where
   audited : IsSend (Audited.the_row S g)
@@ -58,11 +58,11 @@ module _ (S : RattleType) (g : Ghosts S.Denot) (store : IsSend S) where
   room = search (closed, sendable, crosses) depth 20
 
   module _ (L : RattleType) (lock : IsSend L) where
-    shard_if : IsSend Waiting.the_row → IsSync (Shard.the_row S L g)
-    shard_if waiting = search (lock, waiting, opening_sync, sendable, crosses) depth 20
+    shard_if : IsSend CommitQueue.the_row → IsSync (Shard.the_row S L g)
+    shard_if queue = search (lock, queue, opening_sync, sendable, crosses) depth 20
 
     shard : IsSync (Shard.the_row S L g)
-    shard = shard_if waiting_send
+    shard = shard_if queue_send
 
     pub shared_sync : IsSync (Shared.the_row S L g)
     shared_sync = search (shard, room, sendable, crosses) depth 20

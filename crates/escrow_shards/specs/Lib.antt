@@ -1,5 +1,6 @@
 pub mod Answer
 pub mod Closed
+pub mod CommitQueue
 pub mod Counted
 pub mod Found
 pub mod Laws
@@ -10,6 +11,5 @@ pub mod Pass
 pub mod Receipts
 pub mod Shared
 pub mod Shown
-pub mod Waiting
 pub mod Watchers
 pub mod Whole

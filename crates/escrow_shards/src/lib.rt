@@ -15,6 +15,7 @@ mod answer;
 mod beyond;
 mod cause;
 mod closed;
+mod commit_queue;
 mod findings;
 mod follow;
 mod gate;
@@ -31,7 +32,6 @@ mod shard;
 mod shared;
 mod start;
 mod under_lock;
-mod waiting;
 mod watched;
 
 pub use answer::Answer;

@@ -5,7 +5,7 @@ use crate::gate::Gate;
 use crate::opening::Opening;
 use crate::part::Part;
 use crate::under_lock::UnderLock;
-use crate::waiting::Waiting;
+use crate::commit_queue::CommitQueue;
 use escrow_history::{Served, Unserved};
 use escrow_num::{Refusal, Session};
 use escrow_statement::Statement;
@@ -20,7 +20,7 @@ pub(crate) struct Shard<S: Alter, L> {
     lock: Mutex<L>,
     // The COMMITs that wait while another one is served. This lock is held only for moments, and
     // nobody asks for the lock above while holding it.
-    waiting: Mutex<Waiting>,
+    queue: Mutex<CommitQueue>,
     // Wakes the calls that wait, once their COMMITs have an outcome or one of them leads.
     told: Condvar,
     opening: Opening<S>,
@@ -47,7 +47,7 @@ impl<S: Alter, L: UnderLock<S>> Shard<S, L> {
     {
         Shard {
             lock: Mutex::new(locked),
-            waiting: Mutex::new(Waiting::new()),
+            queue: Mutex::new(CommitQueue::new()),
             told: Condvar::new(),
             opening,
         }

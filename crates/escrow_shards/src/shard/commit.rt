@@ -4,7 +4,7 @@ ghost use Rattle.escrow_machine.specs.Reply.{failure_of};
 
 use crate::shard::Shard;
 use crate::under_lock::UnderLock;
-use crate::waiting::Turn;
+use crate::commit_queue::Turn;
 use escrow_history::{Committed, Served, Unserved};
 use escrow_machine::Reply;
 use escrow_num::{Failure, Session};
@@ -39,15 +39,15 @@ impl<S: Alter, L: UnderLock<S>> Shard<S, L> {
 
     /// Enters the COMMIT of a session, and waits until this call leads or the COMMIT was served.
     fn turn<R: Wait>(&self, rt: &R, session: Session) -> Turn {
-        let mut waiting = self.waiting.lock(rt);
-        let turn = waiting.ask(session);
+        let mut queue = self.queue.lock(rt);
+        let turn = queue.ask(session);
         if !matches!(turn, Turn::Waits) {
             return turn;
         }
-        let mut waiting = self
+        let mut queue = self
             .told
-            .wait_while(rt, waiting, |waiting| waiting.waits(session));
-        waiting.take(session)
+            .wait_while(rt, queue, |queue| queue.waits(session));
+        queue.take(session)
     }
 
     /// Serves the COMMIT of a session, together with those that wait. Then makes another call lead,
@@ -60,7 +60,7 @@ impl<S: Alter, L: UnderLock<S>> Shard<S, L> {
         let mut locked = self.lock.lock(rt);
         let answer = self.commit_with_those(rt, alloc, &mut *locked, session);
         drop(locked);
-        self.waiting.lock(rt).pass_on(session);
+        self.queue.lock(rt).pass_on(session);
         self.told.notify_all();
         answer
     }
@@ -116,7 +116,7 @@ impl<S: Alter, L: UnderLock<S>> Shard<S, L> {
         let Some((own, others)) = outcomes.split_first() else {
             unreachable!();
         };
-        self.waiting.lock(rt).answer(&sessions[1..], others);
+        self.queue.lock(rt).answer(&sessions[1..], others);
         Some(*own)
     }
 
@@ -125,11 +125,11 @@ impl<S: Alter, L: UnderLock<S>> Shard<S, L> {
     fn those_with<R: Wait>(&self, rt: &R, alloc: Global, session: Session) -> Option<Vec<Session>>
         ensures { IfSome result (λ sessions. 2 ≤ vec_len sessions) }
     {
-        let waiting = self.waiting.lock(rt);
-        if waiting.is_empty() {
+        let queue = self.queue.lock(rt);
+        if queue.is_empty() {
             return None;
         }
-        let sessions = waiting.with_those(alloc, session).ok()?;
+        let sessions = queue.with_those(alloc, session).ok()?;
         if sessions.len() < 2 {
             return None;
         }

@@ -2,28 +2,28 @@
 use Rattle.std.specs.Prelude.{ℕ, ◌+◌, ◌-◌, Result, List, [], ◌∷◌, get_or, slice_set}
 use Rattle.escrow_num.specs.declared.failure.Failure.{Failure}
 use Rattle.escrow_history.specs.declared.committed.Committed.{Committed}
-use Rattle.escrow_shards.specs.declared.waiting.Place.{Place}
-use Rattle.escrow_shards.specs.declared.waiting.Place.TheVariants as place
-use Rattle.escrow_shards.specs.declared.waiting.Turn.{Turn}
-use Rattle.escrow_shards.specs.declared.waiting.Turn.TheVariants as turn
+use Rattle.escrow_shards.specs.declared.commit_queue.CommitState.{CommitState}
+use Rattle.escrow_shards.specs.declared.commit_queue.CommitState.TheVariants as place
+use Rattle.escrow_shards.specs.declared.commit_queue.Turn.{Turn}
+use Rattle.escrow_shards.specs.declared.commit_queue.Turn.TheVariants as turn
 
 -- what is in the place of a session
-abbrev pub at : List Place → ℕ → Place
+abbrev pub at : List CommitState → ℕ → CommitState
 at places session = get_or places (session - 1) place.Free
 
 -- places, with another in that of a session
-abbrev pub with_place : List Place → ℕ → Place → List Place
+abbrev pub with_place : List CommitState → ℕ → CommitState → List CommitState
 with_place places session new = slice_set places (session - 1) new
 
 -- what happened to a COMMIT that left its place
-abbrev pub turn_in : Place → Turn
+abbrev pub turn_in : CommitState → Turn
 turn_in place.Free = turn.Alone
 turn_in place.Asked = turn.Alone
 turn_in place.Leads = turn.Leads
 turn_in (place.Answered outcome) = turn.Answered outcome
 
 -- the sessions whose COMMITs wait, in order; `before` places come before these
-abbrev pub asking : ℕ → List Place → List ℕ
+abbrev pub asking : ℕ → List CommitState → List ℕ
 asking before [] = []
 asking before (place.Free ∷ places) = asking (before + 1) places
 asking before (place.Asked ∷ places) = (before + 1) ∷ asking (before + 1) places
@@ -31,7 +31,7 @@ asking before (place.Leads ∷ places) = asking (before + 1) places
 asking before (place.Answered outcome ∷ places) = asking (before + 1) places
 
 -- places, after outcomes were left in the places of their sessions
-abbrev pub answered : List ℕ → List (Result Committed Failure) → List Place → List Place
+abbrev pub answered : List ℕ → List (Result Committed Failure) → List CommitState → List CommitState
 answered (session ∷ sessions) (outcome ∷ outcomes) places = answered sessions outcomes (with_place places session (place.Answered outcome))
 answered [] outcomes places = places
 answered (session ∷ sessions) [] places = places

@@ -10,8 +10,8 @@ use std::marker::Model;
 /// COMMIT together with those that wait. It leaves each outcome in its place. Then it lets a call
 /// lead that came meanwhile.
 #[derive(Drop)]
-pub(crate) struct Waiting {
-    places: [Place; Waiting::COUNT],
+pub(crate) struct CommitQueue {
+    places: [CommitState; CommitQueue::COUNT],
     // How many calls are in a place. If there are none, a COMMIT need not look into the places.
     count: usize,
     is_led: bool,
@@ -19,7 +19,7 @@ pub(crate) struct Waiting {
 
 /// The place of a session.
 #[derive(Clone, Copy)]
-pub(crate) enum Place {
+pub(crate) enum CommitState {
     /// No COMMIT of the session waits.
     Free,
     /// Its COMMIT waits.
@@ -45,29 +45,29 @@ pub(crate) enum Turn {
     Answered(Result<Committed, Failure>),
 }
 
-impl Model for Waiting {
+impl Model for CommitQueue {
     ghost use Rattle.std.specs.Prelude.{◌≡◌, List, length};
-    ghost use Rattle.escrow_shards.specs.declared.waiting.Place.{Place};
-    ghost use Rattle.escrow_shards.specs.declared.waiting.TheConstants.Waiting.{COUNT};
+    ghost use Rattle.escrow_shards.specs.declared.commit_queue.CommitState.{CommitState};
+    ghost use Rattle.escrow_shards.specs.declared.commit_queue.TheConstants.CommitQueue.{COUNT};
 
-    ghost Value = { List Place };
+    ghost Value = { List CommitState };
 
     ghost view = { λ w. w.places };
 
     ghost invariant = { λ w. length w.places ≡ COUNT };
 }
 
-impl Waiting {
+impl CommitQueue {
     ghost use Rattle.std.specs.Prelude.{◌≡◌, ◌⊎◌, ◌∷◌, ◌↔◌, IfOk, IsTrue};
-    ghost use Rattle.escrow_shards.specs.Waiting.{answered, asking, at, turn_in, with_place};
+    ghost use Rattle.escrow_shards.specs.CommitQueue.{answered, asking, at, turn_in, with_place};
 
     /// The number of places: one for each session that a database can have.
     pub const COUNT: usize = Session::MAX as usize;
 
     /// Returns places in which no COMMIT waits. No call leads.
     pub(crate) fn new() -> Self {
-        Waiting {
-            places: [Place::Free; Self::COUNT],
+        CommitQueue {
+            places: [CommitState::Free; Self::COUNT],
             count: 0,
             is_led: false,
         }
@@ -75,7 +75,7 @@ impl Waiting {
 
     /// Enters the COMMIT of a session: its call leads if none does, or else waits.
     pub(crate) fn ask(&mut self, session: Session) -> Turn
-        ensures waits { result ≡ Turn.Waits → (at self.old session ≡ Place.Free) × (self.new ≡ with_place self.old session Place.Asked) }
+        ensures waits { result ≡ Turn.Waits → (at self.old session ≡ CommitState.Free) × (self.new ≡ with_place self.old session CommitState.Asked) }
         ensures same { (result ≡ Turn.Leads) ⊎ (result ≡ Turn.Alone) → self.new ≡ self.old }
     {
         let place = usize::from(session.get()) - 1;
@@ -83,34 +83,34 @@ impl Waiting {
             self.is_led = true;
             return Turn::Leads;
         }
-        if !matches!(self.places[place], Place::Free) {
+        if !matches!(self.places[place], CommitState::Free) {
             return Turn::Alone;
         }
-        self.places[place] = Place::Asked;
+        self.places[place] = CommitState::Asked;
         self.count = self.count.saturating_add(1);
         Turn::Waits
     }
 
     /// Returns whether the COMMIT of a session waits.
     pub(crate) fn waits(&self, session: Session) -> bool
-        ensures { IsTrue result ↔ (at self.now session ≡ Place.Asked) }
+        ensures { IsTrue result ↔ (at self.now session ≡ CommitState.Asked) }
     {
-        matches!(self.places[usize::from(session.get()) - 1], Place::Asked)
+        matches!(self.places[usize::from(session.get()) - 1], CommitState::Asked)
     }
 
     /// Takes the outcome of a session's COMMIT out of its place.
     pub(crate) fn take(&mut self, session: Session) -> Turn
         ensures turn { result ≡ turn_in (at self.old session) }
-        ensures free { self.new ≡ with_place self.old session Place.Free }
+        ensures free { self.new ≡ with_place self.old session CommitState.Free }
     {
         let place = usize::from(session.get()) - 1;
         let found = self.places[place];
-        self.places[place] = Place::Free;
+        self.places[place] = CommitState::Free;
         self.count = self.count.saturating_sub(1);
         match found {
-            Place::Answered(outcome) => Turn::Answered(outcome),
-            Place::Leads => Turn::Leads,
-            Place::Free | Place::Asked => Turn::Alone,
+            CommitState::Answered(outcome) => Turn::Answered(outcome),
+            CommitState::Leads => Turn::Leads,
+            CommitState::Free | CommitState::Asked => Turn::Alone,
         }
     }
 
@@ -145,7 +145,7 @@ impl Waiting {
         ensures { self.new ≡ answered sessions.now outcomes.now self.old }
     {
         for (session, outcome) in sessions.iter().zip(outcomes) {
-            self.places[usize::from(session.get()) - 1] = Place::Answered(*outcome);
+            self.places[usize::from(session.get()) - 1] = CommitState::Answered(*outcome);
         }
     }
 
@@ -158,8 +158,8 @@ impl Waiting {
         }
         for step in 0..Self::COUNT {
             let place = (usize::from(from.get()) + step) % Self::COUNT;
-            if let Place::Asked = self.places[place] {
-                self.places[place] = Place::Leads;
+            if let CommitState::Asked = self.places[place] {
+                self.places[place] = CommitState::Leads;
                 self.is_led = true;
                 return;
             }

@@ -1,7 +1,7 @@
 use Rattle.std.proofs.Common.{◌≡◌, length}
-use Rattle.escrow_shards.specs.declared.waiting.TheConstants.Waiting.{COUNT}
-use Rattle.escrow_shards.specs.Waiting.{answered}
-use Rattle.escrow_shards.proofs.waiting.Waiting.answer.Given as goal
+use Rattle.escrow_shards.specs.declared.commit_queue.TheConstants.CommitQueue.{COUNT}
+use Rattle.escrow_shards.specs.CommitQueue.{answered}
+use Rattle.escrow_shards.proofs.commit_queue.CommitQueue.answer.Given as goal
 
 abbrev pub invariant-loop-session : goal.invariant-loop-session
 invariant-loop-session l = record {
