@@ -5,13 +5,13 @@ ghost use Rattle.escrow_cells.specs.Formats.{format_number};
 pub const FORMAT: i64 = 2;
 
 /// The number of the previous format. Its columns have no scale.
-pub const FORMAT_BEFORE: i64 = 1;
+pub const FORMAT_1: i64 = 1;
 
 /// A format of stores.
 #[derive(Clone, Copy, Debug, PartialEq, Eq)]
 pub enum Format {
     /// The previous format.
-    Before,
+    V1,
     /// The known format. New stores are made in it.
     Known,
 }
@@ -22,7 +22,7 @@ impl Format {
         ensures { result ≡ format_number self }
     {
         match self {
-            Format::Before => FORMAT_BEFORE,
+            Format::V1 => FORMAT_1,
             Format::Known => FORMAT,
         }
     }

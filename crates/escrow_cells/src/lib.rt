@@ -27,7 +27,7 @@ mod transaction;
 pub use creation::{create, migrate};
 pub use datum::Datum;
 pub use failure::failure_of;
-pub use formats::{FORMAT, FORMAT_BEFORE, Format};
+pub use formats::{FORMAT, FORMAT_1, Format};
 pub use numbered::are_numbered;
 pub use read::{
     cell_tables, count_cells, count_keys, key_cells, metas, row_cells, span_cells, table_cells,

@@ -9,21 +9,21 @@ use Rattle.escrow_num.specs.declared.row.Row.{Row}
 use Rattle.escrow_schema.specs.declared.counted_table.CountedTable.{CountedTable}
 use Rattle.escrow_schema.specs.Stored.{catalog_of, stored_of}
 use Rattle.escrow_cells.specs.Calls.{Transacts}
-use Rattle.escrow_cells.specs.declared.formats.TheConstants.{FORMAT_BEFORE}
+use Rattle.escrow_cells.specs.declared.formats.TheConstants.{FORMAT_1}
 use Rattle.escrow_rows.specs.Answers.{IsUsable, OnlyReads}
 use Rattle.escrow_rows.specs.Changes.{Migrates}
 use Rattle.escrow_rows.specs.Image.{IsImageIn}
 use Rattle.escrow_recover.specs.Found.{IsFounded}
 use Rattle.escrow_recover.specs.Holds.{Holds}
 use Rattle.escrow_recover.specs.Inside.{WasMigrated}
-use Rattle.escrow_recover.specs.Migrated.{HoldsBefore, IsMade, IsMigrated, IsMigratedFrom}
+use Rattle.escrow_recover.specs.Migrated.{HoldsInFormat1, IsMade, IsMigrated, IsMigratedFrom}
 use Rattle.escrow_recover.specs.Opened.{IsOpened, Stores}
-use Rattle.escrow_recover.specs.Stored.{HasCount, IsStoreBefore, IsStoreOf}
+use Rattle.escrow_recover.specs.Stored.{HasCount, IsFormat1Store, IsStoreOf}
 use Rattle.escrow_recover.proofs.OpenedLemmas.{definitions}
 
 -- what verifying told of a database that was looked at: the tables of a store in the format before
 abbrev pub Told : Database → State → List CountedTable → Type 0
-Told db mid found = HasCleanDisk mid → IsTrue mid.is_open × (rows : List Row) × IsStoreBefore (stored_of found) rows db × AllByRecursion (HasCount rows) found
+Told db mid found = HasCleanDisk mid → IsTrue mid.is_open × (rows : List Row) × IsFormat1Store (stored_of found) rows db × AllByRecursion (HasCount rows) found
 
 -- a store was looked at, and then brought to the known format
 module _ (old mid last : State) (found : List CountedTable) (told : Told old.now mid found) (only_reads : OnlyReads old mid)
@@ -32,7 +32,7 @@ module _ (old mid last : State) (found : List CountedTable) (told : Told old.now
   was_clean clean = omega (arith, it.survives.clean, clean)
 
   -- the tables and rows that were held in the format before
-  was_held : (clean : HasCleanDisk mid) → HoldsBefore (catalog_of found) (told clean).1 old.now
+  was_held : (clean : HasCleanDisk mid) → HoldsInFormat1 (catalog_of found) (told clean).1 old.now
   was_held clean = record { tables = stored_of found; catalog_is = definitions found; store = (told clean).2 }
 
   -- a database that the migration makes is a store of them
@@ -40,8 +40,8 @@ module _ (old mid last : State) (found : List CountedTable) (told : Told old.now
   made_by clean db migrates =
       let was = told clean in
       let store = was.2.store in
-      let image = subst (IsImageIn FORMAT_BEFORE (stored_of found) was.1) (sym (only_reads.same (clean, was.0))) store.image in
-      record { are_tables = store.are_tables; are_rows = store.are_rows; meet = store.meet; held = store.held; image = migrates FORMAT_BEFORE (stored_of found) was.1 image }
+      let image = subst (IsImageIn FORMAT_1 (stored_of found) was.1) (sym (only_reads.same (clean, was.0))) store.image in
+      record { are_tables = store.are_tables; are_rows = store.are_rows; meet = store.meet; held = store.held; image = migrates FORMAT_1 (stored_of found) was.1 image }
 
   -- so does what a crash leaves, if it leaves anything new
   pub crash : Survives old last (WasMigrated old)

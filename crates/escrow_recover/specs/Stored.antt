@@ -7,7 +7,7 @@ use Rattle.escrow_schema.specs.declared.table.TableDef.{TableDef}
 use Rattle.escrow_schema.specs.Catalog.{table_named}
 use Rattle.escrow_schema.specs.Column.{scale_of}
 use Rattle.escrow_schema.specs.Fit.{values_of}
-use Rattle.escrow_cells.specs.declared.formats.TheConstants.{FORMAT, FORMAT_BEFORE}
+use Rattle.escrow_cells.specs.declared.formats.TheConstants.{FORMAT, FORMAT_1}
 use Rattle.escrow_cells.specs.Store.{IsStoreSchema, format, metas}
 use Rattle.escrow_schema.specs.declared.stored.StoredTable.{StoredTable}
 pub use Rattle.escrow_schema.specs.Stored.{stored_of, catalog_of}
@@ -64,13 +64,13 @@ abbrev pub AreWhole : List TableDef → Type 0
 AreWhole = AllByRecursion IsWhole
 
 -- A STORE in the previous format, in which no column has a scale
-pub record IsStoreBefore (tables : List StoredTable) (rows : List Row) (db : Database) : Type 0 where
-  pub store : IsStoreIn FORMAT_BEFORE tables rows db
+pub record IsFormat1Store (tables : List StoredTable) (rows : List Row) (db : Database) : Type 0 where
+  pub store : IsStoreIn FORMAT_1 tables rows db
   pub whole : AreWhole (map (λ s. s.table) tables)
 
 -- a database that isn't the store of any tables and rows in the previous format
-abbrev pub IsNoStoreBefore : Database → Type 0
-IsNoStoreBefore db = (tables : List StoredTable) (rows : List Row) → IsStoreBefore tables rows db → ⊥
+abbrev pub IsNoFormat1Store : Database → Type 0
+IsNoFormat1Store db = (tables : List StoredTable) (rows : List Row) → IsFormat1Store tables rows db → ⊥
 
 -- a table's number of rows is the one that is counted
 abbrev pub HasCount : List Row → CountedTable → Type 0

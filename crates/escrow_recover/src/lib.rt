@@ -9,9 +9,9 @@
 #![tactic(auto)]
 
 mod bare;
-mod before;
 mod cells;
 mod format;
+mod format_1;
 pub mod laws;
 mod migration;
 mod open;

@@ -4,17 +4,17 @@ ghost use Rattle.sqlite.specs.State.{HasCleanDisk, Survives};
 ghost use Rattle.sqlite_trees.specs.Tree.{Trees};
 ghost use Rattle.escrow_num.specs.declared.failure.Failure.{Failure as Why};
 ghost use Rattle.escrow_num.specs.Refusal.{refusal_for};
-ghost use Rattle.escrow_cells.specs.declared.formats.TheConstants.{FORMAT_BEFORE as BEFORE};
+ghost use Rattle.escrow_cells.specs.declared.formats.TheConstants.{FORMAT_1};
 ghost use Rattle.escrow_cells.specs.Tables.{no_schema};
 ghost use Rattle.escrow_rows.specs.Answers.{IsUsable};
 ghost use Rattle.escrow_recover.specs.Inside.{WasMigrated};
 ghost use Rattle.escrow_recover.specs.Migrated.{HasUnknownFormat, IsMade, IsMigratedFrom};
 ghost use Rattle.escrow_recover.specs.Opened.{IsOpened, IsOpening, Stores};
-ghost use Rattle.escrow_recover.specs.Stored.{IsNoStore, IsNoStoreBefore, HasFormat, HasFormatBut};
+ghost use Rattle.escrow_recover.specs.Stored.{IsNoStore, IsNoFormat1Store, HasFormat, HasFormatBut};
 ghost use Rattle.escrow_recover.specs.declared.unverified.Unverified.TheVariants as unverified;
 
 use crate::bare::is_bare;
-use crate::before::verify_before;
+use crate::format_1::verify_format_1;
 use crate::open::{Opened, StoreFault, make_empty, read_store};
 use crate::unverified::Unverified;
 use escrow_num::Refusal;
@@ -41,12 +41,12 @@ pub fn migrate<S: Alter>(
     ensures store { IfOk result (λ o. HasCleanDisk (state S.Store o.store) → IsOpened (state S.Store o.store) o.catalog) }
     ensures found { IfOk result (λ o. IsUsable (state S.Store o.store) → (state S.Store connection).now.schema ≢ no_schema → o.migrated ≡ false → (state S.Store o.store).now ≡ (state S.Store connection).now) }
     ensures migrated { IfOk result (λ o. HasCleanDisk (state S.Store o.store) → IsTrue o.migrated → IsMigratedFrom (state S.Store connection).now (state S.Store o.store) o.catalog) }
-    ensures flag { IfOk result (λ o. HasCleanDisk (state S.Store o.store) → (IsTrue o.migrated ↔ HasFormat BEFORE (state S.Store connection).now)) }
+    ensures flag { IfOk result (λ o. HasCleanDisk (state S.Store o.store) → (IsTrue o.migrated ↔ HasFormat FORMAT_1 (state S.Store connection).now)) }
     ensures made { IfOk result (λ o. (state S.Store connection).now.schema ≡ no_schema → (o.catalog ≡ []) × (HasCleanDisk (state S.Store o.store) → Stores (state S.Store o.store) [] [])) }
 
     // Why a store isn't opened: each reason is returned exactly if it is true.
     ensures bare { (state S.Store connection).now.schema ≡ no_schema → IfErr result (λ f. (why : Why) × (f.cause ≡ refusal_for why)) }
-    ensures foreign { IfErr result (λ f. IsUsable (state S.Store f.connection) → f.cause ≡ Refusal.ForeignStore → IsNoStore (state S.Store connection).now × IsNoStoreBefore (state S.Store connection).now) }
+    ensures foreign { IfErr result (λ f. IsUsable (state S.Store f.connection) → f.cause ≡ Refusal.ForeignStore → IsNoStore (state S.Store connection).now × IsNoFormat1Store (state S.Store connection).now) }
     ensures version { IfErr result (λ f. IsUsable (state S.Store f.connection) → f.cause ≡ Refusal.UnknownVersion → HasUnknownFormat (state S.Store connection).now) }
     ensures other { IfErr result (λ f. IsUsable (state S.Store f.connection) → f.cause ≡ Refusal.ForeignStore → HasUnknownFormat (state S.Store connection).now → ⊥) }
     ensures only { IfErr result (λ f. IsOpening f.cause) }
@@ -88,8 +88,8 @@ fn migrate_whole<S: Alter>(
     ensures store { IfOk result (λ o. HasCleanDisk (state S.Store o.store) → IsOpened (state S.Store o.store) o.catalog) }
     ensures found { IfOk result (λ o. IsUsable (state S.Store o.store) → o.migrated ≡ false → (state S.Store o.store).now ≡ (state S.Store connection).now) }
     ensures migrated { IfOk result (λ o. HasCleanDisk (state S.Store o.store) → IsTrue o.migrated → IsMigratedFrom (state S.Store connection).now (state S.Store o.store) o.catalog) }
-    ensures flag { IfOk result (λ o. HasCleanDisk (state S.Store o.store) → (IsTrue o.migrated ↔ HasFormat BEFORE (state S.Store connection).now)) }
-    ensures foreign { IfErr result (λ f. IsUsable (state S.Store f.connection) → f.cause ≡ Refusal.ForeignStore → IsNoStore (state S.Store connection).now × IsNoStoreBefore (state S.Store connection).now) }
+    ensures flag { IfOk result (λ o. HasCleanDisk (state S.Store o.store) → (IsTrue o.migrated ↔ HasFormat FORMAT_1 (state S.Store connection).now)) }
+    ensures foreign { IfErr result (λ f. IsUsable (state S.Store f.connection) → f.cause ≡ Refusal.ForeignStore → IsNoStore (state S.Store connection).now × IsNoFormat1Store (state S.Store connection).now) }
     ensures version { IfErr result (λ f. IsUsable (state S.Store f.connection) → f.cause ≡ Refusal.UnknownVersion → HasUnknownFormat (state S.Store connection).now) }
     ensures other { IfErr result (λ f. IsUsable (state S.Store f.connection) → f.cause ≡ Refusal.ForeignStore → HasUnknownFormat (state S.Store connection).now → ⊥) }
     ensures only { IfErr result (λ f. IsOpening f.cause) }
@@ -120,8 +120,8 @@ fn read_any<S: Alter>(
     ensures store { IfOk result (λ o. HasCleanDisk (state S.Store o.store) → IsOpened (state S.Store o.store) o.catalog) }
     ensures found { IfOk result (λ o. IsUsable (state S.Store o.store) → o.migrated ≡ false → (state S.Store o.store).now ≡ (state S.Store store).now) }
     ensures migrated { IfOk result (λ o. HasCleanDisk (state S.Store o.store) → IsTrue o.migrated → IsMigratedFrom (state S.Store store).now (state S.Store o.store) o.catalog) }
-    ensures flag { IfOk result (λ o. HasCleanDisk (state S.Store o.store) → (IsTrue o.migrated ↔ HasFormat BEFORE (state S.Store store).now)) }
-    ensures foreign { IfErr result (λ f. IsUsable (state S.Store f.0) → f.1 ≡ unverified.ForeignStore → IsNoStore (state S.Store store).now × IsNoStoreBefore (state S.Store store).now) }
+    ensures flag { IfOk result (λ o. HasCleanDisk (state S.Store o.store) → (IsTrue o.migrated ↔ HasFormat FORMAT_1 (state S.Store store).now)) }
+    ensures foreign { IfErr result (λ f. IsUsable (state S.Store f.0) → f.1 ≡ unverified.ForeignStore → IsNoStore (state S.Store store).now × IsNoFormat1Store (state S.Store store).now) }
     ensures version { IfErr result (λ f. IsUsable (state S.Store f.0) → f.1 ≡ unverified.OtherFormat → HasUnknownFormat (state S.Store store).now) }
     ensures other { IfErr result (λ f. IsUsable (state S.Store f.0) → f.1 ≡ unverified.ForeignStore → HasUnknownFormat (state S.Store store).now → ⊥) }
     ensures kept { IfErr result (λ f. IsUsable (state S.Store f.0) → (state S.Store f.0).now ≡ (state S.Store store).now) }
@@ -153,9 +153,9 @@ fn read_before<S: Alter>(
 ) -> Result<(RowStore<S>, Catalog), (RowStore<S>, Unverified)>
     ensures store { IfOk result (λ o. HasCleanDisk (state S.Store o.0) → IsOpened (state S.Store o.0) o.1) }
     ensures migrated { IfOk result (λ o. HasCleanDisk (state S.Store o.0) → IsMigratedFrom (state S.Store store).now (state S.Store o.0) o.1) }
-    ensures foreign { IfErr result (λ f. IsUsable (state S.Store f.0) → f.1 ≡ unverified.ForeignStore → IsNoStoreBefore (state S.Store store).now) }
-    ensures version { IfErr result (λ f. IsUsable (state S.Store f.0) → f.1 ≡ unverified.OtherFormat → HasFormatBut BEFORE (state S.Store store).now) }
-    ensures other { IfErr result (λ f. IsUsable (state S.Store f.0) → f.1 ≡ unverified.ForeignStore → HasFormatBut BEFORE (state S.Store store).now → ⊥) }
+    ensures foreign { IfErr result (λ f. IsUsable (state S.Store f.0) → f.1 ≡ unverified.ForeignStore → IsNoFormat1Store (state S.Store store).now) }
+    ensures version { IfErr result (λ f. IsUsable (state S.Store f.0) → f.1 ≡ unverified.OtherFormat → HasFormatBut FORMAT_1 (state S.Store store).now) }
+    ensures other { IfErr result (λ f. IsUsable (state S.Store f.0) → f.1 ≡ unverified.ForeignStore → HasFormatBut FORMAT_1 (state S.Store store).now → ⊥) }
     ensures kept { IfErr result (λ f. IsUsable (state S.Store f.0) → (state S.Store f.0).now ≡ (state S.Store store).now) }
     ensures usable_opened { IfOk result (λ o. IsUsable (state S.Store o.0) → IsUsable (state S.Store store)) }
     ensures usable_refused { IfErr result (λ f. IsUsable (state S.Store f.0) → IsUsable (state S.Store store)) }
@@ -163,7 +163,7 @@ fn read_before<S: Alter>(
     ensures crash_opened { IfOk result (λ o. Survives (state S.Store store) (state S.Store o.0) (WasMigrated (state S.Store store))) }
     ensures crash_refused { IfErr result (λ f. Survives (state S.Store store) (state S.Store f.0) (WasMigrated (state S.Store store))) }
 {
-    let catalog = match verify_before(alloc, &mut store) {
+    let catalog = match verify_format_1(alloc, &mut store) {
         Ok(catalog) => catalog,
         Err(why) => return Err((store, why)),
     };

@@ -13,7 +13,7 @@ use Rattle.escrow_cells.specs.Store.{HasTables}
 use Rattle.escrow_cells.specs.Tables.{no_schema}
 use Rattle.sqlite.specs.State.{HasCleanDisk}
 use Rattle.escrow_recover.specs.Holds.{Holds}
-use Rattle.escrow_recover.specs.Migrated.{HoldsBefore}
+use Rattle.escrow_recover.specs.Migrated.{HoldsInFormat1}
 use Rattle.escrow_core.specs.Database.{Database}
 use Rattle.escrow_machine.specs.State.{State, empty}
 use Rattle.escrow_server.specs.declared.fault.RunFault.{RunFault}
@@ -23,7 +23,7 @@ use Rattle.escrow_server.specs.Program.{empty_states, AreFound, IsFound, StartsA
 
 -- what is held was held before it was opened, in the known format or in the one before
 pub held_either : (s : State) (old new : Stored) (migrated : Bool) → Holds s.catalog s.rows new → (migrated ≡ false → new ≡ old)
-    → (IsTrue migrated → HoldsBefore s.catalog s.rows old) → Holds s.catalog s.rows old ⊎ HoldsBefore s.catalog s.rows old
+    → (IsTrue migrated → HoldsInFormat1 s.catalog s.rows old) → Holds s.catalog s.rows old ⊎ HoldsInFormat1 s.catalog s.rows old
 held_either s old new false holds same before = inl (subst (Holds s.catalog s.rows) (same refl) holds)
 held_either s old new true holds same before = inr (before refl)
 
@@ -87,7 +87,7 @@ found_more g may_hold count databases d are is used =
 no_tables : (schema : Schema) → schema ≡ no_schema → HasTables schema → ⊥
 no_tables schema none has = let e : no_schema ≡ schema = sym none in let tables = ap (λ (s : Schema). s.tables) (e ∙ has.is) in cc
 
-no_store : (s : State) (db : Stored) → db.schema ≡ no_schema → Holds s.catalog s.rows db ⊎ HoldsBefore s.catalog s.rows db → ⊥
+no_store : (s : State) (db : Stored) → db.schema ≡ no_schema → Holds s.catalog s.rows db ⊎ HoldsInFormat1 s.catalog s.rows db → ⊥
 no_store s db none (inl holds) = no_tables db.schema none holds.image.store.tables
 no_store s db none (inr before) = no_tables db.schema none before.store.store.image.store.tables
 

@@ -7,7 +7,7 @@ use Rattle.std.specs.Io.KnownBytes.{Appends, IsAtEnd, Keeps}
 use Rattle.sqlite.specs.Effect.{Database}
 use Rattle.escrow_cells.specs.Tables.{no_schema}
 use Rattle.escrow_recover.specs.Holds.{Holds}
-use Rattle.escrow_recover.specs.Migrated.{HoldsBefore}
+use Rattle.escrow_recover.specs.Migrated.{HoldsInFormat1}
 use Rattle.escrow_machine.specs.State.{State, empty, opened}
 use Rattle.escrow_args.specs.declared.args.Mode.{Mode}
 use Rattle.escrow_args.specs.declared.args.Mode.TheVariants as mode
@@ -25,7 +25,7 @@ use Rattle.escrow_serve.specs.Output.{ServesAll, ServesWhole, StopsWithin}
 abbrev pub StartsAs : Database → State → Type 0
 StartsAs db s =
     ((db.schema ≡ no_schema) × (s ≡ empty))
-    ⊎ ((Holds s.catalog s.rows db ⊎ HoldsBefore s.catalog s.rows db) × (s ≡ opened s.catalog s.rows))
+    ⊎ ((Holds s.catalog s.rows db ⊎ HoldsInFormat1 s.catalog s.rows db) × (s ≡ opened s.catalog s.rows))
 
 -- a database may begin in this state, over a store that holds what it may hold
 abbrev pub IsFound : (Database → Type 0) → State → Type 0

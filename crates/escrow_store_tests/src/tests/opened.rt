@@ -15,7 +15,7 @@ pub(super) const ACCOUNT: &str =
 pub(super) const KNOWN: &str = "UPDATE META SET V = 2";
 
 /// The previous format.
-pub(super) const BEFORE: &str = "UPDATE META SET V = 1";
+pub(super) const FORMAT_1: &str = "UPDATE META SET V = 1";
 
 /// An unknown format.
 const THREE: &str = "UPDATE META SET V = 3";
@@ -177,7 +177,7 @@ fn what_is_no_store_is_refused(rt: HostRuntime) -> Result<(), Fail> {
         open_each(&rt, conn, &[ACCOUNT, change], &[opening])?;
         let migration = (true, answer_of(*number_before, *change != KNOWN));
         let conn = escrow_memory::open(rt.alloc())?;
-        open_each(&rt, conn, &[ACCOUNT, BEFORE, change], &[migration])?;
+        open_each(&rt, conn, &[ACCOUNT, FORMAT_1, change], &[migration])?;
     }
     Ok(())
 }
@@ -193,7 +193,7 @@ fn a_store_is_migrated_once(rt: HostRuntime) -> Result<(), Fail> {
         (false, Ok(false)),
     ];
     let conn = escrow_memory::open(rt.alloc())?;
-    open_each(&rt, conn, &[ACCOUNT, BEFORE], &openings)
+    open_each(&rt, conn, &[ACCOUNT, FORMAT_1], &openings)
 }
 
 /// Changes of the store with the account, and what is shown after each.
@@ -269,7 +269,7 @@ fn refuse_inside<R: Abort + AllocGlobal, S: Alter + Drop>(
 /// Calls on a connection inside a transaction fail with error 60, and leave the transaction open.
 #[test]
 fn nothing_is_done_in_a_transaction(rt: HostRuntime) -> Result<(), Fail> {
-    for format in [BEFORE, KNOWN, THREE] {
+    for format in [FORMAT_1, KNOWN, THREE] {
         refuse_inside(&rt, escrow_memory::open(rt.alloc())?, format)?;
     }
     Ok(())

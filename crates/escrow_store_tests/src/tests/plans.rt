@@ -1,6 +1,6 @@
 //! Statements for stores that stop at each of their calls in turn.
 use super::databases::{Asked, AskedAtOnce};
-use super::opened::{ACCOUNT, BEFORE, KNOWN};
+use super::opened::{ACCOUNT, FORMAT_1, KNOWN};
 
 /// A store, the statements that it serves, and the queries that show its rows.
 pub(super) struct Plan {
@@ -123,7 +123,7 @@ pub(super) const ALTERED: Plan = Plan {
 
 /// An account in a store of the previous format.
 pub(super) const MIGRATED: Plan = Plan {
-    filled_by: &[ACCOUNT, BEFORE],
+    filled_by: &[ACCOUNT, FORMAT_1],
     frames: COPIED,
     asked: &[(SHOW_ACCOUNT, FULL)],
     at_once: &[],

@@ -6,7 +6,7 @@ use Rattle.sqlite.specs.State.{HasCleanDisk}
 use Rattle.escrow_num.specs.declared.row.Row.{Row}
 use Rattle.escrow_schema.specs.declared.counted_table.CountedTable.{CountedTable}
 use Rattle.escrow_schema.specs.Stored.{catalog_of}
-use Rattle.escrow_recover.specs.Migrated.{HoldsBefore}
+use Rattle.escrow_recover.specs.Migrated.{HoldsInFormat1}
 use Rattle.escrow_recover.specs.Opened.{Stores}
 use Rattle.escrow_recover.proofs.OpenedLemmas.{stores_holds, stores_rows}
 use Rattle.escrow_server.specs.Program.{StartsAs}
@@ -28,9 +28,9 @@ returns-in-Ok-open-clause-found g c = λ used.
           let it = c.in-Ok.ensures.store clean in
           let rows = it.0 in
           let held = stores_holds now is.catalog rows it.1 in
-          let before : IsTrue is.migrated → HoldsBefore (catalog_of is.catalog) rows was.now = λ migrated.
+          let before : IsTrue is.migrated → HoldsInFormat1 (catalog_of is.catalog) rows was.now = λ migrated.
           let from = c.in-Ok.ensures.migrated clean migrated in
-          subst (λ (rs : List Row). HoldsBefore (catalog_of is.catalog) rs was.now) (sym (stores_rows now is.catalog from.0 from.1) ∙ stores_rows now is.catalog rows it.1) from.2 in
+          subst (λ (rs : List Row). HoldsInFormat1 (catalog_of is.catalog) rs was.now) (sym (stores_rows now is.catalog from.0 from.1) ∙ stores_rows now is.catalog rows it.1) from.2 in
           let found = held_either (opened (catalog_of is.catalog) rows) was.now now.now is.migrated held (c.in-Ok.ensures.found (clean, it.1.is_open) other) before in
           let state_is = c.in-Ok-open.ensures.state ∙ ap (opened (catalog_of is.catalog)) (c.in-Ok-open.ensures.rows rows it.1) in
           subst (StartsAs was.now) (sym state_is) (inr (found, refl))

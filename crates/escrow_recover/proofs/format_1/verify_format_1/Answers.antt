@@ -3,7 +3,7 @@ use Rattle.std.proofs.lemmas.Bool.{false≢true}
 use Rattle.sqlite.specs.Held.{state}
 use Rattle.escrow_recover.specs.declared.unverified.Unverified.TheVariants.{ForeignStore}
 use Rattle.escrow_recover.proofs.WholeTables.{AreEachWhole, none_whole, whole_catalog}
-use Rattle.escrow_recover.proofs.before.verify_before.Goals as goal
+use Rattle.escrow_recover.proofs.format_1.verify_format_1.Goals as goal
 
 pub returns-in-Ok-clause-store : goal.returns-in-Ok-clause-store
 returns-in-Ok-clause-store g c = λ clean.
