@@ -7,7 +7,7 @@ ghost use Rattle.escrow_free.specs.Histories.{AreHistories, histories};
 ghost use Rattle.escrow_server.specs.Free.{ended_of, AreEnded, HoldCleanDisks, RunsFree};
 ghost use Rattle.escrow_serve.specs.Output.{states_of};
 
-use crate::desk::start;
+use crate::monitor::start;
 use crate::screen::Screen;
 use escrow_core::Database;
 use escrow_free::{FreeFault, serve_free, serve_free_watched};

@@ -8,15 +8,15 @@
 #![tactic(auto)]
 
 mod databases;
-mod desk;
 mod drawing;
 mod fault;
 mod free;
+mod monitor;
 mod program;
 mod screen;
 
-pub use desk::Desk;
 pub use escrow_args::{ArgFault, Args, Mode, read_args};
+pub use monitor::Monitor;
 pub use escrow_files::{
     CloseFault, InFiles, InMemory, OpenFault, OpenStore, Opened, Outlook, Site,
 };

@@ -1,5 +1,5 @@
 //! A screen, which shows the progress of a script.
-use crate::desk::{Desk, Phase, Stage, Told};
+use crate::monitor::{Monitor, Phase, Activity, Told};
 use crate::drawing::{Layout, Progress, drawing, erasing};
 use escrow_script::write_whole;
 use escrow_stats::{Tally, Watcher};
@@ -12,7 +12,7 @@ use std::time::{Clock, Duration, Instant};
 /// A screen that shows the progress of a script whose sessions run at the same time.
 pub trait Screen {
     /// Shows the progress until the script ends, in a thread of its own.
-    fn show<S: Alter>(self, alloc: Global, desk: &Desk<Watcher<S>>);
+    fn show<S: Alter>(self, alloc: Global, monitor: &Monitor<Watcher<S>>);
 }
 
 /// No screen.
@@ -23,7 +23,7 @@ pub const NO_SCREEN: Option<NoScreen> = None;
 pub struct NoScreen;
 
 impl Screen for NoScreen {
-    fn show<S: Alter>(self, _alloc: Global, _desk: &Desk<Watcher<S>>) {}
+    fn show<S: Alter>(self, _alloc: Global, _monitor: &Monitor<Watcher<S>>) {}
 }
 
 /// A terminal, which shows the progress of a phase that takes long. One line has the phase, how
@@ -51,14 +51,14 @@ pub struct Terminal<P, Q> {
 }
 
 impl<P: Wait + Clock + Drop, Q: Write + Drop> Screen for Terminal<P, Q> {
-    fn show<S: Alter>(self, alloc: Global, desk: &Desk<Watcher<S>>) {
+    fn show<S: Alter>(self, alloc: Global, monitor: &Monitor<Watcher<S>>) {
         let Terminal {
             rt,
             mut writer,
             pause,
             rows,
         } = self;
-        draw_all(&rt, &mut writer, pause, rows, alloc, desk);
+        draw_all(&rt, &mut writer, pause, rows, alloc, monitor);
     }
 }
 
@@ -69,16 +69,16 @@ fn draw_all<S: Alter, P: Wait + Clock, Q: Write>(
     pause: Duration,
     rows: usize,
     alloc: Global,
-    desk: &Desk<Watcher<S>>,
+    monitor: &Monitor<Watcher<S>>,
 ) {
-    let mut told = desk.told(rt);
+    let mut told = monitor.told(rt);
     for _ in rt.forever() {
-        told = desk.wait_between(rt, told);
+        told = monitor.wait_between(rt, told);
         // Without a clock there is no pause.
-        if told.stage == Stage::Over || Instant::now(rt).is_err() {
+        if told.activity == Activity::Over || Instant::now(rt).is_err() {
             break;
         }
-        told = draw_phase(rt, writer, pause, rows, alloc, desk, told);
+        told = draw_phase(rt, writer, pause, rows, alloc, monitor, told);
     }
 }
 
@@ -89,16 +89,16 @@ fn draw_phase<'a, S: Alter, P: Wait + Clock, Q: Write>(
     pause: Duration,
     rows: usize,
     alloc: Global,
-    desk: &Desk<Watcher<S>>,
+    monitor: &Monitor<Watcher<S>>,
     mut told: MutexGuard<'a, Told<Watcher<S>>>,
 ) -> MutexGuard<'a, Told<Watcher<S>>> {
-    let stage = told.stage;
-    let Stage::Phase(phase) = stage else {
+    let activity = told.activity;
+    let Activity::Phase(phase) = activity else {
         return told;
     };
     for _ in rt.forever() {
-        told = desk.wait_at(rt, told, stage, pause);
-        if told.stage != stage || Instant::now(rt).is_err() {
+        told = monitor.wait_at(rt, told, activity, pause);
+        if told.activity != activity || Instant::now(rt).is_err() {
             break;
         }
         let is_drawn = told.is_drawn;
@@ -109,7 +109,7 @@ fn draw_phase<'a, S: Alter, P: Wait + Clock, Q: Write>(
     if told.is_drawn {
         let layout = Layout::new(rows, told.watchers.len());
         let _ = erase(writer, alloc, layout.height());
-        desk.clear(&mut *told);
+        monitor.clear(&mut *told);
     }
     told
 }

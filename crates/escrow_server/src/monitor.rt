@@ -12,7 +12,7 @@ use std::time::{Clock, Duration};
 /// What the program tells a screen about the script that it serves: the watchers of its databases,
 /// and what the program does.
 #[derive(Drop)]
-pub struct Desk<V> {
+pub struct Monitor<V> {
     told: Mutex<Told<V>>,
     bell: Condvar,
 }
@@ -23,7 +23,7 @@ pub(crate) struct Told<V> {
     /// A watcher for each database, in their order. There are none before the first phase.
     pub(crate) watchers: Vec<V>,
     /// What the program does.
-    pub(crate) stage: Stage,
+    pub(crate) activity: Activity,
     /// Whether something is drawn on the screen.
     pub(crate) is_drawn: bool,
     // How many phases have begun.
@@ -32,7 +32,7 @@ pub(crate) struct Told<V> {
 
 /// What the program is doing with a script.
 #[derive(Clone, Copy, PartialEq, Eq)]
-pub(crate) enum Stage {
+pub(crate) enum Activity {
     /// It reads lines, or writes replies.
     Between,
     /// The sessions of a phase are served.
@@ -52,13 +52,13 @@ pub(crate) struct Phase {
     pub(crate) served_before: u64,
 }
 
-impl<V> Desk<V> {
-    /// Returns a desk that tells nothing yet.
+impl<V> Monitor<V> {
+    /// Returns a monitor that tells nothing yet.
     fn new(alloc: Global) -> Self {
-        Desk {
+        Monitor {
             told: Mutex::new(Told {
                 watchers: Vec::new(alloc),
-                stage: Stage::Between,
+                activity: Activity::Between,
                 is_drawn: false,
                 begun: 0,
             }),
@@ -78,19 +78,19 @@ impl<V> Desk<V> {
         told: MutexGuard<'a, Told<V>>,
     ) -> MutexGuard<'a, Told<V>> {
         self.bell
-            .wait_while(rt, told, |told| told.stage == Stage::Between)
+            .wait_while(rt, told, |told| told.activity == Activity::Between)
     }
 
-    /// Waits while the program is at a stage, but no longer than this.
+    /// Waits while the program is at a activity, but no longer than this.
     pub(crate) fn wait_at<'a, P: Wait + Clock>(
         &self,
         rt: &P,
         told: MutexGuard<'a, Told<V>>,
-        stage: Stage,
+        activity: Activity,
         most: Duration,
     ) -> MutexGuard<'a, Told<V>> {
         self.bell
-            .wait_timeout_while(rt, told, most, |told| told.stage == stage)
+            .wait_timeout_while(rt, told, most, |told| told.activity == activity)
             .0
     }
 
@@ -101,22 +101,22 @@ impl<V> Desk<V> {
     }
 
     /// Notes that no phase is being served, and waits until nothing is drawn on the screen.
-    fn leave<P: Wait>(&self, rt: &P, stage: Stage) {
+    fn leave<P: Wait>(&self, rt: &P, activity: Activity) {
         let mut told = self.told(rt);
-        told.stage = stage;
+        told.activity = activity;
         self.bell.notify_one();
         drop(self.bell.wait_while(rt, told, |told| told.is_drawn));
     }
 }
 
-impl<S: Alter> Desk<Watcher<S>> {
+impl<S: Alter> Monitor<Watcher<S>> {
     /// Notes that the next phase is being served, with this many statements.
     fn begin<P: Wait>(&self, rt: &P, statements: usize) {
         let mut told = self.told(rt);
         let number = told.begun.wrapping_add(1);
         let served_before = served_by_all(&mut told.watchers);
         told.begun = number;
-        told.stage = Stage::Phase(Phase {
+        told.activity = Activity::Phase(Phase {
             number,
             statements,
             served_before,
@@ -125,34 +125,34 @@ impl<S: Alter> Desk<Watcher<S>> {
     }
 }
 
-/// A thread that shows the progress of a script, and the desk that tells it.
+/// A thread that shows the progress of a script, and the monitor that tells it.
 #[derive(Drop)]
 pub(crate) struct Shower<'a, V, T> {
     rt: &'a T,
-    desk: Arc<Desk<V>, Global>,
+    monitor: Arc<Monitor<V>, Global>,
     thread: JoinHandle<()>,
 }
 
 impl<V: Drop, T: Threads + Wait> Shower<'_, V, T> {
     /// Tells the thread that the script has ended, and waits for the thread to end.
     pub(crate) fn stop(self) {
-        let Shower { rt, desk, thread } = self;
-        desk.leave(rt, Stage::Over);
+        let Shower { rt, monitor, thread } = self;
+        monitor.leave(rt, Activity::Over);
         thread.join(rt);
     }
 }
 
 impl<S: Alter + Drop, T: Threads + Wait> Audience<Watcher<S>> for Shower<'_, Watcher<S>, T> {
     fn watch(&mut self, _alloc: Global, watchers: Vec<Watcher<S>>) {
-        self.desk.told(self.rt).watchers = watchers;
+        self.monitor.told(self.rt).watchers = watchers;
     }
 
     fn begin(&mut self, statements: usize) {
-        self.desk.begin(self.rt, statements);
+        self.monitor.begin(self.rt, statements);
     }
 
     fn end(&mut self) {
-        self.desk.leave(self.rt, Stage::Between);
+        self.monitor.leave(self.rt, Activity::Between);
     }
 }
 
@@ -165,8 +165,8 @@ pub(crate) fn start<
     X: Screen + Send + Drop + 'static,
 >(rt: &'a T, alloc: Global, screen: Option<X>) -> Option<Shower<'a, Watcher<S>, T>> {
     let screen = screen?;
-    let desk = Arc::new(alloc, Desk::new(alloc)).ok()?;
-    let theirs = Arc::try_clone(&desk).ok()?;
+    let monitor = Arc::new(alloc, Monitor::new(alloc)).ok()?;
+    let theirs = Arc::try_clone(&monitor).ok()?;
     let thread = thread::spawn(rt, move || screen.show(alloc, &*theirs)).ok()?;
-    Some(Shower { rt, desk, thread })
+    Some(Shower { rt, monitor, thread })
 }
