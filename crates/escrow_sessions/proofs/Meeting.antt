@@ -5,11 +5,11 @@ use Rattle.std.specs.Iterator.{Yields}
 use Rattle.crossbeam_channel.specs.Ends.{receives_on}
 use Rattle.escrow_statement.specs.declared.statement.Request.{Request}
 use Rattle.escrow_shards.specs.Pass.{Pass}
-use Rattle.escrow_sessions.specs.Line.{taken_on, gives_taken}
+use Rattle.escrow_sessions.specs.Ends.{taken_on, gives_taken}
 use Rattle.escrow_sessions.specs.Serving.{IsDone}
 use Rattle.escrow_sessions.specs.Slots.{messages, to_the_end}
 use Rattle.escrow_sessions.specs.Work.{IsServed, IsAbsent, IsWorked}
-use Rattle.escrow_sessions.specs.declared.ends.Taker.{Taker}
+use Rattle.escrow_sessions.specs.declared.channel.Receiver.{Receiver}
 use Rattle.escrow_sessions.specs.declared.rule.Item.{Item}
 use Rattle.escrow_sessions.specs.declared.rule.Item.TheVariants.{One, End}
 use Rattle.escrow_sessions.specs.declared.team.Worked.{Worked}
@@ -54,7 +54,7 @@ some_message [] left = refl
 some_message (y ∷ ys) left = refl
 
 -- what was taken while requests were given
-taken_while : (xs : List Request) (s t : Taker) → Yields gives_taken s xs t → (receives_on t.receiver ≡ receives_on s.receiver) × (taken_on t ≡ taken_on s ++ messages xs)
+taken_while : (xs : List Request) (s t : Receiver) → Yields gives_taken s xs t → (receives_on t.receiver ≡ receives_on s.receiver) × (taken_on t ≡ taken_on s ++ messages xs)
 taken_while [] s t same = rw same (refl, sym (append-nil (taken_on t)))
 taken_while (x ∷ xs) s t gave =
     let first = gave.1 in let rest = taken_while xs gave.0 t gave.2 in (
@@ -63,18 +63,18 @@ taken_while (x ∷ xs) s t gave =
     )
 
 -- and up to the end
-taken_through : (pass : Pass) (s : Taker) (w : Worked Taker) (served : IsServed gives_taken pass s w.done w.source) → taken_on s ≡ [] → taken_on w.source ≡ to_the_end served.requests
+taken_through : (pass : Pass) (s : Receiver) (w : Worked Receiver) (served : IsServed gives_taken pass s w.done w.source) → taken_on s ≡ [] → taken_on w.source ≡ to_the_end served.requests
 taken_through pass s w served none =
     let before = taken_while served.requests s served.drained.0 served.drained.1 in
     served.drained.2.taken ∙ ap (λ taken. taken ++ End ∷ []) (before.1 ∙ ap (λ taken. taken ++ messages served.requests) none)
 
 -- a worker's end stays that of its channel
-pub worked_on : (pass : Pass) (s : Taker) (w : Worked Taker) → IsWorked gives_taken pass s w → receives_on w.source.receiver ≡ receives_on s.receiver
+pub worked_on : (pass : Pass) (s : Receiver) (w : Worked Receiver) → IsWorked gives_taken pass s w → receives_on w.source.receiver ≡ receives_on s.receiver
 worked_on pass s w (inl served) = served.drained.2.channel ∙ (taken_while served.requests s served.drained.0 served.drained.1).0
 worked_on pass s w (inr absent) = ap (λ t. receives_on t.receiver) absent.1
 
 -- what came of a worker, where these requests were sent to it
-pub fed_done : (pass : Pass) (s : Taker) (w : Worked Taker) (requests : List Request) → IsWorked gives_taken pass s w → taken_on s ≡ []
+pub fed_done : (pass : Pass) (s : Receiver) (w : Worked Receiver) (requests : List Request) → IsWorked gives_taken pass s w → taken_on s ≡ []
     → (left : List Item) → to_the_end requests ≡ taken_on w.source ++ left → IsDone pass requests w.done
 fed_done pass s w requests (inl served) none left met =
     let same = same_requests requests served.requests left (met ∙ ap (λ taken. taken ++ left) (taken_through pass s w served none)) in
@@ -82,7 +82,7 @@ fed_done pass s w requests (inl served) none left met =
 fed_done pass s w requests (inr absent) none left met = absent_done pass requests w.done absent.0
 
 -- where nothing was sent to it
-pub unfed_absent : (pass : Pass) (s : Taker) (w : Worked Taker) → IsWorked gives_taken pass s w → taken_on s ≡ [] → (left : List Item) → [] ≡ taken_on w.source ++ left → IsAbsent pass w.done
+pub unfed_absent : (pass : Pass) (s : Receiver) (w : Worked Receiver) → IsWorked gives_taken pass s w → taken_on s ≡ [] → (left : List Item) → [] ≡ taken_on w.source ++ left → IsAbsent pass w.done
 unfed_absent pass s w (inl served) none left met =
     absurd (true≢false (ap is_nothing (met ∙ ap (λ taken. taken ++ left) (taken_through pass s w served none)) ∙ some_message served.requests left))
 unfed_absent pass s w (inr absent) none left met = absent.0

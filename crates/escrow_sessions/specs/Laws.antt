@@ -10,7 +10,7 @@ use Rattle.escrow_shards.specs.declared.receipt.Receipt.{Receipt}
 use Rattle.escrow_sessions.specs.declared.done.Given.{Given}
 use Rattle.escrow_sessions.specs.declared.done.Given.TheVariants as given
 use Rattle.escrow_sessions.specs.declared.feed.TheConstants.{MAX_WORKERS}
-use Rattle.escrow_sessions.specs.declared.line.TheConstants.{MAX_WAITING}
+use Rattle.escrow_sessions.specs.declared.channel.TheConstants.{MAX_WAITING}
 use Rattle.escrow_sessions.specs.Serving.{Serves}
 
 -- the limits of this layer, as numbers

@@ -1,7 +1,7 @@
+pub mod Ends
 pub mod Fed
 pub mod Kept
 pub mod Laws
-pub mod Line
 pub mod Rule
 pub mod Serving
 pub mod Slots

@@ -3,7 +3,7 @@ use Rattle.std.specs.Prelude.{◌≡◌, ℕ, ◌<◌, ◌≤◌, List, [], ◌�
 use Rattle.escrow_statement.specs.declared.statement.Request.{Request}
 use Rattle.escrow_shards.specs.Pass.{Pass}
 use Rattle.escrow_sessions.specs.Fed.{of}
-use Rattle.escrow_sessions.specs.Line.{sent_on}
+use Rattle.escrow_sessions.specs.Ends.{sent_on}
 use Rattle.escrow_sessions.specs.Serving.{IsDone}
 use Rattle.escrow_sessions.specs.Work.{IsAbsent}
 use Rattle.escrow_sessions.specs.declared.done.Done.{Done}
@@ -16,11 +16,11 @@ use Rattle.escrow_sessions.specs.declared.slot.Slot.TheVariants.{Fed, Absent}
 -- a message was sent to a worker
 pub record IsSentTo (old : FedWorker) (x : Item) (new : FedWorker) : Type 0 where
   pub began : new.thread.promise ≡ old.thread.promise
-  pub sent : sent_on new.line ≡ sent_on old.line ++ x ∷ []
+  pub sent : sent_on new.sender ≡ sent_on old.sender ++ x ∷ []
 
 -- a worker to which these messages were sent, or one that couldn't be started
 abbrev pub IsSlot : Pass → List Item → Slot → Type 0
-IsSlot seat sent (Fed fed) = (fed.thread.promise.pass.value ≡ seat) × (sent_on fed.line ≡ sent)
+IsSlot seat sent (Fed fed) = (fed.thread.promise.pass.value ≡ seat) × (sent_on fed.sender ≡ sent)
 IsSlot seat sent (Absent d) = IsAbsent seat d
 
 -- the messages for requests, and all messages, with the one for the end

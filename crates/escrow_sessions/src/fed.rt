@@ -8,11 +8,11 @@ ghost use Rattle.escrow_sessions.specs.declared.feed.TheConstants.{MAX_WORKERS};
 ghost use Rattle.escrow_sessions.specs.Fed.{AreFed};
 ghost use Rattle.escrow_sessions.specs.Slots.{AreFurther, AreEnded, IsNewSlot, JoinsAs};
 
-use crate::crew::Crew;
+use crate::context::WorkerContext;
 use crate::done::Done;
 use crate::feed::{Cause, MAX_WORKERS};
 use crate::filling::fill;
-use crate::hall::Hall;
+use crate::service::Service;
 use crate::not_fed::NotFed;
 use crate::rule::Item;
 use crate::slot::{Slot, start_fed};
@@ -65,19 +65,19 @@ pub fn run_fed<
 
 /// [`run_fed`] over anything that serves statements.
 fn serve_fed<
-    H: Hall + Sync,
+    H: Service + Sync,
     R: Threads + Wait + Sync,
     G: Gate + Sync,
     I: Iterator<Item = (usize, Request)> + Drop,
 >(
     rt: &R,
     alloc: Global,
-    hall: &H,
+    service: &H,
     passes: Vec<Pass>,
     items: I,
     gate: &G,
 ) -> Result<Vec<Done>, NotFed<I>>
-    requires seats { AllByRecursion (H.has_pass hall.now) passes.items }
+    requires seats { AllByRecursion (H.has_pass service.now) passes.items }
     requires can { I.can_next items }
     requires ends { IsFinite (I.remaining items) }
     requires places { HoldsAlong I.next_gives items (All (λ x. x.0 < length passes.items)) }
@@ -109,7 +109,7 @@ fn serve_fed<
         thread::scope_env(),
         rt,
         |scope| -> Vec<Done>
-            requires seats { AllByRecursion (H.has_pass hall.now) passes.items }
+            requires seats { AllByRecursion (H.has_pass service.now) passes.items }
             requires can { I.can_next items }
             requires ends { IsFinite (I.remaining items) }
             requires places { HoldsAlong I.next_gives items (All (λ x. x.0 < length passes.items)) }
@@ -120,8 +120,8 @@ fn serve_fed<
             requires done_fit { vec_len passes ≤ vec_capacity done }
             ensures { (xs : List (ℕ × Request)) × Drains I.next_gives items xs × AreFed passes.items xs result.items }
         {
-            let crew = Crew::new(scope, rt, alloc, hall, gate, &absent);
-            let mut slots = start_all(&crew, passes, slots);
+            let context = WorkerContext::new(scope, rt, alloc, service, gate, &absent);
+            let mut slots = start_all(&context, passes, slots);
             feed(rt, &mut slots, items);
             end(rt, &mut slots);
             join_all(rt, slots, done)
@@ -130,12 +130,12 @@ fn serve_fed<
 }
 
 /// Starts a worker for each pass. There must be room for the workers.
-fn start_all<E, H: Hall + Sync, R: Wait + Sync, G: Gate + Sync>(
-    crew: &Crew<'_, '_, E, H, R, G>,
+fn start_all<E, H: Service + Sync, R: Wait + Sync, G: Gate + Sync>(
+    context: &WorkerContext<'_, '_, E, H, R, G>,
     passes: Vec<Pass>,
     slots: Vec<Slot>,
 ) -> Vec<Slot>
-    requires seats { AllByRecursion (H.has_pass crew.now.hall.now) passes.items }
+    requires seats { AllByRecursion (H.has_pass context.now.service.now) passes.items }
     requires empty { slots.items ≡ [] }
     requires room { vec_len passes ≤ vec_capacity slots }
     ensures { AllZip IsNewSlot passes.items result.items }
@@ -144,8 +144,8 @@ fn start_all<E, H: Hall + Sync, R: Wait + Sync, G: Gate + Sync>(
         passes,
         slots,
         |place, pass|
-            requires { H.has_pass crew.now.hall.now pass }
-        { start_fed(crew, place, pass) },
+            requires { H.has_pass context.now.service.now pass }
+        { start_fed(context, place, pass) },
     )
 }
 

@@ -7,7 +7,7 @@ ghost use Rattle.escrow_sessions.specs.Kept.{reply_of, AreKept};
 ghost use Rattle.escrow_sessions.specs.Serving.{replies_of, IsGiven};
 
 use crate::done::Given;
-use crate::hall::Hall;
+use crate::service::Service;
 use escrow_shards::{Answer, Gate, Pass, Receipt};
 use escrow_statement::{Request, Statement};
 use escrow_stats::Tally;
@@ -16,26 +16,26 @@ use std::sync::Wait;
 
 /// Returns the answer to a request of the session of a pass. If the request asks for the session's
 /// totals, they are kept from then on.
-pub(crate) fn give<H: Hall, R: Wait, G: Gate>(
+pub(crate) fn give<H: Service, R: Wait, G: Gate>(
     rt: &R,
     alloc: Global,
-    hall: &H,
+    service: &H,
     pass: &mut Pass,
     totals: &mut Option<Tally>,
     request: &Request,
     gate: &G,
 ) -> Given
-    requires seat { H.has_pass hall.now pass.old }
+    requires seat { H.has_pass service.now pass.old }
     requires kept { AreKept totals.old (replies_of pass.old.receipts) }
     ensures given { IsGiven request.now result pass.old pass.new }
-    ensures seat { H.has_pass hall.now pass.new }
+    ensures seat { H.has_pass service.now pass.new }
     ensures kept { AreKept totals.new (replies_of pass.new.receipts) }
 {
     match request {
         Request::Statement(statement) => {
             let n = (pass.receipts().len() as u64).saturating_add(1);
             gate.before(rt, pass.database(), pass.session(), n);
-            let answer = hall.serve(rt, alloc, pass, statement, gate);
+            let answer = service.serve(rt, alloc, pass, statement, gate);
             count(totals, &answer);
             Given::Reply(answer)
         }

@@ -8,31 +8,29 @@
 //! Begin with [`run_sessions`], then read [`laws`].
 #![tactic(auto)]
 
-mod crew;
+mod channel;
+mod context;
 mod done;
-mod ends;
 mod fed;
 mod fed_worker;
 mod feed;
-mod feeding;
 mod filling;
 mod giving;
-mod hall;
 pub mod laws;
-mod line;
 mod lists;
 mod not_fed;
 mod rule;
 mod run;
+mod service;
 mod slot;
 mod source;
 mod team;
 mod worker;
 
+pub use channel::MAX_WAITING;
 pub use done::{Done, Ended, Given};
 pub use fed::run_fed;
 pub use feed::{Cause, Feed, MAX_WORKERS, NotRun};
 pub use filling::fill;
-pub use line::MAX_WAITING;
 pub use not_fed::NotFed;
 pub use run::run_sessions;

@@ -5,11 +5,11 @@ ghost use Rattle.escrow_sessions.specs.declared.feed.TheConstants.{MAX_WORKERS};
 ghost use Rattle.escrow_sessions.specs.Serving.{AreDone, HasItsPass, IsDone};
 ghost use Rattle.escrow_sessions.specs.Work.{IsWorkerOf, CameOf};
 
-use crate::crew::Crew;
+use crate::context::WorkerContext;
 use crate::done::Done;
 use crate::feed::{Cause, Feed, MAX_WORKERS, NotRun};
 use crate::filling::fill;
-use crate::hall::Hall;
+use crate::service::Service;
 use crate::lists::Listed;
 use crate::team::{Worker, start};
 use crate::worker::serve;
@@ -52,14 +52,14 @@ pub fn run_sessions<
 }
 
 /// [`run_sessions`] over anything that serves statements.
-fn serve_lists<H: Hall + Sync, R: Threads + Wait + Sync, G: Gate + Sync>(
+fn serve_lists<H: Service + Sync, R: Threads + Wait + Sync, G: Gate + Sync>(
     rt: &R,
     alloc: Global,
-    hall: &H,
+    service: &H,
     feeds: Vec<Feed>,
     gate: &G,
 ) -> Result<Vec<Done>, NotRun>
-    requires { AllByRecursion (λ f. H.has_pass hall.now f.pass) feeds.items }
+    requires { AllByRecursion (λ f. H.has_pass service.now f.pass) feeds.items }
     ensures done { IfOk result (λ done. AreDone feeds.items done.items) }
     ensures within { OnOk result (length feeds.items ≤ MAX_WORKERS) }
     ensures back { IfErr result (λ e. e.feeds ≡ feeds) }
@@ -76,37 +76,37 @@ fn serve_lists<H: Hall + Sync, R: Threads + Wait + Sync, G: Gate + Sync>(
         return Err(NotRun { feeds, cause });
     };
     if feeds.len() == 1 {
-        return Ok(serve_here(rt, alloc, hall, feeds, done, gate));
+        return Ok(serve_here(rt, alloc, service, feeds, done, gate));
     }
     let absent = AtomicU64::new(u64::MAX);
     Ok(thread::scope(
         thread::scope_env(),
         rt,
         |scope| -> Vec<Done>
-            requires seats { AllByRecursion (λ f. H.has_pass hall.now f.pass) feeds.items }
+            requires seats { AllByRecursion (λ f. H.has_pass service.now f.pass) feeds.items }
             requires no_worker { workers.items ≡ [] }
             requires room { vec_len feeds ≤ vec_capacity workers }
             requires none_done { done.items ≡ [] }
             requires done_fit { vec_len feeds ≤ vec_capacity done }
             ensures { AreDone feeds.items result.items }
         {
-            let crew = Crew::new(scope, rt, alloc, hall, gate, &absent);
-            let workers = start_all(&crew, feeds, workers);
+            let context = WorkerContext::new(scope, rt, alloc, service, gate, &absent);
+            let workers = start_all(&context, feeds, workers);
             join_all(rt, workers, done)
         },
     ))
 }
 
 /// Serves a feed, the only one, on the calling thread. There must be room for what was done.
-fn serve_here<H: Hall, R: Wait, G: Gate>(
+fn serve_here<H: Service, R: Wait, G: Gate>(
     rt: &R,
     alloc: Global,
-    hall: &H,
+    service: &H,
     feeds: Vec<Feed>,
     done: Vec<Done>,
     gate: &G,
 ) -> Vec<Done>
-    requires seats { AllByRecursion (λ f. H.has_pass hall.now f.pass) feeds.items }
+    requires seats { AllByRecursion (λ f. H.has_pass service.now f.pass) feeds.items }
     requires none_done { done.items ≡ [] }
     requires done_fit { vec_len feeds ≤ vec_capacity done }
     ensures { AreDone feeds.items result.items }
@@ -115,36 +115,36 @@ fn serve_here<H: Hall, R: Wait, G: Gate>(
         feeds,
         done,
         |_, feed| -> Done
-            requires { H.has_pass hall.now feed.pass }
+            requires { H.has_pass service.now feed.pass }
             ensures { IsDone feed.pass feed.requests.items result }
-        { serve_listed(rt, alloc, hall, feed, gate) },
+        { serve_listed(rt, alloc, service, feed, gate) },
     )
 }
 
 /// Serves a feed on the calling thread.
-fn serve_listed<H: Hall, R: Wait, G: Gate>(
+fn serve_listed<H: Service, R: Wait, G: Gate>(
     rt: &R,
     alloc: Global,
-    hall: &H,
+    service: &H,
     feed: Feed,
     gate: &G,
 ) -> Done
-    requires { H.has_pass hall.now feed.pass }
+    requires { H.has_pass service.now feed.pass }
     ensures { IsDone feed.pass feed.requests.items result }
 {
     let Feed { pass, requests } = feed;
     let left = requests.into_iter();
     let mut source = Listed { left };
-    serve(rt, alloc, hall, pass, &mut source, gate)
+    serve(rt, alloc, service, pass, &mut source, gate)
 }
 
 /// Starts a worker for each feed. There must be room for the workers.
-fn start_all<E, H: Hall + Sync, R: Wait + Sync, G: Gate + Sync>(
-    crew: &Crew<'_, '_, E, H, R, G>,
+fn start_all<E, H: Service + Sync, R: Wait + Sync, G: Gate + Sync>(
+    context: &WorkerContext<'_, '_, E, H, R, G>,
     feeds: Vec<Feed>,
     workers: Vec<Worker<Listed>>,
 ) -> Vec<Worker<Listed>>
-    requires seats { AllByRecursion (λ f. H.has_pass crew.now.hall.now f.pass) feeds.items }
+    requires seats { AllByRecursion (λ f. H.has_pass context.now.service.now f.pass) feeds.items }
     requires empty { workers.items ≡ [] }
     requires room { vec_len feeds ≤ vec_capacity workers }
     ensures { AllZip IsWorkerOf feeds.items result.items }
@@ -153,24 +153,24 @@ fn start_all<E, H: Hall + Sync, R: Wait + Sync, G: Gate + Sync>(
         feeds,
         workers,
         |place, feed| -> Worker<Listed>
-            requires { H.has_pass crew.now.hall.now feed.pass }
+            requires { H.has_pass context.now.service.now feed.pass }
             ensures { IsWorkerOf feed result }
-        { start_listed(crew, place, feed) },
+        { start_listed(context, place, feed) },
     )
 }
 
 /// Starts a worker for a feed.
-fn start_listed<E, H: Hall + Sync, R: Wait + Sync, G: Gate + Sync>(
-    crew: &Crew<'_, '_, E, H, R, G>,
+fn start_listed<E, H: Service + Sync, R: Wait + Sync, G: Gate + Sync>(
+    context: &WorkerContext<'_, '_, E, H, R, G>,
     place: u64,
     feed: Feed,
 ) -> Worker<Listed>
-    requires { H.has_pass crew.now.hall.now feed.pass }
+    requires { H.has_pass context.now.service.now feed.pass }
     ensures { IsWorkerOf feed result }
 {
     let Feed { pass, requests } = feed;
     let left = requests.into_iter();
-    start(crew, place, pass, Listed { left })
+    start(context, place, pass, Listed { left })
 }
 
 /// Waits for workers, and returns what they did. There must be room for it.

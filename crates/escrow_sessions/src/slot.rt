@@ -4,11 +4,11 @@ ghost use Rattle.escrow_shards.specs.Pass.{Pass};
 ghost use Rattle.escrow_sessions.specs.Slots.{IsSlot, JoinsAs};
 ghost use Rattle.escrow_sessions.specs.declared.rule.Item.{Item};
 
-use crate::crew::Crew;
+use crate::context::WorkerContext;
 use crate::done::{Done, Ended};
 use crate::fed_worker::FedWorker;
-use crate::hall::Hall;
-use crate::line::open;
+use crate::service::Service;
+use crate::channel::open;
 use crate::rule::Item;
 use crate::team::{Worked, Worker, start};
 use escrow_shards::{Gate, Pass};
@@ -24,27 +24,27 @@ pub(crate) enum Slot {
 }
 
 /// Makes a channel, and then starts a worker that takes from it.
-pub(crate) fn start_fed<E, H: Hall + Sync, R: Wait + Sync, G: Gate + Sync>(
-    crew: &Crew<'_, '_, E, H, R, G>,
+pub(crate) fn start_fed<E, H: Service + Sync, R: Wait + Sync, G: Gate + Sync>(
+    context: &WorkerContext<'_, '_, E, H, R, G>,
     place: u64,
     pass: Pass,
 ) -> Slot
-    requires { H.has_pass crew.now.hall.now pass }
+    requires { H.has_pass context.now.service.now pass }
     ensures { IsSlot pass [] result }
 {
-    let Ok((line, taker)) = open(crew.alloc) else {
+    let Ok((sender, receiver)) = open(context.alloc) else {
         return Slot::Absent(Done {
             pass,
-            answers: Vec::new(crew.alloc),
+            answers: Vec::new(context.alloc),
             ended: Ended::NotStarted,
         });
     };
-    match start(crew, place, pass, taker) {
+    match start(context, place, pass, receiver) {
         Worker::Absent(Worked { done, source }) => {
-            line.meet(source);
+            sender.meet(source);
             Slot::Absent(done)
         }
-        Worker::Started(thread) => Slot::Fed(FedWorker { line, thread }),
+        Worker::Started(thread) => Slot::Fed(FedWorker { sender, thread }),
     }
 }
 

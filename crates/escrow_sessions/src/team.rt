@@ -3,9 +3,9 @@ ghost use Rattle.std.specs.Prelude.{◌≡◌};
 ghost use Rattle.escrow_shards.specs.Pass.{Pass};
 ghost use Rattle.escrow_sessions.specs.Work.{IsWorked, IsWorker};
 
-use crate::crew::Crew;
+use crate::context::WorkerContext;
 use crate::done::{Done, Ended};
-use crate::hall::Hall;
+use crate::service::Service;
 use crate::source::Source;
 use crate::worker::serve;
 use escrow_shards::{Gate, Pass};
@@ -48,22 +48,22 @@ pub(crate) enum Worker<Q: Source + Drop> {
 pub(crate) fn start<
     's,
     E,
-    H: Hall + Sync,
+    H: Service + Sync,
     R: Wait + Sync,
     G: Gate + Sync,
     Q: Source + Send + Drop + 's,
->(crew: &Crew<'_, 's, E, H, R, G>, place: u64, pass: Pass, source: Q) -> Worker<Q>
-    requires { H.has_pass crew.now.hall.now pass }
+>(context: &WorkerContext<'_, 's, E, H, R, G>, place: u64, pass: Pass, source: Q) -> Worker<Q>
+    requires { H.has_pass context.now.service.now pass }
     ensures { IsWorker Q.gives pass source result }
 {
     let work = Work {
         pass: Snapshot::of(&pass),
         source: Snapshot::of(&source),
     };
-    let (rt, alloc, hall) = (crew.rt, crew.alloc, crew.hall);
-    let (gate, absent) = (crew.gate, crew.absent);
-    let run = move || attend(rt, alloc, hall, gate, absent, place, pass, source);
-    match crew.scope.spawn_with(work, run) {
+    let (rt, alloc, service) = (context.rt, context.alloc, context.service);
+    let (gate, absent) = (context.gate, context.absent);
+    let run = move || attend(rt, alloc, service, gate, absent, place, pass, source);
+    match context.scope.spawn_with(work, run) {
         Ok(handle) => Worker::Started(handle),
         Err(refused) => {
             absent.store(place, Ordering::SeqCst);
@@ -73,17 +73,17 @@ pub(crate) fn start<
 }
 
 /// The work of a worker: serves what its source returns, unless the worker is marked as absent.
-fn attend<H: Hall, R: Wait, G: Gate, Q: Source>(
+fn attend<H: Service, R: Wait, G: Gate, Q: Source>(
     rt: &R,
     alloc: Global,
-    hall: &H,
+    service: &H,
     gate: &G,
     absent: &AtomicU64,
     place: u64,
     pass: Pass,
     mut source: Q,
 ) -> Worked<Q>
-    requires { H.has_pass hall.now pass }
+    requires { H.has_pass service.now pass }
     ensures { IsWorked Q.gives pass source result }
 {
     if absent.load(Ordering::SeqCst) == place {
@@ -96,7 +96,7 @@ fn attend<H: Hall, R: Wait, G: Gate, Q: Source>(
         };
         return Worked { done, source };
     }
-    let done = serve(rt, alloc, hall, pass, &mut source, gate);
+    let done = serve(rt, alloc, service, pass, &mut source, gate);
     Worked { done, source }
 }
 

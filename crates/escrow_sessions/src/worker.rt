@@ -6,7 +6,7 @@ ghost use Rattle.escrow_sessions.specs.Work.{IsServed};
 
 use crate::done::{Done, Ended};
 use crate::giving::give;
-use crate::hall::Hall;
+use crate::service::Service;
 use crate::source::Source;
 use escrow_shards::{Gate, Pass};
 use std::alloc::Global;
@@ -15,15 +15,15 @@ use std::unreachable;
 
 /// Serves what a source returns, up to its end, in the session of a pass. If memory for the next
 /// answer is refused, the remaining requests are taken, and not served.
-pub(crate) fn serve<H: Hall, R: Wait, G: Gate, Q: Source>(
+pub(crate) fn serve<H: Service, R: Wait, G: Gate, Q: Source>(
     rt: &R,
     alloc: Global,
-    hall: &H,
+    service: &H,
     mut pass: Pass,
     source: &mut Q,
     gate: &G,
 ) -> Done
-    requires { H.has_pass hall.now pass }
+    requires { H.has_pass service.now pass }
     ensures { IsServed Q.gives pass source.old result source.new }
 {
     let mut answers = Vec::new(alloc);
@@ -45,7 +45,7 @@ pub(crate) fn serve<H: Hall, R: Wait, G: Gate, Q: Source>(
                 ended: Ended::Stopped,
             };
         }
-        answers.push_reserved(give(rt, alloc, hall, &mut pass, &mut totals, &request, gate));
+        answers.push_reserved(give(rt, alloc, service, &mut pass, &mut totals, &request, gate));
         drop(request);
     }
     unreachable!()

@@ -1,7 +1,7 @@
 use Rattle.std.proofs.Common.{ap}
 use Rattle.crossbeam_channel.specs.Claims.{view}
 use Rattle.escrow_sessions.proofs.Channel.{keeps_new, keeps_apart}
-use Rattle.escrow_sessions.proofs.line.open.Goals as goal
+use Rattle.escrow_sessions.proofs.channel.open.Goals as goal
 
 pub bounded_with-requires-clause-rule : goal.bounded_with-requires-clause-rule
 bounded_with-requires-clause-rule c = keeps_new

@@ -6,7 +6,7 @@ use std::sync::Wait;
 
 /// What serves statements for workers: databases that threads share. Workers use this trait, and
 /// not the store, so one proof suffices that threads may share it.
-pub(crate) trait Hall {
+pub(crate) trait Service {
     ghost use Rattle.escrow_shards.specs.Answer.{IsAnswered};
     ghost use Rattle.escrow_shards.specs.Pass.{Pass};
 
@@ -27,7 +27,7 @@ pub(crate) trait Hall {
         ensures seat { has_pass self.now pass.new };
 }
 
-impl<S: Alter, L: UnderLock<S>> Hall for Shared<S, L> {
+impl<S: Alter, L: UnderLock<S>> Service for Shared<S, L> {
     ghost use Rattle.escrow_shards.specs.Shared.{HasPass};
 
     ghost has_pass = { HasPass };

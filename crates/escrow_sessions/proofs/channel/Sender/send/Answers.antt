@@ -2,7 +2,7 @@ use Rattle.std.proofs.Common.{refl}
 use Rattle.crossbeam_channel.specs.Claims.{view}
 use Rattle.escrow_sessions.proofs.Channel.{keeps_sent}
 use Rattle.escrow_sessions.specs.Rule.{with_sent}
-use Rattle.escrow_sessions.proofs.ends.Line.send.Goals as goal
+use Rattle.escrow_sessions.proofs.channel.Sender.send.Goals as goal
 
 pub send_as-requires-clause-rule : goal.send_as-requires-clause-rule
 send_as-requires-clause-rule g c =

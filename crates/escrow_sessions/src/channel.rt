@@ -1,24 +1,42 @@
-//! What is done at the two ends of the channel to a worker.
-ghost use Rattle.std.specs.Prelude.{◌≡◌, IfOk, ◌++◌, List};
+//! The channel to a worker: its two ends, and what is done at them.
+ghost use Rattle.std.specs.Prelude.{◌≡◌, true, IfOk, ◌++◌, List};
+ghost use Rattle.crossbeam_channel.specs.Claims.{view, IsSeatAt};
 ghost use Rattle.crossbeam_channel.specs.Ends.{sends_on, receives_on};
 ghost use Rattle.escrow_sessions.specs.declared.rule.Item.{Item};
-ghost use Rattle.escrow_sessions.specs.Line.{sent_on, taken_on, AreNew, IsSent};
+ghost use Rattle.escrow_sessions.specs.Ends.{sent_on, taken_on, AreNew, IsSent};
 
-use crate::ends::{Line, Taker};
 use crate::rule::{Ends, InOrder, Item, Log, Sends, Takes, Whole};
+use crossbeam_channel::{Pass, RuledReceiver, RuledSender, bounded_with};
 use crate::source::Source;
-use crossbeam_channel::bounded_with;
 use escrow_statement::Request;
 use std::alloc::{AllocError, Global};
 use std::sync::Wait;
 use std::unreachable;
+
+/// The end that sends.
+#[derive(Drop)]
+pub(crate) struct Sender {
+    pub(crate) sender: RuledSender<Item, Log, InOrder>,
+    pub(crate) pass: Pass<Item, Log>,
+    ghost seated: { IsSeatAt (sends_on sender) pass },
+    ghost sends: { (view pass).sends ≡ true },
+}
+
+/// The end that receives.
+#[derive(Drop)]
+pub(crate) struct Receiver {
+    pub(crate) receiver: RuledReceiver<Item, Log, InOrder>,
+    pub(crate) pass: Pass<Item, Log>,
+    ghost seated: { IsSeatAt (receives_on receiver) pass },
+    ghost takes: { (view pass).takes ≡ true },
+}
 
 /// The most messages that wait in a channel.
 pub const MAX_WAITING: usize = 16;
 
 /// Returns the two ends of a new channel, on which nothing was sent. Fails only if memory is
 /// refused.
-pub(crate) fn open(alloc: Global) -> Result<(Line, Taker), AllocError>
+pub(crate) fn open(alloc: Global) -> Result<(Sender, Receiver), AllocError>
     ensures { IfOk result (λ ends. AreNew ends.0 ends.1) }
 {
     let (sender, receiver, mut pass) = bounded_with::<Item, Log, InOrder, Global>(
@@ -26,15 +44,15 @@ pub(crate) fn open(alloc: Global) -> Result<(Line, Taker), AllocError>
         MAX_WAITING,
     )?;
     let taking = sender.another::<Ends>(&mut pass);
-    let line = Line { sender, pass };
-    let taker = Taker {
+    let sender_end = Sender { sender, pass };
+    let receiver_end = Receiver {
         receiver,
         pass: taking,
     };
-    Ok((line, taker))
+    Ok((sender_end, receiver_end))
 }
 
-impl Line {
+impl Sender {
     /// Sends a message. May wait until there is room.
     pub(crate) fn send<R: Wait>(&mut self, rt: &R, mut item: Item)
         ensures { IsSent self.old item self.new }
@@ -50,23 +68,23 @@ impl Line {
 
     /// Brings both ends together. This shows that what was received is the first part of what was
     /// sent.
-    pub(crate) fn meet(self, taker: Taker)
-        requires { receives_on taker.receiver ≡ sends_on self.sender }
-        ensures { (left : List Item) × (sent_on self ≡ taken_on taker ++ left) }
+    pub(crate) fn meet(self, receiver_end: Receiver)
+        requires { receives_on receiver_end.receiver ≡ sends_on self.sender }
+        ensures { (left : List Item) × (sent_on self ≡ taken_on receiver_end ++ left) }
     {
-        let Line { sender, mut pass } = self;
-        let Taker {
+        let Sender { sender, mut pass } = self;
+        let Receiver {
             receiver,
             pass: taking,
-        } = taker;
+        } = receiver_end;
         sender.absorb::<Ends>(&mut pass, taking);
         sender.learn_as::<Whole>(&mut pass);
         drop(receiver);
     }
 }
 
-impl Source for Taker {
-    ghost use Rattle.escrow_sessions.specs.Line.{gives_taken};
+impl Source for Receiver {
+    ghost use Rattle.escrow_sessions.specs.Ends.{gives_taken};
 
     ghost gives = { gives_taken };
 

@@ -2,7 +2,7 @@ use Rattle.std.proofs.Common.{refl}
 use Rattle.crossbeam_channel.specs.Claims.{view}
 use Rattle.escrow_sessions.proofs.Channel.{keeps_taken}
 use Rattle.escrow_sessions.specs.Rule.{with_taken}
-use Rattle.escrow_sessions.proofs.line.TakerSource.next.Goals as goal
+use Rattle.escrow_sessions.proofs.channel.ReceiverSource.next.Goals as goal
 
 pub recv_as-requires-clause-rule : goal.recv_as-requires-clause-rule
 recv_as-requires-clause-rule g c =

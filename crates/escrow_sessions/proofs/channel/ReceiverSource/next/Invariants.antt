@@ -1,7 +1,7 @@
 use Rattle.std.proofs.Common.{◌≡◌}
 use Rattle.crossbeam_channel.specs.Claims.{view}
 use Rattle.crossbeam_channel.specs.Ends.{receives_on}
-use Rattle.escrow_sessions.proofs.line.TakerSource.next.Given as goal
+use Rattle.escrow_sessions.proofs.channel.ReceiverSource.next.Given as goal
 
 abbrev pub invariant-loop : goal.invariant-loop
 invariant-loop g l = record {
