@@ -4,13 +4,13 @@ ghost use Rattle.escrow_cells.specs.Formats.{format_number};
 /// The number of the known format. New stores are made in it.
 pub const FORMAT: i64 = 2;
 
-/// The number of the previous format. Its columns have no scale.
+/// The number of the first format. Its columns have no scale.
 pub const FORMAT_1: i64 = 1;
 
 /// A format of stores.
 #[derive(Clone, Copy, Debug, PartialEq, Eq)]
 pub enum Format {
-    /// The previous format.
+    /// The first format. A migration reads it.
     V1,
     /// The known format. New stores are made in it.
     Known,

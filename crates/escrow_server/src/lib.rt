@@ -16,7 +16,6 @@ mod program;
 mod screen;
 
 pub use escrow_args::{ArgFault, Args, Mode, read_args};
-pub use monitor::Monitor;
 pub use escrow_files::{
     CloseFault, InFiles, InMemory, OpenFault, OpenStore, Opened, Outlook, Site,
 };
@@ -25,5 +24,6 @@ pub use escrow_script::{
     MAX_DATABASES, MAX_LINE, MAX_READS, MAX_SCRIPT, MAX_STREAM, ReadFault, ServeFault, WriteFault,
 };
 pub use escrow_serve::{serve_lines, serve_script};
+pub use monitor::Monitor;
 pub use program::run_program;
 pub use screen::{NO_SCREEN, NoScreen, Screen, Terminal};

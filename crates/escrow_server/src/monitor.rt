@@ -81,7 +81,7 @@ impl<V> Monitor<V> {
             .wait_while(rt, told, |told| told.activity == Activity::Between)
     }
 
-    /// Waits while the program is at a activity, but no longer than this.
+    /// Waits while the program does the same, but no longer than this.
     pub(crate) fn wait_at<'a, P: Wait + Clock>(
         &self,
         rt: &P,
@@ -136,7 +136,11 @@ pub(crate) struct Shower<'a, V, T> {
 impl<V: Drop, T: Threads + Wait> Shower<'_, V, T> {
     /// Tells the thread that the script has ended, and waits for the thread to end.
     pub(crate) fn stop(self) {
-        let Shower { rt, monitor, thread } = self;
+        let Shower {
+            rt,
+            monitor,
+            thread,
+        } = self;
         monitor.leave(rt, Activity::Over);
         thread.join(rt);
     }
@@ -168,5 +172,9 @@ pub(crate) fn start<
     let monitor = Arc::new(alloc, Monitor::new(alloc)).ok()?;
     let theirs = Arc::try_clone(&monitor).ok()?;
     let thread = thread::spawn(rt, move || screen.show(alloc, &*theirs)).ok()?;
-    Some(Shower { rt, monitor, thread })
+    Some(Shower {
+        rt,
+        monitor,
+        thread,
+    })
 }

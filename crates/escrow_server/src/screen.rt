@@ -1,6 +1,6 @@
 //! A screen, which shows the progress of a script.
-use crate::monitor::{Monitor, Phase, Activity, Told};
 use crate::drawing::{Layout, Progress, drawing, erasing};
+use crate::monitor::{Activity, Monitor, Phase, Told};
 use escrow_script::write_whole;
 use escrow_stats::{Tally, Watcher};
 use sqlite::Alter;

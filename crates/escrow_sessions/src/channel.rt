@@ -6,8 +6,8 @@ ghost use Rattle.escrow_sessions.specs.declared.rule.Item.{Item};
 ghost use Rattle.escrow_sessions.specs.Ends.{sent_on, taken_on, AreNew, IsSent};
 
 use crate::rule::{Ends, InOrder, Item, Log, Sends, Takes, Whole};
-use crossbeam_channel::{Pass, RuledReceiver, RuledSender, bounded_with};
 use crate::source::Source;
+use crossbeam_channel::{Pass, RuledReceiver, RuledSender, bounded_with};
 use escrow_statement::Request;
 use std::alloc::{AllocError, Global};
 use std::sync::Wait;

@@ -7,11 +7,11 @@ ghost use Rattle.escrow_sessions.specs.Serving.{IsDone};
 ghost use Rattle.escrow_sessions.specs.Slots.{IsSentTo, to_the_end};
 
 use crate::channel::{Receiver, Sender};
-use crate::team::{Work, Worked};
-use std::thread::{PromisedHandle, Threads};
 use crate::done::Done;
 use crate::rule::Item;
+use crate::team::{Work, Worked};
 use std::sync::Wait;
+use std::thread::{PromisedHandle, Threads};
 
 /// A worker on its thread. It began with the other end of the channel, from which nothing had been
 /// received.

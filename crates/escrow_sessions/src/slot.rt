@@ -4,12 +4,12 @@ ghost use Rattle.escrow_shards.specs.Pass.{Pass};
 ghost use Rattle.escrow_sessions.specs.Slots.{IsSlot, JoinsAs};
 ghost use Rattle.escrow_sessions.specs.declared.rule.Item.{Item};
 
+use crate::channel::open;
 use crate::context::WorkerContext;
 use crate::done::{Done, Ended};
 use crate::fed_worker::FedWorker;
-use crate::service::Service;
-use crate::channel::open;
 use crate::rule::Item;
+use crate::service::Service;
 use crate::team::{Worked, Worker, start};
 use escrow_shards::{Gate, Pass};
 use std::sync::Wait;

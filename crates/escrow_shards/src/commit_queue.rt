@@ -95,7 +95,10 @@ impl CommitQueue {
     pub(crate) fn waits(&self, session: Session) -> bool
         ensures { IsTrue result ↔ (at self.now session ≡ CommitState.Asked) }
     {
-        matches!(self.places[usize::from(session.get()) - 1], CommitState::Asked)
+        matches!(
+            self.places[usize::from(session.get()) - 1],
+            CommitState::Asked
+        )
     }
 
     /// Takes the outcome of a session's COMMIT out of its place.

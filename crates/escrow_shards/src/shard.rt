@@ -1,11 +1,11 @@
 mod commit;
 
 use crate::closed::Closed;
+use crate::commit_queue::CommitQueue;
 use crate::gate::Gate;
 use crate::opening::Opening;
 use crate::part::Part;
 use crate::under_lock::UnderLock;
-use crate::commit_queue::CommitQueue;
 use escrow_history::{Served, Unserved};
 use escrow_num::{Refusal, Session};
 use escrow_statement::Statement;

@@ -2,9 +2,9 @@ ghost use Rattle.std.specs.Prelude.{◌≡◌, None, IfOk};
 ghost use Rattle.escrow_history.specs.Calls.{IsAnswer};
 ghost use Rattle.escrow_machine.specs.Reply.{failure_of};
 
+use crate::commit_queue::Turn;
 use crate::shard::Shard;
 use crate::under_lock::UnderLock;
-use crate::commit_queue::Turn;
 use escrow_history::{Committed, Served, Unserved};
 use escrow_machine::Reply;
 use escrow_num::{Failure, Session};
