@@ -1,6 +1,6 @@
 -- Coefficients in their place, with zeros behind them.
 use Rattle.std.proofs.Common.{◌≡◌, ℕ, suc, ◌+◌, ◌-◌, ◌≤◌, ◌<◌, ℤ, pos, List, [], ◌∷◌, ◌++◌, length, take, set, get_or, replicate, ap, ap₂, ◌∙◌, sym, subst, arith, append_assoc, length-append}
-use Rattle.std.specs.Prelude.{slice_set, All, bytes_eq, if◌then◌else◌, Bool, true, false, ◌&&◌, int_le, neg_ℤ, map}
+use Rattle.std.specs.Prelude.{slice_set, All, if◌then◌else◌, Bool, true, false, ◌&&◌, int_le, neg_ℤ, map}
 use Rattle.std.specs.List.{list_all}
 use Rattle.std.proofs.lemmas.Int.{ints}
 use Rattle.std.proofs.lemmas.Bool.{and_parts}
@@ -52,14 +52,8 @@ unit_kept len place zero one is_zero is_one within few =
     let known = kept unit (set (replicate MAX_LEN (pos 0)) place (pos 1)) len (sym as_long) (omega (arith, as_long), all) whole in
     subst (λ z. Keeps unit (set (replicate MAX_LEN z) place one) len) (sym is_zero) (subst (λ o. Keeps unit (set (replicate MAX_LEN (pos 0)) place o) len) (sym is_one) known)
 
--- ---- one column's coefficients, by its name, written one by one
-
 pub length-unit_of : (columns : List (List ℕ)) (name : List ℕ) → length (unit_of columns name) ≡ length columns
 length-unit_of columns name = length-map columns _
-
-All-unit_of : (columns : List (List ℕ)) (name : List ℕ) → All IsCoefficient (unit_of columns name)
-All-unit_of [] name = All-nil IsCoefficient
-All-unit_of (column ∷ columns) name = All-cons IsCoefficient (if bytes_eq column name then pos 1 else pos 0) (unit_of columns name) (one_or_zero (bytes_eq column name)) (All-unit_of columns name)
 
 -- one more coefficient in its place
 padded-more : (coeffs : List ℤ) (c : ℤ) → length coeffs < MAX_LEN → set (padded coeffs) (length coeffs) c ≡ padded (coeffs ++ c ∷ [])
@@ -113,11 +107,6 @@ mapped_kept f columns values i is few all whole =
     let as_long = length-map columns f in
     kept (map f columns) values (length columns) (sym as_long) (omega (arith, as_long), all)
     (whole ∙ ap (λ (names : List (List ℕ)). padded (map f names)) (take_all i columns (omega arith)))
-
-pub unit_of_kept : (columns : List (List ℕ)) (name : List ℕ) (values : List ℤ) (i : ℕ) → i ≡ length columns → length columns ≤ MAX_LEN → values ≡ padded (unit_of (take i columns) name)
-    → Keeps (unit_of columns name) values (length columns)
-unit_of_kept columns name values i is few whole =
-    mapped_kept (λ column. if bytes_eq column name then pos 1 else pos 0) columns values i is few (All-unit_of columns name) whole
 
 -- ---- summed coefficients, which are within the greatest magnitude
 

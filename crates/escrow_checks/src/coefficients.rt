@@ -1,4 +1,4 @@
-ghost use Rattle.std.specs.Prelude.{◌≡◌, pos, ◌*ℤ◌, ◌≤ℤ◌, ◌<◌, ◌≤◌, max, true, length, map, replicate, slice_set, bytes_eq, if◌then◌else◌, not, Some, None};
+ghost use Rattle.std.specs.Prelude.{◌≡◌, pos, ◌*ℤ◌, ◌≤ℤ◌, ◌<◌, ◌≤◌, max, true, length, map, replicate, slice_set, if◌then◌else◌, not, Some, None};
 ghost use Rattle.std.specs.List.{list_all, list_any};
 ghost use Rattle.std.specs.Ordering.{int_eq};
 ghost use Rattle.escrow_checks.specs.Checks.{is_coefficient};
@@ -39,7 +39,7 @@ impl Model for Coefficients {
 }
 
 impl Coefficients {
-    ghost use Rattle.escrow_checks.specs.Checks.{unit_of, coefficient_of, is_coefficient, are_good_coefficients};
+    ghost use Rattle.escrow_checks.specs.Checks.{coefficient_of, is_coefficient, are_good_coefficients};
     ghost use Rattle.escrow_checks.specs.Scales.{form_scale, scaled_coeffs, written_coeffs};
 
     /// The most coefficients of a check. A table has at most 10 RESERVABLE columns.
@@ -61,22 +61,6 @@ impl Coefficients {
         let mut values = [zero; Self::MAX_LEN];
         values[place] = one;
         Coefficients { values, len }
-    }
-
-    /// Returns the coefficients of the column with this name: 1 at each column with the name, 0
-    /// elsewhere.
-    pub fn of_column(columns: &[Name], name: Name) -> Self
-        requires { length columns.now ≤ Coefficients.MAX_LEN }
-        ensures { result ≡ unit_of columns.now name }
-    {
-        let mut values = [Amount::ZERO; Self::MAX_LEN];
-        for (i, column) in columns.iter().enumerate() {
-            values[i] = one_or_zero(column, name);
-        }
-        Coefficients {
-            values,
-            len: columns.len(),
-        }
     }
 
     /// Returns the coefficients of a condition, as written. Returns `None` if one is past
@@ -225,14 +209,6 @@ fn has_nonzero(coeffs: &[Amount]) -> bool
     ensures { result ≡ list_any (λ c. not (int_eq c (pos 0))) coeffs.now }
 {
     coeffs.iter().any(|c| c.get() != 0)
-}
-
-/// Returns 1 for the column of this name, and 0 for another.
-fn one_or_zero(column: &Name, name: Name) -> Amount
-    ensures { result ≡ (if bytes_eq column.now name then pos 1 else pos 0) }
-{
-    let number = if *column == name { 1 } else { 0 };
-    Amount::new(number).unwrap()
 }
 
 impl Debug for Coefficients {

@@ -119,13 +119,6 @@ impl Decimal {
         }
     }
 
-    /// Returns the number as an amount, or `None` if it isn't whole.
-    pub fn to_amount(self) -> Option<Amount>
-        ensures { result ≡ units_at 0 self }
-    {
-        self.at_scale(0)
-    }
-
     /// Returns the millionths.
     pub fn get(self) -> i128
         ensures value { result ≡ self }

@@ -43,14 +43,6 @@ impl Text {
         Text { text }
     }
 
-    /// Returns the string of the text. Takes no memory.
-    pub fn into_string(self) -> String
-        ensures { string_bytes result ≡ self }
-    {
-        let Text { text } = self;
-        text
-    }
-
     /// Returns the text itself.
     pub fn as_str(&self) -> &str
         ensures value { result.now ≡ self.now }
