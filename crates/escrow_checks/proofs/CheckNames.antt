@@ -1,4 +1,4 @@
--- The names of the checks that CHECKs declare.
+-- The names of the checks that CHECK constraints declare.
 use Rattle.std.proofs.Common.{◌≡◌, ℕ, zero, suc, ◌+◌, ◌<◌, ◌==◌, List, [], ◌∷◌, ◌++◌, length, map, take, Option, Some, refl, ap, ap₂, sym, subst, ◌∙◌, arith, length-append, ne_eqb, codes, decimal, slice_get, flat_map}
 use Rattle.std.proofs.lemmas.Bool.{cond-false}
 use Rattle.std.proofs.lemmas.List.{length-map, map-append}
@@ -10,7 +10,7 @@ use Rattle.escrow_checks.specs.Checks.{check_name, check_of, checks_of_condition
 use Rattle.escrow_checks.specs.Laws.{ChecksAreNamed, conditions_before}
 use Rattle.escrow_checks.proofs.ConditionLemmas.{checks_whole, each_in_text, gives, unpack, unpack_all, within_most}
 
--- what stands at a place of two lists, one behind the other
+-- the item at an index of two lists joined
 at_left : {A : Type 0} (xs ys : List A) (k : ℕ) → k < length xs → slice_get (xs ++ ys) k ≡ slice_get xs k
 at_left [] ys k within = absurd (omega arith)
 at_left (x ∷ xs) ys zero within = refl
@@ -26,7 +26,7 @@ at_right (x ∷ xs) ys k =
 abbrev names : List Check → List (List ℕ)
 names checks = map (λ (check : Check). check.name) checks
 
--- those of a CHECK's conditions, of which the first is its k-th and the n-th of the table's
+-- the names of one CHECK's checks; its first condition is its k-th one, and the n-th of the table
 conditions_named : (columns : List (List ℕ)) (scales : List ℕ) (name : Option (List ℕ)) (k n : ℕ) (conditions : List Condition) (checks : List Check)
     → checks_of_conditions columns scales name k n conditions ≡ Some checks
     → (j : ℕ) → j < length conditions → slice_get (names checks) j ≡ Some (check_name name (k + j) (n + j))
@@ -47,14 +47,14 @@ conditions_named columns scales name k n (condition ∷ conditions) checks e (su
     subst (λ (cs : List Check). slice_get (names cs) (suc j) ≡ Some (check_name name (k + suc j) (n + suc j))) parts.4
     (rest ∙ ap₂ (λ (a : ℕ) (b : ℕ). Some (check_name name a b)) in_check in_table)
 
--- as many as there are conditions
+-- there is one check for each condition
 as_many : (columns : List (List ℕ)) (scales : List ℕ) (name : Option (List ℕ)) (k n : ℕ) (conditions : List Condition) (checks : List Check)
     → checks_of_conditions columns scales name k n conditions ≡ Some checks → length (names checks) ≡ length conditions
 as_many columns scales name k n conditions checks e =
     length-map checks (λ (check : Check). check.name)
     ∙ (each_in_text columns scales (λ (check : Check). Unit {0}) (λ _ _ _ _. tt) name k n conditions checks e).0
 
--- those of all CHECKs, of which the first condition is the n-th of the table's
+-- the names of the checks of all CHECKs; the first condition is the n-th of the table
 texts_named : (columns : List (List ℕ)) (scales : List ℕ) (texts : List CheckText) (n : ℕ) (checks : List Check) → checks_from columns scales texts n ≡ Some checks
     → (i j : ℕ) (text : CheckText) → slice_get texts i ≡ Some text → j < length text.conditions
     → slice_get (names checks) (conditions_before texts i + j) ≡ Some (check_name text.name (1 + j) (n + (conditions_before texts i + j)))
@@ -98,7 +98,7 @@ texts_named columns scales (first ∷ texts) n checks e (suc i) j text at within
     counted : (whole here before n j : ℕ) → whole ≡ here + before → n + here + (before + j) ≡ n + (whole + j)
     counted whole here before n j e = omega arith
 
--- a name with a number behind it
+-- a CHECK's name with a number appended
 later_name : (name : List ℕ) (j n : ℕ) → check_name (Some name) (1 + (j + 1)) n ≡ name ++ codes "_" ++ decimal (j + 2)
 later_name name j n =
     let same : 1 + (j + 1) ≡ j + 2 = omega arith in

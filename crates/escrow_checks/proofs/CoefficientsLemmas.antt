@@ -1,4 +1,4 @@
--- Coefficients in their place, with zeros behind them.
+-- Coefficients in an array of fixed length, with zeros after them.
 use Rattle.std.proofs.Common.{◌≡◌, ℕ, suc, ◌+◌, ◌-◌, ◌≤◌, ◌<◌, ℤ, pos, List, [], ◌∷◌, ◌++◌, length, take, set, get_or, replicate, ap, ap₂, ◌∙◌, sym, subst, arith, append_assoc, length-append}
 use Rattle.std.specs.Prelude.{slice_set, All, if◌then◌else◌, Bool, true, false, ◌&&◌, int_le, neg_ℤ, map}
 use Rattle.std.specs.List.{list_all}
@@ -14,14 +14,14 @@ use Rattle.escrow_checks.specs.Padded.{padded}
 use Rattle.escrow_checks.specs.declared.condition.TheConstants.{MAX_COEFFICIENT}
 use Rattle.escrow_checks.specs.declared.coefficients.TheConstants.Coefficients.{MAX_LEN}
 
--- what a place of these coefficients keeps, and shows
+-- what an array of these coefficients keeps and shows
 pub record Keeps (coeffs values : List ℤ) (len : ℕ) : Type 0 where
   pub shown : take len values ≡ coeffs
   pub are : AreCoefficients (take len values)
   pub few : len ≤ MAX_LEN
   pub whole : values ≡ padded (take len values)
 
--- so the invariant of their type holds
+-- the invariant of the type follows
 pub invariant_kept : (coeffs values : List ℤ) (len : ℕ) → Keeps coeffs values len → AreCoefficients (take len values) × (len ≤ MAX_LEN) × (values ≡ padded (take len values))
 invariant_kept coeffs values len known = (known.are, known.few, known.whole)
 
@@ -34,7 +34,7 @@ one_or_zero : (b : Bool) → IsCoefficient (if b then pos 1 else pos 0)
 one_or_zero true = (omega (arith, ints), omega (arith, ints))
 one_or_zero false = (omega (arith, ints), omega (arith, ints))
 
--- ---- one column's coefficients, by its place
+-- ---- the coefficients of a single column
 
 pub unit_kept : (len place : ℕ) (zero one : ℤ) → zero ≡ pos 0 → one ≡ pos 1 → place < len → len ≤ MAX_LEN
     → Keeps (slice_set (replicate len (pos 0)) place (pos 1)) (set (replicate MAX_LEN zero) place one) len
@@ -55,7 +55,7 @@ unit_kept len place zero one is_zero is_one within few =
 pub length-unit_of : (columns : List (List ℕ)) (name : List ℕ) → length (unit_of columns name) ≡ length columns
 length-unit_of columns name = length-map columns _
 
--- one more coefficient in its place
+-- one more coefficient is written
 padded-more : (coeffs : List ℤ) (c : ℤ) → length coeffs < MAX_LEN → set (padded coeffs) (length coeffs) c ≡ padded (coeffs ++ c ∷ [])
 padded-more coeffs c room =
     let rest = replicate (MAX_LEN - (length coeffs + 1)) (pos 0) in
@@ -64,7 +64,7 @@ padded-more coeffs c room =
     ∙ set-append_seam coeffs (pos 0) rest c
     ∙ sym (ap (λ n. (coeffs ++ c ∷ []) ++ replicate (MAX_LEN - n) (pos 0)) (length-append coeffs (c ∷ [])) ∙ append_assoc coeffs (c ∷ []) rest)
 
--- one more coefficient in its place, where each is given by its column
+-- one more coefficient is written, computed from its column
 pub mapped-more : (f : List ℕ → ℤ) (columns : List (List ℕ)) (column : List ℕ) (i : ℕ) (c : ℤ) → i < length columns → length columns ≤ MAX_LEN → column ≡ get_or columns i column → c ≡ f column
     → set (padded (map f (take i columns))) i c ≡ padded (map f (take (i + 1) columns))
 mapped-more f columns column i c below few is same =
@@ -74,7 +74,7 @@ mapped-more f columns column i c below few is same =
     ap (map f) (take_more columns i column below ∙ ap (λ x. take i columns ++ x ∷ []) (sym is)) ∙ map-append f (take i columns) (column ∷ []) ∙ ap (λ z. front ++ z ∷ []) (sym same) in
     ap (λ n. set (padded front) n c) (sym at) ∙ padded-more front c (omega (arith, at)) ∙ ap padded (sym more)
 
--- ---- coefficients of a list, written one by one
+-- ---- the coefficients of a list, written one by one
 
 pub taken-more : (xs : List ℤ) (i : ℕ) (c : ℤ) → i < length xs → length xs ≤ MAX_LEN → c ≡ get_or xs i c → set (padded (take i xs)) i c ≡ padded (take (i + 1) xs)
 taken-more xs i c below few is =
@@ -92,14 +92,14 @@ taken_kept xs values i len past is few all whole =
     let every : take i xs ≡ xs = take_all i xs past in
     kept xs values len is (few, subst (λ ys. All IsCoefficient ys) every all) (whole ∙ ap padded every)
 
--- where all are written, of a list that is as long as the coefficients that they are made of
+-- all are written, for a list as long as the coefficients that it is made from
 pub all_kept : (coeffs slice xs values : List ℤ) (i : ℕ) → slice ≡ coeffs → length xs ≡ length coeffs → length slice ≤ MAX_LEN → length slice ≤ i
     → All IsCoefficient (take i xs) → values ≡ padded (take i xs) → Keeps xs values (length slice)
 all_kept coeffs slice xs values i is long few past all whole =
     let as_long : length slice ≡ length xs = ap length is ∙ sym long in
     taken_kept xs values i (length slice) (omega (arith, as_long)) as_long (omega (arith, as_long)) all whole
 
--- ---- coefficients that are given by their columns
+-- ---- coefficients computed from their columns
 
 mapped_kept : (f : List ℕ → ℤ) (columns : List (List ℕ)) (values : List ℤ) (i : ℕ) → i ≡ length columns → length columns ≤ MAX_LEN → All IsCoefficient (map f columns) → values ≡ padded (map f (take i columns))
     → Keeps (map f columns) values (length columns)
@@ -108,9 +108,9 @@ mapped_kept f columns values i is few all whole =
     kept (map f columns) values (length columns) (sym as_long) (omega (arith, as_long), all)
     (whole ∙ ap (λ (names : List (List ℕ)). padded (map f names)) (take_all i columns (omega arith)))
 
--- ---- summed coefficients, which are within the greatest magnitude
+-- ---- summed coefficients within the greatest magnitude
 
--- one more that is
+-- one more coefficient is within it
 pub small-more : (f : List ℕ → ℤ) (columns : List (List ℕ)) (column : List ℕ) (i : ℕ) → i < length columns → column ≡ get_or columns i column
     → list_all is_coefficient (map f (take i columns)) ≡ true → is_coefficient (f column) ≡ true → list_all is_coefficient (map f (take (i + 1) columns)) ≡ true
 small-more f columns column i below is before here =
@@ -118,14 +118,14 @@ small-more f columns column i below is before here =
     ∙ list_all_more (λ name. is_coefficient (f name)) columns i column below
     ∙ ap₂ (λ (a b : Bool). a && b) (sym (list_all-map is_coefficient f (take i columns)) ∙ before) (ap (λ name. is_coefficient (f name)) (sym is) ∙ here)
 
--- one that isn't
+-- one coefficient is beyond it
 pub small-not : (f : List ℕ → ℤ) (columns : List (List ℕ)) (column : List ℕ) (i : ℕ) → i < length columns → column ≡ get_or columns i column
     → is_coefficient (f column) ≡ false → list_all is_coefficient (map f columns) ≡ false
 small-not f columns column i below is past =
     list_all-map is_coefficient f columns
     ∙ list_all_at (λ name. is_coefficient (f name)) columns i column below (ap (λ name. is_coefficient (f name)) (sym is) ∙ past)
 
--- a summed coefficient is within the greatest magnitude of all
+-- the greatest magnitude of a summed coefficient is at most that of any coefficient
 small_is : (c : ℤ) → is_coefficient c ≡ true → IsCoefficient c
 small_is c small =
     let parts = and_parts (int_le (neg_ℤ MAX_COEFFICIENT) c) (int_le c MAX_COEFFICIENT) small in

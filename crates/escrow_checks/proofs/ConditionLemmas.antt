@@ -1,4 +1,4 @@
--- The checks that CHECKs declare: they mean what is written, and what is known of each.
+-- The checks that CHECK constraints declare: they mean what is written, and have these properties.
 use Rattle.std.proofs.Common.{◌≡◌, ℕ, ◌+◌, ◌≤◌, ◌↔◌, Bool, true, false, ◌&&◌, ◌||◌, inl, inr, cond, ℤ, pos, ◌-ℤ◌, ◌*ℤ◌, ◌≤ℤ◌, int_rem, List, [], ◌∷◌, ◌++◌, length, map, Option, Some, None, refl, ap, ◌∙◌, sym, subst, arith, length-append}
 use Rattle.std.specs.Prelude.{All, nat_le, bytes_eq, option_map, option_and_then}
 use Rattle.std.specs.Option.{is_some}
@@ -37,7 +37,7 @@ use Rattle.escrow_checks.proofs.ScaledLemmas.{form-in_millionths, length-scaled_
 
 -- ---- one condition
 
--- the limits of a comparison with n hold of f exactly where two numbers that are in their order compare so
+-- the limits of a comparison with n admit f exactly if two numbers in the same order as f and n compare so
 holds_as_compares : (comparison : Comparison) (f n a b : ℤ) → Ordered f n a b → Holds (span_of comparison n) f ↔ Compares comparison a b
 holds_as_compares Below f n a b (inl o) = (λ h. o.1, λ h. (tt, omega (arith, ints, o.0)))
 holds_as_compares Below f n a b (inr (inl o)) = (λ h. absurd (omega (arith, ints, h.1, o.0)), λ h. absurd (omega (arith, ints, h, o.1)))
@@ -55,7 +55,7 @@ holds_as_compares Equal f n a b (inl o) = (λ h. absurd (omega (arith, ints, h.0
 holds_as_compares Equal f n a b (inr (inl o)) = (λ h. o.1, λ h. (omega (arith, ints, o.0), omega (arith, ints, o.0)))
 holds_as_compares Equal f n a b (inr (inr o)) = (λ h. absurd (omega (arith, ints, h.1, o.0)), λ h. absurd (omega (arith, ints, h, o.1)))
 
--- limits from n to m hold of f exactly where a number is one of those from a to b, in the same orders
+-- limits from n to m admit f exactly if a number in the same orders lies between a and b
 holds_as_between : (f n m z a b : ℤ) → Ordered f n z a → Ordered f m z b → Holds (record { lo = Some n; hi = Some m }) f ↔ ((a ≤ℤ z) × (z ≤ℤ b))
 holds_as_between f n m z a b low high =
     let from = holds_as_compares AtLeast f n z a low in
@@ -68,7 +68,7 @@ in_order_of scale f z a b whole e =
     let made : units_in scale z *ℤ pos (unit_at scale) ≡ z = made_up z (unit_at scale) ((Decides-int_eq (int_rem z (pos (unit_at scale))) (pos 0)).0 whole) in
     ordered f (units_in scale z) a b (unit_at scale) (unit-least scale) (omega (arith, ints, made, e))
 
--- the limits of a test, whole numbers of units, hold of a form exactly where the sum on its left passes it
+-- the limits of a test, in whole units, admit a form exactly if the sum on its left side passes the test
 holds_as_passes : (columns : List (List ℕ)) (amounts : List ℤ) (scale : ℕ) (test : Test) (f left numbers : ℤ) → has_whole_limits scale test numbers ≡ true
     → f *ℤ pos (unit_at scale) ≡ (left -ℤ numbers) -ℤ (sum_at columns amounts (right_of test) -ℤ total number_in (right_of test))
     → Holds (limits_of scale test numbers) f ↔ Passes columns amounts left test
@@ -82,20 +82,20 @@ holds_as_passes columns amounts scale (Between low high) f left numbers whole e 
     (in_order_of scale f (low -ℤ numbers) left low both.0 (omega (arith, ints, e)))
     (in_order_of scale f (high -ℤ numbers) left high both.1 (omega (arith, ints, e)))
 
--- the coefficients of a condition as they are written, and their scale
+-- the written coefficients of a condition
 abbrev pub written_in : List (List ℕ) → Condition → List ℤ
 written_in columns condition = map (coefficient_of condition) columns
 
 abbrev pub scale_in : List (List ℕ) → List ℕ → Condition → ℕ
 scale_in columns scales condition = form_scale (written_in columns condition) scales
 
--- the check of a condition, where it gives one
+-- the check of a condition, if it gives one
 abbrev check_with : List (List ℕ) → List ℕ → List ℕ → Condition → Check
 check_with columns scales name condition =
     let scale = scale_in columns scales condition in
     record { name = name; coeffs = scaled_coeffs scale (written_in columns condition) scales; scale = scale; span = condition_limits scale condition }
 
--- what is known where a condition gives a check
+-- what holds if a condition gives a check
 pub record Gives (columns : List (List ℕ)) (scales : List ℕ) (name : List ℕ) (condition : Condition) (check : Check) : Type 0 where
   pub named : names_columns columns condition ≡ true
   pub good : are_good_coefficients (written_in columns condition) ≡ true
@@ -117,7 +117,7 @@ gives columns scales name condition check e =
     let limits = and_parts (has_whole_limits scale condition.test (total number_in condition.sum)) (is_good_span (condition_limits scale condition)) first_two.1 in
     record { named = first.0; good = first.1; whole = limits.0; limits = limits.1; written = first_three.1; is = known.1 }
 
--- where all that is known, it gives the check
+-- if all of that holds, the condition gives the check
 pub check_of-found : (columns : List (List ℕ)) (scales : List ℕ) (name : List ℕ) (condition : Condition) (name' : List ℕ) (coeffs : List ℤ) (scale : ℕ) (span : Span)
     → names_columns columns condition ≡ true → are_good_coefficients (written_in columns condition) ≡ true → has_good_limits (scale_in columns scales condition) condition ≡ true → is_written_name name ≡ true
     → name ≡ name' → scaled_coeffs (scale_in columns scales condition) (written_in columns condition) scales ≡ coeffs → scale_in columns scales condition ≡ scale
@@ -135,7 +135,7 @@ check_of-found columns scales name condition name' coeffs scale span named good 
     same_check : (n m : List ℕ) (ks ls : List ℤ) (s t : ℕ) (x y : Span) → n ≡ m → ks ≡ ls → s ≡ t → x ≡ y → made n ks s x ≡ made m ls t y
     same_check n m ks ls s t x y a b c d = rw (a, b, c, d) refl
 
--- where its limits aren't good, it gives none
+-- if its limits are not good, it gives none
 pub check_of-none : (columns : List (List ℕ)) (scales : List ℕ) (name : List ℕ) (condition : Condition) → has_good_limits (scale_in columns scales condition) condition ≡ false
     → check_of columns scales name condition ≡ None
 check_of-none columns scales name condition bad =
@@ -143,7 +143,7 @@ check_of-none columns scales name condition bad =
     ap (λ b. cond ((front && b) && is_written_name name) (Some (check_with columns scales name condition)) None) bad
     ∙ ap (λ b. cond (b && is_written_name name) (Some (check_with columns scales name condition)) None) (and-false front)
 
--- a check and its condition
+-- a row meets a check exactly if it meets the condition
 check_means : (columns : List (List ℕ)) (scales : List ℕ) (amounts : List ℤ) (name : List ℕ) (condition : Condition) (check : Check) → IsDistinct bytes_eq columns → AreScales columns scales
     → check_of columns scales name condition ≡ Some check → Meets check amounts ↔ MeetsCondition columns (in_millionths scales amounts) condition
 check_means columns scales amounts name condition check distinct are e =
@@ -184,23 +184,23 @@ check_declared columns scales name condition check e =
       written = known.written;
     })
 
--- ---- the conditions of a CHECK, and of all
+-- ---- the conditions of one CHECK, and of all CHECKs
 
--- what is found where a first one and the others are
+-- a list of checks is found if the first check and the others are
 pub unpack : (o : Option Check) (rest : Option (List Check)) (checks : List Check) → option_and_then (λ check. option_map (λ more. check ∷ more) rest) o ≡ Some checks
     → (check : Check) × (more : List Check) × (o ≡ Some check) × (rest ≡ Some more) × (check ∷ more ≡ checks)
 unpack None rest checks e = absurd cc
 unpack (Some check) None checks e = absurd cc
 unpack (Some check) (Some more) checks e = (check, more, refl, refl, cc)
 
--- what is found where those of a first CHECK and the others are
+-- a list of checks is found if those of the first CHECK and of the others are
 pub unpack_all : (o rest : Option (List Check)) (checks : List Check) → option_and_then (λ first. option_map (λ more. first ++ more) rest) o ≡ Some checks
     → (first : List Check) × (more : List Check) × (o ≡ Some first) × (rest ≡ Some more) × (first ++ more ≡ checks)
 unpack_all None rest checks e = absurd cc
 unpack_all (Some first) None checks e = absurd cc
 unpack_all (Some first) (Some more) checks e = (first, more, refl, refl, cc)
 
--- a fact of each check that a condition gives
+-- a property of each check that a condition gives
 abbrev OfEach : List (List ℕ) → List ℕ → (Check → Type 0) → Type 0
 OfEach columns scales P = (name : List ℕ) (condition : Condition) (check : Check) → check_of columns scales name condition ≡ Some check → P check
 
@@ -230,7 +230,7 @@ each_from columns scales P each (text ∷ texts) n checks e =
       All-append P parts.0 parts.1 first.1 rest.1,
     )
 
--- what stands behind declared checks is within the number of checks
+-- if checks are found after declared ones, all together are at most the limit
 pub within_behind : (columns : List (List ℕ)) (scales : List ℕ) (declared : List Check) (texts : List CheckText) (checks : List Check) → checks_behind columns scales declared texts ≡ Some checks
     → (more : List Check) × (checks_from columns scales texts (length declared + 1) ≡ Some more) × (declared ++ more ≡ checks) × (length checks ≤ MAX_CHECKS)
 within_behind columns scales declared texts checks e = go (checks_from columns scales texts (length declared + 1)) e
@@ -242,7 +242,7 @@ within_behind columns scales declared texts checks e = go (checks_from columns s
         let known = cond_some (nat_le (length (declared ++ more)) MAX_CHECKS) (declared ++ more) checks e in
         (more, refl, known.1, subst (λ (cs : List Check). length cs ≤ MAX_CHECKS) known.1 (grind (arith, nat_tests, known.0)))
 
--- and so is what stands behind none
+-- the same without declared checks
 pub within_most : (columns : List (List ℕ)) (scales : List ℕ) (texts : List CheckText) (checks : List Check) → checks_of columns scales texts ≡ Some checks
     → (length checks ≤ MAX_CHECKS) × (checks_from columns scales texts 1 ≡ Some checks)
 within_most columns scales texts checks e =
@@ -262,9 +262,9 @@ pub checks_declared : (columns : List (List ℕ)) (scales : List ℕ) (texts : L
 checks_declared columns scales texts checks e =
     (each_from columns scales (λ check. IsDeclared columns scales check) (check_declared columns scales) texts 1 checks (within_most columns scales texts checks e).1).1
 
--- ---- and they mean the same
+-- ---- checks and conditions mean the same
 
--- the parts of a list of which a fact holds
+-- if a property holds for a joined list, it holds for its parts
 all_left : (P : Check → Type 0) (xs ys : List Check) → All P (xs ++ ys) → All P xs
 all_left P [] ys h = All-nil P
 all_left P (x ∷ xs) ys h = All-cons P x xs (All-head P x (xs ++ ys) h) (all_left P xs ys (All-tail P x (xs ++ ys) h))
@@ -273,7 +273,7 @@ all_right : (P : Check → Type 0) (xs ys : List Check) → All P (xs ++ ys) →
 all_right P [] ys h = h
 all_right P (x ∷ xs) ys h = all_right P xs ys (All-tail P x (xs ++ ys) h)
 
--- a fact of each check that a condition gives is one of the condition
+-- a property of each check is equivalent to one of its condition
 abbrev AsOne : List (List ℕ) → List ℕ → (Check → Type 0) → (Condition → Type 0) → Type 0
 AsOne columns scales P Q = (name : List ℕ) (condition : Condition) (check : Check) → check_of columns scales name condition ≡ Some check → P check ↔ Q condition
 
@@ -294,7 +294,7 @@ conditions_mean columns scales P Q one name k n (condition ∷ conditions) check
       λ h. All-cons P check more (first.1 (All-head Q condition conditions h)) (others.1 (All-tail Q condition conditions h)),
     )
 
--- a fact of each condition of a CHECK
+-- a property of each condition of a CHECK
 abbrev InText : (Condition → Type 0) → CheckText → Type 0
 InText Q text = All Q text.conditions
 
@@ -324,7 +324,7 @@ mean_from columns scales texts n checks given = λ distinct are amounts same.
 pub mean_the_same : (columns : List (List ℕ)) (scales : List ℕ) (texts : List CheckText) (checks : List Check) → checks_of columns scales texts ≡ Some checks → MeanTheSame columns scales texts checks
 mean_the_same columns scales texts checks given = mean_from columns scales texts 1 checks (within_most columns scales texts checks given).1
 
--- what CHECKs add behind declared checks
+-- the checks that CHECKs add after declared ones
 pub stand_behind : (columns : List (List ℕ)) (scales : List ℕ) (declared : List Check) (texts : List CheckText) (checks : List Check) → checks_behind columns scales declared texts ≡ Some checks
     → StandBehind columns scales declared texts checks
 stand_behind columns scales declared texts checks e =

@@ -1,4 +1,4 @@
--- Reservations that end, and those of other rows: the sums move inwards.
+-- When reservations end, or belong to other rows, the sums move inwards.
 use Rattle.std.proofs.Common.{◌≡◌, ℤ, pos, ◌+ℤ◌, ◌≤ℤ◌, Bool, true, false, cond, not, List, [], ◌∷◌, ◌++◌, map, filter, None, refl, ap, ◌∙◌, arith}
 use Rattle.std.specs.Prelude.{All}
 use Rattle.std.proofs.lemmas.Int.{ints, clamps}
@@ -13,7 +13,7 @@ use Rattle.escrow_checks.proofs.ReachedLemmas.{le_refl}
 use Rattle.escrow_checks.proofs.InsideLemmas.{inside_moves, always_from_sums, sums_from_always}
 use Rattle.escrow_checks.proofs.GrantLemmas.{inside_if_granted}
 
--- one low value isn't below another, nor the high value beside it above the other's
+-- the first low value is not below the second, and the first high value not above the second
 abbrev pub IsWithin : ℤ → ℤ → ℤ → ℤ → Type 0
 IsWithin low' high' low high = (low ≤ℤ low') × (high' ≤ℤ high)
 
@@ -45,7 +45,7 @@ any_choice_can_commit check amounts changes_of ends reservations covered always 
     (let within = commit_within check.coeffs amounts changes_of ends reservations covered in
     inside_moves check.span _ _ _ _ within.0 within.1 (sums_from_always check amounts (map changes_of reservations) covered always))
 
--- fewer open reservations fall and rise less
+-- with fewer open reservations, a form falls less and rises less
 filter_within : {R : Type 0} (coeffs : List ℤ) (changes_of : R → List ℤ) (stays : R → Bool) (reservations : List R)
     → IsWithin (falls coeffs (map changes_of (filter stays reservations))) (rises coeffs (map changes_of (filter stays reservations)))
     (falls coeffs (map changes_of reservations)) (rises coeffs (map changes_of reservations))

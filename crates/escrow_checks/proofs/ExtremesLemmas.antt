@@ -1,4 +1,4 @@
--- The extremes over all choices are the form with the falls, and with the rises.
+-- The extremes over all choices are the form plus the falls, and the form plus the rises.
 use Rattle.std.proofs.Common.{◌≡◌, ◌<◌, ◌≤◌, ℤ, pos, ◌+ℤ◌, List, [], ◌∷◌, ◌++◌, length, map, refl, ap, ap₂, ◌∙◌, sym, arith, length-append}
 use Rattle.std.proofs.lemmas.List.{map-append}
 use Rattle.std.proofs.lemmas.Simd.{map-map}
@@ -16,20 +16,20 @@ use Rattle.escrow_checks.specs.Extremes.{outcomes, smallest, largest, least, gre
 use Rattle.escrow_checks.specs.Spread.{falls, rises, IsSpread}
 use Rattle.escrow_checks.proofs.FormLemmas.{form-changed, length-changed}
 
--- ---- the outcomes of one more reservation: those without it, and those with it
+-- ---- the outcomes with one more reservation: those without it, and those with it
 
 pub outcomes-cons : (coeffs amounts changes : List ℤ) (reservations : List (List ℤ)) → outcomes coeffs amounts (changes ∷ reservations) ≡ outcomes coeffs amounts reservations ++ outcomes coeffs (changed amounts changes) reservations
 outcomes-cons coeffs amounts changes reservations =
     map-append (λ chosen. form coeffs (all_changed amounts chosen)) (sublists reservations) (map (λ chosen. changes ∷ chosen) (sublists reservations))
     ∙ ap (λ zs. outcomes coeffs amounts reservations ++ zs) (map-map (λ chosen. form coeffs (all_changed amounts chosen)) (λ chosen. changes ∷ chosen) (sublists reservations))
 
--- there is a choice: none of them
+-- there is at least one choice: the empty one
 pub some_outcome : (coeffs amounts : List ℤ) (reservations : List (List ℤ)) → 0 < length (outcomes coeffs amounts reservations)
 some_outcome coeffs amounts [] = omega arith
 some_outcome coeffs amounts (changes ∷ reservations) =
     rw (outcomes-cons coeffs amounts changes reservations, length-append (outcomes coeffs amounts reservations) (outcomes coeffs (changed amounts changes) reservations)) (omega (arith, some_outcome coeffs amounts reservations))
 
--- ---- the smallest and the greatest of two lists in one
+-- ---- the least and the greatest of two lists joined
 
 int_min_assoc : (a b c : ℤ) → int_min a (int_min b c) ≡ int_min (int_min a b) c
 int_min_assoc a b c = omega (arith, ints, clamps)
@@ -49,7 +49,7 @@ largest-append (x ∷ []) [] h k = absurd (omega arith)
 largest-append (x ∷ []) (y ∷ ys) h k = refl
 largest-append (x ∷ x' ∷ xs) ys h k = ap (int_max x) (largest-append (x' ∷ xs) ys (omega arith) k) ∙ int_max_assoc x (largest (x' ∷ xs)) (largest ys)
 
--- ---- the extremes over all choices are the form with the falls, and with the rises
+-- ---- the extremes over all choices are the form plus the falls, and the form plus the rises
 
 least_step : (f d falls : ℤ) → int_min (f +ℤ falls) ((f +ℤ d) +ℤ falls) ≡ f +ℤ (int_min (pos 0) d +ℤ falls)
 least_step f d falls = omega (arith, ints, clamps)
@@ -78,7 +78,7 @@ least_is = extreme_is smallest int_min falls (λ coeffs amounts. omega (arith, i
 pub greatest_is : (coeffs amounts : List ℤ) (reservations : List (List ℤ)) → length coeffs ≤ length amounts → greatest coeffs amounts reservations ≡ form coeffs amounts +ℤ rises coeffs reservations
 greatest_is = extreme_is largest int_max rises (λ coeffs amounts. omega (arith, ints)) largest-append (λ coeffs changes reservations f. greatest_step f (form coeffs changes) (rises coeffs reservations))
 
--- ---- the extremes by a spread
+-- ---- the extremes from a spread
 
 pub least_by_spread : (coeffs amounts : List ℤ) (reservations : List (List ℤ)) (spread : Spread) (f z : ℤ) → IsCovered coeffs amounts → IsSpread coeffs reservations spread
     → f ≡ form coeffs amounts → z ≡ f +ℤ spread.falls → z ≡ least coeffs amounts reservations
@@ -88,7 +88,7 @@ pub greatest_by_spread : (coeffs amounts : List ℤ) (reservations : List (List 
     → f ≡ form coeffs amounts → z ≡ f +ℤ spread.rises → z ≡ greatest coeffs amounts reservations
 greatest_by_spread coeffs amounts reservations spread f z covered known is sum = omega (arith, ints, known.1, greatest_is coeffs amounts reservations covered)
 
--- what is broken, by a spread
+-- the broken limit from a spread
 pub broken_by_spread : (check : Check) (amounts changes : List ℤ) (reservations : List (List ℤ)) (spread : Spread) (f low high : ℤ) → IsCovered check.coeffs amounts → IsSpread check.coeffs reservations spread
     → f ≡ form check.coeffs amounts +ℤ form check.coeffs changes → low ≡ f +ℤ spread.falls → high ≡ f +ℤ spread.rises
     → (found : Option (Side × ℤ × ℤ)) → found ≡ first_broken_of check.span low high

@@ -19,7 +19,7 @@ pub form-none : (coeffs : List ℤ) → form coeffs [] ≡ pos 0
 form-none [] = refl
 form-none (c ∷ cs) = refl
 
--- the form is linear: changes add their own form
+-- the form is linear: it grows by the form of the changes
 pub form-changed : (coeffs amounts changes : List ℤ) → length coeffs ≤ length amounts → form coeffs (changed amounts changes) ≡ form coeffs amounts +ℤ form coeffs changes
 form-changed [] amounts changes fits = refl
 form-changed (c ∷ cs) [] changes fits = absurd (omega arith)

@@ -12,14 +12,14 @@ use Rattle.escrow_checks.specs.Found.{followed_by, found, few}
 
 -- ---- condition by condition
 
--- one check comes to those found
+-- one more check is found
 found_step : (checks : List Check) (check : Check) (rest others : Option (List Check))
     → found checks (option_map (λ more. check ∷ more) rest) others ≡ found (checks ++ check ∷ []) rest others
 found_step checks check None others = refl
 found_step checks check (Some more) None = refl
 found_step checks check (Some more) (Some last) = ap (λ (zs : List Check). Some zs) (sym (append_assoc checks (check ∷ []) (more ++ last)))
 
--- the same, where a condition gives it
+-- one more check is found, since its condition gives it
 found_more : (columns : List (List ℕ)) (scales : List ℕ) (name : Option (List ℕ)) (k n : ℕ) (condition : Condition) (conditions : List Condition) (checks : List Check) (check : Check) (others : Option (List Check))
     → check_of columns scales (check_name name k n) condition ≡ Some check
     → found checks (checks_of_conditions columns scales name k n (condition ∷ conditions)) others ≡ found (checks ++ check ∷ []) (checks_of_conditions columns scales name (k + 1) (n + 1) conditions) others
@@ -28,7 +28,7 @@ found_more columns scales name k n condition conditions checks check others e =
     ap (λ (o : Option Check). found checks (option_and_then (λ c. option_map (λ more. c ∷ more) rest) o) others) e
     ∙ found_step checks check rest others
 
--- a condition gives none
+-- the next condition gives no check
 found_none : (columns : List (List ℕ)) (scales : List ℕ) (name : Option (List ℕ)) (k n : ℕ) (condition : Condition) (conditions : List Condition) (checks : List Check) (others : Option (List Check))
     → check_of columns scales (check_name name k n) condition ≡ None
     → few (found checks (checks_of_conditions columns scales name k n (condition ∷ conditions)) others) ≡ None
@@ -36,7 +36,7 @@ found_none columns scales name k n condition conditions checks others e =
     let rest = checks_of_conditions columns scales name (k + 1) (n + 1) conditions in
     ap (λ (o : Option Check). few (found checks (option_and_then (λ c. option_map (λ more. c ∷ more) rest) o) others)) e
 
--- too many are none
+-- too many checks count as none
 few_many : (checks : List Check) → MAX_CHECKS < length checks → few (Some checks) ≡ None
 few_many checks many =
     let past : nat_le (length checks) MAX_CHECKS ≡ false = grind (arith, nat_tests) in
@@ -48,7 +48,7 @@ few_step checks check (Some more) None full = refl
 few_step checks check (Some more) (Some last) full =
     few_many ((checks ++ check ∷ []) ++ (more ++ last)) (omega (arith, length-append (checks ++ check ∷ []) (more ++ last), length-append checks (check ∷ [])))
 
--- a condition is left where there are 32 checks
+-- a condition remains after 32 checks
 found_many : (columns : List (List ℕ)) (scales : List ℕ) (name : Option (List ℕ)) (k n : ℕ) (condition : Condition) (conditions : List Condition) (checks : List Check) (others : Option (List Check))
     → MAX_CHECKS ≤ length checks → few (found checks (checks_of_conditions columns scales name k n (condition ∷ conditions)) others) ≡ None
 found_many columns scales name k n condition conditions checks others full = go (check_of columns scales (check_name name k n) condition) refl
@@ -59,9 +59,9 @@ found_many columns scales name k n condition conditions checks others full = go 
         ap few (found_more columns scales name k n condition conditions checks check others e)
         ∙ few_step checks check (checks_of_conditions columns scales name (k + 1) (n + 1) conditions) others full
 
--- ---- the same at a place of a CHECK's conditions
+-- ---- the same at an index of a CHECK's conditions
 
--- the checks of the conditions from a place on
+-- the checks of the conditions from an index on
 abbrev pub from_place : List (List ℕ) → List ℕ → Option (List ℕ) → List Condition → ℕ → List Check → Option (List Check)
 from_place columns scales name conditions k checks = checks_of_conditions columns scales name (k + 1) (length checks + 1) (drop k conditions)
 
@@ -86,11 +86,11 @@ place_many columns scales name conditions k condition checks others within full 
 
 -- ---- CHECK by CHECK
 
--- the checks of the CHECKs from a place on
+-- the checks of the CHECKs from an index on
 abbrev pub from_text : List (List ℕ) → List ℕ → List CheckText → ℕ → List Check → Option (List Check)
 from_text columns scales texts i checks = checks_from columns scales (drop i texts) (length checks + 1)
 
--- the CHECK of a place comes first
+-- the CHECK at the index comes first
 pub text_first : (columns : List (List ℕ)) (scales : List ℕ) (texts : List CheckText) (i : ℕ) (text : CheckText) (checks : List Check) → i < length texts → text ≡ get_or texts i text
     → followed_by checks (from_text columns scales texts i checks)
     ≡ found checks (checks_of_conditions columns scales text.name 1 (length checks + 1) text.conditions) (checks_from columns scales (drop (i + 1) texts) (length checks + 1 + length text.conditions))
@@ -109,12 +109,12 @@ text_more columns scales texts i text checks after within is step counted =
     ∙ step (checks_from columns scales (drop (i + 1) texts) (length checks + 1 + length text.conditions))
     ∙ ap (λ n. followed_by after (checks_from columns scales (drop (i + 1) texts) n)) place
 
--- what stands behind declared checks, those of the CHECKs in front of a place being found
+-- the checks after the declared ones, if those of the CHECKs before an index are found
 abbrev pub IsFound : List (List ℕ) → List ℕ → List Check → List CheckText → ℕ → List Check → Type 0
 IsFound columns scales declared texts i checks =
     followed_by declared (checks_from columns scales texts (length declared + 1)) ≡ followed_by checks (from_text columns scales texts i checks)
 
--- what stands behind declared checks is found behind them, where it isn't too much
+-- the checks after the declared ones are found if they are not too many
 behind_few : (columns : List (List ℕ)) (scales : List ℕ) (declared : List Check) (texts : List CheckText)
     → checks_behind columns scales declared texts ≡ few (followed_by declared (checks_from columns scales texts (length declared + 1)))
 behind_few columns scales declared texts = go (checks_from columns scales texts (length declared + 1))
@@ -133,7 +133,7 @@ text_none columns scales declared texts i text checks within is before none =
     ∙ ap few (before ∙ text_first columns scales texts i text checks within is)
     ∙ none (checks_from columns scales (drop (i + 1) texts) (length checks + 1 + length text.conditions))
 
--- no CHECK is left
+-- no CHECK remains
 pub text_all : (columns : List (List ℕ)) (scales : List ℕ) (declared : List Check) (texts : List CheckText) (i : ℕ) (checks : List Check) → length texts ≤ i → length checks ≤ MAX_CHECKS
     → IsFound columns scales declared texts i checks
     → checks_behind columns scales declared texts ≡ Some checks

@@ -44,7 +44,7 @@ inside_from_unbroken span low high e =
     let both = both_none (low_broken span.lo low) (high_broken span.hi high) e in
     (unbroken_low span.lo low both.0, unbroken_high span.hi high both.1)
 
--- where a new reservation breaks nothing, the extremes with it are inside the limits
+-- if a new reservation breaks nothing, the extremes with it are within the limits
 pub inside_if_granted : (check : Check) (amounts changes : List ℤ) (reservations : List (List ℤ)) → broken_by check amounts changes reservations ≡ None
     → Inside check.span (least check.coeffs (changed amounts changes) reservations) (greatest check.coeffs (changed amounts changes) reservations)
 inside_if_granted check amounts changes reservations granted =
@@ -85,9 +85,9 @@ granted_where_all_always_met (check ∷ checks) amounts changes reservations =
       λ all. rw (first.1 (All-head Met check checks all), rest.1 (All-tail Met check checks all)) refl,
     )
 
--- ---- what a new reservation adds moves both extremes
+-- ---- a new reservation moves both extremes
 
--- the least isn't above the greatest
+-- the least value is at most the greatest
 least_first : (coeffs amounts : List ℤ) (reservations : List (List ℤ)) → least coeffs amounts reservations ≤ℤ greatest coeffs amounts reservations
 least_first coeffs amounts reservations =
     let reached = least_reached coeffs amounts reservations in
@@ -150,7 +150,7 @@ one_of_two : {A : Type 0} (a b : Option A) (x : A) → first_of_two a b ≡ Some
 one_of_two None b x e = inr e
 one_of_two (Some a) b x e = inl e
 
--- what is found where a limit is broken: that limit, and a value beyond it
+-- if a limit is broken, that limit and a value beyond it are found
 limit_found : (span : Span) (broken : Bool) (limit found : Side × ℤ × ℤ) → cond broken (Some limit) None ≡ Some found → (broken ≡ true → IsBeyond span limit.0 limit.1 limit.2)
     → (found.1 ≡ limit.1) × IsBeyond span found.0 found.1 found.2
 limit_found span broken limit found e beyond =

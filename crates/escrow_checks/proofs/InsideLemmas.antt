@@ -1,4 +1,4 @@
--- A row always meets a check exactly where the extremes are inside its limits.
+-- A row always meets a check exactly if the extremes are within its limits.
 use Rattle.std.proofs.Common.{ℤ, ◌+ℤ◌, ◌≤ℤ◌, List, Option, Some, None, arith}
 use Rattle.std.specs.Prelude.{IfSome}
 use Rattle.std.proofs.lemmas.Int.{ints}
@@ -13,7 +13,7 @@ use Rattle.escrow_checks.specs.Grant.{Meets, AlwaysMeets}
 use Rattle.escrow_checks.proofs.ExtremesLemmas.{least_is, greatest_is}
 use Rattle.escrow_checks.proofs.ReachedLemmas.{least_below, greatest_above, least_reached, greatest_reached}
 
--- the limits hold of both values
+-- the limits admit both values
 abbrev pub Inside : Span → ℤ → ℤ → Type 0
 Inside span low high = IfSome span.lo (λ lo. lo ≤ℤ low) × IfSome span.hi (λ hi. high ≤ℤ hi)
 
@@ -40,7 +40,7 @@ inside_from_always check amounts reservations always =
     let at_high : Meets check (all_changed amounts high.0) = All-contains (λ chosen. Meets check (all_changed amounts chosen)) (sublists reservations) high.0 always high.1 in
     (raise_low check.span.lo _ _ (omega (arith, ints, low.2)) at_low.0, lower_high check.span.hi _ _ (omega (arith, ints, high.2)) at_high.1)
 
--- the same by the sums of falls and of rises
+-- the same from the sums of falls and of rises
 pub always_from_sums : (check : Check) (amounts : List ℤ) (reservations : List (List ℤ)) → IsCovered check.coeffs amounts
     → Inside check.span (form check.coeffs amounts +ℤ falls check.coeffs reservations) (form check.coeffs amounts +ℤ rises check.coeffs reservations) → AlwaysMeets check amounts reservations
 always_from_sums check amounts reservations covered inside =

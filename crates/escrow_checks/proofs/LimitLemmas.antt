@@ -18,7 +18,7 @@ use Rattle.escrow_checks.specs.Condition.{total}
 use Rattle.escrow_checks.specs.Parts.{is_near}
 use Rattle.escrow_checks.proofs.PartsLemmas.{near_within}
 
--- units that are an amount, or one more or less, are near
+-- an amount, or a number next to one, is near
 amount_near : (n m : ℤ) → is_amount m ≡ true → (n -ℤ pos 1) ≤ℤ m → m ≤ℤ (n +ℤ pos 1) → is_near n ≡ true
 amount_near n m e low high =
     let ends = and_parts (int_le (neg_ℤ MAX) m) (int_le m MAX) e in
@@ -28,12 +28,12 @@ amount_near n m e low high =
     let to : int_le n (pos (10 ^ 15)) ≡ true = grind (arith, ints, below, low) in
     and_from (int_le (neg_ℤ (pos (10 ^ 15))) n) (int_le n (pos (10 ^ 15))) from to
 
--- a test that isn't true is false
+-- a test that is not true is false
 not_true : (b : Bool) → (b ≡ true → ⊥) → b ≡ false
 not_true true h = absurd (h refl)
 not_true false h = refl
 
--- units that aren't near give no good limits
+-- a number that is not near gives no good limit
 near_limit : (n : ℤ) → is_near n ≡ false → is_limit (Some n) ≡ true → ⊥
 near_limit n far e = false≢true (sym far ∙ amount_near n n e (omega (arith, ints)) (omega (arith, ints)))
 
@@ -49,26 +49,26 @@ far_span Above n far =
 far_span AtLeast n far = not_true (is_good_span (span_of AtLeast n)) (λ e. near_limit n far (good_parts (span_of AtLeast n) e).0)
 far_span Equal n far = not_true (is_good_span (span_of Equal n)) (λ e. near_limit n far (good_parts (span_of Equal n) e).0)
 
--- ---- what a test gives
+-- ---- the limits of a test
 
--- the units of a number of millionths, where it is a whole number of them and they are near
+-- the units of a number of millionths, if they are whole and near
 abbrev pub units_found : ℕ → ℤ → Option ℤ
 units_found scale z = cond (is_whole scale z && is_near (units_in scale z)) (Some (units_in scale z)) None
 
--- the limits that a test sets, where they are whole numbers of units and good
+-- the limits that a test sets, if they are whole numbers of units and good
 abbrev pub limits_found : ℕ → Test → ℤ → Option Span
 limits_found scale test left = cond (has_whole_limits scale test left && is_good_span (limits_of scale test left)) (Some (limits_of scale test left)) None
 
--- a span, where it is good
+-- a span, if it is good
 abbrev pub if_good : Span → Option Span
 if_good span = cond (is_good_span span) (Some span) None
 
--- where nothing is found, its test is false
+-- if nothing is found, the test is false
 pub no_item : {A : Type 0} (b : Bool) (x : A) → cond b (Some x) None ≡ None → b ≡ false
 no_item true x e = absurd cc
 no_item false x e = refl
 
--- where there are no units, there are no limits
+-- without units there are no limits
 comparison_fails : (comparison : Comparison) (n : ℤ) (whole : Bool) → (whole && is_near n) ≡ false → (whole && is_good_span (span_of comparison n)) ≡ false
 comparison_fails comparison n false e = refl
 comparison_fails comparison n true e = far_span comparison n e
@@ -102,7 +102,7 @@ high_none scale low high left z is none =
     let none' : units_found scale (high -ℤ left) ≡ None = subst (λ n. units_found scale n ≡ None) is none in
     cond-false _ _ None (high_fails (units_in scale (low -ℤ left)) (units_in scale (high -ℤ left)) (is_whole scale (low -ℤ left)) (is_whole scale (high -ℤ left)) (no_item _ _ none'))
 
--- units that are found: the number is whole, and 128 bits hold them
+-- if units are found, the number is whole, and they fit into 128 bits
 pub found_units : (scale : ℕ) (z number n : ℤ) → z ≡ number → units_found scale z ≡ Some n
     → (is_whole scale number ≡ true) × (cast_signed w128 (cast_unsigned w128 n) ≡ units_in scale number)
 found_units scale z number n is some =

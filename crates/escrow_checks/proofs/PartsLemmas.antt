@@ -1,4 +1,4 @@
--- Numbers in parts: their sums, and the units that they come to.
+-- Numbers in parts: their sums, and their units.
 use Rattle.std.proofs.Common.{◌≡◌, ℕ, ◌*◌, ◌^◌, ◌<◌, ◌≤◌, inl, inr, true, false, Bool, ℤ, pos, neg_ℤ, ◌+ℤ◌, ◌*ℤ◌, ◌≤ℤ◌, int_le, int_div, int_rem, FitsSigned, List, [], ◌∷◌, refl, arith}
 use Rattle.std.specs.Int.{cast_signed, cast_unsigned, w128}
 use Rattle.std.specs.Int.RustNames.{unsigned_abs}
@@ -17,7 +17,7 @@ use Rattle.escrow_checks.proofs.Products.{abs_within, product_within, within_abs
 
 -- ---- sums
 
--- the parts of a number make it up
+-- the parts of a number add up to it
 pub parts_of : (z : ℤ) → joined (wholes z) (rest z) ≡ z
 parts_of z = quot-rem z (pos 1000000)
 
@@ -28,24 +28,24 @@ part_in (term.Column coefficient column) = refl
 joined-sum : (a b c d : ℤ) → joined (a +ℤ b) (c +ℤ d) ≡ joined a c +ℤ joined b d
 joined-sum a b c d = omega (arith, ints, sum-*ℤ a b (pos 1000000))
 
--- sums of parts are those of the sum
+-- the sums of the parts are the parts of the sum
 pub total-joined : (terms : List Term) → joined (total wholes_in terms) (total rest_in terms) ≡ total number_in terms
 total-joined [] = refl
 total-joined (t ∷ terms) = omega (arith, ints, joined-sum (wholes_in t) (total wholes_in terms) (rest_in t) (total rest_in terms), part_in t, total-joined terms)
 
--- in 128 bits they stay as they are
+-- they fit into 128 bits unchanged
 pub in_128 : (z : ℤ) → IsDifference z → cast_signed w128 (cast_unsigned w128 z) ≡ z
 in_128 z small = to_z-of_z w128 z (omega (arith, ints, small))
 
 pub joined_in_128 : (z : ℤ) → IsJoined z → cast_signed w128 (cast_unsigned w128 z) ≡ z
 joined_in_128 z small = to_z-of_z w128 z (omega (arith, ints, small))
 
--- ---- wholes that the millionths make up
+-- ---- millionths carried into wholes
 
 pub carries : (whole part : ℤ) → joined (whole +ℤ wholes part) (rest part) ≡ joined whole part
 carries whole part = omega (arith, ints, sum-*ℤ whole (wholes part) (pos 1000000), parts_of part)
 
--- what is left beside them is less than one more
+-- the remaining millionths are less than one whole
 left_below : (part : ℤ) → (neg_ℤ (pos 1000000) ≤ℤ rest part) × (rest part ≤ℤ pos 1000000)
 left_below part =
     let below : unsigned_abs (rest part) < 1000000 = rem_below part (pos 1000000) (omega arith) in
@@ -61,7 +61,7 @@ joined_within whole part few =
 
 -- ---- units
 
--- dividing by a unit
+-- division by a unit fits into 128 bits
 unit_in_128 : (scale : ℕ) → FitsSigned w128 (pos (unit_at scale))
 unit_in_128 scale = omega (arith, ints, unit-most scale)
 
@@ -72,7 +72,7 @@ divides z u scale small e =
     rw (e, to_z-of_z w128 z z_fits, to_z-of_z w128 (pos (unit_at scale)) (unit_in_128 scale))
     (unit-least scale, quot_fits w128 z (pos (unit_at scale)) z_fits (omega (arith, ints, unit-least scale)))
 
--- units that are near make up no number of more than 10^16 wholes
+-- near units have at most 10^15 wholes
 pub near_within : (q : ℤ) → is_near q ≡ true → unsigned_abs q ≤ 10 ^ 15
 near_within q e =
     let ends = and_parts (int_le (neg_ℤ (pos (10 ^ 15))) q) (int_le q (pos (10 ^ 15))) e in

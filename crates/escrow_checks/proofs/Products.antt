@@ -1,4 +1,4 @@
--- Products of a coefficient and an amount: their sums, and their bounds.
+-- Products of a coefficient and an amount: their sums and bounds.
 use Rattle.std.proofs.Common.{◌≡◌, ℕ, ◌*◌, ◌^◌, ◌≤◌, ℤ, pos, negsuc, ◌+ℤ◌, ◌*ℤ◌, ◌-ℤ◌, neg_ℤ, ◌≤ℤ◌, ap, ◌∙◌, arith, to_z, of_z, SFits}
 use Rattle.std.specs.Int.RustNames.{unsigned_abs}
 use Rattle.escrow_num.specs.Amount.{IsAmount}
@@ -30,15 +30,15 @@ abs_within z n h = (grind (arith, ints), grind (arith, ints))
 pub within_abs : (z : ℤ) (n : ℕ) → neg_ℤ (pos n) ≤ℤ z → z ≤ℤ pos n → unsigned_abs z ≤ n
 within_abs z n h k = grind (arith, ints)
 
--- a product of two numbers within bounds
+-- the product of two bounded numbers is bounded
 pub product_within : (a b : ℤ) (m n : ℕ) → unsigned_abs a ≤ m → unsigned_abs b ≤ n → unsigned_abs (a *ℤ b) ≤ m * n
 product_within a b m n h k = omega (arith, unsigned_abs-mul a b, mul-le _ _ _ _ h k)
 
--- a coefficient times an amount
+-- a coefficient times an amount is bounded
 pub product_bound : (a b : ℤ) → IsCoefficient a → IsAmount b → IsProduct (a *ℤ b)
 product_bound a b h k = abs_within (a *ℤ b) (10 ^ 27) (product_within a b (10 ^ 12) (10 ^ 15) (within_abs a (10 ^ 12) (omega (arith, ints, h)) (omega (arith, ints, h))) (within_abs b (10 ^ 15) (omega (arith, ints, k)) (omega (arith, ints, k))))
 
--- the same product as 128 bits compute it
+-- 128 bits compute the same product
 pub product_in_128 : (a b x y r : ℤ) → IsCoefficient a → IsAmount b → x ≡ a → y ≡ b
     → r ≡ to_z w128 (of_z w128 (to_z w128 (of_z w128 x) *ℤ to_z w128 (of_z w128 y))) → r ≡ a *ℤ b
 product_in_128 a b x y r small fits e e' h =

@@ -1,4 +1,4 @@
--- Whole numbers over others, their products, and their order.
+-- Quotients of whole numbers, their products, and their order.
 use Rattle.std.proofs.Common.{◌≡◌, ℕ, zero, suc, ◌*◌, ◌/◌, ◌%◌, ◌<◌, ◌⊎◌, inl, inr, ℤ, pos, negsuc, neg_ℤ, ◌+ℤ◌, ◌-ℤ◌, ◌*ℤ◌, ◌≤ℤ◌, ◌<ℤ◌, int_div, int_rem, refl, ap, sym, arith, ◌∙◌}
 use Rattle.std.proofs.Math.IntN.{ℤ_ind, zero-*ℤ, *ℤ_comm}
 use Rattle.std.proofs.Math.Nat.{mul-mod_left, mul-div_cancel, zero-div, zero-mod}
@@ -28,27 +28,27 @@ negative-left : (m k : ℕ) → 0 < k → int_rem (neg_ℤ (pos m)) (pos k) ≡ 
 negative-left zero k some = let e : 0 % k ≡ 0 = zero-mod k in rw e refl
 negative-left (suc m) k some = refl
 
--- a product over one of its factors
+-- a product divided by one of its factors
 pub quotient : (u : ℤ) (k : ℕ) → 0 < k → int_div (u *ℤ pos k) (pos k) ≡ u
 quotient (pos n) k some = ap (λ (m : ℕ). pos m) (product-over n k some)
 quotient (negsuc n) k some = negative-over (suc n * k) k some ∙ ap (λ (m : ℕ). neg_ℤ (pos m)) (product-over (suc n) k some)
 
--- leaves nothing
+-- the remainder is zero
 pub remainder : (u : ℤ) (k : ℕ) → 0 < k → int_rem (u *ℤ pos k) (pos k) ≡ pos 0
 remainder (pos n) k some = ap (λ (m : ℕ). pos m) (mul-mod_left n k)
 remainder (negsuc n) k some = negative-left (suc n * k) k some ∙ ap (λ (m : ℕ). neg_ℤ (pos m)) (mul-mod_left (suc n) k)
 
--- where nothing is left, the quotient makes up the number
+-- if the remainder is zero, the quotient times the divisor is the number
 pub made_up : (z : ℤ) (k : ℕ) → int_rem z (pos k) ≡ pos 0 → int_div z (pos k) *ℤ pos k ≡ z
 made_up z k none = omega (arith, ints, quot-rem z (pos k), none)
 
 -- ---- order
 
--- the first two numbers are in the order of the other two
+-- the first two numbers are in the same order as the other two
 abbrev pub Ordered : ℤ → ℤ → ℤ → ℤ → Type 0
 Ordered f n a b = ((f <ℤ n) × (a <ℤ b)) ⊎ ((f ≡ n) × (a ≡ b)) ⊎ ((n <ℤ f) × (b <ℤ a))
 
--- a product keeps order
+-- multiplying keeps the order
 times_le : (a b : ℤ) (k : ℕ) → a ≤ℤ b → (a *ℤ pos k) ≤ℤ (b *ℤ pos k)
 times_le a b zero h = omega (arith, ints, *ℤ_comm a (pos 0), *ℤ_comm b (pos 0), zero-*ℤ a, zero-*ℤ b)
 times_le a b (suc k) h =
@@ -62,7 +62,7 @@ times_lt a b k some h =
     let next : (a +ℤ pos 1) ≤ℤ b = omega (arith, ints, h) in
     omega (arith, ints, some, times_le (a +ℤ pos 1) b k next, *ℤ-up a (pos k))
 
--- so does the number of units, of numbers that are made up of units
+-- for multiples of a unit, the numbers of units are in the same order
 pub ordered : (f n a b : ℤ) (k : ℕ) → 0 < k → a -ℤ b ≡ (f *ℤ pos k) -ℤ (n *ℤ pos k) → Ordered f n a b
 ordered f n a b k some e =
     by_lt_z f n

@@ -1,4 +1,4 @@
--- The extremes are bounds of every choice, and each is reached by one.
+-- The extremes bound every choice, and some choice reaches each of them.
 use Rattle.std.proofs.Common.{◌≡◌, ◌<◌, ℤ, pos, ◌≤ℤ◌, ◌⊎◌, inl, inr, true, false, cond, List, [], ◌∷◌, length, map, refl, ◌∙◌, sym, arith}
 use Rattle.std.specs.Prelude.{All, Contains, int_lt}
 use Rattle.std.specs.Int.{int_min, int_max}
@@ -57,7 +57,7 @@ given_first f x xs z e = (x, (0, omega arith, refl), sym e)
 given_later : {A : Type 0} (f : A → ℤ) (x : A) (xs : List A) (y z : ℤ) → z ≡ y → GivenBy f xs y → GivenBy f (x ∷ xs) z
 given_later f x xs y z e h = (h.0, Contains-append_right (x ∷ []) xs h.0 h.1, h.2 ∙ sym e)
 
--- an extreme that is one of two each time is that of an element
+-- an extreme that picks one of two values each time is the value of an element
 extreme_given : {A : Type 0} (extreme : List ℤ → ℤ) (pick : ℤ → ℤ → ℤ) → ((x : ℤ) → extreme (x ∷ []) ≡ x) → ((x y : ℤ) (zs : List ℤ) → extreme (x ∷ y ∷ zs) ≡ pick x (extreme (y ∷ zs))) → ((x y : ℤ) → (pick x y ≡ x) ⊎ (pick x y ≡ y))
     → (f : A → ℤ) (xs : List A) → 0 < length xs → GivenBy f xs (extreme (map f xs))
 extreme_given extreme pick one more either f [] h = absurd (omega arith)
@@ -76,7 +76,7 @@ smallest_given f xs h = extreme_given smallest int_min (λ x. refl) (λ x y zs. 
 largest_given : {A : Type 0} (f : A → ℤ) (xs : List A) → 0 < length xs → GivenBy f xs (largest (map f xs))
 largest_given f xs h = extreme_given largest int_max (λ x. refl) (λ x y zs. refl) int_max_one f xs h
 
--- ---- of a form, over the choices of the open reservations
+-- ---- the extremes of a form over the choices of the open reservations
 
 some_choice : (coeffs amounts : List ℤ) (reservations : List (List ℤ)) → 0 < length (sublists reservations)
 some_choice coeffs amounts reservations = omega (arith, some_outcome coeffs amounts reservations, length-map (sublists reservations) (λ chosen. form coeffs (all_changed amounts chosen)))

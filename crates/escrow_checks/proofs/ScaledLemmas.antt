@@ -1,4 +1,4 @@
--- Coefficients at a scale: the form of the scaled ones in units, and of the written ones in millionths.
+-- Coefficients at a scale: the form of scaled ones in units, and of written ones in millionths.
 use Rattle.std.proofs.Common.{◌≡◌, ℕ, zero, suc, get_or, ◌+◌, ◌-◌, ◌*◌, ◌^◌, ◌<◌, ◌≤◌, inl, inr, max, true, false, ℤ, pos, ◌+ℤ◌, ◌*ℤ◌, int_div, List, [], ◌∷◌, length, refl, ap, ap₂, sym, subst, arith, ◌∙◌}
 use Rattle.std.specs.Prelude.{All}
 use Rattle.std.specs.Ordering.{int_eq}
@@ -17,7 +17,7 @@ use Rattle.escrow_checks.specs.Scales.{factor, form_scale, in_millionths, scaled
 use Rattle.escrow_checks.proofs.LinearLemmas.{sum-*ℤ}
 use Rattle.escrow_checks.proofs.Quotients.{*ℤ_assoc, quotient, remainder}
 
--- ---- how many units of one scale a unit of another is
+-- ---- the number of units of a finer scale in a unit of a coarser one
 
 pub factor-least : (c s : ℕ) → 0 < factor c s
 unfolding factor
@@ -41,7 +41,7 @@ length-written_coeffs c [] scales = refl
 length-written_coeffs c (k ∷ coeffs) [] = refl
 length-written_coeffs c (k ∷ coeffs) (s ∷ scales) = omega (arith, length-written_coeffs c coeffs scales)
 
--- ---- at a place
+-- ---- at an index
 
 pub scaled-at : (c : ℕ) (coeffs : List ℤ) (scales : List ℕ) (i : ℕ) (k d : ℤ) (s : ℕ) → i < length coeffs → i < length scales → k ≡ get_or coeffs i k → s ≡ get_or scales i s
     → k *ℤ pos (factor c s) ≡ get_or (scaled_coeffs c coeffs scales) i d
@@ -57,14 +57,14 @@ written-at c (x ∷ coeffs) [] i k d s h h' is is' = absurd (omega arith)
 written-at c (x ∷ coeffs) (t ∷ scales) zero k d s h h' is is' = ap₂ (λ (y : ℤ) (n : ℕ). written_coefficient c n y) is is'
 written-at c (x ∷ coeffs) (t ∷ scales) (suc i) k d s h h' is is' = written-at c coeffs scales i k d s (omega arith) (omega arith) is is'
 
--- where no scale is left
+-- there is no scale at the index
 pub written-past : (c : ℕ) (coeffs : List ℤ) (scales : List ℕ) (i : ℕ) (k : ℤ) → i < length coeffs → length scales ≤ i → k ≡ get_or coeffs i k → k ≡ get_or (written_coeffs c coeffs scales) i k
 written-past c [] scales i k h h' is = absurd (omega arith)
 written-past c (x ∷ coeffs) [] i k h h' is = is
 written-past c (x ∷ coeffs) (t ∷ scales) zero k h h' is = absurd (omega arith)
 written-past c (x ∷ coeffs) (t ∷ scales) (suc i) k h h' is = written-past c coeffs scales i k (omega arith) (omega arith) is
 
--- ---- written again
+-- ---- scaling back
 
 pub written_are_given_back : (c : ℕ) (coeffs : List ℤ) (scales : List ℕ) → written_coeffs c (scaled_coeffs c coeffs scales) scales ≡ coeffs
 written_are_given_back c [] scales = refl
@@ -81,7 +81,7 @@ units_are_whole scale units =
 
 -- ---- the scale of a form
 
--- the scale of the columns from one on: its own counts unless its coefficient is zero
+-- the scale of the columns from one on; a column counts unless its coefficient is zero
 pub form_scale-zero : (k : ℤ) (coeffs : List ℤ) (s : ℕ) (scales : List ℕ) → k ≡ pos 0 → form_scale (k ∷ coeffs) (s ∷ scales) ≡ form_scale coeffs scales
 form_scale-zero k coeffs s scales e = cond-true (int_eq k (pos 0)) _ _ ((Decides-int_eq k (pos 0)).1 e)
 
@@ -101,7 +101,7 @@ form_scale_is (k ∷ coeffs) (s ∷ scales) all =
 
 -- ---- the form
 
--- the product of a scaled coefficient, in millionths
+-- the product of a scaled coefficient and an amount, in millionths
 term-scaled : (c s : ℕ) (k a : ℤ) → s ≤ c → c ≤ 6 → ((k *ℤ pos (factor c s)) *ℤ a) *ℤ pos (unit_at c) ≡ k *ℤ (a *ℤ pos (unit_at s))
 term-scaled c s k a h most =
     let F : ℤ = pos (factor c s) in
@@ -110,7 +110,7 @@ term-scaled c s k a h most =
     let turned : (F *ℤ a) *ℤ u ≡ a *ℤ pos (unit_at s) = ap (λ x. x *ℤ u) (*ℤ_comm F a) ∙ *ℤ_assoc a F u ∙ ap (λ x. a *ℤ x) whole in
     ap (λ x. x *ℤ u) (*ℤ_assoc k F a) ∙ *ℤ_assoc k (F *ℤ a) u ∙ ap (λ x. k *ℤ x) turned
 
--- and that of a zero
+-- the same for a coefficient of zero
 term-zero : (c s : ℕ) (k a : ℤ) → k ≡ pos 0 → ((k *ℤ pos (factor c s)) *ℤ a) *ℤ pos (unit_at c) ≡ k *ℤ (a *ℤ pos (unit_at s))
 term-zero c s k a e =
     let left : ((pos 0 *ℤ pos (factor c s)) *ℤ a) *ℤ pos (unit_at c) ≡ pos 0 =

@@ -1,4 +1,4 @@
--- The two sums of a spread, with one reservation more or less, and their bounds.
+-- The two sums of a spread with one reservation more or less, and their bounds.
 use Rattle.std.proofs.Common.{◌≡◌, ◌<◌, ℤ, pos, ◌+ℤ◌, ◌-ℤ◌, List, [], ◌∷◌, ◌++◌, length, arith}
 use Rattle.std.specs.Int.{int_min, int_max}
 use Rattle.std.proofs.lemmas.Int.{ints, clamps}
@@ -10,7 +10,7 @@ use Rattle.escrow_checks.specs.declared.spread.Spread.{Spread}
 use Rattle.escrow_checks.specs.declared.spread.TheConstants.Spread.{MAX_OPEN}
 use Rattle.escrow_checks.proofs.FormLemmas.{form-none}
 
--- ---- the sums with one reservation put among others
+-- ---- the sums with one more reservation among others
 
 falls-put : (coeffs : List ℤ) (before after : List (List ℤ)) (changes : List ℤ) → falls coeffs (before ++ changes ∷ after) ≡ falls coeffs (before ++ after) +ℤ int_min (pos 0) (form coeffs changes)
 falls-put coeffs [] after changes = omega (arith, ints)
@@ -28,7 +28,7 @@ contributions-left : (coeffs : List ℤ) (before after : List (List ℤ)) (chang
 contributions-left coeffs [] after changes known = known.1
 contributions-left coeffs (first ∷ before) after changes known = (known.0, contributions-left coeffs before after changes known.1)
 
--- at the end
+-- the sums with one more reservation at the end
 pub falls-push : (coeffs : List ℤ) (reservations : List (List ℤ)) (changes : List ℤ) → falls coeffs (reservations ++ changes ∷ []) ≡ falls coeffs reservations +ℤ int_min (pos 0) (form coeffs changes)
 falls-push coeffs reservations changes = rw append-nil at (falls-put coeffs reservations [] changes)
 
@@ -53,9 +53,9 @@ rises_within coeffs (changes ∷ reservations) known =
 abbrev pub HasSums : List ℤ → List (List ℤ) → ℤ → ℤ → Type 0
 HasSums coeffs reservations low high = (low ≡ falls coeffs reservations) × (high ≡ rises coeffs reservations) × AreContributions coeffs reservations
 
--- ---- one reservation more, which contributes z
+-- ---- one more reservation, which contributes z
 
--- each sum has its part of z
+-- z is added to one of the sums
 pub with_one : (coeffs : List ℤ) (before after : List (List ℤ)) (changes : List ℤ) (spread : Spread) (low high z : ℤ) → IsContribution z → z ≡ form coeffs changes
     → low ≡ spread.falls +ℤ int_min (pos 0) z → high ≡ spread.rises +ℤ int_max (pos 0) z → IsSpread coeffs (before ++ after) spread → HasSums coeffs (before ++ changes ∷ after) low high
 with_one coeffs before after changes spread low high z within same is_low is_high known = (
@@ -64,7 +64,7 @@ with_one coeffs before after changes spread low high z within same is_low is_hig
   contributions-put coeffs before after changes known.2 (omega (arith, ints, within), omega (arith, ints, within)),
 )
 
--- a spread that has room for one more
+-- a spread with room for one more reservation
 abbrev pub HasRoom : Spread → Type 0
 HasRoom spread = (coeffs : List ℤ) × (reservations : List (List ℤ)) × IsSpread coeffs reservations spread × (length reservations < MAX_OPEN)
 
@@ -88,7 +88,7 @@ without_one coeffs before after changes spread low high z same is_low is_high kn
   contributions-left coeffs before after changes known.2,
 )
 
--- a spread that counts a reservation that contributed z
+-- a spread that counts a reservation which contributed z
 abbrev pub HasOne : Spread → ℤ → Type 0
 HasOne spread z = (coeffs : List ℤ) × (before : List (List ℤ)) × (changes : List ℤ) × (after : List (List ℤ)) × IsSpread coeffs (before ++ changes ∷ after) spread × (z ≡ form coeffs changes)
 

@@ -19,11 +19,11 @@ pub total-next : (worth : Term → ℤ) (terms : List Term) (i : ℕ) (t : Term)
 total-next worth terms i t below is =
     at_drop_more (total worth) terms i t below ∙ ap (λ (u : Term). worth u +ℤ total worth (drop (i + 1) terms)) (sym is)
 
--- a number is the sum of the terms so far
+-- the sum so far, which with the remaining terms gives the total
 abbrev pub IsSumTo : (Term → ℤ) → List Term → ℕ → ℤ → Type 0
 IsSumTo worth terms i sum = (sum +ℤ total worth (drop i terms) ≡ total worth terms) × (neg_ℤ (pos (10 ^ 15 * i)) ≤ℤ sum) × (sum ≤ℤ pos (10 ^ 15 * i))
 
--- with the next term's amount it is, in 128 bits, that of one term more
+-- adding the next term in 128 bits gives the next sum
 pub sum_next : (worth : Term → ℤ) (terms : List Term) (i : ℕ) (t : Term) (held sum w next : ℤ) → i < length terms → t ≡ get_or terms i t → w ≡ worth t → IsAmount w → held ≡ sum → IsTermSum sum → next ≡ sum +ℤ w
     → IsSumTo worth terms i held → IsSumTo worth terms (i + 1) (to_z w128 (of_z w128 next))
 sum_next worth terms i t held sum w next below is same within is_held small adds before =
@@ -35,16 +35,16 @@ sum_next worth terms i t held sum w next below is same within is_held small adds
       omega (arith, ints, before.2, within),
     )
 
--- past the last term it is their total
+-- after the last term, the sum is the total
 pub sum_all : (worth : Term → ℤ) (terms : List Term) (i : ℕ) (sum : ℤ) → length terms ≤ i → IsSumTo worth terms i sum → sum ≡ total worth terms
 sum_all worth terms i sum past known = omega (arith, ints, at_drop_all (total worth) terms i past, known.0)
 
--- a test of each name that terms have, term by term
+-- testing every name in terms, term by term
 list_all-columns : (test : List ℕ → Bool) (terms : List Term) → list_all test (flat_map columns_in terms) ≡ list_all (λ term. list_all test (columns_in term)) terms
 list_all-columns test [] = refl
 list_all-columns test (t ∷ terms) = list_all-append test (columns_in t) (flat_map columns_in terms) ∙ ap (λ b. list_all test (columns_in t) && b) (list_all-columns test terms)
 
--- the same of the terms on both sides
+-- the same for the terms on both sides
 pub all_columns : (test : List ℕ → Bool) (left right : List Term)
     → list_all test (flat_map columns_in (left ++ right)) ≡ (list_all (λ term. list_all test (columns_in term)) left && list_all (λ term. list_all test (columns_in term)) right)
 all_columns test left right =

@@ -1,4 +1,4 @@
--- No sum of a check leaves 128 bits.
+-- No sum of a check exceeds 128 bits.
 use Rattle.std.proofs.Common.{◌≡◌, ◌*◌, ◌^◌, ℤ, pos, neg_ℤ, ◌+ℤ◌, ◌≤ℤ◌, List, [], ◌∷◌, length, arith}
 use Rattle.std.specs.Prelude.{All}
 use Rattle.std.proofs.lemmas.Int.{ints}
@@ -15,7 +15,7 @@ use Rattle.escrow_checks.proofs.FormLemmas.{form-changed, length-changed}
 use Rattle.escrow_checks.proofs.Products.{product_bound}
 use Rattle.escrow_checks.proofs.SpreadLemmas.{falls_within, rises_within}
 
--- a form of so many products
+-- the bound of a form with this number of products
 form_bounded : (coeffs amounts : List ℤ) → All IsCoefficient coeffs → All IsAmount amounts
     → (neg_ℤ (pos (10 ^ 27 * length coeffs)) ≤ℤ form coeffs amounts) × (form coeffs amounts ≤ℤ pos (10 ^ 27 * length coeffs))
 form_bounded [] amounts are all = (omega (arith, ints), omega (arith, ints))

@@ -1,11 +1,11 @@
--- Lists whose items stand in order.
+-- Ascending lists.
 use Rattle.std.specs.Prelude.{◌≡◌, ◌⊎◌, Bool, List, [], ◌∷◌, ◌++◌, map, filter, IsTrue}
 use Rattle.std.proofs.Common.{inl, inr, sym, ◌∙◌, subst, refl}
 use Rattle.std.proofs.lemmas.Bool.{cond_both}
 use Rattle.escrow_num.specs.Ascending.{IsAscending}
 use Rattle.escrow_num.proofs.Items.{Has, all_has, has_all, has_filter, has_map, has_push}
 
--- part of an ascending list is ascending
+-- a filtered ascending list is ascending
 pub ascending_filter : {A : Type 0} (before : A → A → Bool) (p : A → Bool) (xs : List A) → IsAscending before xs → IsAscending before (filter p xs)
 ascending_filter before p [] h = tt
 ascending_filter before p (x ∷ xs) h =
@@ -13,7 +13,7 @@ ascending_filter before p (x ∷ xs) h =
     let first = has_all (λ y. IsTrue (before x y)) (filter p xs) (λ y k. all_has (λ y. IsTrue (before x y)) xs h.0 y (has_filter p xs y k).0) in
     cond_both (p x) (x ∷ filter p xs) (filter p xs) (IsAscending before) (λ _. (first, rest)) (λ _. rest)
 
--- items that keep their order stay ascending
+-- if a map keeps the order of items, the list stays ascending
 pub ascending_map : {A : Type 0} (before : A → A → Bool) (f : A → A) → ((x y : A) → before (f x) (f y) ≡ before x y)
     → (xs : List A) → IsAscending before xs → IsAscending before (map f xs)
 ascending_map before f same [] h = tt
@@ -24,7 +24,7 @@ ascending_map before f same (x ∷ xs) h = (
   ascending_map before f same xs h.1,
 )
 
--- an item after all others at the end of an ascending list
+-- an item that is after all others may be appended
 pub ascending_push : {A : Type 0} (before : A → A → Bool) (xs : List A) (y : A) → IsAscending before xs
     → ((x : A) → Has xs x → IsTrue (before x y)) → IsAscending before (xs ++ y ∷ [])
 ascending_push before [] y h last = (tt, tt)
@@ -37,7 +37,7 @@ ascending_push {A} before (x ∷ xs) y h last =
       ascending_push before xs y h.1 (λ z k. last z (inr k)),
     )
 
--- of two items of an ascending list one is before the other, or they are the same
+-- two items of an ascending list are the same, or one is before the other
 pub ascending_one : {A : Type 0} (before : A → A → Bool) (xs : List A) → IsAscending before xs → (x y : A) → Has xs x → Has xs y
     → (x ≡ y) ⊎ (IsTrue (before x y) ⊎ IsTrue (before y x))
 ascending_one before [] h x y a b = absurd a

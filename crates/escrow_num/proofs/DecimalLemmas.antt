@@ -1,4 +1,4 @@
--- Reading a decimal, in the words of specs/Decimal.antt.
+-- Reading a decimal, as specs/Decimal.antt defines it.
 use Rattle.std.proofs.Common.{◌≡◌, ℕ, ◌≤◌, ◌<◌, ◌&&◌, Bool, true, false, ℤ, pos, negsuc, neg_ℤ, ◌*ℤ◌, ◌-ℤ◌, ◌≤ℤ◌, int_div, int_rem, unsigned_abs, nat_le, FitsSigned, Option, Some, None, SomeIff, refl, ap, subst, sym, arith, ◌∙◌, w64}
 use Rattle.std.specs.Bool.{Decides}
 use Rattle.std.specs.Ordering.{int_eq}
@@ -11,16 +11,16 @@ use Rattle.escrow_num.specs.Decimal.{IsDecimal, units_at}
 use Rattle.escrow_num.specs.Scale.{unit_at}
 use Rattle.escrow_num.proofs.ScaleLemmas.{is_amount-Decides, neg-amount, neg-product, unit-least, unit-most, units-within}
 
--- an amount of units is a decimal, and within the limits of decimals
+-- an amount of units is a decimal within the limits
 pub decimal-within : (z : ℤ) → IsDecimal z → (negsuc 999999999999998999999 ≤ℤ z) × (z ≤ℤ pos 999999999999999000000)
 decimal-within z (scale, units, are) = subst (λ (w : ℤ). (negsuc 999999999999998999999 ≤ℤ w) × (w ≤ℤ pos 999999999999999000000)) are.worth (units-within units (unit_at scale) are.small (unit-most scale))
 
--- the other side of zero is a decimal too
+-- the negative of a decimal is a decimal
 pub decimal-negated : (z : ℤ) → IsDecimal z → IsDecimal (neg_ℤ z)
 decimal-negated z (scale, units, are) =
     (scale, neg_ℤ units, record { scaled = are.scaled; worth = neg-product units (unit_at scale) ∙ ap neg_ℤ are.worth; small = neg-amount units are.small })
 
--- a decimal in 128 bits
+-- a decimal fits into 128 bits
 pub decimal-fits : (z : ℤ) → IsDecimal z → FitsSigned w128 z
 decimal-fits z is = let bounds = decimal-within z is in omega (arith, ints, bounds.0, bounds.1)
 
@@ -30,7 +30,7 @@ unit-fits scale = omega (arith, ints, unit-most scale)
 pub quotient-fits : (z : ℤ) (scale : ℕ) → IsDecimal z → FitsSigned w128 (int_div z (pos (unit_at scale)))
 quotient-fits z scale is = quot_fits w128 z (pos (unit_at scale)) (decimal-fits z is) (omega (arith, ints, unit-least scale))
 
--- dividing a decimal by a unit
+-- a decimal may be divided by a unit
 pub divides : (z u : ℤ) (scale : ℕ) → IsDecimal z → u ≡ pos (unit_at scale)
     → (0 < cast_unsigned w128 u) × FitsSigned w128 (int_div (cast_signed w128 (cast_unsigned w128 z)) (cast_signed w128 (cast_unsigned w128 u)))
 divides z u scale is e =
@@ -38,7 +38,7 @@ divides z u scale is e =
     let u_fits = unit-fits scale in
     rw (e, to_z-of_z w128 z z_fits, to_z-of_z w128 (pos (unit_at scale)) u_fits) (unit-least scale, quotient-fits z scale is)
 
--- what the test of units tells
+-- the test for units of a scale
 abbrev units-test : ℕ → ℤ → Bool
 units-test scale z = nat_le scale 6 && (int_eq (int_rem z (pos (unit_at scale))) (pos 0) && is_amount (int_div z (pos (unit_at scale))))
 
@@ -52,17 +52,17 @@ fails : (b : Bool) → ¬ (b ≡ true) → b ≡ false
 fails true h = absurd (h refl)
 fails false h = refl
 
--- the units of a scale, where there is no remainder and the quotient is an amount
+-- a decimal has units at a scale if the remainder is zero and the quotient is an amount
 pub units-some : (scale : ℕ) (z : ℤ) → scale ≤ 6 → int_rem z (pos (unit_at scale)) ≡ pos 0 → IsAmount (int_div z (pos (unit_at scale))) → units_at scale z ≡ Some (int_div z (pos (unit_at scale)))
 unfolding units_at
 units-some scale z scaled exact small = cond-true (units-test scale z) (Some (int_div z (pos (unit_at scale)))) None ((units-tested scale z).1 (scaled, (exact, small)))
 
--- and none where it is no amount
+-- it has none if the quotient is no amount
 units-none : (scale : ℕ) (z : ℤ) → ¬ IsAmount (int_div z (pos (unit_at scale))) → units_at scale z ≡ None
 unfolding units_at
 units-none scale z large = cond-false (units-test scale z) (Some (int_div z (pos (unit_at scale)))) None (fails (units-test scale z) (λ e. large ((units-tested scale z).0 e).1.1))
 
--- what they say where there are some
+-- what holds if there are units
 pub units-told : (scale : ℕ) (z u : ℤ) → units_at scale z ≡ Some u → (scale ≤ 6) × ((int_rem z (pos (unit_at scale)) ≡ pos 0) × IsAmount (int_div z (pos (unit_at scale)))) × (int_div z (pos (unit_at scale)) ≡ u)
 unfolding units_at
 units-told scale z u e =
@@ -73,7 +73,7 @@ units-kept : (scale : ℕ) (z u : ℤ) (r : Option ℤ) → scale ≤ 6 → int_
 units-kept scale z u None scaled exact e m = sym (units-none scale z (λ h. m (subst IsAmount (sym e) h)))
 units-kept scale z u (Some x) scaled exact e m = ap (λ (w : ℤ). Some w) (m.1 ∙ e) ∙ sym (units-some scale z scaled exact (subst IsAmount e m.0))
 
--- what the code's division gives
+-- the quotient that the code computes
 quotient-is : (z u : ℤ) (scale : ℕ) → IsDecimal z → u ≡ pos (unit_at scale)
     → cast_signed w128 (cast_unsigned w128 (int_div (cast_signed w128 (cast_unsigned w128 z)) (cast_signed w128 (cast_unsigned w128 u)))) ≡ int_div z (pos (unit_at scale))
 quotient-is z u scale is e =
@@ -85,7 +85,7 @@ no-remainder : (r : ℤ) → unsigned_abs r < 1000000 → cast_unsigned w128 r �
 no-remainder (pos n) small e = ap (λ (k : ℕ). pos k) e
 no-remainder (negsuc n) small e = absurd (omega arith)
 
--- and its remainder, where it is zero
+-- the remainder that the code computes, if it is zero
 remainder-is : (z u : ℤ) (scale : ℕ) → IsDecimal z → u ≡ pos (unit_at scale)
     → cast_unsigned w128 (int_rem (cast_signed w128 (cast_unsigned w128 z)) (cast_signed w128 (cast_unsigned w128 u))) ≡ 0 → int_rem z (pos (unit_at scale)) ≡ pos 0
 remainder-is z u scale is e none =
@@ -107,14 +107,14 @@ units-of scale z u v r is e scaled none fits v_is m =
     let kept = rw (to_z-of_z w64 v v_fits) at m in
     units-kept scale z v r scaled (remainder-is z u scale is e none) (v_is ∙ quotient-is z u scale is e) kept
 
--- and that there are none where the quotient is too large
+-- there are no units if the quotient is too large
 pub units-past : (scale : ℕ) (z u : ℤ) → IsDecimal z → u ≡ pos (unit_at scale)
     → ¬ FitsSigned w64 (cast_signed w128 (cast_unsigned w128 (int_div (cast_signed w128 (cast_unsigned w128 z)) (cast_signed w128 (cast_unsigned w128 u)))))
     → None ≡ units_at scale z
 units-past scale z u is e large =
     sym (units-none scale z (λ small. large (subst (FitsSigned w64) (sym (quotient-is z u scale is e)) (omega (arith, ints, small.0, small.1)))))
 
--- the product of an amount and a unit, in 128 bits
+-- the product of an amount and a unit fits into 128 bits
 pub units-product : (units g a b : ℤ) (n scale : ℕ) → g ≡ units → IsAmount g → a ≡ cast_signed w64 (cast_unsigned w64 g) → b ≡ pos n → n ≡ unit_at scale
     → cast_signed w128 (cast_unsigned w128 (cast_signed w128 (cast_unsigned w128 a) *ℤ cast_signed w128 (cast_unsigned w128 b))) ≡ units *ℤ pos (unit_at scale)
 units-product units g a b n scale eg small ea eb en =
@@ -128,7 +128,7 @@ units-product units g a b n scale eg small ea eb en =
     let fits : FitsSigned w128 (units *ℤ pos (unit_at scale)) = omega (arith, ints, bounds.0, bounds.1) in
     rw (a_is, b_is, to_z-of_z w128 units units_fit, to_z-of_z w128 (pos (unit_at scale)) k_fits, to_z-of_z w128 (units *ℤ pos (unit_at scale)) fits) refl
 
--- a decimal taken from zero, in 128 bits
+-- zero minus a decimal fits into 128 bits
 pub negated-fits : (z : ℤ) → IsDecimal z → FitsSigned w128 (pos 0 -ℤ cast_signed w128 (cast_unsigned w128 z))
 negated-fits z is = let bounds = decimal-within z is in omega (arith, ints, bounds.0, bounds.1)
 

@@ -1,4 +1,4 @@
--- Writing a name into its place, byte by byte; and that its upper case is itself.
+-- A name is written into its array byte by byte, and its upper case is the name itself.
 use Rattle.std.proofs.Common.{◌≡◌, ℕ, ◌+◌, ◌-◌, ◌≤◌, ◌<◌, true, List, [], ◌∷◌, ◌++◌, length, map, take, set, get_or, replicate, arith, refl, subst, ap₂, ◌∙◌, append_assoc, add-one}
 use Rattle.std.specs.Char.{to_ascii_uppercase, is_ascii_uppercase}
 use Rattle.std.specs.List.{list_all}
@@ -12,7 +12,7 @@ use Rattle.escrow_num.specs.Name.{is_name_byte, spells_name}
 replicate-suc : (n : ℕ) → replicate {A = ℕ} (n + 1) 0 ≡ 0 ∷ replicate n 0
 replicate-suc n = rw add-one refl
 
--- one more byte written of a name
+-- one more byte of a name is written
 pub padded-more : (name : List ℕ) (i : ℕ) → i < length name → length name ≤ 36
     → set (take i name ++ replicate (36 - i) 0) i (get_or name i 0) ≡ take (i + 1) name ++ replicate (36 - (i + 1)) 0
 padded-more name i below short =
@@ -24,7 +24,7 @@ padded-more name i below short =
     subst (λ (n : ℕ). set (front ++ 0 ∷ rest) n (get_or name i 0) ≡ front ++ get_or name i 0 ∷ rest) at (set-append_seam front 0 rest (get_or name i 0)) in
     rw (e, replicate-suc) (seam ∙ rw (take_more name i 0 below, append_assoc) refl)
 
--- a byte of a name in upper case stays as it is
+-- a byte of a name is its own upper case
 name_byte_kept : (c : ℕ) → is_name_byte c ≡ true → to_ascii_uppercase c ≡ c
 name_byte_kept c h = let u = uppercase_is c in grind (arith, nat_tests)
 

@@ -50,17 +50,17 @@ by_row a b = row_cmp a.name b.name
 pub row_total : IsTotalOrder by_row
 row_total = on_total (λ (r : Row). r.name) (then_total (on_total (λ (n : RowName). n.table) nat_list_cmp_total) (on_total (λ (n : RowName). n.key) value_total))
 
--- what `is_lt` answers
+-- `is_lt` is true only for `Less`
 is_lt_less : (o : Ordering) → is_lt o ≡ true → o ≡ Less
 is_lt_less Less e = refl
 is_lt_less Equal e = absurd (cc)
 is_lt_less Greater e = absurd (cc)
 
--- what is before is before all that follows
+-- before is transitive
 pub before_trans : {K : Type 0} (R : K → K → Ordering) → IsTotalOrder R → (x y z : K) → is_lt (R x y) ≡ true → is_lt (R y z) ≡ true → is_lt (R x z) ≡ true
 before_trans R total x y z p q = ap is_lt (total.trans x y z (is_lt_less (R x y) p) (is_lt_less (R y z) q))
 
--- what isn't before and differs is after
+-- of two different items, if the first is not before the second, the second is before the first
 pub not_before : {K : Type 0} (R : K → K → Ordering) → IsTotalOrder R → (x y : K) → is_lt (R x y) ≡ false → ¬ (R x y ≡ Equal) → is_lt (R y x) ≡ true
 not_before R total x y p other = at (R x y) p other (total.antisymm y x)
   where
@@ -69,11 +69,11 @@ not_before R total x y p other = at (R x y) p other (total.antisymm y x)
     at Equal f differ e = absurd (differ refl)
     at Greater f differ e = ap is_lt e
 
--- nothing is before itself
+-- no item is before itself
 pub before_itself : {K : Type 0} (R : K → K → Ordering) → IsTotalOrder R → (x : K) → is_lt (R x x) ≡ false
 before_itself R total x = ap is_lt (tied_itself total x)
 
--- both parts of an order of parts that answers `Equal` do
+-- if an order of two parts gives `Equal`, both parts do
 both_equal : (o rest : Ordering) → ordering_then o rest ≡ Equal → (o ≡ Equal) × (rest ≡ Equal)
 both_equal Less rest e = absurd (cc)
 both_equal Equal rest e = (refl, e)
@@ -94,17 +94,17 @@ value_tied (Number a) (Text b) e = absurd (cc)
 value_tied (Text a) (Number b) e = absurd (cc)
 value_tied (Text a) (Text b) e = ap Text (list_tied a b e)
 
--- rows' names of equal parts are the same
+-- names of rows with equal parts are the same
 same_parts : (a b : RowName) → a.table ≡ b.table → a.key ≡ b.key → a ≡ b
 same_parts a b tables keys = ap₂ (λ (t : List ℕ) (k : Value). record { table = t; key = k }) tables keys
 
--- rows that compare as equal have one name
+-- rows that compare as equal have the same name
 pub row_tied : (x y : Row) → by_row x y ≡ Equal → x.name ≡ y.name
 row_tied x y e =
     let parts = both_equal (slice_cmp nat_cmp x.name.table y.name.table) (value_cmp x.name.key y.name.key) e in
     same_parts x.name y.name (list_tied x.name.table y.name.table parts.0) (value_tied x.name.key y.name.key parts.1)
 
--- the test of one value decides that they are the same
+-- values that pass the test of equality are the same
 pub value_same : (x y : Value) → value_eq x y ≡ true → x ≡ y
 value_same (Number a) (Number b) e = ap Number ((Decides-int_eq a b).0 e)
 value_same (Number a) (Text b) e = absurd (cc)
@@ -115,14 +115,14 @@ pub same_value : (x : Value) → value_eq x x ≡ true
 same_value (Number a) = (Decides-int_eq a a).1 refl
 same_value (Text a) = (bytes_eq-Decides a a).1 refl
 
--- names that pass the test are the same, and a name passes with itself
+-- names that pass the test are the same, and each name passes with itself
 pub name_same : (xs ys : List ℕ) → bytes_eq xs ys ≡ true → xs ≡ ys
 name_same xs ys e = (bytes_eq-Decides xs ys).0 e
 
 pub same_name : (xs : List ℕ) → bytes_eq xs xs ≡ true
 same_name xs = (bytes_eq-Decides xs xs).1 refl
 
--- rows' names that pass the test are the same, and a row's name passes with itself
+-- names of rows that pass the test are the same, and each passes with itself
 pub row_same : (a b : RowName) → same_row a b ≡ true → a ≡ b
 row_same a b e =
     let parts = and_parts (bytes_eq a.table b.table) (value_eq a.key b.key) e in

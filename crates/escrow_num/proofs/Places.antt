@@ -1,4 +1,4 @@
--- Where a list keeps its order: an item is put before the first one that is greater.
+-- Where an item is put in a sorted list: before the first greater one.
 use Rattle.std.specs.Prelude.{insert, position, unwrap_or, nat_lt, not}
 use Rattle.std.specs.List.{position_or_len}
 use Rattle.std.proofs.Common.{◌≡◌, ℕ, ◌+◌, ◌≤◌, Bool, true, false, cond, List, [], ◌∷◌, length, Some, None, refl, ap, ◌∙◌, sym, arith}
@@ -9,7 +9,7 @@ use Rattle.std.proofs.lemmas.List.Sums.{prefix_len-le-length}
 at_most : (n end : ℕ) → n ≤ end → unwrap_or (cond (nat_lt n end) (Some n) None) end ≡ n
 at_most n end within = grind (arith, nat_tests)
 
--- the first place that passes, or the end
+-- the index of the first item that passes, or the length of the list
 place_is : {X : Type 0} (p : X → Bool) (xs : List X) → unwrap_or (position p xs) (length xs) ≡ position_or_len p xs
 place_is p xs = at_most (position_or_len p xs) (length xs) (prefix_len-le-length (λ x. not (p x)) xs)
 
@@ -25,7 +25,7 @@ put_at p x F none more [] = sym none
 put_at p x F none more (y ∷ ys) =
     put_step (p y) (position_or_len p ys) x y ys (F ys) (put_at p x F none more ys) ∙ sym (more y ys)
 
--- an item put at the first place that passes
+-- an item put at the first index that passes
 pub put_at_place : {X : Type 0} (p : X → Bool) (x : X) (F : List X → List X) → F [] ≡ x ∷ []
     → ((y : X) (ys : List X) → F (y ∷ ys) ≡ cond (p y) (x ∷ y ∷ ys) (y ∷ F ys))
     → (xs : List X) → insert xs (unwrap_or (position p xs) (length xs)) x ≡ F xs

@@ -1,16 +1,16 @@
--- An item put into a list in its order.
+-- An item is inserted into a list in its order.
 use Rattle.std.specs.Prelude.{◌≡◌, ◌⊎◌, ◌+◌, Bool, true, false, cond, List, [], ◌∷◌, filter, find, length, Some, None, IsTrue}
 use Rattle.std.proofs.Common.{inl, inr, ap, subst, refl, arith}
 use Rattle.std.proofs.lemmas.Bool.{cond_both, cond-false}
 use Rattle.escrow_num.specs.Ascending.{IsAscending}
 use Rattle.escrow_num.proofs.Items.{Has, all_has, has_all}
 
--- an item put in front of the first one that it is before
+-- puts an item in front of the first one that it is before
 abbrev pub put : {A : Type 0} → (A → A → Bool) → A → List A → List A
 put before x [] = x ∷ []
 put before x (y ∷ ys) = cond (before x y) (x ∷ y ∷ ys) (y ∷ put before x ys)
 
--- the items are the one that is put and the others
+-- the items are the new one and the others
 pub has_put : {A : Type 0} (before : A → A → Bool) (x : A) (xs : List A) (y : A) → Has (put before x xs) y → (x ≡ y) ⊎ Has xs y
 has_put before x [] y (inl e) = inl e
 has_put before x [] y (inr h) = absurd h
@@ -21,7 +21,7 @@ has_put {A} before x (z ∷ zs) y h =
     ] in
     cond_both (before x z) (x ∷ z ∷ zs) (z ∷ put before x zs) (λ ws. Has ws y → (x ≡ y) ⊎ Has (z ∷ zs) y) (λ _ k. k) (λ _. later) h
 
--- the length of a list with an item more where a test holds
+-- the length of a list with one more item, if a test holds
 pub length_kept : {A : Type 0} (b : Bool) (x : A) (xs : List A) → length (cond b (x ∷ xs) xs) ≡ length xs + cond b 1 0
 length_kept true x xs = omega arith
 length_kept false x xs = omega arith
@@ -44,7 +44,7 @@ length-filter_put before p x (z ∷ zs) =
     cond_both (before x z) (x ∷ z ∷ zs) (z ∷ put before x zs) (λ ws. length (filter p ws) ≡ length (filter p (z ∷ zs)) + cond (p x) 1 0)
     (λ _. in_front) (λ _. omega arith)
 
--- an item that fails a test isn't found
+-- a new item that fails a test does not change what is found
 pub find_put : {A : Type 0} (before : A → A → Bool) (p : A → Bool) (x : A) (xs : List A) → p x ≡ false → find p (put before x xs) ≡ find p xs
 find_put before p x [] e = cond-false (p x) (Some x) None e
 find_put before p x (z ∷ zs) e =
@@ -52,7 +52,7 @@ find_put before p x (z ∷ zs) e =
     (λ _. cond-false (p x) (Some x) (find p (z ∷ zs)) e)
     (λ _. ap (λ o. cond (p z) (Some z) o) (find_put before p x zs e))
 
--- an item put into an ascending list in its order
+-- an ascending list stays ascending
 pub put_ascending : {A : Type 0} (before : A → A → Bool)
     → ((x y z : A) → before x y ≡ true → before y z ≡ true → before x z ≡ true)
     → (x : A) (xs : List A) → ((y : A) → Has xs y → before x y ≡ false → before y x ≡ true)

@@ -1,4 +1,4 @@
--- The text of units of a scale is read back as that many millionths.
+-- The text of units at a scale is read back as the same number of millionths.
 use Rattle.std.proofs.Common.{◌≡◌, ℕ, zero, suc, ℤ, pos, negsuc, ◌*ℤ◌, ◌+◌, ◌-◌, ◌*◌, ◌/◌, ◌%◌, ◌^◌, ◌≤◌, ◌<◌, ◌==◌, ◌&&◌, Bool, true, false, cond, not, nat_le, nat_lt, if◌then◌else◌, List, [], ◌∷◌, ◌++◌, length, decimal, Option, Some, None, refl, ap, ap₂, sym, arith, length-append, ◌∙◌}
 use Rattle.std.specs.Char.{is_ascii_digit}
 use Rattle.std.specs.Fmt.{signed_decimal}
@@ -27,7 +27,7 @@ is_point c = c == 46
 no-point : (c : ℕ) → is_ascii_digit c ≡ true → is_point c ≡ false
 no-point c e = grind (arith, nat_tests)
 
--- where the point stands
+-- the index of the point
 point-len : (front rest : List ℕ) → all_ascii_digits front ≡ true → position_or_len is_point (front ++ 46 ∷ rest) ≡ length front
 point-len [] rest e = refl
 point-len (c ∷ cs) rest e =
@@ -63,12 +63,12 @@ spelled-pointed front behind e f =
     (ap₂ (λ (xs ys : List ℕ). if is_numeral xs && is_numeral ys then millionths_of xs ys else None) (take-append_seam front (46 ∷ behind)) (drop-append-add front (46 ∷ behind) 1) ∙
     cond-true (is_numeral front && is_numeral behind) (millionths_of front behind) None (and_from (is_numeral front) (is_numeral behind) e f))
 
--- and one alone
+-- one numeral alone
 pub spelled-whole : (front : List ℕ) → is_numeral front ≡ true → unsigned_spelled front ≡ millionths_of front []
 spelled-whole front e =
     ap (spelled_at front) (point-none front (numeral-parts front e).0) ∙ cond-true (is_numeral front) (millionths_of front []) None e
 
--- zeros at the end, left out
+-- trimming zeros at the end
 before-length : (c : ℕ) (ts : List ℕ) → length (before_trimmed c ts) ≤ length ts + 1
 before-length c [] = cond_both (c == 48) [] (c ∷ []) (λ ds. length ds ≤ 0 + 1) (λ _. omega arith) (λ _. omega arith)
 before-length c (d ∷ ds) = omega arith
@@ -101,14 +101,14 @@ trim-number : (m : ℕ) (ds : List ℕ) → number_after m ds ≡ number_after m
 trim-number m [] = omega arith
 trim-number m (c ∷ cs) = trim-step m c cs (trimmed cs) (trim-length cs) (trim-number (10 * m + (c - 48)) cs)
 
--- the units of a scale in those of one with more digits
+-- a unit of a scale in units of a scale with more digits
 unit-split : (t s : ℕ) → t ≤ s → s ≤ 6 → unit_at t ≡ 10 ^ (s - t) * unit_at s
 unfolding unit_at
 unit-split t s less scaled =
     let e : 6 - t ≡ (s - t) + (6 - s) = omega arith in
     ap (λ (n : ℕ). 10 ^ n) e ∙ pow-add 10 (s - t) (6 - s)
 
--- the test of digits
+-- the digits are accepted
 given : (front behind : List ℕ) → length (trimmed behind) ≤ 6 → number_of (front ++ trimmed behind) ≤ 999999999999999
     → millionths_of front behind ≡ Some (pos (number_of (front ++ trimmed behind) * unit_at (length (trimmed behind))))
 unfolding millionths_of
@@ -120,7 +120,7 @@ given front behind scaled small =
 regroup : (u a b : ℕ) → u * (a * b) ≡ (u * a) * b
 regroup u a b = omega arith
 
--- digits that spell n behind a point of so many digits
+-- digits that spell n, with this number of them after the point
 millionths-are : (front ds : List ℕ) (n s : ℕ) → number_of (front ++ ds) ≡ n → length ds ≡ s → s ≤ 6 → n ≤ 999999999999999
     → millionths_of front ds ≡ Some (pos (n * unit_at s))
 millionths-are front ds n s e l scaled small =
@@ -135,7 +135,7 @@ millionths-are front ds n s e l scaled small =
     regroup (number_of (front ++ trimmed ds)) (10 ^ (s - length (trimmed ds))) (unit_at s) ∙ ap (λ (k : ℕ). k * unit_at s) (sym split) in
     given front ds (omega arith) (omega (arith, less, split)) ∙ ap (λ (k : ℕ). Some (pos k)) worth
 
--- the last digits of a number are digits, as many as are asked for, and spell it behind the others
+-- the last digits of a number are that many digits, and spell it after the first ones
 last-number : (digits n : ℕ) → number_after (before_last digits n) (last_digits digits n) ≡ n
 last-number zero n = refl
 last-number (suc k) n =
@@ -164,7 +164,7 @@ whole-numeral n small = parts-numeral (decimal n) (digits_decimal own n (omega a
 pub before-whole : (scale n : ℕ) → n ≤ 999999999999999 → is_numeral (decimal (before_last scale n)) ≡ true
 before-whole scale n small = whole-numeral (before_last scale n) (omega (arith, before-small scale n))
 
--- the whole part and the last digits spell the number
+-- the whole part followed by the last digits spells the number
 parts-number : (scale n : ℕ) → n ≤ 999999999999999 → number_of (decimal (before_last scale n) ++ last_digits scale n) ≡ n
 parts-number scale n small =
     number-append 0 (decimal (before_last scale n)) (last_digits scale n) ∙
@@ -206,7 +206,7 @@ minus-text : (text : List ℕ) → decimal_spelled (45 ∷ text) ≡ negated_if 
 unfolding decimal_spelled
 minus-text text = refl
 
--- units of a scale are read back as that many millionths
+-- units of a scale are read back as the same number of millionths
 pub read-back : (scale : ℕ) (u : ℤ) → scale ≤ 6 → IsAmount u → decimal_spelled (scaled_text scale u) ≡ Some (u *ℤ pos (unit_at scale))
 unfolding scaled_text
 read-back scale (pos n) scaled small =
@@ -223,16 +223,16 @@ unfolding scaled_text
 whole-text (pos n) = append-nothing (decimal n)
 whole-text (negsuc n) = ap (λ (xs : List ℕ). 45 ∷ xs) (append-nothing (decimal (suc n)))
 
--- what isn't turned stays
+-- a number without a minus sign is not negated
 not-turned : (r : Option ℤ) → negated_if false r ≡ r
 not-turned None = refl
 not-turned (Some z) = refl
 
--- digits in front of a point and behind it
+-- digits before and after a point
 pub digits-pointed : (front behind : List ℕ) → is_numeral front ≡ true → is_numeral behind ≡ true → decimal_spelled (front ++ 46 ∷ behind) ≡ millionths_of front behind
 digits-pointed front behind e f = unsigned-text front (46 ∷ behind) e ∙ not-turned (unsigned_spelled (front ++ 46 ∷ behind)) ∙ spelled-pointed front behind e f
 
--- digits alone
+-- digits without a point
 pub digits-whole : (digits : List ℕ) → is_numeral digits ≡ true → decimal_spelled digits ≡ millionths_of digits []
 digits-whole digits e =
     ap decimal_spelled (sym (append-nothing digits)) ∙ unsigned-text digits [] e ∙ not-turned (unsigned_spelled (digits ++ [])) ∙ ap unsigned_spelled (append-nothing digits) ∙ spelled-whole digits e

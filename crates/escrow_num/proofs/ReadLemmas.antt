@@ -1,4 +1,4 @@
--- Reading a signed decimal number by `parse`, in the words of specs/Amount.antt.
+-- Reading a signed decimal number by `parse`, as specs/Amount.antt defines it.
 use Rattle.std.proofs.Common.{◌≡◌, ℕ, zero, suc, ℤ, ◌^◌, ◌<◌, ◌≤◌, ◌==◌, ◌&&◌, Bool, true, false, nat_le, if◌then◌else◌, List, [], ◌∷◌, length, Option, Some, None, Result, Ok, Err, SomeIff, refl, ◌∙◌, ap, arith, rules, w64}
 use Rattle.std.specs.Bool.{Decides}
 use Rattle.std.specs.Result.{OkIff, result_ok}
@@ -10,11 +10,11 @@ use Rattle.std.proofs.lemmas.Str.Parse.{IsNumeralModel, numerals_by_fold, tells_
 use Rattle.std.proofs.lemmas.Int.{ints}
 use Rattle.escrow_num.specs.Amount.{IsAmount, is_numeral, number_after, number_of, signed, spelled}
 
--- the digits and the number of specs/Amount.antt are those that `parse` reads
+-- `parse` reads the digits and the number of specs/Amount.antt
 pub own : IsNumeralModel (λ ds. all_ascii_digits ds ≡ true) number_of
 own = numerals_by_fold _ tells_all_ascii_digits number_after (search rules)
 
--- a signed number is an amount exactly where the number is within the limit
+-- a signed number is an amount exactly if the number is within the limit
 amount-small : (negative : Bool) (n : ℕ) → IsAmount (signed negative n) → n ≤ 999999999999999
 amount-small true zero h = omega arith
 amount-small true (suc n) h = omega (arith, ints, h.0)
@@ -25,17 +25,17 @@ small-amount true zero h = (omega (arith, ints), omega (arith, ints))
 small-amount true (suc n) h = (omega (arith, ints), omega (arith, ints))
 small-amount false n h = (omega (arith, ints), omega (arith, ints))
 
--- an amount is kept of what was parsed, and no other number
+-- a parsed amount is kept
 kept : (z : ℤ) (r : Option ℤ) → IsAmount z → SomeIff r (IsAmount z) z → r ≡ Some z
 kept z None h m = absurd (m h)
 kept z (Some x) h m = ap (λ (y : ℤ). Some y) m.1
 
--- what is no amount is not kept
+-- any other number is not kept
 dropped : (z : ℤ) (r : Option ℤ) → ¬ IsAmount z → SomeIff r (IsAmount z) z → r ≡ None
 dropped z None h m = refl
 dropped z (Some x) h m = absurd (h m.0)
 
--- a numeral and its sign, read: the number where it is small
+-- a numeral and its sign give the number if it is small
 read-digits : {E : Type 0} (numeral small negative : Bool) (n : ℕ) (A B Q : Type 0) (parsed : Result ℤ E) (r : Option ℤ)
     → (numeral ≡ true → A × B) → (A → B → numeral ≡ true) → Decides small (n ≤ 999999999999999) → (n ≤ 999999999999999 → Q)
     → OkIff parsed (A × B × Q) (signed negative n)
@@ -62,11 +62,11 @@ pub parts-numeral : (digits : List ℕ) → all_ascii_digits digits ≡ true →
 parts-numeral [] h l = absurd (omega arith)
 parts-numeral (c ∷ cs) h l = h
 
--- what the test of the limit tells
+-- the test of the limit
 limited : (n : ℕ) → Decides (nat_le n 999999999999999) (n ≤ 999999999999999)
 limited n = (leb-true n 999999999999999, le-leb n 999999999999999)
 
--- the same of digits, whose sign was taken off
+-- the same for digits without their sign
 read-signed : {E : Type 0} (digits : List ℕ) (negative : Bool) (Q : Type 0) (parsed : Result ℤ E) (r : Option ℤ)
     → (number_of digits ≤ 999999999999999 → Q)
     → OkIff parsed ((all_ascii_digits digits ≡ true) × (0 < length digits) × Q) (signed negative (number_of digits))
@@ -76,7 +76,7 @@ read-signed digits negative Q parsed r fits p m =
     read-digits (is_numeral digits) (nat_le (number_of digits) 999999999999999) negative (number_of digits) (all_ascii_digits digits ≡ true) (0 < length digits) Q parsed r
     (numeral-parts digits) (parts-numeral digits) (limited (number_of digits)) fits p m
 
--- a text that begins with c: a minus, a plus, or neither
+-- the first character: a minus, a plus, or neither
 read-first : {E : Type 0} (c : ℕ) (cs : List ℕ) (minus plus : Bool) (parsed : Result ℤ E) (r : Option ℤ)
     → (c == 45) ≡ minus → (c == 43) ≡ plus
     → ParsesSigned w64 10 (c ∷ cs) parsed
@@ -89,7 +89,7 @@ read-first c cs false true parsed r e f p m =
 read-first c cs false false parsed r e f p m =
     rw (e, f) (read-signed (c ∷ cs) false (number_of (c ∷ cs) < 2 ^ 63) parsed r (λ h. omega arith) (parse_signed_plain own w64 (c ∷ cs) parsed p (eqb-false c 43 f) (eqb-false c 45 e)) m)
 
--- a text parsed, and kept where it is an amount, is what the text spells
+-- a parsed text that is kept if it is an amount gives what the text spells
 pub read-spelled : {E : Type 0} (text : List ℕ) (parsed : Result ℤ E) (r : Option ℤ)
     → ParsesSigned w64 10 text parsed
     → MatchOption (result_ok parsed) (r ≡ None) (λ z. SomeIff r (IsAmount z) z)

@@ -7,7 +7,7 @@ use Rattle.std.proofs.lemmas.Int.{ints}
 use Rattle.escrow_num.specs.Amount.{IsAmount, is_amount}
 use Rattle.escrow_num.specs.Scale.{unit_at}
 
--- a unit is at least a millionth, and at most a million of them
+-- a unit is between one millionth and a million of them
 pub unit-least : (scale : ℕ) → 1 ≤ unit_at scale
 unfolding unit_at
 unit-least scale = one-le-pow (6 - scale) 10 (omega arith)
@@ -16,7 +16,7 @@ pub unit-most : (scale : ℕ) → unit_at scale ≤ 1000000
 unfolding unit_at
 unit-most scale = pow-le-pow_right {n = 10} (omega arith) {i = 6 - scale} {j = 6} (omega arith)
 
--- what the tests of orders tell
+-- the tests of order
 true-holds : (b : Bool) → b ≡ true → T b
 true-holds true e = tt
 true-holds false e = absurd (cc)
@@ -43,12 +43,12 @@ units-within (negsuc n) k small most =
     let product : suc n * k ≤ 999999999999999 * 1000000 = mul-le-mul bound most in
     (omega (arith, ints), omega (arith, ints))
 
--- the product of the other side of zero
+-- the product with a negated number
 pub neg-product : (units : ℤ) (k : ℕ) → neg_ℤ units *ℤ pos k ≡ neg_ℤ (units *ℤ pos k)
 neg-product (pos zero) k = omega (arith, ints)
 neg-product (pos (suc n)) k = refl
 neg-product (negsuc n) k = omega (arith, ints)
 
--- an amount on the other side of zero
+-- the negative of an amount is an amount
 pub neg-amount : (z : ℤ) → IsAmount z → IsAmount (neg_ℤ z)
 neg-amount z small = (omega (arith, ints, small.1), omega (arith, ints, small.0))

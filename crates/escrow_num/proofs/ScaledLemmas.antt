@@ -1,4 +1,4 @@
--- Writing units of a scale, in the words of specs/Scaled.antt.
+-- Writing units of a scale, as specs/Scaled.antt defines it.
 use Rattle.std.proofs.Common.{◌≡◌, ℕ, zero, suc, ℤ, pos, negsuc, ◌+◌, ◌-◌, ◌/◌, ◌%◌, ◌^◌, ◌≤◌, ◌<◌, ◌==◌, if◌then◌else◌, int_lt, unsigned_abs, List, [], ◌∷◌, ◌++◌, length, drop, decimal, IsUtf8, IsAscii, refl, ap, sym, subst, arith, append_assoc, length-append, ◌∙◌, FitsSigned, Bool, false}
 use Rattle.std.specs.Int.{cast_signed, cast_unsigned, w128}
 use Rattle.std.proofs.lemmas.Bool.Decides.{nat_tests}
@@ -28,16 +28,16 @@ decimal-moved n behind great small =
 decimal-longer : (n : ℕ) → 10 ≤ n → n < 10 ^ 64 → length (decimal n) ≡ length (decimal (n / 10)) + 1
 decimal-longer n great small = ap length (decimal_step_wide n great small) ∙ length-append (decimal (n / 10)) ((48 + n % 10) ∷ [])
 
--- a number has a digit
+-- a number has at least one digit
 decimal-some : (n : ℕ) → n < 10 ^ 64 → 0 < length (decimal n)
 decimal-some n small =
     decimal_by_steps_wide (λ m ds. 0 < length ds) (λ m h. omega arith) (λ m ds h some. omega (arith, length-append ds ((48 + m % 10) ∷ []))) n small
 
--- the last digit of all
+-- the last digit is written
 pub decimal-last : (n : ℕ) (behind : List ℕ) → n < 10 → (48 + n) ∷ behind ≡ decimal n ++ behind
 decimal-last n behind small = ap (λ (ds : List ℕ). ds ++ behind) (sym (decimal_digit n small))
 
--- a number is written before an end, but for its first digits, those of `rest`, which are to end at a place
+-- a number is written up to an end, but for its first digits, those of `rest`, which will end at an index
 pub record IsWritten (bytes : List ℕ) (number end : ℕ) (now : List ℕ) (rest at : ℕ) : Type 0 where
   pub place : at + length (decimal number) ≡ end + length (decimal rest)
   pub room : length (decimal rest) ≤ at
@@ -58,7 +58,7 @@ digit_written {now = now} {rest = rest} {at = at} h great small start put =
       written = ap (λ (ds : List ℕ). decimal (rest / 10) ++ ds) put ∙ decimal-moved rest (drop at now) great small ∙ h.written;
     }
 
--- the whole part is no greater than the number
+-- the whole part is at most the number
 pub before-small : (digits n : ℕ) → before_last digits n ≤ n
 before-small zero n = omega arith
 before-small (suc k) n = omega (arith, before-small k (n / 10))
@@ -70,7 +70,7 @@ before-below k (suc d) n below =
     let h = rw (e, pow-succ' 10 (k + d)) at below in
     before-below k d (n / 10) (omega (arith, h))
 
--- how many digits the whole part has at most
+-- the greatest number of digits of the whole part
 whole-short : (scale n : ℕ) → scale ≤ 6 → n < 10 ^ 34 → length (decimal (before_last scale n)) ≤ 34 - scale
 whole-short scale n scaled below =
     let e : 34 ≡ (34 - scale) + scale = omega arith in
@@ -93,7 +93,7 @@ point-before (x ∷ xs) d = refl
 suc-some : (k : ℕ) → (suc k == 0) ≡ false
 suc-some k = grind (arith, nat_tests)
 
--- digits behind a point, written one after another
+-- a point and the digits after it, written one after another
 pointed-is : (scale n : ℕ) → (if scale == 0 then [] else 46 ∷ []) ++ (last_digits scale n ++ []) ≡ pointed (last_digits scale n)
 pointed-is zero n = refl
 pointed-is (suc k) n =
@@ -153,7 +153,7 @@ scaled-utf8 scale (pos n) small = IsUtf8-from_ascii (magnitude_text scale n) (ma
 scaled-utf8 scale (negsuc n) small =
     IsUtf8-from_ascii (45 ∷ magnitude_text scale (suc n)) (IsAscii-append (45 ∷ []) (magnitude_text scale (suc n)) (one-byte 45 (omega arith)) (magnitude-ascii scale (suc n) small))
 
--- no digits are left to be written
+-- no digits remain to be written
 pub none-left : (left rest whole : ℕ) → left ≤ 0 → before_last left rest ≡ whole → rest ≡ whole
 none-left zero rest whole none e = e
 none-left (suc k) rest whole none e = absurd (omega arith)
@@ -162,7 +162,7 @@ pub none-written : (left rest at start : ℕ) (bytes text : List ℕ) → left �
 none-written zero rest at start bytes text none same e = ap (λ (n : ℕ). drop n bytes) (sym same) ∙ e
 none-written (suc k) rest at start bytes text none same e = absurd (omega arith)
 
--- a text of a wide sum, in UTF-8
+-- the text of a wide sum is UTF-8
 wide-small : (z : ℤ) → IsWide z → unsigned_abs z < 10 ^ 64
 wide-small (pos n) wide = omega (arith, ints, wide.1)
 wide-small (negsuc n) wide = omega (arith, ints, wide.0)

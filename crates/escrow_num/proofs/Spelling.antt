@@ -1,4 +1,4 @@
--- A name's bytes are ASCII, so that it is a text.
+-- A name's bytes are ASCII, so a name is a text.
 use Rattle.std.proofs.Common.{◌≡◌, ℕ, ◌<◌, ◌&&◌, Bool, true, false, List, [], ◌∷◌, arith, refl}
 use Rattle.std.specs.Char.{is_ascii_uppercase}
 use Rattle.std.specs.List.{AllByRecursion, list_all}
@@ -29,6 +29,6 @@ spelling_small [] e = tt
 spelling_small (c ∷ cs) e =
     let parts = both_hold (is_ascii_uppercase c) (list_all is_name_byte cs) e in (upper_small c parts.0, bytes_small cs parts.1)
 
--- what spells a name is a text
+-- bytes that spell a name are a text
 pub name_is_text : (name : List ℕ) → spells_name name ≡ true → IsUtf8 name
 name_is_text name e = IsUtf8-from_ascii name (IsAscii-from_all name (All-from_recursion (λ (b : ℕ). b < 128) name (spelling_small name e)))

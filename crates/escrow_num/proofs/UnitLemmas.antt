@@ -19,7 +19,7 @@ negative-left : (m k : ℕ) → 0 < k → int_rem (neg_ℤ (pos m)) (pos k) ≡ 
 negative-left zero k some = let e : 0 % k ≡ 0 = zero-mod k in rw e refl
 negative-left (suc m) k some = refl
 
--- units over what one of them is
+-- units divided by the size of one
 quotient : (u : ℤ) (k : ℕ) → 0 < k → int_div (u *ℤ pos k) (pos k) ≡ u
 quotient (pos n) k some = ap (λ (m : ℕ). pos m) (product-over n k some)
 quotient (negsuc n) k some = negative-over (suc n * k) k some ∙ ap (λ (m : ℕ). neg_ℤ (pos m)) (product-over (suc n) k some)
@@ -46,6 +46,6 @@ have-units scale z u are =
     let left : int_rem z (pos (unit_at scale)) ≡ pos 0 = ap (λ (w : ℤ). int_rem w (pos (unit_at scale))) (sym are.worth) ∙ remainder u (unit_at scale) (unit-least scale) in
     units-some scale z are.scaled left (subst IsAmount (sym over) are.small) ∙ ap (λ (w : ℤ). Some w) over
 
--- units are given just where they make up the millionths and are an amount
+-- a decimal has units exactly if they make up its millionths and are an amount
 pub units-exact : (scale : ℕ) (z u : ℤ) → (units_at scale z ≡ Some u) ↔ AreUnits scale z u
 units-exact scale z u = (are-units scale z u, have-units scale z u)

@@ -1,4 +1,4 @@
-ghost use Rattle.std.specs.Prelude.{◌≡◌, ◌↔◌, IsTrue};
+ghost use Rattle.std.specs.Prelude.{◌≡◌};
 ghost use Rattle.escrow_num.specs.Refusal.{number_of};
 
 use crate::failure::Failure;
@@ -24,22 +24,9 @@ pub struct Violation {
     pub scale: Scale,
 }
 
-impl Violation {
-    /// Returns whether two violations are equal: in check, side, worst value, limit and scale.
-    pub fn is_same(&self, other: &Violation) -> bool
-        ensures { IsTrue result ↔ (self.now ≡ other.now) }
-    {
-        self.check == other.check
-            && self.side == other.side
-            && self.worst == other.worst
-            && self.limit == other.limit
-            && self.scale == other.scale
-    }
-}
-
 /// Why a statement, a line or the opening of a store is refused. Each refusal has a number, which
 /// replies carry.
-#[derive(Clone, Copy, Debug)]
+#[derive(Clone, Copy, Debug, PartialEq, Eq)]
 pub enum Refusal {
     /// 11: the text is no sentence of the grammar. The column, from 1, is that of the fault.
     Syntax { column: u32 },
@@ -128,20 +115,6 @@ impl Refusal {
             Refusal::Store => 60,
             Refusal::ForeignStore => 61,
             Refusal::UnknownVersion => 62,
-        }
-    }
-
-    /// Returns whether two refusals are equal: in number, and in the column or the violation if
-    /// they have one.
-    pub fn is_same(&self, other: &Refusal) -> bool
-        ensures { IsTrue result ↔ (self.now ≡ other.now) }
-    {
-        match (self, other) {
-            (Refusal::Syntax { column: a }, Refusal::Syntax { column: b }) => *a == *b,
-            (Refusal::Check(a), Refusal::Check(b)) => a.is_same(b),
-            (Refusal::Syntax { .. } | Refusal::Check(_), _) => false,
-            (_, Refusal::Syntax { .. } | Refusal::Check(_)) => false,
-            _ => self.number() == other.number(),
         }
     }
 }

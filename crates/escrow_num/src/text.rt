@@ -1,4 +1,4 @@
-ghost use Rattle.std.specs.Prelude.{◌≡◌, ◌↔◌, IsTrue, IfOk, bytes_eq, string_bytes};
+ghost use Rattle.std.specs.Prelude.{◌≡◌, IfOk, bytes_eq, string_bytes};
 ghost use Rattle.std.proofs.Common.{rules};
 ghost use Rattle.std.specs.Cmp.{partial_equiv_from_equiv};
 ghost use Rattle.std.specs.Cmp.Lexicographic.{nat_list_eq_equiv};
@@ -58,13 +58,6 @@ impl Text {
         Ok(Text {
             text: String::from_str(alloc, self.as_str())?,
         })
-    }
-
-    /// Returns whether two texts have the same bytes.
-    pub fn is_same(&self, other: &Text) -> bool
-        ensures { IsTrue result ↔ (self.now ≡ other.now) }
-    {
-        self.as_str() == other.as_str()
     }
 }
 

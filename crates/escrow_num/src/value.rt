@@ -41,7 +41,7 @@ impl Value {
     {
         match (self, other) {
             (Value::Number(a), Value::Number(b)) => *a == *b,
-            (Value::Text(a), Value::Text(b)) => a.is_same(b),
+            (Value::Text(a), Value::Text(b)) => *a == *b,
             _ => false,
         }
     }

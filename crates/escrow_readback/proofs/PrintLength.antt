@@ -1,4 +1,4 @@
--- The canonical text of a table is short enough to be looked into.
+-- The canonical text of a table is short enough for `lex`.
 use Rattle.std.proofs.Common.{◌≡◌, ℕ, zero, suc, ℤ, pos, negsuc, ◌+◌, ◌-◌, ◌*◌, ◌/◌, ◌^◌, ◌<◌, ◌≤◌, Bool, true, false, Option, Some, None, List, [], ◌∷◌, ◌++◌, length, map, refl, subst, arith, length-append, lit<, lit≤, inl, inr}
 use Rattle.std.specs.Prelude.{◌==◌, All, codes, decimal, flat_map, unsigned_abs}
 use Rattle.std.specs.List.{AllByRecursion, list_all}
@@ -72,7 +72,7 @@ pub length-columns_words : (columns : List Column) (place key : ℕ) → length 
 length-columns_words [] place key = refl
 length-columns_words (column ∷ columns) place key = let rest = length-columns_words columns (place + 1) key in omega arith
 
--- what stands before a point, of a number of so many digits in all
+-- the digits before the point, of a number with this many digits in all
 before_below : (k digits n : ℕ) → n < 10 ^ (k + digits) → before_last digits n < 10 ^ k
 before_below k zero n below = let e : k + 0 ≡ k = omega arith in rw e at below
 before_below k (suc d) n below =

@@ -35,7 +35,7 @@ use Rattle.escrow_schema.proofs.ListLemmas.{both_parts}
 use Rattle.escrow_schema.proofs.PrintBack.{sound_of}
 use Rattle.escrow_schema.proofs.PrintChecks.{AreAmounts, IsSmall, amounts_of, small_each}
 
--- bytes below 128, which a text that is written out shows by itself
+-- bytes below 128, which a literal text shows directly
 abbrev is_plain : List ℕ → Bool
 is_plain bytes = list_all (λ b. nat_lt b 128) bytes
 
@@ -154,7 +154,7 @@ checks_text : (names : List (List ℕ)) (scales : List ℕ) (checks : List Check
 checks_text names scales [] written all = tt
 checks_text names scales (check ∷ checks) written all = (check_text names scales check written all.0, checks_text names scales checks written all.1)
 
--- ---- the whole
+-- ---- the whole text
 
 others_text : (texts : List (List ℕ)) → AllByRecursion IsUtf8 texts → IsUtf8 (flat_map (λ text. codes ", " ++ text) texts)
 others_text [] all = plain [] refl

@@ -43,7 +43,7 @@ none_from : {A : Type 0} (o : Option A) → is_none o ≡ true → o ≡ None
 none_from None e = refl
 none_from (Some x) e = absurd (false≢true e)
 
--- a name that a statement can write is written as it is
+-- a name that a statement can write is written unchanged
 writes_own_name : (n : List ℕ) → is_written_name n ≡ true → Writes is_behind name n n
 unfolding is_written_name
 writes_own_name n h =
@@ -51,7 +51,7 @@ writes_own_name n h =
     let front = and_parts (spells_name n) (nat_le (length n) MAX_WRITTEN) parts.0 in
     writes_name n front.0 (leb-true (length n) MAX_WRITTEN front.1) (none_from (reserved n) parts.1)
 
--- the size of a type of numbers, without a scale where it is 0
+-- the size of a numeric type; a scale of 0 is not printed
 writes_type_size : (p s : ℕ) → IsType (Number p s) → Writes is_behind size (decimal p ++ scale_words s) (record { digits = pos p; scale = scale_tree s })
 writes_type_size p s h =
     elim (cases_Bool (s == 0)) [
@@ -72,7 +72,7 @@ writes_marks true reservable = one_more (writes_left (writes_meaning (writes_bla
 writes_marks false true = one_more (writes_right (writes_left (writes_meaning (writes_blank (writes_word words.Reservable))))) refl none_more
 writes_marks false false = none_more
 
--- marks may stand behind a type
+-- marks may follow a type
 marks_behind : (is_key reservable : Bool) → is_behind (marks_words is_key reservable) ≡ true
 unfolding marks_words
 marks_behind true reservable = refl
@@ -94,7 +94,7 @@ writes_columns (c ∷ columns) place key written typed =
 
 -- ---- the checks
 
--- a name begins with a letter, and no minus
+-- a name begins with a letter, not with a minus
 name_plain : (n rest : List ℕ) → is_written_name n ≡ true → no_minus (n ++ rest) ≡ true
 unfolding is_written_name
 name_plain [] rest h = absurd (cc)
@@ -104,7 +104,7 @@ name_plain (c ∷ cs) rest h =
     let first = and_parts (is_ascii_uppercase c) (list_all is_name_byte cs) front.0 in
     grind (arith, nat_tests)
 
--- so does a column, so many times
+-- so does a column with its factor
 column_plain : (m : ℕ) (n rest : List ℕ) → is_written_name n ≡ true → 0 < m → m ≤ 1000000 → no_minus (times_words m n ++ rest) ≡ true
 column_plain m n rest written some small =
     elim (cases_Bool (m == 1)) [
@@ -128,7 +128,7 @@ writes_later_term : (c : ℤ) (n : List ℕ) → is_written_name n ≡ true → 
 writes_later_term (pos m) n written small = writes_plus (writes_column_times m n written small)
 writes_later_term (negsuc m) n written small = writes_minus (writes_column_times (suc m) n written small)
 
--- further terms may stand behind a term
+-- further terms may follow a term
 later_behind : (names : List (List ℕ)) (coeffs : List ℤ) → is_behind (form_words false names coeffs) ≡ true
 later_behind [] coeffs = refl
 later_behind (n ∷ names) [] = refl
@@ -168,7 +168,7 @@ writes_test scale (Some lo) None scaled limited amounts = writes_blank (writes_c
 writes_test scale None (Some hi) scaled limited amounts = writes_blank (writes_compare comparisons.AtMost scale hi scaled amounts.1)
 writes_test scale None None scaled limited amounts = absurd (false≢true limited)
 
--- limits may stand behind a form
+-- limits may follow a form
 limits_behind : (scale : ℕ) (lo hi : Option ℤ) → is_behind (limit_words scale lo hi) ≡ true
 limits_behind scale (Some lo) (Some hi) = elim (cases_Bool (int_eq lo hi)) [ inl e ↦ rw e refl | inr e ↦ rw e refl ]
 limits_behind scale (Some lo) None = refl

@@ -26,12 +26,12 @@ use Rattle.escrow_schema.proofs.PrintBack.{Sound, follows_tree, sound}
 use Rattle.escrow_schema.proofs.PrintTree.{check_item, columns_tree, items_tree, tree_of}
 use Rattle.escrow_readback.proofs.PrintWrites.{writes_checks, writes_columns, writes_table}
 
--- there is an item where there is a column
+-- there is an item if there is a column
 some_item : (columns : List Column) (key : ℕ) (rest : List Item) → 1 ≤ length columns → 1 ≤ length (columns_tree columns 0 key ++ rest)
 some_item [] key rest some = absurd (omega arith)
 some_item (column ∷ columns) key rest some = omega arith
 
--- the text asks a CREATE TABLE with the tree
+-- the text is a request for CREATE TABLE with the tree
 asks_tree : (table : TableDef) → Sound table → Asks (canonical table) (requests.Statement (statements.Create (tree_of table)))
 asks_tree table s =
     let names = names_of (reservables table.columns) in

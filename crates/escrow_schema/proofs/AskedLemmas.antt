@@ -1,4 +1,4 @@
--- The values that an INSERT's literals are, column by column.
+-- The values that the literals of an INSERT stand for, column by column.
 use Rattle.std.proofs.Common.{◌≡◌, ℕ, zero, suc, ◌+◌, ◌<◌, true, false, Option, Some, None, option_map, option_and_then, List, [], ◌∷◌, ◌++◌, length, drop, get_or, sym, ap, ◌∙◌, subst, refl, arith, inl, inr, bytes_eq}
 use Rattle.std.specs.Prelude.{is_some, option_to_list, slice_get}
 use Rattle.std.specs.List.{list_any}
@@ -23,7 +23,7 @@ nothing : (o : Option Value) (rest : Option (List Value)) → rest ≡ None → 
 nothing None rest e = e
 nothing (Some v) rest e = refl
 
--- one more literal, and those behind it
+-- one more literal, and those after it
 step : (o : Option Literal) (more : Option (List Literal)) (column : Column) (columns : List Column)
     → option_and_then (values_in (column ∷ columns)) (option_and_then (λ l. option_map (λ ls. l ∷ ls) more) o)
     ≡ option_and_then (λ v. option_map (λ vs. v ∷ vs) (option_and_then (values_in columns) more)) (option_and_then (value_in column.kind) o)
@@ -31,7 +31,7 @@ step None more column columns = refl
 step (Some l) None column columns = nothing (value_in column.kind l) None refl
 step (Some l) (Some ls) column columns = refl
 
--- the values of the literals beside the columns' names
+-- the values of literals that are listed beside column names
 beside_values : (names : List (List ℕ)) (literals : List Literal) (place : ℕ) (columns : List Column)
     → option_and_then (values_in columns) (literals_beside names literals columns) ≡ values_at (Some names) literals place columns
 beside_values names literals place [] = refl
@@ -39,7 +39,7 @@ beside_values names literals place (column ∷ columns) =
     step (literal_beside names literals column.name) (literals_beside names literals columns) column columns
     ∙ ap (λ rest. option_and_then (λ v. option_map (λ vs. v ∷ vs) rest) (asked_value (Some names) literals place column)) (beside_values names literals (place + 1) columns)
 
--- and of literals as they stand
+-- the values of literals without column names
 standing_values : (literals all : List Literal) (place : ℕ) (columns : List Column) → length columns ≡ length literals
     → ((i : ℕ) → slice_get literals i ≡ slice_get all (place + i)) → values_in columns literals ≡ values_at None all place columns
 standing_values [] all place [] long same = refl
@@ -50,13 +50,13 @@ standing_values (l ∷ ls) all place (column ∷ columns) long same =
     let later : (i : ℕ) → slice_get ls i ≡ slice_get all (place + 1 + i) = λ i. same (suc i) ∙ ap (slice_get all) (omega arith) in
     rw (← here) (ap (λ rest. option_and_then (λ v. option_map (λ vs. v ∷ vs) rest) (value_in column.kind l)) (standing_values ls all (place + 1) columns (omega arith) later))
 
--- where the columns and the literals are a list, the values are those column by column
+-- if columns and literals form a list, the values are those of each column
 pub list_values : (columns : List Column) (names : Option (List (List ℕ))) (literals : List Literal) → is_list columns names literals ≡ true
     → option_and_then (values_in columns) (in_column_order columns names literals) ≡ values_at names literals 0 columns
 list_values columns None literals list = standing_values literals literals 0 columns (eqb-true (length columns) (length literals) list) (λ i. ap (slice_get literals) (omega arith))
 list_values columns (Some names) literals list = rw list (beside_values names literals 0 columns)
 
--- and where they aren't, there are none
+-- otherwise there are none
 pub no_list : (columns : List Column) (names : Option (List (List ℕ))) (literals : List Literal) → is_list columns names literals ≡ false
     → option_and_then (values_in columns) (in_column_order columns names literals) ≡ None
 no_list columns None literals list = apart (values_in columns literals) (λ values e. eqb-false (length columns) (length literals) list (as_many_values columns literals values e).1)
@@ -78,7 +78,7 @@ length-values_at names literals place (column ∷ columns) values e =
     let same : suc (length vs) ≡ length values = ap length whole in
     omega arith))
 
--- the row that an INSERT makes is that of its values
+-- the row of an INSERT is made from its values
 pub row_of_values : (table : TableDef) (text : InsertText) → inserted_row table text ≡ option_and_then (row_with table) (asked_values table.columns text)
 row_of_values table text = chained (in_column_order table.columns text.columns text.values)
   where
@@ -86,7 +86,7 @@ row_of_values table text = chained (in_column_order table.columns text.columns t
     chained None = refl
     chained (Some literals) = refl
 
--- where all literals fit there is a row
+-- if all literals fit, there is a row
 pub row_there : (table : TableDef) (text : InsertText) → table.key < length table.columns → is_some (asked_values table.columns text) ≡ true
     → is_some (inserted_row table text) ≡ true
 row_there table text key some =
@@ -98,7 +98,7 @@ row_there table text key some =
       | inr not ↦ absurd (false≢true (subst (λ o. is_some o ≡ true) (no_list table.columns text.columns text.values not) some))
     ]
 
--- where not all do, there is none
+-- if some literal does not fit, there is no row
 pub no_row : (table : TableDef) (text : InsertText) → is_some (asked_values table.columns text) ≡ false → inserted_row table text ≡ None
 no_row table text none = row_of_values table text ∙ go (asked_values table.columns text) none
   where
@@ -106,18 +106,18 @@ no_row table text none = row_of_values table text ∙ go (asked_values table.col
     go None none = refl
     go (Some values) none = absurd (false≢true (sym none))
 
--- a literal that fits is its value at the type's scale
+-- a literal that fits denotes its value at the type's scale
 pub value_pushed : (kind : ColumnType) (o : Option Literal) → is_some (option_and_then (value_in kind) o) ≡ true
     → option_and_then (value_at (scale_of kind)) o ≡ option_and_then (value_in kind) o
 value_pushed kind None some = absurd (false≢true some)
 value_pushed kind (Some l) some = let v = some_from (value_in kind l) some in value_in_at kind l v.0 v.1 ∙ sym v.1
 
--- no literal stands beside a name where none is left
+-- no literal is beside a name if none is left
 beside_nothing : (names : List (List ℕ)) (name : List ℕ) → literal_beside names [] name ≡ None
 beside_nothing [] name = refl
 beside_nothing (other ∷ names) name = refl
 
--- the literal beside a name stands behind another one
+-- the literal beside a name comes after another one
 pub beside_later : (names : List (List ℕ)) (literals : List Literal) (i : ℕ) (other name : List ℕ) → i < length names → other ≡ get_or names i other → bytes_eq other name ≡ false
     → literal_beside (drop i names) (drop i literals) name ≡ literal_beside (drop (suc i) names) (drop (suc i) literals) name
 beside_later [] literals i other name within at apart = absurd (omega arith)
@@ -128,7 +128,7 @@ beside_later (n ∷ names) (l ∷ literals) zero other name within at apart =
 beside_later (n ∷ names) [] (suc i) other name within at apart = beside_nothing (drop i names) name ∙ sym (beside_nothing (drop (suc i) names) name)
 beside_later (n ∷ names) (l ∷ literals) (suc i) other name within at apart = beside_later names literals i other name (omega arith) at apart
 
--- where each column's literal fits, the columns and the literals are a list
+-- if each column's literal fits, columns and literals form a list
 pub list_of : (columns : List Column) (text : InsertText) → is_some (asked_values columns text) ≡ true → asked_values columns text ≡ values_at text.columns text.values 0 columns
 list_of columns text some =
     elim (cases_Bool (is_list columns text.columns text.values)) [
@@ -156,7 +156,7 @@ one_more names literals columns i column done values within at before some more 
     first_there None rest done h = absurd (false≢true h)
     first_there (Some v) rest done h = refl
 
--- the literal of the column at a place is the one beside its name
+-- the literal of the column at an index is the one beside its name
 pub beside_at : (names : List (List ℕ)) (literals : List Literal) (columns : List Column) (ordered : List Literal) (i : ℕ) (column : Column)
     → literals_beside names literals columns ≡ Some ordered → slice_get columns i ≡ Some column → slice_get ordered i ≡ literal_beside names literals column.name
 beside_at names literals [] ordered i column e there = absurd (none-some column there)
@@ -170,7 +170,7 @@ beside_at names literals (c ∷ columns) ordered i column e there =
     at_place zero l ls here later there = sym here ∙ ap (λ (x : Column). literal_beside names literals x.name) (same_Some c column there)
     at_place (suc i) l ls here later there = later i there
 
--- of distinct names each has the literal beside it
+-- if names are distinct, each finds the literal beside it
 pub beside_is : (names : List (List ℕ)) (literals : List Literal) (k : ℕ) (name : List ℕ) (literal : Literal) → are_distinct names ≡ true
     → slice_get names k ≡ Some name → slice_get literals k ≡ Some literal → literal_beside names literals name ≡ Some literal
 beside_is [] literals k name literal apart at here = absurd (none-some name at)

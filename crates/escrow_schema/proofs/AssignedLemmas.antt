@@ -1,4 +1,4 @@
--- What a plan has of a column is what is assigned to it.
+-- What a plan has for a column is what the UPDATE assigns to it.
 use Rattle.std.proofs.Common.{◌≡◌, ℕ, zero, suc, Bool, true, false, Option, Some, None, option_map, option_and_then, Result, Ok, Err, List, [], ◌∷◌, map, bytes_eq, sym, subst, ap, ◌∙◌, refl}
 use Rattle.std.specs.Prelude.{ℤ, slice_get}
 use Rattle.std.specs.List.{list_any, list_all}
@@ -25,7 +25,7 @@ use Rattle.escrow_schema.proofs.PlanLemmas.{plan_by, planned_changes_of, planned
 abbrev pub assigned_names : List Assign → List (List ℕ)
 assigned_names assigns = map (λ assign. assign.column) assigns
 
--- no other name is one of the names
+-- the name differs from each of the names
 other_name : (name : List ℕ) (assigns : List Assign) (k : ℕ) (assign : Assign) → list_any (λ other. bytes_eq name other) (assigned_names assigns) ≡ false
     → slice_get assigns k ≡ Some assign → bytes_eq name assign.column ≡ false
 other_name name [] k assign none at = absurd (none-some assign at)
@@ -36,7 +36,7 @@ other_name name (first ∷ assigns) (suc k) assign none at =
     let parts = or_parts (bytes_eq name first.column) (list_any (λ other. bytes_eq name other) (assigned_names assigns)) none in
     other_name name assigns k assign parts.1 at
 
--- of assignments of distinct columns each is what is assigned to its column
+-- if columns are distinct, each assignment is the one for its column
 assigned_at : (assigns : List Assign) (k : ℕ) (assign : Assign) → are_distinct (assigned_names assigns) ≡ true → slice_get assigns k ≡ Some assign
     → assigned_to assigns assign.column ≡ Some assign.value
 assigned_at [] k assign apart at = absurd (none-some assign at)
@@ -46,14 +46,14 @@ assigned_at (first ∷ assigns) (suc k) assign apart at =
     let parts = first_apart first.column (assigned_names assigns) apart in
     rw (other_name first.column assigns k assign parts.0 at) (assigned_at assigns k assign parts.1 at)
 
--- and where none names a column, nothing is
+-- if no assignment names a column, nothing is assigned to it
 assigned_none : (assigns : List Assign) (name : List ℕ) → list_any (λ assign. bytes_eq assign.column name) assigns ≡ false → assigned_to assigns name ≡ None
 assigned_none [] name none = refl
 assigned_none (first ∷ assigns) name none =
     let parts = or_parts (bytes_eq first.column name) (list_any (λ assign. bytes_eq assign.column name) assigns) none in
     rw parts.0 (assigned_none assigns name parts.1)
 
--- a plan of either kind is for assignments of that kind
+-- a plan of one kind comes from assignments of that kind
 kind_of_changes : (a b : Bool) (k : Result Value Refusal) (made : Option (List (Option ℤ))) (values : Option (List (Option Value))) (key : Value) (changes : List (Option ℤ))
     → plan_by a b k made values ≡ Ok (Reserve key changes) → a ≡ true
 kind_of_changes true b k made values key changes e = refl
@@ -70,7 +70,7 @@ kind_of_values true false (Ok v) (Some changes) made key values e = absurd (cc)
 kind_of_values true false (Err r) changes made key values e = absurd (cc)
 kind_of_values false false k changes made key values e = absurd (cc)
 
--- the change of the column at a place
+-- the change of the column at an index
 abbrev HasChange : List Assign → List (Option ℤ) → ℕ → Column → Type 0
 HasChange assigns changes i column =
     (c : Option ℤ) × (slice_get changes i ≡ Some c) × (change_at (scale_of column.kind) (option_and_then change_in (assigned_to assigns column.name)) ≡ Some c)
@@ -88,7 +88,7 @@ change_there (first ∷ columns) assigns changes i column e here =
     at_place c cs zero one later here = subst (λ (x : Column). HasChange assigns (c ∷ cs) zero x) (same_Some first column here) (c, refl, one)
     at_place c cs (suc j) one later here = later j here
 
--- the new value of the column at a place
+-- the new value of the column at an index
 abbrev HasNew : List Assign → List (Option Value) → ℕ → Column → Type 0
 HasNew assigns values i column =
     (v : Option Value) × (slice_get values i ≡ Some v) × (new_value column.kind (option_and_then literal_in (assigned_to assigns column.name)) ≡ Some v)
@@ -106,13 +106,13 @@ value_there (first ∷ columns) assigns values i column e here =
     at_place v vs zero one later here = subst (λ (x : Column). HasNew assigns (v ∷ vs) zero x) (same_Some first column here) (v, refl, one)
     at_place v vs (suc j) one later here = later j here
 
--- what is assigned to a column is what its assignment has, and nothing where there is none
+-- a column is assigned the value of its assignment, or nothing if it has none
 value_of_name : (assigns : List Assign) (name : List ℕ) (k : ℕ) (assign : Assign) (assigned : Assigned) → are_distinct (assigned_names assigns) ≡ true
     → slice_get assigns k ≡ Some assign → assign.column ≡ name → assign.value ≡ assigned → assigned_to assigns name ≡ Some assigned
 value_of_name assigns name k assign assigned apart found named is =
     subst (λ (n : List ℕ). assigned_to assigns n ≡ Some assign.value) named (assigned_at assigns k assign apart found) ∙ ap Some is
 
--- what is made of a thing that is there
+-- what is made from a value that exists
 made_there : {A B : Type 0} (make : A → Option B) (make_any : Option A → Option (Option B)) → ((x : A) → make_any (Some x) ≡ option_map (λ y. Some y) (make x))
     → (all : List (Option B)) (i : ℕ) (o : Option A) (made : Option B) (x : A) → o ≡ Some x → slice_get all i ≡ Some made → make_any o ≡ Some made
     → (y : B) × (slice_get all i ≡ Some (Some y)) × (make x ≡ Some y)

@@ -1,4 +1,4 @@
--- A row and its values, each made of the other.
+-- A row and its values, each made from the other.
 use Rattle.std.proofs.Common.{◌≡◌, ℕ, ℤ, zero, suc, ◌+◌, ◌==◌, ◌||◌, ◌∙◌, true, false, Some, List, [], ◌∷◌, length, sym, ap, subst, refl, arith, inl, inr}
 use Rattle.std.specs.Prelude.{slice_get}
 use Rattle.std.proofs.lemmas.Bool.{cases_Bool, eqb-true, eqb-false, false≢true}
@@ -21,7 +21,7 @@ use Rattle.escrow_schema.proofs.RuleLemmas.{rules_of}
 pub as_many_fit : (columns : List Column) (values : List Value) → FitColumns columns values → length columns ≡ length values
 as_many_fit columns values fit = sym (AllZip-long (λ (column : Column) (v : Value). fits column.kind v ≡ true) columns values fit)
 
--- the row of values that fit is one of the table
+-- fitting values make a row of the table
 pub fit_row_of : (table : TableDef) (values : List Value) (row : Row) → FitColumns table.columns values → row_with table values ≡ Some row → IsRowOf table row
 fit_row_of table values row fit e =
     mapped_some (λ key. record { name = record { table = table.name; key = key }; amounts = amounts_of table.columns values; plain = plain_of table.columns values 0 table.key }) (slice_get values table.key) row e
@@ -32,7 +32,7 @@ fit_row_of table values row fit e =
       amounts = as_many_amounts table.columns values (as_many_fit table.columns values fit);
     }))
 
--- and its values are those that it is made of
+-- the values of that row are the ones that it was made from
 pub values_of_made : (table : TableDef) (values : List Value) (row : Row) → IsTable table → FitColumns table.columns values → row_with table values ≡ Some row → values ≡ values_of table row
 values_of_made table values row is_table fit e =
     mapped_some (λ key. record { name = record { table = table.name; key = key }; amounts = amounts_of table.columns values; plain = plain_of table.columns values 0 table.key }) (slice_get values table.key) row e
@@ -60,7 +60,7 @@ takes : (column : Column) (columns : List Column) (v : Value) (values : List Val
     → plain_of (column ∷ columns) (v ∷ values) place at ≡ v ∷ plain_of columns values (place + 1) at
 takes column columns v values place at e = rw e refl
 
--- amounts, a key and plain values, put together as values, are told apart again
+-- values made from amounts, a key and plain values can be taken apart again
 record IsBack (columns : List Column) (place at : ℕ) (key : Value) (amounts : List ℤ) (plain values : List Value) : Type 0 where
   amounts_are : amounts_of columns values ≡ amounts
   plain_are : plain_of columns values place at ≡ plain
@@ -115,7 +115,7 @@ back_plain column columns place at key amounts v plain r apart h =
     key_later zero here e = absurd (eqb-false place at apart (omega arith))
     key_later (suc i) here e = h.key_at i (omega arith) e
 
--- as many amounts and plain values as columns of each kind are told apart again
+-- they can be taken apart if there is an amount and a plain value for each column of its kind
 back : (columns : List Column) (place at : ℕ) (key : Value) (amounts : List ℤ) (plain : List Value)
     → length amounts ≡ length (reservables columns) → length plain ≡ length (plains columns place at) → Back columns place at key amounts plain
 back [] place at key [] [] many others = record { amounts_are = refl; plain_are = refl; as_many = refl; key_at = λ i here e. absurd (false≢true e) }
@@ -151,7 +151,7 @@ row_parts table row h = back table.columns 0 table.key row.name.key row.amounts 
 pub length-values_of : (table : TableDef) (row : Row) → IsRowOf table row → length (values_of table row) ≡ length table.columns
 length-values_of table row h = (row_parts table row h).as_many
 
--- and is the row that its values make
+-- the values of a row make that row
 pub row_with_values_of : (table : TableDef) (row : Row) → IsTable table → IsRowOf table row → row_with table (values_of table row) ≡ Some row
 row_with_values_of table row is_table h =
     let parts = row_parts table row h in

@@ -1,4 +1,4 @@
--- An UPDATE is refused for its assignments exactly where one of six cases is the case.
+-- An UPDATE is refused for its assignments exactly in one of six cases.
 use Rattle.std.proofs.Common.{◌≡◌, ◌⊎◌, ℕ, ℤ, zero, suc, ◌+◌, ◌==◌, Bool, true, false, true≢false, ◌&&◌, ◌||◌, Option, Some, None, option_map, Result, Ok, Err, List, [], ◌∷◌, bytes_eq, slice_get, sym, ap, subst, ◌∙◌, refl, arith, inl, inr}
 use Rattle.std.specs.List.{list_any, list_all}
 use Rattle.std.proofs.lemmas.Bool.{and_from, and_left, and_parts, and_right, cases_Bool, cases_eq, cond_both, eqb-false, eqb-true, false_from_ne_true, false≢true, or_cases, or_left, or_parts, or_right}
@@ -30,7 +30,7 @@ use Rattle.escrow_schema.proofs.RuleLemmas.{follows_rules, rules_of}
 
 -- ---- the column of a name
 
--- a RESERVABLE one, by the test
+-- a RESERVABLE column, by the test
 abbrev is_reservable : List ℕ → Column → Bool
 is_reservable name column = column.reservable && bytes_eq column.name name
 
@@ -45,7 +45,7 @@ reservable_passes table name h =
     any_passes_from_place (is_reservable name) table.columns h.0 h.1 h.2.0
     (and_from h.1.reservable (bytes_eq h.1.name name) h.3 ((bytes_eq-Decides h.1.name name).1 h.2.1))
 
--- a plain one, by the test: where the first of the columns stands at a place
+-- a plain column, in the terms of the test: the first of the columns is at a given place
 abbrev PlainFrom : List Column → ℕ → ℕ → List ℕ → Type 0
 PlainFrom columns place key name = (k : ℕ) × (column : Column) × (slice_get columns k ≡ Some column) × (column.name ≡ name) × (column.reservable ≡ false) × (¬ (place + k ≡ key))
 
@@ -95,7 +95,7 @@ plain_name_passes table name h =
     subst (λ (n : List ℕ). has_column (plains table.columns 0 table.key) n ≡ true) h.2.1
     (plain_passes table.columns 0 table.key h.0 h.1 h.2.0 h.3 (λ same. h.4 (omega arith)))
 
--- a name is of no column, or of one of the three kinds
+-- a name belongs to no column, or to a column of one of three kinds
 kind_of : (table : TableDef) (name : List ℕ) → (¬ (HasColumn table name)) ⊎ (IsKeyName table name ⊎ (IsReservableName table name ⊎ IsPlainName table name))
 kind_of table name =
     elim (cases_Bool (has_column table.columns name)) [
@@ -112,9 +112,9 @@ kind_of table name =
           (sym (any_passes_from_place (λ (column : Column). bytes_eq column.name name) table.columns h.0 h.1 h.2.0 ((bytes_eq-Decides h.1.name name).1 h.2.1)) ∙ f))
     ]
 
--- ---- no name is of two kinds
+-- ---- no name belongs to two kinds
 
--- since no two columns have one name
+-- since no two columns have the same name
 name_at : (table : TableDef) (name : List ℕ) (place : ℕ) (column : Column) → IsNamedAt table name place column → slice_get (names_of table.columns) place ≡ Some name
 name_at table name place column h =
     slice_get-map (λ (c : Column). c.name) table.columns place
@@ -158,7 +158,7 @@ literal_from (assigned.Change source change) e = absurd (false≢true e)
 not_literal : (value : Assigned) → is_literal value ≡ false → (literal : Literal) → ¬ (value ≡ assigned.Literal literal)
 not_literal value f literal = λ is. true≢false (sym (ap is_literal is) ∙ f)
 
--- what is assigned to a column that isn't RESERVABLE is no change, and to one that isn't plain no replacement
+-- an assignment to a column that is not RESERVABLE is no change; one to a column that is not plain is no replacement
 no_change : (table : TableDef) (assign : Assign) → ¬ (IsReservableName table assign.column) → is_change table.columns assign ≡ false
 no_change table assign other =
     and_left (list_any (is_reservable assign.column) table.columns) (is_itself assign.column assign.value)
@@ -169,7 +169,7 @@ no_replacement table assign other =
     and_left (has_column (plains table.columns 0 table.key) assign.column) (is_literal assign.value)
     (false_from_ne_true (has_column (plains table.columns 0 table.key) assign.column) (λ t. other (plain_name_from table assign.column t)))
 
--- ---- where one of the six is the case
+-- ---- one of the six cases holds
 
 neither : (table : TableDef) (text : UpdateText) → are_changes table.columns text.assigns ≡ false → are_replacements table text.assigns ≡ false
     → planned table text ≡ Err refusal.BadAssignment
@@ -215,7 +215,7 @@ refused_where_bad table text is_table (inr (inr (inr (inr (inr h))))) =
     (no_change table h.1 (λ r. reservable_or_plain table is_table h.1.column r h.5))
     (no_replacement table h.0 (reservable_or_plain table is_table h.0.column h.4))
 
--- ---- where an UPDATE is refused for its assignments
+-- ---- an UPDATE is refused for its assignments
 
 -- they are no changes, and no replacements
 neither_from : (a b : Bool) (k : Result Value Refusal) (changes : Option (List (Option ℤ))) (values : Option (List (Option Value)))
@@ -247,7 +247,7 @@ bad_by_kind table text other there of_reservable of_plain =
       ]
     ]
 
--- what is no replacement, beside what is assigned to a plain column
+-- an assignment that is no replacement, and one to a plain column
 bad_beside_plain : (table : TableDef) (text : UpdateText) (plain other : Assign) → Assigns text plain → IsPlainName table plain.column
     → Assigns text other → is_replacement table other ≡ false → IsBadlyAssigned table text
 bad_beside_plain table text plain other at is_plain there fails =
@@ -262,7 +262,7 @@ bad_beside_plain table text plain other at is_plain there fails =
       not_literal other.value (second_fails (has_column (plains table.columns 0 table.key) other.column) (is_literal other.value) passes fails),
     ))))))
 
--- what is no change, beside what is no replacement
+-- an assignment that is no change, and one that is no replacement
 bad_of_both : (table : TableDef) (text : UpdateText) (one other : Assign) → Assigns text one → is_change table.columns one ≡ false
     → Assigns text other → is_replacement table other ≡ false → IsBadlyAssigned table text
 bad_of_both table text one other at fails there fails_too =

@@ -1,4 +1,4 @@
--- The tables of a catalog: one that is put in its order, one that is put over another, and one that is taken out.
+-- The tables of a catalog: inserting one in order, replacing one, and removing one.
 use Rattle.std.specs.Borrow.{Bor}
 use Rattle.std.specs.Prelude.{IfSome, option_copied, ◌≡◌, ◌<◌, ◌≤◌, ◌+◌, ℕ, Bool, true, false, cond, not, nat_lt, is_some, List, [], ◌∷◌, Option, Some, None, length, map, filter, find, position, remove, slice_set, bytes_eq, IsTrue}
 use Rattle.std.specs.List.{AllByRecursion, position_or_len}
@@ -31,7 +31,7 @@ by_name a b = slice_cmp nat_cmp a.name b.name
 pub table_total : IsTotalOrder by_name
 table_total = on_total (λ (t : TableDef). t.name) nat_list_cmp_total
 
--- tables that compare as equal have one name
+-- tables that compare as equal have the same name
 pub table_tied : (x y : TableDef) → by_name x y ≡ Equal → x.name ≡ y.name
 table_tied x y e = list_tied x.name y.name e
 
@@ -39,11 +39,11 @@ pub with_table_put : (table : TableDef) (catalog : List TableDef) → with_table
 with_table_put table [] = refl
 with_table_put table (other ∷ rest) = ap (λ zs. cond (table_before table other) (table ∷ other ∷ rest) (other ∷ zs)) (with_table_put table rest)
 
--- a table that is found is one that some text defines
+-- some text defines each table that is found
 pub found_table : (catalog : List TableDef) (name : List ℕ) (table : TableDef) → IsCatalog catalog → table_named catalog name ≡ Some table → IsTable table
 found_table catalog name table h e = all_has IsTable catalog h.tables table (find_has (λ t. bytes_eq t.name name) catalog table e).0
 
--- a new table stands in its order
+-- a new table is inserted in its order
 pub in_order : (catalog : List TableDef) (table : TableDef) → table_named catalog table.name ≡ None → IsAscending table_before catalog
     → IsAscending table_before (with_table table catalog)
 in_order catalog table new ascending =
@@ -55,7 +55,7 @@ in_order catalog table new ascending =
     (put_ascending table_before (before_trans by_name table_total) table catalog
     (λ y h f. not_before by_name table_total table y f (differs y h)) ascending)
 
--- a catalog with a new table, where there is room
+-- a catalog with a new table, if there is room
 pub with_new : (catalog : List TableDef) (table : TableDef) → IsCatalog catalog → IsTable table → table_named catalog table.name ≡ None → length catalog < MAX_TABLES
     → IsCatalog (with_table table catalog)
 with_new catalog table h is_table new room =
@@ -78,7 +78,7 @@ length-kept_le p (x ∷ xs) =
     let rest = length-kept_le p xs in
     elim (cases_Bool (p x)) [ inl t ↦ rw t (omega arith) | inr f ↦ rw f (omega arith) ]
 
--- a catalog without a table
+-- a catalog without one table
 pub without_one : (catalog : List TableDef) (name : List ℕ) → IsCatalog catalog → IsCatalog (without_table name catalog)
 without_one catalog name h =
     let p : TableDef → Bool = λ t. not (bytes_eq t.name name) in
@@ -90,17 +90,17 @@ without_one catalog name h =
       few = omega arith;
     }
 
--- what is kept where no item passes a test
+-- if no item passes a test, all are kept
 pub all_kept : {A : Type 0} (p : A → Bool) (xs : List A) → AllByRecursion (λ x. p x ≡ false) xs → filter (λ x. not (p x)) xs ≡ xs
 all_kept p [] h = refl
 all_kept p (x ∷ xs) h = rw h.0 (ap (λ ys. x ∷ ys) (all_kept p xs h.1))
 
--- behind an item that passes no other does
+-- after an item that passes, no other item passes
 abbrev pub Once : {A : Type 0} → (A → Bool) → List A → Type 0
 Once p [] = Unit {0}
 Once p (x ∷ xs) = (p x ≡ true → AllByRecursion (λ y. p y ≡ false) xs) × Once p xs
 
--- the item at the first place that passes is found, and the others are left without it
+-- the item at the first passing place is found, and the others remain without it
 first_passes : {A : Type 0} (p : A → Bool) (xs : List A) (d : A) → Once p xs → position_or_len p xs < length xs
     → (find p xs ≡ Some (get_or xs (position_or_len p xs) d)) × (remove xs (position_or_len p xs) ≡ filter (λ x. not (p x)) xs)
 first_passes p [] d once h = absurd (omega arith)
@@ -135,7 +135,7 @@ not_there p xs e =
       | inr f ↦ none_passes p xs (omega (arith, ltb-false (position_or_len p xs) (length xs) f))
     ]
 
--- nothing is put over items of which none passes
+-- if no item passes, nothing is replaced
 none_over : {A : Type 0} (p : A → Bool) (y : A) (xs : List A) → AllByRecursion (λ x. p x ≡ false) xs → map (λ x. cond (p x) y x) xs ≡ xs
 none_over p y [] h = refl
 none_over p y (x ∷ xs) h = rw h.0 (ap (λ ys. x ∷ ys) (none_over p y xs h.1))
@@ -150,7 +150,7 @@ over_first p y (x ∷ xs) once h =
           rw (f, one-add) (ap (λ ys. x ∷ ys) (over_first p y xs once.1 shorter)))
     ]
 
--- an item put over the one at the first place that passes
+-- an item replaces the one at the first passing place
 pub put_over : {A : Type 0} (p : A → Bool) (y : A) (xs : List A) (i : ℕ) → Once p xs → position p xs ≡ Some i
     → (i < length xs) × (slice_set xs i y ≡ map (λ x. cond (p x) y x) xs)
 put_over p y xs i once e =
@@ -158,7 +158,7 @@ put_over p y xs i once e =
     let within = ltb-true (position_or_len p xs) (length xs) at.0 in
     subst (λ n. (n < length xs) × (slice_set xs n y ≡ map (λ x. cond (p x) y x) xs)) at.1 (within, over_first p y xs once within)
 
--- a table in the place of the one of its name, if another is of that name
+-- a table replaces another one if it has the same name
 abbrev one_altered : TableDef → TableDef → TableDef
 one_altered table other = cond (bytes_eq other.name table.name) table other
 
@@ -184,7 +184,7 @@ order_altered : (table : TableDef) (catalog : List TableDef) → IsAscending tab
 order_altered table [] h = tt
 order_altered table (other ∷ rest) h = (before_altered table other (one_altered table other) rest (keeps_name table other) h.0, order_altered table rest h.1)
 
--- a catalog with a table in the place of the one of its name
+-- a catalog in which a table replaces the one with its name
 pub with_one_altered : (catalog : List TableDef) (table : TableDef) → IsCatalog catalog → IsTable table → IsCatalog (with_altered table catalog)
 with_one_altered catalog table h is_table = record {
   tables = each_altered table catalog is_table h.tables;
@@ -192,7 +192,7 @@ with_one_altered catalog table h is_table = record {
   few = omega (arith, h.few, length-map catalog (one_altered table));
 }
 
--- no two tables of a catalog have one name
+-- no two tables of a catalog have the same name
 pub once_named : (catalog : List TableDef) (name : List ℕ) → IsAscending table_before catalog → Once (λ t. bytes_eq t.name name) catalog
 once_named [] name h = tt
 once_named (t ∷ ts) name h = (
@@ -208,7 +208,7 @@ once_named (t ∷ ts) name h = (
   once_named ts name h.1,
 )
 
--- what is found behind a reference
+-- the table found through a reference
 pub found_each : (catalog : List TableDef) (name : List ℕ) (o : Option (Bor TableDef)) → IsCatalog catalog → option_copied o ≡ table_named catalog name
     → IfSome o (λ table. IsTable table.now)
 found_each catalog name None h e = tt

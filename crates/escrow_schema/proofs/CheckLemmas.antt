@@ -1,4 +1,4 @@
--- The checks of ranges are whole.
+-- The checks of ranges have a coefficient for each column.
 use Rattle.std.proofs.Common.{◌≡◌, ℕ, List, [], ◌∷◌, length, map}
 use Rattle.std.specs.List.{AllByRecursion}
 use Rattle.escrow_checks.specs.declared.check.Check.{Check}
@@ -10,7 +10,7 @@ use Rattle.escrow_schema.specs.Definition.{range_check}
 abbrev pub IsWhole : List (List ℕ) → Check → Type 0
 IsWhole names check = length check.coeffs ≡ length names
 
--- the checks of ranges are whole
+-- the checks of ranges have one for each name
 pub whole_ranges : (names : List (List ℕ)) (columns : List Column) → AllByRecursion (IsWhole names) (map (range_check names) columns)
 whole_ranges names [] = tt
 whole_ranges names (column ∷ columns) = (length-unit_of names column.name, whole_ranges names columns)

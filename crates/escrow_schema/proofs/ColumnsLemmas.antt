@@ -1,4 +1,4 @@
--- What the columns of a text are.
+-- The columns that a CREATE TABLE writes.
 use Rattle.std.proofs.Common.{◌≡◌, ℕ, ℤ, ◌≤◌, pos, negsuc, true, false, ◌&&◌, not, nat_le, int_le, unsigned_abs, Some, None, option_map, List, [], ◌∷◌, sym, subst, refl, ◌∙◌, bytes_eq, lit≤, inl, inr}
 use Rattle.std.specs.Prelude.{unwrap_or}
 use Rattle.std.specs.List.{AllByRecursion, list_any, list_all}
@@ -25,14 +25,14 @@ sized : (p : ℤ) (most : ℕ) → (int_le (pos 1) p && int_le p (pos most)) ≡
 sized (pos n) most e = let h = and_parts (nat_le 1 n) (nat_le n most) e in (leb-true 1 n h.0, leb-true n most h.1)
 sized (negsuc n) most e = absurd (cc)
 
--- a scale from 0 to 6 that isn't above a precision
+-- a scale from 0 to 6 that is at most a precision
 scaled : (p s : ℤ) → int_le (pos 1) p ≡ true → int_le (pos 0) s ≡ true → int_le s (pos 6) ≡ true → int_le s p ≡ true
     → (unsigned_abs s ≤ 6) × (unsigned_abs s ≤ unsigned_abs p)
 scaled (pos p) (pos s) positive zero most within = (leb-true s 6 most, leb-true s p within)
 scaled (negsuc p) s positive zero most within = absurd (cc)
 scaled (pos p) (negsuc s) positive zero most within = absurd (cc)
 
--- a size that is written is one of a type
+-- a written size is that of a type
 number_typed : (p s : ℤ) (kind : ColumnType) → number_type p s ≡ Some kind → IsType kind
 number_typed p s kind e =
     let made = cond_some (is_size p s) (Number (unsigned_abs p) (unsigned_abs s)) kind e in
@@ -44,7 +44,7 @@ number_typed p s kind e =
     let scale = scaled p s positive.0 zero.1 most.1 within.1 in
     subst IsType made.1 (digits.0, digits.1, scale.0, scale.1)
 
--- a type that is written is one
+-- a written type is a type
 pub written_type : (t : TypeText) (kind : ColumnType) → type_of t ≡ Some kind → IsType kind
 written_type text.Integer kind e = subst IsType (same_Some (Number 15 0) kind e) (lit≤ tt, lit≤ tt, lit≤ tt, lit≤ tt)
 written_type (text.Number None) kind e = subst IsType (same_Some (Number 15 0) kind e) (lit≤ tt, lit≤ tt, lit≤ tt, lit≤ tt)
@@ -61,7 +61,7 @@ written_column t column e =
     mapped_some (λ kind. record { name = t.name; kind = kind; reservable = list_any is_reservable_mark t.marks }) (type_of t.kind) column e
     (λ kind at made. subst HasType made (written_type t.kind kind at))
 
--- the columns that texts write have types
+-- written columns have types
 pub written_columns : (texts : List ColumnText) (columns : List Column) → columns_of texts ≡ Some columns → AllByRecursion HasType columns
 written_columns [] columns e = subst (AllByRecursion HasType) (same_Some [] columns e) tt
 written_columns (t ∷ texts) columns e =
@@ -69,7 +69,7 @@ written_columns (t ∷ texts) columns e =
     (λ column one more. mapped_some (λ rest. column ∷ rest) (columns_of texts) columns more
     (λ rest others whole. subst (AllByRecursion HasType) whole (written_column t column one, written_columns texts rest others)))
 
--- RESERVABLE columns have types where all columns have
+-- RESERVABLE columns have types if all columns have
 pub reservable_types : (columns : List Column) → AllByRecursion HasType columns → AllByRecursion HasType (reservables columns)
 reservable_types [] h = tt
 reservable_types (column ∷ columns) h =
@@ -78,7 +78,7 @@ reservable_types (column ∷ columns) h =
       | inr e ↦ rw e (reservable_types columns h.1)
     ]
 
--- the scale of a type is one
+-- a type's scale is a scale
 scale_typed : (kind : ColumnType) → IsType kind → IsScale (scale_of kind)
 scale_typed (Number digits scale) is = is.2
 scale_typed (Varchar2 bytes) is = lit≤ tt
@@ -87,14 +87,14 @@ each_scale : (columns : List Column) → AllByRecursion HasType columns → AllB
 each_scale [] h = tt
 each_scale (column ∷ columns) h = (scale_typed column.kind h.0, each_scale columns h.1)
 
--- beside the names of columns that have types stand their scales
+-- the scales of typed columns are scales, one for each name
 pub scales_typed : (columns : List Column) → AllByRecursion HasType columns → AreScales (names_of columns) (scales_of columns)
 scales_typed columns h =
     let scales = length-map columns (λ (column : Column). scale_of column.kind) in
     let names = length-map columns (λ (column : Column). column.name) in
     (scales ∙ sym names, All-from_recursion IsScale (scales_of columns) (each_scale columns h))
 
--- a name that no column has is that of no RESERVABLE one
+-- a name that no column has is not that of a RESERVABLE column
 fewer_names : (name : List ℕ) (columns : List Column) → list_any (λ other. bytes_eq name other) (names_of columns) ≡ false → list_any (λ other. bytes_eq name other) (names_of (reservables columns)) ≡ false
 fewer_names name [] h = refl
 fewer_names name (column ∷ columns) h =
@@ -105,7 +105,7 @@ fewer_names name (column ∷ columns) h =
       | inr e ↦ rw e rest
     ]
 
--- distinct columns have distinct RESERVABLE ones
+-- if all columns are distinct, so are the RESERVABLE ones
 pub reservables_distinct : (columns : List Column) → are_distinct (names_of columns) ≡ true → are_distinct (names_of (reservables columns)) ≡ true
 reservables_distinct [] h = refl
 reservables_distinct (column ∷ columns) h =
@@ -117,7 +117,7 @@ reservables_distinct (column ∷ columns) h =
       | inr e ↦ rw e rest
     ]
 
--- where a statement can write the names of columns it can write those of the RESERVABLE ones
+-- if a statement can write the names of all columns, it can write those of the RESERVABLE ones
 pub reservables_written : (columns : List Column) → list_all is_written_name (names_of columns) ≡ true → list_all is_written_name (names_of (reservables columns)) ≡ true
 reservables_written [] h = refl
 reservables_written (column ∷ columns) h =

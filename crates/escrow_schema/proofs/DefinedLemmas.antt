@@ -1,4 +1,4 @@
--- A text and a table that follow the rules of definitions: the text defines the table.
+-- If a text and a table follow the rules of definitions, the text defines the table.
 use Rattle.std.proofs.Common.{◌≡◌, ℕ, ◌<◌, zero, suc, true, false, cond, not, nat_lt, Option, Some, None, option_map, option_and_then, bytes_eq, List, [], ◌∷◌, ◌++◌, get_or, length, ap, ap₂, sym, subst, refl, arith}
 use Rattle.std.specs.Prelude.{IsTrue, slice_get, unwrap_or}
 use Rattle.std.specs.List.{list_all, position_or_len}
@@ -20,7 +20,7 @@ use Rattle.escrow_schema.specs.Rules.{FollowsRules}
 use Rattle.escrow_schema.proofs.DistinctLemmas.{distinct_back, first_apart, same_name}
 use Rattle.escrow_schema.proofs.UnitLemmas.{at_apart}
 
--- of columns of distinct names the one at a place is the first of its name
+-- if names are distinct, the column at an index is the first of its name
 earlier_apart : (columns : List Column) (i k : ℕ) (d : Column) → are_distinct (names_of columns) ≡ true → k < i → i < length columns
     → bytes_eq (get_or columns k d).name (get_or columns i d).name ≡ false
 earlier_apart [] i k d apart before within = absurd (omega arith)
@@ -54,7 +54,7 @@ columns_follow text table h =
     (distinct_back (names_of columns) h.distinct_columns)) written) plain)
     (le-leb 1 (length (reservables columns)) h.some_reservable)) (le-leb (length (reservables columns)) MAX_LEN h.few_reservable)) numeric
 
--- the table of the columns, the key and the declared checks
+-- the table with these columns, this key and these declared checks
 with_checks : (text : CreateText) (table : TableDef) (h : FollowsRules text table) → table_with text.table table.columns table.key h.declared ≡ Some table
 with_checks text table h =
     let checks : List Check = h.declared ++ range_checks table.columns in

@@ -9,22 +9,22 @@ use Rattle.std.proofs.lemmas.Slice.Eq.{bytes_eq-Decides}
 use Rattle.escrow_schema.specs.Definition.{are_distinct}
 use Rattle.escrow_schema.proofs.ListLemmas.{some_passes}
 
--- a name is itself
+-- a name equals itself
 pub same_name : (name : List ℕ) → bytes_eq name name ≡ true
 same_name name = (bytes_eq-Decides name name).1 refl
 
--- and two names are the same in either order
+-- comparing two names is symmetric
 pub either_order : (a b : List ℕ) → bytes_eq a b ≡ bytes_eq b a
 either_order a b =
     same_from_decides (bytes_eq a b) (bytes_eq b a) (bytes_eq-Decides a b) (λ e. sym ((bytes_eq-Decides b a).0 e), λ e. (bytes_eq-Decides b a).1 (sym e))
 
--- no other name is the first one
+-- no other name equals the first one
 pub first_apart : (name : List ℕ) (names : List (List ℕ)) → are_distinct (name ∷ names) ≡ true → (list_any (λ other. bytes_eq name other) names ≡ false) × (are_distinct names ≡ true)
 first_apart name names apart =
     let parts = and_parts (not (list_any (λ other. bytes_eq name other) names)) (are_distinct names) apart in
     (not-true (list_any (λ other. bytes_eq name other) names) parts.0, parts.1)
 
--- names that a test tells apart are distinct
+-- names that pass the test are distinct
 apart_from : (name : List ℕ) (names : List (List ℕ)) → list_any (λ other. bytes_eq name other) names ≡ false → AllByRecursion (λ other. bytes_eq name other ≡ false) names
 apart_from name [] e = tt
 apart_from name (other ∷ names) e = let parts = or_parts (bytes_eq name other) (list_any (λ other. bytes_eq name other) names) e in (parts.0, apart_from name names parts.1)
@@ -34,7 +34,7 @@ unfolding IsDistinct
 distinct_from [] e = tt
 distinct_from (name ∷ names) e = let parts = first_apart name names e in (apart_from name names parts.0, distinct_from names parts.1)
 
--- names that are distinct pass the test
+-- distinct names pass the test
 are_apart : (name : List ℕ) (names : List (List ℕ)) → AllByRecursion (λ other. bytes_eq name other ≡ false) names → list_any (λ other. bytes_eq name other) names ≡ false
 are_apart name [] h = refl
 are_apart name (other ∷ names) h = or_from (bytes_eq name other) (list_any (λ other. bytes_eq name other) names) h.0 (are_apart name names h.1)
@@ -46,7 +46,7 @@ distinct_back (name ∷ names) h =
     and_from (not (list_any (λ other. bytes_eq name other) names)) (are_distinct names)
     (not_from_false (list_any (λ other. bytes_eq name other) names) (are_apart name names h.0)) (distinct_back names h.1)
 
--- names of which one stands at two places aren't distinct
+-- if a name is at two indices, the names are not distinct
 pub not_apart : (names : List (List ℕ)) (i k : ℕ) (name : List ℕ) → i < k → slice_get names i ≡ Some name → slice_get names k ≡ Some name → are_distinct names ≡ false
 not_apart [] i k name below at there = absurd (none-some name at)
 not_apart (n ∷ names) zero zero name below at there = absurd (omega arith)
@@ -58,7 +58,7 @@ not_apart (n ∷ names) (suc i) zero name below at there = absurd (omega arith)
 not_apart (n ∷ names) (suc i) (suc k) name below at there =
     and_right (not (list_any (λ other. bytes_eq n other) names)) (are_distinct names) (not_apart names i k name (omega arith) at there)
 
--- and where names aren't distinct, one stands at two places
+-- if names are not distinct, one is at two indices
 pub two_places : (names : List (List ℕ)) → are_distinct names ≡ false
     → (i : ℕ) × (k : ℕ) × (name : List ℕ) × (i < k) × (slice_get names i ≡ Some name) × (slice_get names k ≡ Some name)
 two_places [] e = absurd (true≢false e)
@@ -72,7 +72,7 @@ two_places (n ∷ names) e =
           (suc found.0, suc found.1, found.2, (omega arith), found.4, found.5))
     ]
 
--- of distinct names each stands at one place
+-- each of distinct names is at one index
 pub one_place : (names : List (List ℕ)) → are_distinct names ≡ true → (i k : ℕ) (name : List ℕ) → slice_get names i ≡ Some name → slice_get names k ≡ Some name → i ≡ k
 one_place names apart i k name at there =
     elim (cases_lt i k) [

@@ -54,12 +54,12 @@ checks_of_whole_row table is_table =
     let as_many : length names ≡ length (reservables table.columns) = length-map (reservables table.columns) (λ column. column.name) in
     subst (λ (n : ℕ). AllByRecursion (λ check. length check.coeffs ≡ n) table.checks) as_many whole
 
--- the checks of a table, declared ones and ranges
+-- the checks of a table: the declared ones and the ranges
 split_checks : (text : CreateText) (table : TableDef) (e : definition_of text ≡ Some table) (numbers : List ℤ) → AllByRecursion (λ check. Meets check numbers) table.checks
     → AllByRecursion (λ check. Meets check numbers) ((parts text table e).written ++ range_checks table.columns)
 split_checks text table e numbers met = subst (AllByRecursion (λ check. Meets check numbers)) (parts text table e).checks met
 
--- numbers that meet them fit the types of the RESERVABLE columns
+-- numbers that meet the checks fit the types of the RESERVABLE columns
 fit_by_checks : (text : CreateText) (table : TableDef) (numbers : List ℤ) → definition_of text ≡ Some table → length numbers ≡ length (reservables table.columns)
     → AllByRecursion (λ check. Meets check numbers) table.checks → FitColumns (reservables table.columns) (map value.Number numbers)
 fit_by_checks text table numbers e same met =
@@ -124,7 +124,7 @@ names_of_checks text table e =
       apart = one_place (check_names table.checks) p.distinct;
     }
 
--- RESERVABLE columns of a table are of numbers
+-- the RESERVABLE columns of a table hold numbers
 pub numeric_columns : (table : TableDef) → IsTable table → NumericColumns table.columns
 numeric_columns table is_table = numeric_each (reservables table.columns) (rules_of table is_table).numeric
 

@@ -1,5 +1,5 @@
--- The tables of a catalog, with their numbers and counts: one that is put in its order, one that is defined anew, one that is counted anew, and
--- one that is taken out.
+-- The tables of a catalog with their numbers and counts: adding one in order, redefining one, recounting one, and
+-- removing one.
 use Rattle.std.specs.Prelude.{◌≢◌, IfSome, IsTrue, bytes_eq, filter, insert, int_le, is_some, nat_lt, not, option_map, pos, position, remove, slice_get, slice_set, unwrap_or}
 use Rattle.std.specs.List.{AllByRecursion, position_or_len}
 use Rattle.std.specs.Cmp.Lexicographic.{slice_cmp}
@@ -32,7 +32,7 @@ find_through p f [] = refl
 find_through p f (x ∷ xs) =
     elim (p (f x)) as (λ b. cond b (Some (f x)) (find p (map f xs)) ≡ option_map f (cond b (Some x) (find (λ y. p (f y)) xs))) [ true ↦ refl | false ↦ find_through p f xs ]
 
--- the first item that passes stands where its image does
+-- the first item that passes has the index of its image
 first_through : {A B : Type 0} (p : B → Bool) (f : A → B) (xs : List A) → position_or_len p (map f xs) ≡ position_or_len (λ x. p (f x)) xs
 first_through p f [] = refl
 first_through p f (x ∷ xs) = elim (cases_Bool (p (f x))) [ inl t ↦ rw t refl | inr fails ↦ rw fails (ap (λ n. 1 + n) (first_through p f xs)) ]
@@ -52,7 +52,7 @@ pub all_map : {A B : Type 0} (P : B → Type 0) (f : A → B) (xs : List A) → 
 all_map P f [] h = tt
 all_map P f (x ∷ xs) h = (h.0, all_map P f xs h.1)
 
--- where one item at most is of a test, so is one at most that maps to it
+-- if at most one image passes, at most one item does
 pub once_through : {A B : Type 0} (p : B → Bool) (f : A → B) (xs : List A) → Once p (map f xs) → Once (λ x. p (f x)) xs
 once_through p f [] h = tt
 once_through p f (x ∷ xs) h = ((λ e. all_unmap (λ y. p y ≡ false) f xs (h.0 e)), once_through p f xs h.1)
@@ -62,9 +62,9 @@ put_through f before x [] = refl
 put_through f before x (y ∷ ys) =
     elim (cases_Bool (before (f x) (f y))) [ inl t ↦ rw t refl | inr e ↦ rw e (ap (λ zs. f y ∷ zs) (put_through f before x ys)) ]
 
--- ---- the place of an item that passes
+-- ---- the index of an item that passes
 
--- one more on each side changes no comparison
+-- adding one on each side changes no comparison
 one_more : (n l : ℕ) → nat_lt (1 + n) (suc l) ≡ nat_lt n l
 one_more n l = elim (cases_Bool (nat_lt n l)) [
   | inl less ↦ lt-ltb (1 + n) (suc l) (omega (arith, ltb-true n l less)) ∙ sym less
@@ -82,7 +82,7 @@ some_if : (b : Bool) (n : ℕ) → is_some (cond b (Some n) None) ≡ b
 some_if true n = refl
 some_if false n = refl
 
--- an item that passes has a place where it is found
+-- an item that passes has an index exactly if it is found
 pub has_place : {A : Type 0} (p : A → Bool) (xs : List A) → is_some (position p xs) ≡ is_some (find p xs)
 has_place p xs = some_if (nat_lt (position_or_len p xs) (length xs)) (position_or_len p xs) ∙ passing p xs
 
@@ -91,7 +91,7 @@ position_within p xs i e =
     let at = cond_some (nat_lt (position_or_len p xs) (length xs)) (position_or_len p xs) i e in
     subst (λ n. n < length xs) at.1 (ltb-true (position_or_len p xs) (length xs) at.0)
 
--- ---- an item that is put at a place
+-- ---- an item inserted at an index
 
 pub all_insert : {A : Type 0} (P : A → Type 0) (xs : List A) (i : ℕ) (x : A) → P x → AllByRecursion P xs → AllByRecursion P (insert xs i x)
 all_insert P [] zero x here all = (here, tt)
@@ -107,20 +107,20 @@ apart_insert before (y ∷ ys) zero x front back h = (front, h)
 apart_insert before (y ∷ ys) (suc i) x front back h =
     (all_insert (λ z. IsTrue (before y z)) ys i x back.0 h.0, apart_insert before ys i x front.1 back.1 h.1)
 
--- it alone passes, so it is taken out again
+-- only that item passes, so filtering removes it again
 put_back : {A : Type 0} (p : A → Bool) (xs : List A) (i : ℕ) (x : A) → p x ≡ true → AllByRecursion (λ y. p y ≡ false) xs → filter (λ y. not (p y)) (insert xs i x) ≡ xs
 put_back p [] zero x passes none = rw passes refl
 put_back p [] (suc i) x passes none = rw passes refl
 put_back p (y ∷ ys) zero x passes none = rw passes (all_kept p (y ∷ ys) none)
 put_back p (y ∷ ys) (suc i) x passes none = rw none.0 (ap (λ zs. y ∷ zs) (put_back p ys i x passes none.1))
 
--- ---- a list of which the items that pass a test are changed
+-- ---- a list in which the items that pass a test are changed
 
 neither : {A : Type 0} (p : A → Bool) (f : A → A) (y : A) (xs : List A) → AllByRecursion (λ x. p x ≡ false) xs → map (λ x. cond (p x) y x) xs ≡ map (λ x. cond (p x) (f x) x) xs
 neither p f y [] h = refl
 neither p f y (x ∷ xs) h = rw h.0 (ap (λ zs. x ∷ zs) (neither p f y xs h.1))
 
--- where one item at most passes, it is the first
+-- if at most one item passes, it is the first
 same_over : {A : Type 0} (p : A → Bool) (f : A → A) (y : A) (xs : List A) → Once p xs → find p xs ≡ Some y → map (λ x. cond (p x) (f y) x) xs ≡ map (λ x. cond (p x) (f x) x) xs
 same_over p f y [] once is = refl
 same_over p f y (x ∷ xs) once is = elim (cases_Bool (p x)) [
@@ -130,7 +130,7 @@ same_over p f y (x ∷ xs) once is = elim (cases_Bool (p x)) [
   | inr e ↦ rw e (ap (λ zs. x ∷ zs) (same_over p f y xs once.1 (sym (cond-false (p x) (Some x) (find p xs) e) ∙ is)))
 ]
 
--- the first one changed at its place
+-- the first one, changed at its index
 set_first : {A : Type 0} (p : A → Bool) (f : A → A) (xs : List A) (i : ℕ) (d : A) → Once p xs → position p xs ≡ Some i → set xs i (f (get_or xs i d)) ≡ map (λ x. cond (p x) (f x) x) xs
 set_first p f xs i d once at = (put_over p (f (get_or xs i d)) xs i once at).1 ∙ same_over p f (get_or xs i d) xs once (taken_out p xs i d once at).0
 
@@ -139,7 +139,7 @@ set_first p f xs i d once at = (put_over p (f (get_or xs i d)) xs i once at).1 �
 pub named_table : (tables : List CountedTable) (name : List ℕ) → table_named (catalog_of tables) name ≡ option_map (λ (c : CountedTable). c.stored.table) (counted_named tables name)
 named_table tables name = find_through (λ (t : TableDef). bytes_eq t.name name) (λ (c : CountedTable). c.stored.table) tables
 
--- where the table of a name stands in the catalog, it stands among those that are kept
+-- the index of a name in the catalog is its index among the kept tables
 pub kept_place : (tables : List CountedTable) (name : List ℕ) → place_named (catalog_of tables) name ≡ position (λ (c : CountedTable). bytes_eq c.stored.table.name name) tables
 kept_place tables name = position_through (λ (t : TableDef). bytes_eq t.name name) (λ (c : CountedTable). c.stored.table) tables
 
@@ -147,7 +147,7 @@ pub place_within : (tables : List CountedTable) (name : List ℕ) (o : Option �
 place_within tables name None e = tt
 place_within tables name (Some place) e = position_within (λ (c : CountedTable). bytes_eq c.stored.table.name name) tables place (sym e)
 
--- where no table is found by a name, none in the catalog has it, and the other way round
+-- a name finds no kept table exactly if no table in the catalog has it
 pub none_named : (tables : List CountedTable) (name : List ℕ) → None ≡ counted_named tables name → table_named (catalog_of tables) name ≡ None
 none_named tables name e = named_table tables name ∙ ap (option_map (λ (c : CountedTable). c.stored.table)) (sym e)
 
@@ -161,12 +161,12 @@ none_counted tables name none = at (counted_named tables name) (sym (named_table
 pub some_named : (tables : List CountedTable) (name : List ℕ) (c : CountedTable) → Some c ≡ counted_named tables name → table_named (catalog_of tables) name ≡ Some c.stored.table
 some_named tables name c e = named_table tables name ∙ ap (option_map (λ (c : CountedTable). c.stored.table)) (sym e)
 
--- what stands at a place is a table that some text defines
+-- the table at an index is one that some text defines
 pub table_at : (tables : List CountedTable) (place : ℕ) (c : CountedTable) → IsListed tables → place < length tables → c ≡ get_or tables place c → IsTable c.stored.table
 table_at tables place c listed within item =
     all_at (λ (c : CountedTable). IsTable c.stored.table) tables place c within item (all_unmap IsTable (λ (c : CountedTable). c.stored.table) tables listed.is_catalog.tables)
 
--- no two tables have one name
+-- no two tables have the same name
 named_once : (tables : List CountedTable) (name : List ℕ) → IsListed tables → Once (λ (c : CountedTable). bytes_eq c.stored.table.name name) tables
 named_once tables name listed =
     once_through (λ (t : TableDef). bytes_eq t.name name) (λ (c : CountedTable). c.stored.table) tables (once_named (catalog_of tables) name listed.is_catalog.order)
@@ -176,19 +176,19 @@ named_once tables name listed =
 abbrev other_number : CountedTable → CountedTable → Bool
 other_number a b = not (int_eq a.stored.id b.stored.id)
 
--- the place at which a table of a name stands in order
+-- the index of a table of this name in the order
 abbrev pub place_for : List CountedTable → List ℕ → ℕ
 place_for tables name = unwrap_or (position (λ (o : CountedTable). is_lt (slice_cmp nat_cmp name o.stored.table.name)) tables) (length tables)
 
 module _ (tables : List CountedTable) (c : CountedTable) where
-  -- a table that is put at its place is put into the catalog in its order
+  -- a table inserted at its index is inserted in the catalog in order
   pub catalog_more : catalog_of (insert tables (place_for tables c.stored.table.name) c) ≡ with_table c.stored.table (catalog_of tables)
   catalog_more =
       ap catalog_of (put_at_place (λ (o : CountedTable). is_lt (slice_cmp nat_cmp c.stored.table.name o.stored.table.name)) c
       (put (λ (a b : CountedTable). table_before a.stored.table b.stored.table) c) refl (λ y ys. refl) tables)
       ∙ put_through (λ (o : CountedTable). o.stored.table) table_before c tables ∙ sym (with_table_put c.stored.table (catalog_of tables))
 
-  -- a number that no table has differs either way round
+  -- a number that no table has differs, compared in either order
   differs : AllByRecursion (λ (o : CountedTable). o.stored.id ≢ c.stored.id) tables → AllByRecursion (λ o. IsTrue (other_number c o)) tables × AllByRecursion (λ o. IsTrue (other_number o c)) tables
   differs = each tables
     where
@@ -208,7 +208,7 @@ module _ (tables : List CountedTable) (c : CountedTable) where
     ids_apart = apart_insert other_number tables place c (differs free).0 (differs free).1 listed.ids_apart;
   }
 
-  -- without it the tables are what they were
+  -- without it the tables are the same as before
   pub taken_back : (place : ℕ) → table_named (catalog_of tables) c.stored.table.name ≡ None → without_counted c.stored.table.name (insert tables place c) ≡ tables
   taken_back place new =
       let test : CountedTable → Bool = λ o. bytes_eq o.stored.table.name c.stored.table.name in
@@ -228,7 +228,7 @@ listed_less name tables listed =
       ids_apart = ascending_filter other_number kept tables listed.ids_apart;
     }
 
--- the table at the place of a name is the one of that name, and without it those of other names are left
+-- the table at the index of a name has that name, and removing it leaves the others
 pub taken_at : (tables : List CountedTable) (name : List ℕ) (place : ℕ) (c : CountedTable) → IsListed tables → position (λ (c : CountedTable). bytes_eq c.stored.table.name name) tables ≡ Some place
     → (table_named (catalog_of tables) name ≡ Some (get_or tables place c).stored.table) × (remove tables place ≡ without_counted name tables)
 taken_at tables name place c listed at =
@@ -262,7 +262,7 @@ listed_defined table tables is_table listed = record {
     all_defined [] h = tt
     all_defined (c ∷ ts) h = (subst (λ i. IsTrue (int_le (pos 1) i)) (sym (same_number table c)) h.0, all_defined ts h.1)
 
--- the table at the place of the name with the definition
+-- the table at the index of the name, with the new definition
 pub defined_at : (table : TableDef) (tables : List CountedTable) (place : ℕ) → IsListed tables → position (λ (c : CountedTable). bytes_eq c.stored.table.name table.name) tables ≡ Some place
     → (place < length tables) × ((c : CountedTable) × (slice_get tables place ≡ Some c) × (slice_set tables place (defined_as table c) ≡ with_definition table tables))
 defined_at table tables place listed at =
@@ -306,7 +306,7 @@ listed_recounted tables place n listed = record {
   ids_apart = apart_recounted (λ a b. not (int_eq a.id b.id)) tables place n listed.ids_apart;
 }
 
--- the table at the place, counted anew
+-- the table at the index, with the new count
 pub recounted_at : (tables : List CountedTable) (place n : ℕ) (c : CountedTable) → c ≡ get_or tables place c → recounted tables place n ≡ set tables place (record { stored = c.stored; rows = n })
 recounted_at [] place n c at = refl
 recounted_at (d ∷ tables) zero n c at = ap (λ (o : CountedTable). record { stored = o.stored; rows = n } ∷ tables) (sym at)

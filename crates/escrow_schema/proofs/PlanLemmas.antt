@@ -1,4 +1,4 @@
--- What an UPDATE's plan is, and why it has none.
+-- The plan of an UPDATE, or the reason why it has none.
 use Rattle.std.proofs.Common.{◌≡◌, ◌⊎◌, suc, Bool, true, false, cond, not, Option, Some, None, option_map, option_and_then, Result, Ok, Err, List, [], ◌∷◌, length, sym, subst, ap, ap₂, ◌∙◌, refl, inl, inr}
 use Rattle.std.specs.Prelude.{ℤ, IfOk, IfSome, IsSome, IsTrue, is_some}
 use Rattle.std.proofs.lemmas.Bool.{false≢true}
@@ -27,8 +27,8 @@ use Rattle.escrow_schema.specs.Plan.{are_changes, are_replacements, assigned_to,
 use Rattle.escrow_schema.proofs.KeyValues.{key_exact, value_in_at, value_in_fits, where_key}
 use Rattle.escrow_schema.proofs.ListLemmas.{mapped_some}
 
--- what is planned, by whether the assignments are changes, whether they replace values, what the
--- WHERE names, the changes and the new values
+-- the plan, from whether the assignments are changes, whether they replace values, what WHERE
+-- names, the changes, and the new values
 abbrev pub plan_by : Bool → Bool → Result Value Refusal → Option (List (Option ℤ)) → Option (List (Option Value)) → Result Plan Refusal
 plan_by a b k changes values =
     cond a (for_key (λ key. ok_or (option_map (λ cs. Reserve key cs) changes) refusal.BadValue) k)
@@ -39,17 +39,17 @@ pub why_of_neither : (table : TableDef) (text : UpdateText)
     → are_changes table.columns text.assigns ≡ false → are_replacements table text.assigns ≡ false → Some refusal.BadAssignment ≡ result_err (planned table text)
 why_of_neither table text e h = rw (e, h) refl
 
--- a plan that is refused, and one that isn't
+-- a plan that is refused, and one that is not
 pub refused_by : (p : Result Plan Refusal) (r : Refusal) → Some r ≡ result_err p → p ≡ Err r
 refused_by (Ok plan) r e = absurd (none-some r (sym e))
 refused_by (Err q) r e = ap Err (same_Some q r (sym e))
 
--- the plan of what is good
+-- the value of a result that is not refused
 pub not_refused : {A : Type 0} (r : Result A Refusal) → None ≡ result_err r → (v : A) × (r ≡ Ok v)
 not_refused (Ok v) e = (v, refl)
 not_refused (Err q) e = absurd (none-some q e)
 
--- there is a change, or none, for each column
+-- there is a change or none for each column
 as_many : (columns : List Column) (assigns : List Assign) (changes : List (Option ℤ)) → changes_for columns assigns ≡ Some changes → length changes ≡ length columns
 as_many [] assigns changes e = ap length (sym (same_Some [] changes e))
 as_many (column ∷ columns) assigns changes e =
@@ -57,7 +57,7 @@ as_many (column ∷ columns) assigns changes e =
     (λ c one more. mapped_some (λ cs. c ∷ cs) (changes_for columns assigns) changes more
     (λ cs others whole. ap length (sym whole) ∙ ap (λ n. suc n) (as_many columns assigns cs others)))
 
--- the value that a column of a type is assigned, where it fits
+-- the value assigned to a column of a type, if it fits
 assigned_value : (kind : ColumnType) (o : Option Literal) (v : Option Value) → new_value kind o ≡ Some v
     → (v ≡ option_and_then (value_at (scale_of kind)) o) × IfSome v (λ x. IsTrue (fits kind x))
 assigned_value kind None v e = let same = same_Some None v e in subst (λ (w : Option Value). (w ≡ None) × IfSome w (λ x. IsTrue (fits kind x))) same (refl, tt)
@@ -66,7 +66,7 @@ assigned_value kind (Some literal) v e =
     (λ x at same. subst (λ (w : Option Value). (w ≡ value_at (scale_of kind) literal) × IfSome w (λ y. IsTrue (fits kind y))) same
     (sym (value_in_at kind literal x at), value_in_fits kind literal x at))
 
--- new values are those that are assigned, and each fits its column's type
+-- new values are the assigned ones, and each fits its column's type
 abbrev pub FitNew : List Column → List (Option Value) → Type 0
 FitNew columns values = AllZip (λ column new. IfSome new (λ v. IsTrue (fits column.kind v))) columns values
 
@@ -82,20 +82,20 @@ new_ones (column ∷ columns) assigns values e =
     subst (λ ws. (ws ≡ values_assigned (column ∷ columns) assigns) × FitNew (column ∷ columns) ws) whole
     (ap₂ (λ (x : Option Value) (xs : List (Option Value)). x ∷ xs) here.0 rest.0, (here.1, rest.1))))
 
--- a call that is refused, and what is returned of it
+-- a refused call, and what the caller returns
 pub exit_refused : {X Y : Type 0} (r : Result X Refusal) (call : Result Y Refusal) (why : Refusal) (o : Option Refusal)
     → IsErrAnd r (λ e. e ≡ why) → call ≡ Err why → result_err call ≡ o → (r ≡ Err why) × (Some why ≡ o)
 exit_refused (Ok x) call why o is was known = absurd is
 exit_refused (Err e) call why o is was known = (ap Err is, sym (ap result_err was) ∙ known)
 
--- the key that a WHERE names is that of its literal
+-- the key that WHERE names is that of its literal
 pub keys_of_wheres : KeysOfWheres
 keys_of_wheres table row key e = key_exact table row.literal key (where_key table row key e)
 
 pub named_key : (table : TableDef) (row : WhereText) (key : Value) → key_named table row ≡ Ok key → key ≡ truncated_value (key_scale table) row.literal
 named_key table row key e = (keys_of_wheres table row key e).1
 
--- why a WHERE names none
+-- why WHERE names no key
 unnamed : (b : Bool) (o : Option Value) (r : Refusal) → cond (not b) (Err refusal.NotTheKey) (ok_or o refusal.BadValue) ≡ Err r
     → (r ≡ refusal.NotTheKey) ⊎ (r ≡ refusal.BadValue)
 unnamed false o r e = inl (cc)
@@ -105,7 +105,7 @@ unnamed true (Some v) r e = absurd (cc)
 pub refusals_of_keys : RefusalsOfKeys
 refusals_of_keys table row r e = unnamed (is_key table row.column) (key_in table row.literal) r e
 
--- what a plan is made of
+-- the parts of a plan
 key_by : (a b : Bool) (k : Result Value Refusal) (changes : Option (List (Option ℤ))) (values : Option (List (Option Value))) (plan : Plan)
     → plan_by a b k changes values ≡ Ok plan → k ≡ Ok (key_of plan)
 key_by true b (Ok key) None values plan e = absurd (cc)
@@ -147,7 +147,7 @@ pub planned_values_of : (table : TableDef) (text : UpdateText) (key : Value) (va
 planned_values_of table text key values e =
     values_by (are_changes table.columns text.assigns) (are_replacements table text.assigns) (key_named table text.row) (changes_of table.columns text.assigns) (new_values table text.assigns) key values e
 
--- why there is none
+-- why there is no plan
 refusal_by : (a b : Bool) (k : Result Value Refusal) (changes : Option (List (Option ℤ))) (values : Option (List (Option Value))) (r : Refusal)
     → plan_by a b k changes values ≡ Err r → (r ≡ refusal.BadAssignment) ⊎ ((k ≡ Err r) ⊎ (r ≡ refusal.BadValue))
 refusal_by true b (Ok key) None values r e = inr (inr (cc))
@@ -165,7 +165,7 @@ refusals_of_plans table text r e =
       | inr other ↦ inr (elim other [ inl key ↦ refusals_of_keys table text.row r key | inr bad ↦ inr bad ])
     ]
 
--- an UPDATE is never refused for memory before it is planned
+-- planning an UPDATE is never refused for memory
 pub never_memory : (table : TableDef) (text : UpdateText) → planned table text ≡ Err refusal.Memory → ⊥
 never_memory table text e = elim (refusals_of_plans table text refusal.Memory e) [ inl bad ↦ cc | inr other ↦ elim other [ inl bad ↦ cc | inr bad ↦ cc ] ]
 
@@ -202,12 +202,12 @@ pub answer_memory : (table : TableDef) (text : UpdateText) (answer : Result Plan
 answer_memory table text (Ok plan) is memory = absurd (cc)
 answer_memory table text (Err e) is memory = elim is [ inl same ↦ absurd (never_memory table text (same ∙ memory)) | inr other ↦ other.1 ]
 
--- want of memory is answered where there is a plan
+-- if there is a plan, lack of memory is a valid reason for refusal
 pub memory_exit : (planned answer : Result Plan Refusal) → IsErrAnd answer (λ e. e ≡ refusal.Memory) → IsOk planned → IsAnswer planned answer
 memory_exit planned (Ok plan) is can = absurd is
 memory_exit planned (Err e) is can = inr (is, can)
 
--- what is answered where the WHERE names no key
+-- the answer if WHERE names no key
 key_first : (b : Bool) (why : Refusal) (k : Result Value Refusal) (changes : Option (List (Option ℤ))) (values : Option (List (Option Value)))
     → Some why ≡ result_err k → plan_by true b k changes values ≡ Err why
 key_first b why (Ok v) changes values e = absurd (none-some why (sym e))
@@ -228,7 +228,7 @@ pub values_unkeyed : (table : TableDef) (text : UpdateText) (why : Refusal) → 
 values_unkeyed table text why a b e =
     inl (rw (a, b) (key_first_of_values why (key_named table text.row) (changes_of table.columns text.assigns) (new_values table text.assigns) e))
 
--- what is answered where it names one and the changes aren't made
+-- the answer if WHERE names a key and the changes cannot be made
 changes_faulty : (b : Bool) (why : Refusal) (key : Value) (changes : Option (List (Option ℤ))) (values : Option (List (Option Value)))
     → ((why ≡ refusal.BadValue) × (changes ≡ None)) ⊎ ((why ≡ refusal.Memory) × IsSome changes) → IsAnswer (plan_by true b (Ok key) changes values) (Err why)
 changes_faulty b why key None values fault = elim fault [ inl bad ↦ inl (ap Err (sym bad.0)) | inr memory ↦ absurd (false≢true memory.1) ]
@@ -240,7 +240,7 @@ changes_unmade table text why a named fault =
     let key = not_refused (key_named table text.row) named in
     rw (a, key.1) (changes_faulty (are_replacements table text.assigns) why key.0 (changes_of table.columns text.assigns) (new_values table text.assigns) fault)
 
--- and where they are made
+-- the answer if the changes can be made
 pub changes_planned : (table : TableDef) (text : UpdateText) (key : Value) (changes : List (Option ℤ))
     → are_changes table.columns text.assigns ≡ true → None ≡ result_err (key_named table text.row) → key ≡ truncated_value (key_scale table) text.row.literal
     → changes_of table.columns text.assigns ≡ Some changes → planned table text ≡ Ok (Reserve key changes)
@@ -254,7 +254,7 @@ changes_want_memory table text changes a named made =
     let known = not_refused (key_named table text.row) named in
     rw (a, known.1, made) refl
 
--- what is answered where a new value doesn't fit, and where all do
+-- the answers if some new value does not fit, and if all do
 pub values_bad : (table : TableDef) (text : UpdateText) → are_changes table.columns text.assigns ≡ false → are_replacements table text.assigns ≡ true
     → None ≡ result_err (key_named table text.row) → is_some (new_values table text.assigns) ≡ false → planned table text ≡ Err refusal.BadValue
 values_bad table text a b named unfit =

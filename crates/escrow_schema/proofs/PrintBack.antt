@@ -23,7 +23,7 @@ use Rattle.escrow_schema.proofs.RuleLemmas.{column_types, follows_rules, rules_o
 use Rattle.escrow_schema.proofs.PrintChecks.{all_again}
 use Rattle.escrow_schema.proofs.PrintTree.{check_tree, checks_back, columns_back, keys_back, plain_found, tree_of}
 
--- the declared checks stand before those of ranges
+-- the declared checks come before those of ranges
 declared_first : (table : TableDef) (declared : List Check) → table.checks ≡ declared ++ range_checks table.columns → declared_checks table ≡ declared
 declared_first table declared e =
     let reserved = reservables table.columns in
@@ -33,11 +33,11 @@ declared_first table declared e =
     omega (arith, whole, length-append declared ranges, length-map reserved (range_check (names_of reserved))) in
     ap (λ (n : ℕ). take n table.checks) many ∙ (ap (take (length declared)) e ∙ take-append_seam declared ranges)
 
--- checks, where they are few enough
+-- checks, if there are few enough
 abbrev at_most : List Check → Option (List Check)
 at_most checks = cond (nat_le (length checks) MAX_CHECKS) (Some checks) None
 
--- what the definition of a table gives for the text of its columns: names that can be written, types
+-- what the definition of a table says about the text of its columns: names that can be printed, and types
 pub record SoundColumns (columns : List Column) : Type 0 where
   pub names : list_all is_written_name (names_of columns) ≡ true
   pub distinct : are_distinct (names_of columns) ≡ true
@@ -46,7 +46,7 @@ pub record SoundColumns (columns : List Column) : Type 0 where
   pub most : length columns ≤ 30
   pub reserved : length (reservables columns) ≤ 10
 
--- and for all of its text: declared checks besides
+-- and about its whole text, with the declared checks
 pub record Sound (table : TableDef) : Type 0 where
   pub name : is_written_name table.name ≡ true
   pub columns : SoundColumns table.columns
@@ -79,13 +79,13 @@ sound text table e h =
 pub sound_of : (table : TableDef) → IsTable table → Sound table
 sound_of table (text, e) = sound text table e (follows_rules text table e)
 
--- the declared checks, of their own texts
+-- the declared checks are declared again by their own texts
 checks_again : (names : List (List ℕ)) (scales : List ℕ) (checks : List Check) → are_distinct names ≡ true → length checks ≤ MAX_CHECKS → AllByRecursion (IsDeclared names scales) checks
     → checks_of names scales (map (check_tree names scales) checks) ≡ Some checks
 checks_again names scales checks apart few all =
     ap (option_and_then at_most) (all_again names scales checks 1 apart all) ∙ cond-true (nat_le (length checks) MAX_CHECKS) (Some checks) None (le-leb (length checks) MAX_CHECKS few)
 
--- the tree of a table with other checks, and that table, follow the rules of definitions
+-- the tree of a table with other checks and that table follow the rules of definitions
 pub follows_tree : (text : CreateText) (table : TableDef) (checks : List Check) → Sound (record table { checks = checks }) → IsDistinct bytes_eq (check_names checks) → FollowsRules text table
     → FollowsRules (tree_of (record table { checks = checks })) (record table { checks = checks })
 follows_tree text table checks s apart h =
@@ -114,7 +114,7 @@ follows_tree text table checks s apart h =
       distinct_checks = apart;
     }
 
--- a table with other declared checks, before those of its ranges
+-- a table with other declared checks, followed by those of its ranges
 abbrev pub over : TableDef → List Check → TableDef
 over table declared = record table { checks = declared ++ range_checks table.columns }
 
@@ -130,7 +130,7 @@ sound_over table declared s few good =
       checks = ap (λ (checks : List Check). checks ++ range_checks table.columns) (sym same);
     }
 
--- it is a table where these are few, each as CHECKs may declare it, and no two of all its checks have one name
+-- it is a table if these checks are few, each may be declared by a CHECK, and no two of all its checks share a name
 pub over_is_table : (table : TableDef) (declared : List Check) → IsTable table → length declared ≤ MAX_CHECKS
     → AllByRecursion (IsDeclared (names_of (reservables table.columns)) (scales_of (reservables table.columns))) declared
     → IsDistinct bytes_eq (check_names (declared ++ range_checks table.columns)) → IsTable (over table declared)

@@ -28,9 +28,9 @@ use Rattle.escrow_schema.proofs.DistinctLemmas.{either_order, first_apart, same_
 use Rattle.escrow_schema.proofs.RangeLemmas.{int_le_true}
 use Rattle.escrow_schema.proofs.PrintTree.{check_tree, condition_tree, terms_tree, test_tree, units_tree}
 
--- ---- what is known of it
+-- ---- what is known of a check
 
--- its coefficients, as they are written, are small, and not all zero
+-- its printed coefficients are small, and not all zero
 abbrev pub IsSmall : ℤ → Type 0
 IsSmall c = unsigned_abs c ≤ 1000000
 
@@ -48,7 +48,7 @@ small_each names scales check h = small_all (written_of check scales) (and_parts
 pub some_coefficient : (names : List (List ℕ)) (scales : List ℕ) (check : Check) → IsDeclared names scales check → list_any (λ c. not (int_eq c (pos 0))) (written_of check scales) ≡ true
 some_coefficient names scales check h = (and_parts _ _ h.coefficients).1
 
--- there is one for each column
+-- there is one coefficient for each column
 pub written_covers : (names : List (List ℕ)) (scales : List ℕ) (check : Check) → IsDeclared names scales check → length (written_of check scales) ≡ length names
 written_covers names scales check h = length-written_coeffs check.scale check.coeffs scales ∙ h.covers
 
@@ -73,9 +73,9 @@ amounts_of names scales check h =
     let ends = and_parts (is_limit check.span.lo) (is_limit check.span.hi) front.0 in
     (limit_amount check.span.lo ends.0, limit_amount check.span.hi ends.1)
 
--- ---- its coefficients
+-- ---- the coefficients
 
--- a name that no column has is in no term
+-- a name that no column has occurs in no term
 no_term : (name : List ℕ) (names : List (List ℕ)) (coeffs : List ℤ) → list_any (λ other. bytes_eq name other) names ≡ false → total (coefficient_in name) (terms_tree names coeffs) ≡ pos 0
 no_term name [] coeffs none = refl
 no_term name (first ∷ names) [] none = refl
@@ -96,7 +96,7 @@ others_stay name c ts (other ∷ names) none =
     let parts = or_parts (bytes_eq name other) (list_any (λ other. bytes_eq name other) names) none in
     rw (parts.0, +ℤ_idl (total (coefficient_in other) ts)) (ap (λ (cs : List ℤ). total (coefficient_in other) ts ∷ cs) (others_stay name c ts names parts.1))
 
--- among distinct names the terms add up to the coefficients
+-- if the names are distinct, the terms add up to the coefficients
 terms_back : (names : List (List ℕ)) (coeffs : List ℤ) → are_distinct names ≡ true → length coeffs ≡ length names → map (λ n. total (coefficient_in n) (terms_tree names coeffs)) names ≡ coeffs
 terms_back [] [] apart same = refl
 terms_back [] (c ∷ coeffs) apart same = absurd (omega arith)
@@ -120,7 +120,7 @@ terms_back (name ∷ names) (c ∷ coeffs) apart same =
         → map (λ n. total (coefficient_in n) ts) (name ∷ names) ≡ map (λ n. total (coefficient_in n) us) (name ∷ names)
     sums_of names name e = ap (λ (ts : List Term). map (λ n. total (coefficient_in n) ts) (name ∷ names)) e
 
--- no column is on the right
+-- no column occurs on the right
 none_right : (scale : ℕ) (lo hi : Option ℤ) (name : List ℕ) → total (coefficient_in name) (right_of (test_tree scale lo hi)) ≡ pos 0
 none_right scale (Some lo) (Some hi) name = elim (cases_Bool (int_eq lo hi)) [ inl e ↦ rw e refl | inr e ↦ rw e refl ]
 none_right scale (Some lo) None name = refl
@@ -135,9 +135,9 @@ without_right sum scale lo hi (name ∷ names) =
     let none = none_right scale lo hi name in
     ap₂ (λ (x : ℤ) (xs : List ℤ). x ∷ xs) (omega (arith, ints)) (without_right sum scale lo hi names)
 
--- ---- its limits
+-- ---- the limits
 
--- no number is on the left
+-- no number occurs on the left
 no_number : (names : List (List ℕ)) (coeffs : List ℤ) → total number_in (terms_tree names coeffs) ≡ pos 0
 no_number [] coeffs = refl
 no_number (name ∷ names) [] = refl
@@ -148,14 +148,14 @@ no_number (name ∷ names) (c ∷ coeffs) =
       | inr e ↦ rw (e, rest) refl
     ]
 
--- a number alone on the right is what it is
+-- a single number on the right keeps its value
 alone : (n : ℤ) → (n +ℤ pos 0) -ℤ pos 0 ≡ n
 alone n = omega (arith, ints)
 
 unmoved : (n : ℤ) → n -ℤ pos 0 ≡ n
 unmoved n = omega (arith, ints)
 
--- and is a whole number of units of its scale
+-- it is a whole number of units of its scale
 alone_whole : (scale : ℕ) (z : ℤ) → is_whole scale ((units_tree scale z +ℤ pos 0) -ℤ pos 0) ≡ true
 alone_whole scale z = ap (is_whole scale) (alone (units_tree scale z)) ∙ (units_are_whole scale z).0
 
@@ -188,9 +188,9 @@ limits_back scale (Some lo) None limited = rw (alone_units scale lo) refl
 limits_back scale None (Some hi) limited = rw (alone_units scale hi) refl
 limits_back scale None None limited = absurd (false≢true limited)
 
--- ---- its columns
+-- ---- the columns
 
--- names that are among columns are so among more
+-- names that are among columns are also among more columns
 among_more : (first : List ℕ) (names columns : List (List ℕ)) → list_all (λ name. list_any (λ column. bytes_eq column name) columns) names ≡ true
     → list_all (λ name. list_any (λ column. bytes_eq column name) (first ∷ columns)) names ≡ true
 among_more first [] columns all = refl
@@ -201,12 +201,12 @@ among_more first (name ∷ names) columns all =
       | inr e ↦ rw (e, parts.0) (among_more first names columns parts.1)
     ]
 
--- and each name is among all
+-- each name is among all names
 each_among : (names : List (List ℕ)) → list_all (λ name. list_any (λ column. bytes_eq column name) names) names ≡ true
 each_among [] = refl
 each_among (name ∷ names) = rw (same_name name) (among_more name names names (each_among names))
 
--- where each column passes a test, each that the tree names does
+-- if each column passes a test, each column that the tree names does
 right_pass : (p : List ℕ → Bool) (scale : ℕ) (lo hi : Option ℤ) → list_all p (flat_map columns_in (right_of (test_tree scale lo hi))) ≡ true
 right_pass p scale (Some lo) (Some hi) = elim (cases_Bool (int_eq lo hi)) [ inl e ↦ rw e refl | inr e ↦ rw e refl ]
 right_pass p scale (Some lo) None = refl
@@ -225,20 +225,21 @@ named_pass p (name ∷ names) (c ∷ coeffs) scale lo hi all =
       | inr e ↦ rw (e, parts.0) rest
     ]
 
--- ---- the whole
+-- ---- the whole check
 
--- the check of a name, written coefficients, a scale and a condition's limits, where these are good and the columns are there
+-- the check made of a name, printed coefficients, a scale and a condition's limits, if these are valid and the columns
+-- exist
 abbrev check_with : Bool → List ℕ → List ℕ → Condition → List ℤ → ℕ → Option Check
 check_with there name scales condition written scale =
     cond (there && are_good_coefficients written && has_good_limits scale condition && is_written_name name)
     (Some (record { name = name; coeffs = scaled_coeffs scale written scales; scale = scale; span = condition_limits scale condition })) None
 
--- the limits of its tree are its own
+-- the limits of its tree are its own limits
 span_again : (names : List (List ℕ)) (scales : List ℕ) (check : Check) → IsDeclared names scales check → condition_limits check.scale (condition_tree names scales check) ≡ check.span
 span_again names scales check h =
     ap (limits_of check.scale (test_tree check.scale check.span.lo check.span.hi)) (no_number names (written_of check scales)) ∙ limits_back check.scale check.span.lo check.span.hi h.limited
 
--- and are good
+-- these limits are valid
 good_again : (names : List (List ℕ)) (scales : List ℕ) (check : Check) → IsDeclared names scales check → has_good_limits check.scale (condition_tree names scales check) ≡ true
 good_again names scales check h =
     let test = test_tree check.scale check.span.lo check.span.hi in
@@ -261,7 +262,7 @@ again names scales check apart h =
     ap (λ (cs : List ℤ). made cs (form_scale cs scales)) coeffs ∙ ap (made written) h.scale ∙ cond-true _ _ _ good ∙
     ap₂ (λ (cs : List ℤ) (span : Span). Some (record { name = check.name; coeffs = cs; scale = check.scale; span = span })) h.scaled (span_again names scales check h)
 
--- their own texts declare checks again
+-- printed checks are declared again by their own texts
 pub all_again : (names : List (List ℕ)) (scales : List ℕ) (checks : List Check) (n : ℕ) → are_distinct names ≡ true → AllByRecursion (IsDeclared names scales) checks
     → checks_from names scales (map (check_tree names scales) checks) n ≡ Some checks
 all_again names scales [] n apart all = refl

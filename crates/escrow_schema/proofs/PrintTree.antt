@@ -1,4 +1,4 @@
--- The tree that the canonical text of a table writes, and what it declares: the table's columns, key and checks.
+-- The tree that a table's canonical text prints, and what it declares: the table's columns, key and checks.
 use Rattle.std.proofs.Common.{◌≡◌, ℕ, zero, suc, ℤ, pos, ◌+◌, ◌*ℤ◌, ◌<◌, Bool, true, false, Option, Some, None, List, [], ◌∷◌, ◌++◌, map, filter, refl, sym, ap, subst, arith, inl, inr}
 use Rattle.std.specs.Prelude.{◌==◌, slice_get, unwrap_or, if◌then◌else◌}
 use Rattle.std.specs.List.{AllByRecursion, flat_map, list_any}
@@ -34,7 +34,7 @@ use Rattle.escrow_schema.specs.Print.{declared_checks}
 use Rattle.escrow_schema.specs.Typed.{IsType}
 use Rattle.escrow_schema.proofs.ColumnsLemmas.{HasType}
 
--- a scale behind a precision; none where it is 0
+-- the scale after a precision; none if it is 0
 abbrev pub scale_tree : ℕ → Option ℤ
 scale_tree scale = if scale == 0 then None else Some (pos scale)
 
@@ -53,7 +53,7 @@ marks_tree false false = []
 abbrev pub column_tree : Bool → Column → ColumnText
 column_tree is_key column = record { name = column.name; kind = type_tree column.kind; marks = marks_tree is_key column.reservable }
 
--- columns in order, of which the first stands at a place
+-- columns in order, the first of which is at a given place
 abbrev pub columns_tree : List Column → ℕ → ℕ → List Item
 columns_tree [] place key = []
 columns_tree (column ∷ columns) place key = items.Column (column_tree (place == key) column) ∷ columns_tree columns (place + 1) key
@@ -98,7 +98,7 @@ tree_of table = record { table = table.name; items = items_tree table }
 
 -- ---- the columns
 
--- what is at the key's place isn't RESERVABLE
+-- the column at the key's place is not RESERVABLE
 abbrev pub PlainKey : List Column → ℕ → ℕ → Type 0
 PlainKey [] place key = Unit {0}
 PlainKey (column ∷ columns) place key = ((place == key) ≡ true → column.reservable ≡ false) × PlainKey columns (place + 1) key
@@ -114,7 +114,7 @@ plain_found (first ∷ columns) place key zero column at found plain =
 plain_found (first ∷ columns) place key (suc i) column at found plain =
     (λ e. let same = eqb-true place key e in absurd (omega arith), plain_found columns (place + 1) key i column (omega arith) found plain)
 
--- a scale behind a precision is read back, also where none is written
+-- the scale after a precision is read back, even if none is printed
 scale_back : (scale : ℕ) → unwrap_or (scale_tree scale) (pos 0) ≡ pos scale
 scale_back scale =
     elim (cases_Bool (scale == 0)) [
@@ -122,7 +122,7 @@ scale_back scale =
       | inr e ↦ rw e refl
     ]
 
--- a type that is one is read back
+-- a valid type is read back
 type_back : (kind : ColumnType) → IsType kind → type_of (type_tree kind) ≡ Some kind
 type_back (Number digits scale) h =
     let low = le-leb 1 digits h.0 in

@@ -25,7 +25,7 @@ times_one : (a : ℤ) → pos 1 *ℤ a ≡ a
 times_one (pos n) = omega (arith, ints)
 times_one (negsuc n) = omega (arith, ints)
 
--- the form of a column that isn't among the names is zero
+-- the form of a column whose name is not among the names is zero
 pub form-unit_other : (names : List (List ℕ)) (name : List ℕ) (numbers : List ℤ) → list_any (λ other. bytes_eq name other) names ≡ false → form (unit_of names name) numbers ≡ pos 0
 form-unit_other [] name numbers none = refl
 form-unit_other (x ∷ names) name [] none = refl
@@ -38,7 +38,7 @@ form-unit_other (x ∷ names) name (a ∷ rest) none =
 pub form-unit_first : (names : List (List ℕ)) (name : List ℕ) (a : ℤ) (rest : List ℤ) → list_any (λ other. bytes_eq name other) names ≡ false → form (unit_of (name ∷ names) name) (a ∷ rest) ≡ a
 form-unit_first names name a rest none = rw (same_name name, form-unit_other names name rest none, times_one a) (omega (arith, ints))
 
--- the form of another column is that of the rest
+-- the form of another column is the form over the remaining names
 pub form-unit_rest : (first : List ℕ) (names : List (List ℕ)) (name : List ℕ) (a : ℤ) (rest : List ℤ) → bytes_eq first name ≡ false → form (unit_of (first ∷ names) name) (a ∷ rest) ≡ form (unit_of names name) rest
 form-unit_rest first names name a rest apart = rw (apart, zero-*ℤ) (+ℤ_idl (form (unit_of names name) rest))
 
@@ -46,7 +46,7 @@ form-unit_rest first names name a rest apart = rw (apart, zero-*ℤ) (+ℤ_idl (
 abbrev Between : ColumnType → ℤ → Type 0
 Between kind z = (neg_ℤ (top_of kind) ≤ℤ z) × (z ≤ℤ top_of kind)
 
--- what is between the limits of a type is an amount
+-- a number between the limits of a type is an amount
 amount_between : (kind : ColumnType) (z : ℤ) → IsType kind → Between kind z → IsAmount z
 amount_between (Number digits scale) z small h =
     let top = power_within digits small.1 in
@@ -54,7 +54,7 @@ amount_between (Number digits scale) z small h =
     (omega (arith, ints), omega (arith, ints))
 amount_between (Varchar2 bytes) z small h = (omega (arith, ints), omega (arith, ints))
 
--- a test of two numbers, and what it tells
+-- a test of two numbers, and what its result says
 pub int_le_true : (a b : ℤ) → int_le a b ≡ true → a ≤ℤ b
 int_le_true (pos a) (pos b) e = let h = leb-true a b e in omega (arith, ints)
 int_le_true (pos a) (negsuc b) e = absurd (false≢true e)
@@ -67,7 +67,7 @@ int_le_from (pos a) (negsuc b) h = absurd (omega (arith, ints))
 int_le_from (negsuc a) (pos b) h = refl
 int_le_from (negsuc a) (negsuc b) h = elim (leb_tells b a) [ inl t ↦ t.0 | inr f ↦ (let less = f.1 in absurd (omega (arith, ints))) ]
 
--- what fits a type of numbers is between its limits, and what is between them fits
+-- a number fits a numeric type exactly if it is between the type's limits
 between : (kind : ColumnType) (z : ℤ) → fits kind (value.Number z) ≡ true → Between kind z
 between (Number digits scale) z e =
     let top = top_of (Number digits scale) in
@@ -81,7 +81,7 @@ fits_between (Number digits scale) z numeric h =
     and_from (int_le (neg_ℤ top) z) (int_le z top) (int_le_from (neg_ℤ top) z h.0) (int_le_from z top h.1)
 fits_between (Varchar2 bytes) z numeric h = absurd (false≢true numeric)
 
--- the checks of the other columns, at the numbers behind the first
+-- the checks of the other columns hold of the numbers after the first
 rest_meets : (first : List ℕ) (names : List (List ℕ)) (a : ℤ) (rest : List ℤ) (columns : List Column)
     → list_any (λ other. bytes_eq first other) (names_of columns) ≡ false
     → AllByRecursion (λ check. Meets check (a ∷ rest)) (map (range_check (first ∷ names)) columns)
@@ -92,7 +92,7 @@ rest_meets first names a rest (column ∷ columns) none h =
     let same = form-unit_rest first names column.name a rest parts.0 in
     (subst (Between column.kind) same h.0, rest_meets first names a rest columns parts.1 h.1)
 
--- and the other way round
+-- the converse
 meets_rest : (first : List ℕ) (names : List (List ℕ)) (a : ℤ) (rest : List ℤ) (columns : List Column)
     → list_any (λ other. bytes_eq first other) (names_of columns) ≡ false
     → AllByRecursion (λ check. Meets check rest) (map (range_check names) columns)
@@ -117,7 +117,7 @@ fit_in_range (column ∷ columns) (a ∷ rest) apart numeric same h =
     let shorter : length rest ≡ length columns = omega arith in
     (fits_between column.kind a numeric.0 here, fit_in_range columns rest parts.1 numeric.1 shorter (rest_meets column.name (names_of columns) a rest columns parts.0 h.1))
 
--- and numbers that fit them meet those checks
+-- numbers that fit the types meet the range checks
 pub range_met : (columns : List Column) (numbers : List ℤ)
     → are_distinct (names_of columns) ≡ true
     → FitColumns columns (map value.Number numbers)

@@ -17,13 +17,13 @@ use Rattle.escrow_schema.specs.Fit.{FitColumns, plains, values_in, number_in, am
 use Rattle.escrow_schema.proofs.FitLemmas.{values_split}
 use Rattle.escrow_schema.proofs.KeyValues.{value_in_fits}
 
--- what fits a type of numbers is a number
+-- a value that fits a type of numbers is a number
 number_value : (kind : ColumnType) (v : Value) → is_numeric kind ≡ true → fits kind v ≡ true → value.Number (number_in v) ≡ v
 number_value kind (value.Number z) numeric e = refl
 number_value (Number digits scale) (value.Text t) numeric e = absurd (false≢true e)
 number_value (Varchar2 bytes) (value.Text t) numeric e = absurd (false≢true numeric)
 
--- values that literals are fit their columns
+-- the values of literals fit their columns
 pub fit_values : (columns : List Column) (literals : List Literal) (values : List Value) → values_in columns literals ≡ Some values → FitColumns columns values
 fit_values [] [] values e = subst (FitColumns []) (same_Some [] values e) tt
 fit_values [] (l ∷ literals) values e = absurd (none-some values e)
@@ -32,11 +32,11 @@ fit_values (column ∷ columns) (l ∷ literals) values e =
     values_split column columns l literals values e
     (λ v rest one others whole. subst (FitColumns (column ∷ columns)) whole (value_in_fits column.kind l v one, fit_values columns literals rest others))
 
--- each column, where it is RESERVABLE, is of numbers
+-- each RESERVABLE column holds numbers
 abbrev pub NumericColumns : List Column → Type 0
 NumericColumns columns = AllByRecursion (λ column. is_numeric column.kind ≡ true) (reservables columns)
 
--- the key among values, of which the first stands at a place
+-- the key among values, the first of which has the index `place`
 abbrev pub HasKey : List Value → ℕ → ℕ → Value → Type 0
 HasKey values place at key = (i : ℕ) → at ≡ place + i → slice_get values i ≡ Some key
 
@@ -50,14 +50,14 @@ key_here v values place at key h e = same_Some v key (h 0 (let same = eqb-true p
 pub key_at : (values : List Value) (at : ℕ) (key : Value) → slice_get values at ≡ Some key → HasKey values 0 at key
 key_at values at key found i e = let same : at ≡ i = omega arith in subst (λ n. slice_get values n ≡ Some key) same found
 
--- the RESERVABLE ones of one more column
+-- the RESERVABLE columns with one more column
 reservable_more : (column : Column) (columns : List Column) → column.reservable ≡ true → reservables (column ∷ columns) ≡ column ∷ reservables columns
 reservable_more column columns r = rw r refl
 
 reservable_same : (column : Column) (columns : List Column) → column.reservable ≡ false → reservables (column ∷ columns) ≡ reservables columns
 reservable_same column columns r = rw r refl
 
--- the amounts, the key and the plain values of values that fit, put together, are the values
+-- fitting values are rebuilt from their amounts, key and plain values
 values_back : (columns : List Column) (values : List Value) (place at : ℕ) (key : Value)
     → NumericColumns columns → FitColumns columns values → HasKey values place at key
     → values ≡ values_from columns place at key (amounts_of columns values) (plain_of columns values place at)
@@ -77,7 +77,7 @@ values_back (column ∷ columns) (v ∷ values) place at key numeric fit h =
           ])
     ]
 
--- the plain values of values that fit, fit the plain columns
+-- the plain values of fitting values fit the plain columns
 pub plain_fits : (columns : List Column) (values : List Value) (place at : ℕ) → FitColumns columns values → FitColumns (plains columns place at) (plain_of columns values place at)
 plain_fits [] [] place at fit = tt
 plain_fits [] (v ∷ values) place at fit = absurd fit
@@ -86,7 +86,7 @@ plain_fits (column ∷ columns) (v ∷ values) place at fit =
     let rest = plain_fits columns values (place + 1) at fit.1 in
     elim (cases_Bool (column.reservable || place == at)) [ inl t ↦ rw t rest | inr f ↦ rw f (fit.0, rest) ]
 
--- the value at a place fits the column at that place
+-- the value at an index fits the column at that index
 pub fit_at : (columns : List Column) (values : List Value) (i : ℕ) (v : Value) → FitColumns columns values → slice_get values i ≡ Some v
     → IsSomeAnd (slice_get columns i) (λ column. IsTrue (fits column.kind v))
 fit_at [] [] i v fit e = absurd (none-some v e)
@@ -95,11 +95,11 @@ fit_at (column ∷ columns) [] i v fit e = absurd fit
 fit_at (column ∷ columns) (w ∷ values) zero v fit e = subst (λ x. fits column.kind x ≡ true) (same_Some w v e) fit.0
 fit_at (column ∷ columns) (w ∷ values) (suc i) v fit e = fit_at columns values i v fit.1 e
 
--- a key fits the column at its place, where the first of the columns stands at a place
+-- a key fits the column at its index, where the first column has the index `place`
 abbrev pub KeyFits : List Column → ℕ → ℕ → Value → Type 0
 KeyFits columns place at key = (i : ℕ) (column : Column) → at ≡ place + i → slice_get columns i ≡ Some column → fits column.kind key ≡ true
 
--- numbers that fit the RESERVABLE columns, a key and plain values that fit, put together, fit
+-- fitting numbers, key and plain values make fitting values
 pub values_from_fit : (columns : List Column) (place at : ℕ) (key : Value) (numbers : List ℤ) (plain : List Value)
     → KeyFits columns place at key → FitColumns (reservables columns) (map value.Number numbers) → FitColumns (plains columns place at) plain
     → FitColumns columns (values_from columns place at key numbers plain)
@@ -136,7 +136,7 @@ values_from_fit (column ∷ columns) place at key numbers plain h fit others =
     plain_value column columns [] place at key numbers fit all = absurd fit
     plain_value column columns (v ∷ more) place at key numbers fit all = (fit.0, all more fit.1)
 
--- the values that a row is made of are its values
+-- the values of a row are those that it is made from
 pub made_values : (table : TableDef) (values : List Value) (key : Value) (row : Row)
     → NumericColumns table.columns → FitColumns table.columns values → slice_get values table.key ≡ Some key
     → record { name = record { table = table.name; key = key }; amounts = amounts_of table.columns values; plain = plain_of table.columns values 0 table.key } ≡ row
@@ -145,7 +145,7 @@ made_values table values key row numeric fit found made =
     subst (λ r. values ≡ values_of table r) made
     (values_back table.columns values 0 table.key key numeric fit (key_at values table.key key found))
 
--- the value at a place is that of the literal there, in the column there
+-- the value at an index is that of the literal there, for the column there
 pub literal_at : (columns : List Column) (literals : List Literal) (values : List Value) (i : ℕ) (column : Column) (l : Literal) → values_in columns literals ≡ Some values
     → slice_get columns i ≡ Some column → slice_get literals i ≡ Some l → slice_get values i ≡ value_in column.kind l
 literal_at [] literals values i column l e there at = absurd (none-some column there)

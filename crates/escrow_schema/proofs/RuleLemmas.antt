@@ -56,7 +56,7 @@ rules_on columns key e =
       numeric = k.1;
     }
 
--- the columns of a table follow them
+-- the columns of a table follow the rules
 pub rules_of : (table : TableDef) → IsTable table → Rules table.columns table.key
 rules_of table is_table = rules_on table.columns table.key (parts is_table.0 table is_table.1).follow
 
@@ -64,36 +64,36 @@ rules_of table is_table = rules_on table.columns table.key (parts is_table.0 tab
 pub column_types : (table : TableDef) → IsTable table → AllByRecursion HasType table.columns
 column_types table is_table = written_columns (column_texts is_table.0.items) table.columns (parts is_table.0 table is_table.1).columns
 
--- beside the names of its RESERVABLE columns stand their scales
+-- the scales of its RESERVABLE columns are scales, one for each name
 pub table_scales : (table : TableDef) → IsTable table → AreScales (names_of (reservables table.columns)) (scales_of (reservables table.columns))
 table_scales table is_table = scales_typed (reservables table.columns) (reservable_types table.columns (column_types table is_table))
 
--- a column at which a test holds stands there
+-- if a column passes the test at an index, the index is within the columns
 stands : (columns : List Column) (key : ℕ) → is_plain_at columns key ≡ true → key < length columns
 stands [] key e = absurd (false≢true e)
 stands (column ∷ columns) zero e = omega arith
 stands (column ∷ columns) (suc key) e = let rest = stands columns key e in omega arith
 
--- the key of a table stands among its columns
+-- the key of a table is among its columns
 pub key_stands : (table : TableDef) → IsTable table → table.key < length table.columns
 key_stands table is_table = stands table.columns table.key (rules_of table is_table).plain_key
 
--- each column of a table, by its place, has a type
+-- each column of a table, by its index, has a type
 pub typed_columns : (table : TableDef) → IsTable table → (columns : List Column) → columns ≡ table.columns → TypedColumns columns
 typed_columns table is_table columns same = All-from_recursion HasType columns (subst (AllByRecursion HasType) (sym same) (column_types table is_table))
 
--- and has the key among its columns
+-- the key is among the columns
 pub key_among : (table : TableDef) → IsTable table → (columns : List Column) → columns ≡ table.columns → table.key < length columns
 key_among table is_table columns same = subst (λ (xs : List Column). table.key < length xs) (sym same) (key_stands table is_table)
 
--- RESERVABLE columns of a table can have the checks of their ranges
+-- the RESERVABLE columns of a table can have range checks
 pub can_range : (columns reserved : List Column) (key : ℕ) → are_columns columns key ≡ true → TypedColumns columns → reserved ≡ reservables columns → CanRange reserved
 can_range columns reserved key follow types same =
     let rules = rules_on columns key follow in
     subst CanRange (sym same)
     (rules.few_reservable, reservables_distinct columns rules.distinct, reservables_written columns rules.written_names, All-filter (λ column. column.reservable) HasType columns types)
 
--- and so can those of a table
+-- so can those of a table that is given
 pub table_can_range : (table : TableDef) (reserved : List Column) → IsTable table → reserved ≡ reservables table.columns → CanRange reserved
 table_can_range table reserved is_table same =
     can_range table.columns reserved table.key (parts is_table.0 table is_table.1).follow (typed_columns table is_table table.columns refl) same
@@ -102,18 +102,18 @@ table_can_range table reserved is_table same =
 pub written_typed : (items : List Item) (columns : List Column) → columns_of (column_texts items) ≡ Some columns → TypedColumns columns
 written_typed items columns e = All-from_recursion HasType columns (written_columns (column_texts items) columns e)
 
--- the item of a list of one
+-- a list of one item
 only_from : (names : List (List ℕ)) (name : List ℕ) → only_one names ≡ Some name → names ≡ name ∷ []
 only_from [] name e = absurd (none-some name e)
 only_from (x ∷ []) name e = ap (λ n. n ∷ []) (same_Some x name e)
 only_from (x ∷ y ∷ names) name e = absurd (none-some name e)
 
--- the column at a place where a column isn't RESERVABLE
+-- the column at an index, if it is not RESERVABLE
 plain_column : (o : Option Column) → unwrap_or (option_map (λ column. not column.reservable) o) false ≡ true → (column : Column) × (o ≡ Some column) × (column.reservable ≡ false)
 plain_column None e = absurd (false≢true e)
 plain_column (Some column) e = (column, refl, not-true column.reservable e)
 
--- the key column has the one name that is written as key
+-- the key column has the single name that is written as key
 pub key_written : (items : List Item) (columns : List Column) (key : ℕ) (column : Column) → key_place items columns ≡ Some key → slice_get columns key ≡ Some column
     → key_names items ≡ column.name ∷ []
 key_written items columns key column e found =
@@ -123,11 +123,11 @@ key_written items columns key column e found =
     let same : bytes_eq column.name name ≡ true = subst (λ (c : Column). bytes_eq c.name name ≡ true) (get_or_from_slice_get columns key column column found) there in
     only_from (key_names items) name one ∙ ap (λ n. n ∷ []) (sym ((bytes_eq-Decides column.name name).0 same)))
 
--- what passes a test name by name
+-- names that pass a test, one by one
 passes : (names : List (List ℕ)) → list_all is_written_name names ≡ true → AllByRecursion (λ name. IsTrue (is_written_name name)) names
 passes names e = recursion_from_All (λ name. IsTrue (is_written_name name)) names (AllPass-from_list_all is_written_name names e)
 
--- what is of numbers column by column
+-- columns of numbers, one by one
 pub numeric_each : (columns : List Column) → list_all (λ column. is_numeric column.kind) columns ≡ true → AllByRecursion (λ column. IsTrue (is_numeric column.kind)) columns
 numeric_each columns e =
     recursion_from_All (λ column. IsTrue (is_numeric column.kind)) columns (AllPass-from_list_all (λ column. is_numeric column.kind) columns e)

@@ -1,4 +1,4 @@
--- What a table is made of that a text defines.
+-- The parts of a table that a text defines.
 use Rattle.std.proofs.Common.{◌≡◌, ℕ, true, ◌&&◌, Some, option_and_then, List, ◌++◌, subst, refl}
 use Rattle.std.proofs.lemmas.Bool.{and_parts}
 use Rattle.std.proofs.lemmas.Option.{option_and_then_some, cond_some}

@@ -17,7 +17,7 @@ use Rattle.escrow_schema.specs.Definition.{are_distinct, range_check}
 use Rattle.escrow_schema.specs.Typed.{CanRange}
 use Rattle.escrow_schema.proofs.DistinctLemmas.{same_name, either_order}
 
--- a column that isn't among the names has no coefficient there
+-- a column that is not among the names has only zero coefficients
 unit_other : (columns : List Column) (name : List ℕ) → list_any (λ other. bytes_eq name other) (names_of columns) ≡ false → unit_of (names_of columns) name ≡ replicate (length columns) (pos 0)
 unit_other [] name none = refl
 unit_other (column ∷ columns) name none =
@@ -25,14 +25,14 @@ unit_other (column ∷ columns) name none =
     let apart : bytes_eq column.name name ≡ false = either_order column.name name ∙ parts.0 in
     rw apart (ap (λ rest. pos 0 ∷ rest) (unit_other columns name parts.1))
 
--- the name at a place is none that isn't among the names
+-- the name at an index differs from a name that is not among them
 pub at_apart : (columns : List Column) (name : List ℕ) (place : ℕ) (d : Column) → list_any (λ other. bytes_eq name other) (names_of columns) ≡ false → place < length columns → bytes_eq name (get_or columns place d).name ≡ false
 at_apart [] name place d none within = absurd (omega arith)
 at_apart (column ∷ columns) name zero d none within = (or_parts (bytes_eq name column.name) (list_any (λ other. bytes_eq name other) (names_of columns)) none).0
 at_apart (column ∷ columns) name (suc place) d none within =
     at_apart columns name place d (or_parts (bytes_eq name column.name) (list_any (λ other. bytes_eq name other) (names_of columns)) none).1 (omega arith)
 
--- among distinct names the coefficients of the column at a place are 1 there and 0 elsewhere
+-- if names are distinct, the coefficients of the column at an index are 1 there and 0 elsewhere
 pub unit_at : (columns : List Column) (place : ℕ) (d : Column) → are_distinct (names_of columns) ≡ true → place < length columns
     → unit_of (names_of columns) (get_or columns place d).name ≡ set (replicate (length columns) (pos 0)) place (pos 1)
 unit_at [] place d apart within = absurd (omega arith)
@@ -51,7 +51,7 @@ pub short_from : (name : List ℕ) → is_written_name name ≡ true → length 
 unfolding is_written_name
 short_from name h = leb-true (length name) MAX_WRITTEN (and_parts (spells_name name) (nat_le (length name) MAX_WRITTEN) (and_parts (spells_name name && nat_le (length name) MAX_WRITTEN) (is_none (reserved name)) h).0).1
 
--- so is each of such names
+-- each of such names is short
 pub short_at : (columns : List Column) (place : ℕ) (d : Column) → list_all is_written_name (names_of columns) ≡ true → place < length columns → length (get_or columns place d).name ≤ MAX_WRITTEN
 short_at [] place d writable within = absurd (omega arith)
 short_at (column ∷ columns) zero d writable within = short_from column.name (and_parts (is_written_name column.name) (list_all is_written_name (names_of columns)) writable).0
@@ -62,7 +62,7 @@ short_at (column ∷ columns) (suc place) d writable within =
 abbrev pub limits_of : Column → Span
 limits_of column = record { lo = Some (neg_ℤ (top_of column.kind)); hi = Some (top_of column.kind) }
 
--- a name, coefficients, a scale and limits that are those of a column's range check make it
+-- a name, coefficients, a scale and limits of a column's range check make that check
 pub ranged : (columns : List Column) (place : ℕ) (column d : Column) (name : List ℕ) (coeffs : List ℤ) (scale : ℕ) (span : Span)
     → CanRange columns → place < length columns → column ≡ get_or columns place column
     → name ≡ codes "RANGE_" ++ (get_or columns place column).name → coeffs ≡ set (replicate (length columns) (pos 0)) place (pos 1)
@@ -77,6 +77,6 @@ ranged columns place column d name coeffs scale span can within at named one own
     let made : check ≡ range_check (names_of columns) column = rw (called, ← unit, own, limits) refl in
     subst (λ (c : Column). check ≡ range_check (names_of columns) c) same made
 
--- the name at a place is short
+-- the name at an index is short
 pub short_name : (columns : List Column) (place : ℕ) (column : Column) → CanRange columns → place < length columns → column ≡ get_or columns place column → length column.name ≤ MAX_WRITTEN
 short_name columns place column can within at = subst (λ (c : Column). length c.name ≤ MAX_WRITTEN) (sym at) (short_at columns place column can.2 within)

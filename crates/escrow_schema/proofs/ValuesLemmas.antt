@@ -10,7 +10,7 @@ use Rattle.escrow_schema.specs.declared.column.Column.{Column}
 use Rattle.escrow_schema.specs.Fit.{values_from}
 use Rattle.escrow_schema.proofs.ListLemmas.{drop_item}
 
--- the item at a place, and those from there on
+-- the item at an index, and those from there on
 pub item_from : {A : Type 0} (xs : List A) (i : ℕ) (x : A) → slice_get xs i ≡ Some x → take 1 (drop i xs) ≡ x ∷ []
 item_from [] i x e = absurd (none-some x e)
 item_from (y ∷ ys) zero x e = ap (λ z. z ∷ []) (same_Some y x e)
@@ -28,7 +28,7 @@ same_place i at same = elim (eqb_tells i at) [ inl t ↦ t.0 | inr f ↦ absurd 
 other_place : (i at : ℕ) → ¬ (i ≡ at) → (i == at) ≡ false
 other_place i at apart = elim (eqb_tells i at) [ inl t ↦ absurd (apart t.1) | inr f ↦ f.0 ]
 
--- the values from a column on, where it is RESERVABLE, the key or another
+-- the values from a column on, if it is RESERVABLE, the key, or plain
 pub amount_next : (columns : List Column) (i : ℕ) (column : Column) (at : ℕ) (key : Value) (amounts : List ℤ) (plain : List Value) (a p : ℕ) (done next whole : List Value)
     → i < length columns → column ≡ get_or columns i column → column.reservable ≡ true
     → done ++ values_from (drop i columns) i at key (drop a amounts) (drop p plain) ≡ whole

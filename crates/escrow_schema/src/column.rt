@@ -178,7 +178,7 @@ fn size_up_to(size: Amount, most: u8) -> Option<u8>
 }
 
 /// A column of a table.
-#[derive(Clone, Copy, Debug)]
+#[derive(Clone, Copy, Debug, PartialEq, Eq)]
 pub struct Column {
     /// The column's name.
     pub name: Name,

@@ -9,7 +9,7 @@ impl Copied for Column {
     }
 
     fn is_same(&self, other: &Column) -> bool {
-        self.name == other.name && self.kind == other.kind && self.reservable == other.reservable
+        *self == *other
     }
 }
 

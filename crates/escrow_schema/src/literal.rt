@@ -12,7 +12,7 @@ pub fn is_value(scale: Scale, literal: &Literal, value: &Value) -> bool
 {
     match (literal, value) {
         (Literal::Number(a), Value::Number(b)) => a.at_scale(scale.get()) == Some(*b),
-        (Literal::Text(a), Value::Text(b)) => a.is_same(b),
+        (Literal::Text(a), Value::Text(b)) => *a == *b,
         _ => false,
     }
 }

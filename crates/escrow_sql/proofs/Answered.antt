@@ -1,4 +1,4 @@
--- Each text has one answer: what it asks, or the column of its fault.
+-- Each text has one answer: its request, or the column of its fault.
 use Rattle.std.proofs.Common.{◌≡◌, ℕ, ◌+◌, ◌≤◌, Result, Ok, Err, List, ◌++◌, length, take, drop, arith, refl, sym, ap, ap₂, ◌∙◌, subst, ◌⊎◌, inl, inr, append_assoc}
 use Rattle.std.proofs.lemmas.Bool.{cases_lt}
 use Rattle.std.proofs.lemmas.List.{take-append-drop, take-take}
@@ -29,11 +29,11 @@ answer_lexed : (text : List ℕ) (lexed : Result (List Token) ℕ) → IsLexed t
 answer_lexed text (Ok tokens) l = answer_read text tokens l (run_whole factored_request tokens) refl
 answer_lexed text (Err column) l = inr (column, inl l)
 
--- each text asks something or has a fault
+-- each text has a request or a fault
 pub some_answer : (text : List ℕ) → ((r : Request) × Asks text r) ⊎ ((column : ℕ) × IsFaultColumn text column)
 some_answer text = let lexed = each_lexed text in answer_lexed text lexed.0 lexed.1
 
--- a prefix of tokens with which a sentence begins
+-- if a sentence begins with a prefix of tokens, one begins with each shorter prefix
 begins_sooner : {V : Type 0} (g : Grammar V) (ts : List Token) (m n : ℕ) → n ≤ m → Begins g (take m ts) → Begins g (take n ts)
 begins_sooner g ts m n l b =
     let front = take m ts in
@@ -50,7 +50,7 @@ no_later g ts k l a b =
       | inr later ↦ omega arith
     ]
 
--- a fault is at one column
+-- a fault has only one column
 pub one_column : (text : List ℕ) (c d : ℕ) → IsFaultColumn text c → IsFaultColumn text d → c ≡ d
 one_column text c d (inl a) (inl b) = let both : ◌≡◌ {A = Result (List Token) ℕ} (Err c) (Err d) = lexed_once text (Err c) (Err d) a b in cc
 one_column text c d (inl a) (inr b) = absurd (not_both_lexed text c b.0 a b.2)
@@ -61,7 +61,7 @@ one_column text c d (inr a) (inr b) =
     let place : a.1 ≡ b.1 = omega (arith, no_later request a.0 a.1 b.1 a.3 fault, no_later request a.0 b.1 a.1 fault a.3) in
     a.4 ∙ (ap₂ (λ (k : ℕ) (ts : List Token). column_at (drop k ts) (length text)) place (sym tokens) ∙ sym b.4)
 
--- a text that asks something has no fault
+-- a text with a request has no fault
 pub not_both : (text : List ℕ) (r : Request) (column : ℕ) → Asks text r → IsFaultColumn text column → ⊥
 not_both text r column a (inl f) = not_both_lexed text column a.0 f a.1
 not_both text r column a (inr f) =

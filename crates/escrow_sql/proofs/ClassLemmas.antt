@@ -1,4 +1,4 @@
--- The numbers of classes tell classes apart.
+-- The numbers of classes distinguish classes.
 use Rattle.std.proofs.Common.{◌≡◌, ℕ, pos, ◌≤◌, [], refl, sym, ap, ◌∙◌, arith}
 use Rattle.escrow_sql.specs.Classes.{class_number}
 use Rattle.escrow_sql.specs.Sort.{IsSort, kind_at}
@@ -10,12 +10,12 @@ use Rattle.escrow_sql.specs.declared.token.Kind.{Kind}
 use Rattle.escrow_sql.specs.declared.token.Kind.TheVariants as kind
 use Rattle.escrow_statement.specs.declared.word.Word.{Word}
 
--- the kind of a symbol's class is the symbol
+-- the class of a symbol has the symbol as its kind
 symbol_kind : (s : Symbol) → kind_at (class_number (kind.Symbol s)) [] (pos 0) ≡ kind.Symbol s
 symbol_kind symbol.Open = refl
 symbol_kind other = refl
 
--- the kind of a reserved word's class is the word
+-- the class of a reserved word has the word as its kind
 word_kind : (w : Word) → kind_at (class_number (kind.Word w)) [] (pos 0) ≡ kind.Word w
 word_kind w = each_word (λ v. kind_at (class_number (kind.Word v)) [] (pos 0)) kind.Word refl w
 
@@ -25,7 +25,7 @@ bare_kind (kind.Symbol s) h = symbol_kind s
 bare_kind (kind.Word w) h = word_kind w
 bare_kind other h = absurd (omega arith)
 
--- and so are the fields of its lexeme
+-- the fields of its lexeme agree with that
 pub bare_sort : (k : Kind) → 4 ≤ class_number k → IsSort (class_number k) [] (pos 0)
 bare_sort k bare = record {
   numbered = ap class_number (bare_kind k bare);

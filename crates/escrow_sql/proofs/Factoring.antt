@@ -1,11 +1,11 @@
--- The grammar that is read has the sentences of the grammar of requests, with the same meanings.
+-- The grammar that is read has the same sentences as the grammar of requests, with the same meanings.
 use Rattle.std.proofs.Common.{ℕ, List, inl, inr}
 use Rattle.escrow_sql.specs.declared.token.Token.{Token}
 use Rattle.escrow_sql.specs.Grammar.{Grammar, sequence, either, Sentence, Begins, IsFirstFault}
 use Rattle.escrow_sql.specs.Statement.{show, body, request}
 use Rattle.escrow_sql.specs.Factored.{factored_show, factored_body, factored_request}
 
--- each sentence of the one is one of the other, with the same meaning, and the other way round
+-- each sentence of one grammar is a sentence of the other, with the same meaning
 pub record Keeps {V : Type 0} (g h : Grammar V) : Type 0 where
   pub kept : (ts : List Token) (v : V) → Sentence g ts v → Sentence h ts v
   pub back : (ts : List Token) (v : V) → Sentence h ts v → Sentence g ts v
@@ -25,7 +25,7 @@ keeps_second k = record {
 keeps_same : {V : Type 0} {g : Grammar V} → Keeps g g
 keeps_same = record { kept = λ ts v s. s; back = λ ts v s. s }
 
--- what alternatives begin with may be taken out before them all, where it may before those behind the first
+-- a common beginning of alternatives may be factored out before all of them, if it may be for those after the first
 taken_out : {A B V : Type 0} {a : Grammar A} {b c : Grammar B} {others : Grammar V} {f : A → B → V}
     → Keeps others (sequence a c f) → Keeps (either (sequence a b f) others) (sequence a (either b c) f)
 taken_out k = record {
@@ -51,14 +51,14 @@ pub factored : Keeps request factored_request
 unfolding request factored_request
 factored = keeps_sequence body_factored
 
--- the other way round
+-- the relation is symmetric
 pub flipped : {V : Type 0} {g h : Grammar V} → Keeps g h → Keeps h g
 flipped k = record { kept = k.back; back = k.kept }
 
 begins_kept : {V : Type 0} {g h : Grammar V} → Keeps g h → (ts : List Token) → Begins g ts → Begins h ts
 begins_kept k ts b = (b.0, b.1, k.kept _ b.1 b.2)
 
--- so the first fault is the same
+-- both grammars have the same first fault
 pub fault_kept : {V : Type 0} {g h : Grammar V} → Keeps g h → (ts : List Token) (n : ℕ) → IsFirstFault g ts n → IsFirstFault h ts n
 fault_kept k ts n f = record {
   within = f.within;

@@ -1,4 +1,4 @@
--- The value of a sentence is read, what is read is a sentence's value, and a fault is the first.
+-- Reading returns the value of a sentence, and stops only at the first fault.
 use Rattle.std.proofs.Common.{◌≡◌, ℕ, ◌+◌, ◌<◌, true, Ok, Err, List, [], ◌∷◌, ◌++◌, length, take, drop, refl, sym, ap, ◌∙◌, subst, append_assoc, arith, length-append}
 use Rattle.std.proofs.lemmas.List.{append-nil}
 use Rattle.std.proofs.Math.Seq.{take-append_seam, take-append-add, drop-append_seam}
@@ -31,7 +31,7 @@ read_at g p ts v (Err rest) e h = absurd (cc)
 pub read_sentence : {V : Type 0} (g : Grammar V) → is_predictive g ≡ true → (ts : List Token) (v : V) → run_whole g ts ≡ Ok v → Sentence g ts v
 read_sentence g p ts v h = read_at g p ts v (run g ts) refl h
 
--- a sentence begins with the front, and none goes on as the rest does
+-- a sentence begins with the front, but none continues with the rest
 abbrev Stands : {V : Type 0} → Grammar V → List Token → List Token → Type 0
 Stands {V} g ts rest =
     (front : List Token) × (ts ≡ front ++ rest) × Begins g front × ((other : List Token) (v : V) → SameHead rest other → run g (front ++ other) ≡ Ok (v, []) → ⊥)
@@ -62,7 +62,7 @@ stands_at {V} g p ts rest (Err q) e h =
     let k = stuck g p ts rest (e ∙ ap (λ (x : List Token). Err x) same) in
     (k.0, k.1, k.2, λ other w s z. let both : ◌≡◌ {A = Read V} (Err other) (Ok (w, [])) = sym (k.3 other s) ∙ z in cc)
 
--- a sentence that goes on as the rest does would be read to its end
+-- a sentence that continued with the rest would be read completely
 unexpected : {V : Type 0} (g : Grammar V) → is_predictive g ≡ true → (front rest : List Token)
     → ((other : List Token) (v : V) → SameHead rest other → run g (front ++ other) ≡ Ok (v, []) → ⊥)
     → length front < length (front ++ rest) → Begins g (take (length front + 1) (front ++ rest)) → ⊥
@@ -88,7 +88,7 @@ fault_at g p front rest b again = record {
   too_short = too_short g p front rest again;
 }
 
--- where reading stops is the first fault
+-- reading stops at the first fault
 pub first_fault : {V : Type 0} (g : Grammar V) → is_predictive g ≡ true → (ts rest : List Token) → run_whole g ts ≡ Err rest → (k : ℕ) × IsFirstFault g ts k × (rest ≡ drop k ts)
 first_fault g p ts rest h =
     let s = stands_at g p ts rest (run g ts) refl h in (

@@ -1,4 +1,4 @@
--- The token in hand: the classes that it is among.
+-- The current token, and the classes to which it may belong.
 use Rattle.std.proofs.Common.{◌≡◌, ℕ, true, false, List, [], ◌∷◌, ◌++◌, refl, sym, ap, ◌∙◌, inl, inr, ◌⊎◌}
 use Rattle.std.specs.Prelude.{◌==◌, not}
 use Rattle.std.proofs.lemmas.Bool.{or_cases, or_left, or_right, or_parts, or_from, and_parts, not-true, false_from_ne_true, eqb-true}
@@ -29,7 +29,7 @@ pub starts-none : (a b : List ℕ) (ts : List Token) → starts (a ++ b) ts ≡ 
 starts-none a b [] h = (refl, refl)
 starts-none a b (t ∷ ts) h = has-none a b (class_number t.kind) h
 
--- what is among the one isn't among the other
+-- an item of one list is not in the other
 pub apart-none : (cs ds : List ℕ) (c : ℕ) → apart cs ds ≡ true → has ds c ≡ true → has cs c ≡ false
 apart-none [] ds c h k = refl
 apart-none (d ∷ cs) ds c h k =
@@ -56,7 +56,7 @@ pub same_behind : (front rest other : List Token) → SameHead rest other → Sa
 same_behind [] rest other h = h
 same_behind (t ∷ front) rest other h = refl
 
--- how two parts make up tokens that begin with u
+-- how two parts combine to tokens that begin with u
 pub cut : (s t : List Token) (u : Token) (w : List Token) → s ++ t ≡ u ∷ w → ((s ≡ []) × (t ≡ u ∷ w)) ⊎ ((more : List Token) × (s ≡ u ∷ more))
 cut [] t u w h = inl (refl, h)
 cut (x ∷ s) t u w h = let e : x ≡ u = cc in inr (s, ap (λ (z : Token). z ∷ s) e)

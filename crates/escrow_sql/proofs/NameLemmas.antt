@@ -1,4 +1,4 @@
--- What is cut as a name, in upper case, is a name.
+-- Bytes lexed as a name, in upper case, are a name.
 use Rattle.std.proofs.Common.{◌≡◌, ℕ, suc, ◌+◌, ◌≤◌, Bool, true, List, [], ◌∷◌, length, get_or, take, map, arith, refl, sym, ap, ◌∙◌, subst}
 use Rattle.std.specs.Char.{is_ascii_alphabetic, is_ascii_uppercase, to_ascii_uppercase}
 use Rattle.std.specs.List.{prefix_len, list_all}
@@ -11,7 +11,7 @@ use Rattle.escrow_num.specs.Name.{IsName, is_name_byte, spells_name}
 use Rattle.escrow_num.specs.declared.name.TheConstants.Name.{MAX_WRITTEN}
 use Rattle.escrow_sql.specs.Lex.{goes_on}
 
--- the front of bytes that pass
+-- the longest prefix of bytes that pass a test
 passing_front : (p : ℕ → Bool) (xs : List ℕ) → list_all p (take (prefix_len p xs) xs) ≡ true
 passing_front p [] = refl
 passing_front p (x ∷ xs) =
@@ -24,7 +24,7 @@ passing_front p (x ∷ xs) =
 letter_in_upper_case : (c : ℕ) → is_ascii_alphabetic c ≡ true → is_ascii_uppercase (to_ascii_uppercase c) ≡ true
 letter_in_upper_case c h = let u = uppercase_is c in grind (arith, nat_tests)
 
--- a name goes on with a letter
+-- a name continues with a letter
 pub letter_goes_on : (c : ℕ) → is_ascii_alphabetic c ≡ true → goes_on c ≡ true
 letter_goes_on c h = let upper = letter_in_upper_case c h in rw upper refl
 

@@ -1,4 +1,4 @@
--- What more digits make of a number, and the number at the front of bytes.
+-- What further digits do to a number, and the number at the front of bytes.
 use Rattle.std.proofs.Common.{◌≡◌, ℕ, ℤ, pos, ◌+◌, ◌*◌, ◌-◌, ◌≤◌, ◌<◌, Bool, true, Option, Some, None, List, [], ◌∷◌, ◌++◌, length, get_or, take, drop, arith, refl, sym, ap, ap₂, ◌∙◌, append_assoc, length-append, inl, inr}
 use Rattle.std.specs.Prelude.{not, ◌==◌}
 use Rattle.std.specs.Char.{is_ascii_digit}
@@ -16,18 +16,18 @@ use Rattle.escrow_sql.specs.declared.token.Kind.TheVariants as kind
 use Rattle.escrow_sql.specs.Lex.{front_digits, point_digits, behind_digits, point_piece, number_with, number_piece}
 use Rattle.escrow_sql.specs.Scan.{IsWithin}
 
--- digits only make a number greater
+-- further digits never make a number smaller
 pub number_after-least : (n : ℕ) (digits : List ℕ) → n ≤ number_after n digits
 number_after-least n [] = omega arith
 number_after-least n (c ∷ cs) = omega (arith, number_after-least (10 * n + (c - 48)) cs)
 
--- digits that are past a limit already stay past it
+-- digits whose number exceeds a limit exceed it after further digits
 pub past_limit : (limit v i : ℕ) (digits : List ℕ) → i < length digits → limit < 10 * v + (get_or digits i 0 - 48)
     → number_after v (drop i digits) ≡ number_of digits → limit < number_of digits
 past_limit limit v i digits below past same =
     omega (arith, at_drop_more (number_after v) digits i 0 below, number_after-least (10 * v + (get_or digits i 0 - 48)) (drop (i + 1) digits))
 
--- bytes don't go on as a front does
+-- the bytes do not continue a prefix
 abbrev pub ends : (ℕ → Bool) → List ℕ → Bool
 ends p [] = true
 ends p (c ∷ cs) = not (p c)
@@ -40,14 +40,14 @@ front_whole p (c ∷ front) rest e q =
     let others = front_whole p front rest all.1 q in
     cond-true (p c) (1 + prefix_len p (front ++ rest)) 0 all.0 ∙ omega arith
 
--- digits before bytes that don't go on with one are the digits at the front
+-- digits followed by another byte are the digits at the front
 front_read : (front rest : List ℕ) → list_all is_ascii_digit front ≡ true → ends is_ascii_digit rest ≡ true → front_digits (front ++ rest) ≡ front
 front_read front rest h q = ap (λ (k : ℕ). take k (front ++ rest)) (front_whole is_ascii_digit front rest h q) ∙ take-append_seam front rest
 
 behind_read : (front rest : List ℕ) → list_all is_ascii_digit front ≡ true → ends is_ascii_digit rest ≡ true → behind_digits (front ++ rest) ≡ point_digits rest
 behind_read front rest h q = ap (λ (ds : List ℕ). point_digits (drop (length ds) (front ++ rest))) (front_read front rest h q) ∙ ap point_digits (drop-append_seam front rest)
 
--- digits, and a point with further digits where there are some, are a number where no digit and no point with a digit follows
+-- digits, with or without a point and further digits, are a number, if no digit and no point with a digit follow
 pub number_read : (front behind rest : List ℕ) → list_all is_ascii_digit front ≡ true → list_all is_ascii_digit behind ≡ true → ends is_ascii_digit rest ≡ true
     → point_digits rest ≡ [] → number_piece ((front ++ pointed behind) ++ rest) ≡ number_with front behind
 unfolding number_piece
@@ -57,21 +57,21 @@ number_read front (d ∷ ds) rest h k q none =
     let next = 46 ∷ ((d ∷ ds) ++ rest) in
     ap number_piece (append_assoc front (46 ∷ d ∷ ds) rest) ∙ ap₂ number_with (front_read front next h refl) (behind_read front next h refl ∙ front_read (d ∷ ds) rest k q)
 
--- how many bytes a point and the digits behind it take, where there are some
+-- the number of bytes of a point and the digits after it, if there are any
 abbrev pub behind_len : List ℕ → ℕ
 behind_len [] = 0
 behind_len (d ∷ ds) = 1 + length (d ∷ ds)
 
--- how many bytes the number at the front takes
+-- the number of bytes of the number at the front
 abbrev pub number_len : List ℕ → ℕ
 number_len bytes = length (front_digits bytes) + behind_len (behind_digits bytes)
 
--- how many bytes a point and digits are
+-- the number of bytes of a point and digits
 pointed_len : (behind : List ℕ) → length (pointed behind) ≡ behind_len behind
 pointed_len [] = refl
 pointed_len (d ∷ ds) = omega arith
 
--- bytes are digits and what goes on with none
+-- the bytes are digits, followed by no digit
 record AreDigits (bytes front rest : List ℕ) : Type 0 where
   all : bytes ≡ front ++ rest
   digits : list_all is_ascii_digit front ≡ true
@@ -94,7 +94,7 @@ digits_cut (c ∷ cs) =
       | inr e ↦ ([], c ∷ cs, record { all = refl; digits = refl; end = rw e refl })
     ]
 
--- bytes are a point with digits behind it, where there are some, and the rest
+-- the bytes are a point with digits, if there are any, and the rest
 record ArePointed (bytes behind rest : List ℕ) : Type 0 where
   all : bytes ≡ pointed behind ++ rest
   digits : list_all is_ascii_digit behind ≡ true
@@ -116,7 +116,7 @@ pointed_cut (c ∷ cs) =
       | inr e ↦ ([], c ∷ cs, record { all = refl; digits = refl; read = cond-false (c == 46) (front_digits cs) [] e })
     ]
 
--- bytes are the text of a number and the rest
+-- the bytes are the text of a number, and the rest
 record AreNumber (bytes front behind rest : List ℕ) : Type 0 where
   all : bytes ≡ (front ++ pointed behind) ++ rest
   front_all : list_all is_ascii_digit front ≡ true
@@ -140,19 +140,19 @@ number_cut bytes =
       },
     )
 
--- how many bytes the text of a number is
+-- the number of bytes of a number's text
 text_len : (bytes front behind : List ℕ) → front_digits bytes ≡ front → behind_digits bytes ≡ behind → number_len bytes ≡ length (front ++ pointed behind)
 text_len bytes front behind e f =
     ap₂ (λ (xs ys : List ℕ). length xs + behind_len ys) e f ∙ omega (arith, length-append front (pointed behind), pointed_len behind)
 
--- a number takes no more bytes than there are
+-- a number is no longer than the bytes
 pub number_len-le : (bytes : List ℕ) → number_len bytes ≤ length bytes
 number_len-le bytes =
     let cut = number_cut bytes in
     let all : length bytes ≡ length ((cut.0 ++ pointed cut.1) ++ cut.2) = ap (λ (xs : List ℕ). length xs) cut.3.all in
     omega (arith, all, length-append (cut.0 ++ pointed cut.1) cut.2, text_len bytes cut.0 cut.1 cut.3.front_is cut.3.behind_is)
 
--- the bytes of a number, alone, are that number
+-- the bytes of a number, taken alone, are that number
 pub number_alone : (bytes : List ℕ) → number_piece (take (number_len bytes) bytes) ≡ number_piece bytes
 unfolding number_piece
 number_alone bytes =
@@ -162,7 +162,7 @@ number_alone bytes =
     ap₂ (λ (n : ℕ) (xs : List ℕ). take n xs) (text_len bytes cut.0 cut.1 cut.3.front_is cut.3.behind_is) cut.3.all ∙ (take-append_seam text cut.2 ∙ sym (append-nil text)) in
     ap number_piece front ∙ (number_read cut.0 cut.1 [] cut.3.front_all cut.3.behind_all refl refl ∙ sym (ap₂ number_with cut.3.front_is cut.3.behind_is))
 
--- how long the token of a number is
+-- the length of a number's token
 point_len : (n : ℕ) (millionths : Option ℤ) (k : Kind) (len : ℕ) → point_piece n millionths ≡ piece.Token k len → len ≡ n
 point_len n None k len h = absurd (cc)
 point_len n (Some z) k len h = cc
@@ -177,7 +177,7 @@ pub number_token_len : (bytes : List ℕ) (k : Kind) (len : ℕ) → number_piec
 unfolding number_piece
 number_token_len bytes k len h = with_len (front_digits bytes) (behind_digits bytes) k len h
 
--- a number takes at least one byte, and lies within the text
+-- a number has at least one byte, and is within the text
 point_within : (n room : ℕ) (millionths : Option ℤ) → 1 ≤ n → n ≤ room → IsWithin room (point_piece n millionths)
 point_within n room None one all = omega arith
 point_within n room (Some z) one all = (one, all)

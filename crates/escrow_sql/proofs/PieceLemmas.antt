@@ -1,4 +1,4 @@
--- A piece takes at least one byte, and lies within the text.
+-- A piece has at least one byte, and is within the text.
 use Rattle.std.proofs.Common.{◌≡◌, ℕ, suc, ◌+◌, ◌-◌, ◌≤◌, ◌<◌, Bool, true, false, cond, List, [], ◌∷◌, length, get_or, drop, take, arith, refl, sym, subst, map}
 use Rattle.std.specs.Prelude.{nat_lt, nat_eq, not, ◌&&◌}
 use Rattle.std.specs.Char.{is_ascii_alphabetic, is_ascii_digit, to_ascii_uppercase}
@@ -19,7 +19,7 @@ use Rattle.escrow_sql.specs.declared.token.Kind.{Kind}
 use Rattle.escrow_sql.specs.Lex.{plain_piece, name_piece, number_piece, symbol_piece, goes_on, is_blank, begins, word_or_name}
 use Rattle.escrow_sql.specs.Scan.{IsWithin, piece_of, text_piece}
 
--- a prefix that begins with a byte that passes
+-- a prefix whose first byte passes
 prefix_len-first : (p : ℕ → Bool) (c : ℕ) (next : List ℕ) → p c ≡ true → 1 ≤ prefix_len p (c ∷ next)
 prefix_len-first p c next h = rw h (omega arith)
 
@@ -81,7 +81,7 @@ plain_within c next =
 pub piece_of-within : (c : ℕ) (next : List ℕ) → IsWithin (suc (length next)) (piece_of c next)
 piece_of-within c next = either_within (suc (length next)) (nat_eq c 39) (text_piece next) (plain_piece c next) (λ e. text_within next) (λ e. plain_within c next)
 
--- what was read at a place lies within what the text has from there on
+-- a piece read at a place is within the rest of the text
 pub read_within : (p : Piece) (text : List ℕ) (at : ℕ) → at < length text
     → p ≡ piece_of (get_or text at 0) (drop (at + 1) text) → IsWithin (length text - at) p
 read_within p text at below h =

@@ -20,7 +20,7 @@ match_true b P Q e p = rw e p
 match_false : (b : Bool) (P Q : Type 0) → b ≡ false → Q → MatchBool b P Q
 match_false b P Q e q = rw e q
 
--- what the lexer reads is the piece that the bytes begin with, and nothing else is
+-- the lexer reads the piece with which the bytes begin, and there is no other such piece
 is_piece : (c : ℕ) (next : List ℕ) → IsPiece (c ∷ next) (piece_of c next)
 is_piece c next =
     elim (cases_Bool (c == 39)) [
@@ -67,7 +67,7 @@ pieces (suc most) (c ∷ next) l =
     pieces_with (c ∷ next) (piece_of c next) (is_piece c next)
     (λ len w. pieces most (drop len (c ∷ next)) (omega (arith, w, length-drop len (c ∷ next)))) (piece_of-within c next)
 
--- a text is lexed as the lexer does it, and in no other way
+-- a text is lexed as the lexer does, and in no other way
 pub is_lexed : (text : List ℕ) (r : Result (List Token) ℕ) → length text ≤ MAX_TEXT → tokens_from 0 0 text ≡ r → IsLexed text r
 is_lexed text r short h =
     let ps = pieces (length text) text (omega arith) in
@@ -78,7 +78,7 @@ only_lexed text r short h =
     let read : (ps : List Piece) × ArePieces text ps × (r ≡ tokens_at 0 ps) = rw (le-ltb MAX_TEXT (length text) short) at h in
     sym (read.2 ∙ tokens_of_pieces read.0 0 text read.1)
 
--- a text that has tokens isn't too long
+-- a text that has tokens is not too long
 pub lexed_short : (text : List ℕ) (ts : List Token) → IsLexed text (Ok ts) → length text ≤ MAX_TEXT
 lexed_short text ts h =
     elim (cases_Bool (nat_lt MAX_TEXT (length text))) [
@@ -86,7 +86,7 @@ lexed_short text ts h =
       | inr e ↦ grind (arith, nat_tests)
     ]
 
--- what is lexed of a text is the same each time
+-- lexing a text always gives the same result
 pub lexed_once : (text : List ℕ) (r q : Result (List Token) ℕ) → IsLexed text r → IsLexed text q → r ≡ q
 lexed_once text r q h k =
     elim (cases_Bool (nat_lt MAX_TEXT (length text))) [
@@ -99,7 +99,7 @@ lexed_once text r q h k =
           sym (only_lexed text r short h) ∙ only_lexed text q short k
     ]
 
--- each text is lexed
+-- each text can be lexed
 pub each_lexed : (text : List ℕ) → (r : Result (List Token) ℕ) × IsLexed text r
 each_lexed text =
     elim (cases_Bool (nat_lt MAX_TEXT (length text))) [

@@ -1,4 +1,5 @@
--- What reading took, and where it stopped: the same whatever follows, if that begins with a token of the same class.
+-- What reading took and where it stopped do not depend on what follows, as long as it begins with a token of the same
+-- class.
 use Rattle.std.proofs.Common.{◌≡◌, ℕ, Bool, zero, suc, ◌≤◌, true, false, Ok, Err, List, [], ◌∷◌, ◌++◌, length, refl, sym, ap, ◌∙◌, subst, inl, inr, ◌⊎◌, append_assoc, arith}
 use Rattle.std.specs.Prelude.{◌==◌, ◌&&◌, not}
 use Rattle.std.proofs.lemmas.Bool.{and_parts, not-true, eqb-true, cond-true, cond-false, cases_Bool}
@@ -11,12 +12,12 @@ use Rattle.escrow_sql.proofs.ClassLemmas.{same_class}
 use Rattle.escrow_sql.proofs.Heads.{SameHead, starts-same, same_behind}
 use Rattle.escrow_sql.proofs.Reading.{Read, items, items-none, items-unrolled, onto, and_then-Ok, Ok-same, run-shorter}
 
--- a prefix was taken and is of S, with this value; the same is taken whatever follows
+-- reading took a prefix that is in S with this value; it takes the same whatever follows
 abbrev pub Took : {V : Type 0} → (List Token → Read V) → (List Token → V → Type 0) → List Token → V → List Token → Type 0
 Took read S ts v rest =
     (front : List Token) × (ts ≡ front ++ rest) × S front v × ((other : List Token) → SameHead rest other → read (front ++ other) ≡ Ok (v, other))
 
--- what is of S begins with a prefix, behind which reading stopped; it stops there whatever follows
+-- an element of S begins with the prefix after which reading stopped; reading stops there whatever follows
 abbrev pub Stuck : {V : Type 0} → (List Token → Read V) → (List Token → V → Type 0) → List Token → List Token → Type 0
 Stuck {V} read S ts rest =
     (front : List Token) × (ts ≡ front ++ rest) × ((end : List Token) × (v : V) × S (front ++ end) v) × ((other : List Token) → SameHead rest other → read (front ++ other) ≡ Err other)
@@ -39,14 +40,14 @@ Pair-same {V} v w r s h =
 Err-same : {V : Type 0} (r s : List Token) → ◌≡◌ {A = Read V} (Err r) (Err s) → r ≡ s
 Err-same r s h = cc
 
--- the front of two parts
+-- the front of both parts
 seam : (ts fa fb r rest : List Token) → ts ≡ fa ++ r → r ≡ fb ++ rest → ts ≡ (fa ++ fb) ++ rest
 seam ts fa fb r rest h k = h ∙ (ap (λ (x : List Token). fa ++ x) k ∙ sym (append_assoc fa fb rest))
 
 head_behind : (r fb rest other : List Token) → r ≡ fb ++ rest → SameHead rest other → SameHead r (fb ++ other)
 head_behind r fb rest other h s = subst (λ (x : List Token). SameHead x (fb ++ other)) (sym h) (same_behind fb rest other s)
 
--- reading two parts again, whatever follows, where the first was taken
+-- reading two parts again, whatever follows, if the first was taken
 both_again : {A B V : Type 0} (ra : List Token → Read A) (rb : List Token → Read B) (f : A → B → V) (fa fb r rest other : List Token) (x : A) (z : Read B)
     → ((us : List Token) → SameHead r us → ra (fa ++ us) ≡ Ok (x, us)) → r ≡ fb ++ rest → SameHead rest other → rb (fb ++ other) ≡ z
     → and_then (ra ((fa ++ fb) ++ other)) (λ x q. and_then (rb q) (λ y end. Ok (f x y, end))) ≡ and_then z (λ y end. Ok (f x y, end))
@@ -54,7 +55,7 @@ both_again {A} {B} {V} ra rb f fa fb r rest other x z first e s second =
     let ea = ap ra (append_assoc fa fb other) ∙ first (fb ++ other) (head_behind r fb rest other e s) in
     ap (λ (w : Read A). and_then w (λ x q. and_then (rb q) (λ y end. Ok (f x y, end)))) ea ∙ ap (λ (w : Read B). and_then w (λ y end. Ok (f x y, end))) second
 
--- two parts that were taken
+-- both parts were taken
 took_both : {A B V : Type 0} (ra : List Token → Read A) (rb : List Token → Read B) (Sa : List Token → A → Type 0) (Sb : List Token → B → Type 0)
     (f : A → B → V) (S : List Token → V → Type 0) → ((s t : List Token) (x : A) (y : B) → Sa s x → Sb t y → S (s ++ t) (f x y))
     → (ts r rest : List Token) (x : A) (y : B) → Took ra Sa ts x r → Took rb Sb r y rest
@@ -66,7 +67,7 @@ took_both {A} {B} {V} ra rb Sa Sb f S join ts r rest x y a b = (
   λ other s. both_again ra rb f a.0 b.0 r rest other x (Ok (y, other)) a.3 b.1 s (b.3 other s),
 )
 
--- a second part that stopped
+-- reading stopped in the second part
 stuck_second : {A B V : Type 0} (ra : List Token → Read A) (rb : List Token → Read B) (Sa : List Token → A → Type 0) (Sb : List Token → B → Type 0)
     (f : A → B → V) (S : List Token → V → Type 0) → ((s t : List Token) (x : A) (y : B) → Sa s x → Sb t y → S (s ++ t) (f x y))
     → (ts r rest : List Token) (x : A) → Took ra Sa ts x r → Stuck rb Sb r rest
@@ -79,7 +80,7 @@ stuck_second {A} {B} {V} ra rb Sa Sb f S join ts r rest x a b =
       λ other s. both_again ra rb f a.0 b.0 r rest other x (Err other) a.3 b.1 s (b.3 other s),
     )
 
--- a first part that stopped
+-- reading stopped in the first part
 stuck_first : {A B V : Type 0} (ra : List Token → Read A) (rb : List Token → Read B) (Sa : List Token → A → Type 0) (Sb : List Token → B → Type 0)
     (f : A → B → V) (S : List Token → V → Type 0) → ((s t : List Token) (x : A) (y : B) → Sa s x → Sb t y → S (s ++ t) (f x y))
     → (ts rest : List Token) → Stuck ra Sa ts rest → ((w : List Token) × (y : B) × Sb w y)
@@ -92,7 +93,7 @@ stuck_first {A} {B} {V} ra rb Sa Sb f S join ts rest a w =
       λ other s. ap (λ (z : Read A). and_then z (λ x q. and_then (rb q) (λ y end. Ok (f x y, end)))) (a.3 other s),
     )
 
--- reading two parts took them, or stopped in the first, or in the second
+-- reading two parts took both, or stopped in the first, or in the second
 abbrev Parts : {A B V : Type 0} → (A → B → V) → Read A → (List Token → Read B) → V → List Token → Type 0
 Parts {A} {B} f ra rb v rest = (x : A × List Token) × (y : B) × (ra ≡ Ok x) × (rb x.1 ≡ Ok (y, rest)) × (f x.0 y ≡ v)
 
@@ -122,17 +123,17 @@ took_none {A} a ts rest xs s h =
 begins_same : (classes : List ℕ) (ts front rest other : List Token) (b : Bool) → ts ≡ front ++ rest → SameHead rest other → starts classes ts ≡ b → starts classes (front ++ other) ≡ b
 begins_same classes ts front rest other b e s h = sym (starts-same classes ts (front ++ other) (head_behind ts front rest other e s)) ∙ h
 
--- reading items again, whatever follows, where one comes next
+-- reading items again, whatever follows, if one comes next
 unrolled_again : {A : Type 0} (a : Grammar A) → may_be_empty a ≡ false → (ts front rest other : List Token) → starts (first a) ts ≡ true → ts ≡ front ++ rest → SameHead rest other
     → items a (front ++ other) ≡ and_then (run a (front ++ other)) (λ x q. onto x (items a q))
 unrolled_again a e ts front rest other s same q = items-unrolled a e (front ++ other) (begins_same (first a) ts front rest other true same q s)
 
--- reading items where one comes next, seen as reading that one and the others
+-- if an item comes next, reading items is reading that one and then the others
 took_unrolled : {A : Type 0} (a : Grammar A) → may_be_empty a ≡ false → (ts rest : List Token) (ys : List A) → starts (first a) ts ≡ true
     → Took (λ us. and_then (run a us) (λ x q. onto x (items a q))) (Repeats (Sentence a)) ts ys rest → Took (items a) (Repeats (Sentence a)) ts ys rest
 took_unrolled a e ts rest ys s both = (both.0, both.1, both.2, λ other q. unrolled_again a e ts both.0 rest other s both.1 q ∙ both.3 other q)
 
--- the items of a repetition that were taken
+-- the items of a repetition were taken
 took_items : {A : Type 0} (a : Grammar A) → may_be_empty a ≡ false → ((ts rest : List Token) (v : A) → run a ts ≡ Ok (v, rest) → Took (run a) (Sentence a) ts v rest)
     → (n : ℕ) (ts rest : List Token) (xs : List A) → length ts ≤ n → items a ts ≡ Ok (xs, rest) → Took (items a) (Repeats (Sentence a)) ts xs rest
 took_items {A} a e ta zero ts rest xs l h =
@@ -155,12 +156,12 @@ took_items {A} a e ta (suc n) ts rest xs l h =
       | inr s ↦ took_none a ts rest xs s h
     ]
 
--- the same where one of them stopped
+-- the same if reading stopped in one of them
 stuck_unrolled : {A : Type 0} (a : Grammar A) → may_be_empty a ≡ false → (ts rest : List Token) → starts (first a) ts ≡ true
     → Stuck (λ us. and_then (run a us) (λ x q. onto x (items a q))) (Repeats (Sentence a)) ts rest → Stuck (items a) (Repeats (Sentence a)) ts rest
 stuck_unrolled a e ts rest s both = (both.0, both.1, both.2, λ other q. unrolled_again a e ts both.0 rest other s both.1 q ∙ both.3 other q)
 
--- the items of a repetition of which one stopped
+-- reading stopped in one item of a repetition
 stuck_items : {A : Type 0} (a : Grammar A) → may_be_empty a ≡ false → ((ts rest : List Token) (v : A) → run a ts ≡ Ok (v, rest) → Took (run a) (Sentence a) ts v rest)
     → ((ts rest : List Token) → run a ts ≡ Err rest → Stuck (run a) (Sentence a) ts rest)
     → (n : ℕ) (ts rest : List Token) → length ts ≤ n → items a ts ≡ Err rest → Stuck (items a) (Repeats (Sentence a)) ts rest
@@ -182,7 +183,7 @@ stuck_items {A} a e ta sa (suc n) ts rest l h =
       | inr s ↦ absurd (let both : ◌≡◌ {A = Read (List A)} (Ok ([], ts)) (Err rest) = sym (items-none a ts s) ∙ h in cc)
     ]
 
--- reading either of two is reading that one with which the tokens begin
+-- reading one of two alternatives is reading the one that the tokens begin with
 either_left : {V : Type 0} (a b : Grammar V) (ts : List Token) → starts (first a) ts ≡ true → run (either a b) ts ≡ run a ts
 either_left a b ts e = cond-true (starts (first a) ts) (run a ts) (run b ts) e
 
@@ -205,7 +206,7 @@ stuck_right : {V : Type 0} (a b : Grammar V) (ts rest : List Token) → starts (
 stuck_right a b ts rest e t =
     (t.0, t.1, (t.2.0, t.2.1, inr t.2.2), λ other s. either_right a b (t.0 ++ other) (begins_same (first a) ts t.0 rest other false t.1 s e) ∙ t.3 other s)
 
--- what reading took is a sentence, and is taken whatever follows
+-- the tokens that reading took are a sentence, and are taken whatever follows
 pub took : {V : Type 0} (g : Grammar V) → is_predictive g ≡ true → (ts rest : List Token) (v : V) → run g ts ≡ Ok (v, rest) → Took (run g) (Sentence g) ts v rest
 took (token like f) p [] rest v h = absurd (cc)
 took {V} (token like f) p (t ∷ ts) rest v h =
@@ -252,7 +253,7 @@ other_token like f t ts [] e s = absurd s
 other_token like f t ts (u ∷ us) e s =
     cond-false (class_number u.kind == class_number like) (Ok (f u.kind, us)) (Err (u ∷ us)) (ap (λ (c : ℕ). c == class_number like) (sym s) ∙ e)
 
--- where reading stopped, a sentence begins with what stands before, and reading stops there whatever follows
+-- if reading stopped, a sentence begins with the tokens before that point, and reading stops there whatever follows
 pub stuck : {V : Type 0} (g : Grammar V) → is_predictive g ≡ true → (ts rest : List Token) → run g ts ≡ Err rest → Stuck (run g) (Sentence g) ts rest
 stuck {V} (token like f) p [] rest h =
     subst (λ (r : List Token). Stuck (run (token like f)) (Sentence (token like f)) [] r) (Err-same {V = V} [] rest h)

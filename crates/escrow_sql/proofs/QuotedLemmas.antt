@@ -1,4 +1,4 @@
--- Texts in quotes: where one ends, and what it says.
+-- Texts in quotes: where they end, and their value.
 use Rattle.std.proofs.Common.{◌≡◌, ℕ, suc, ◌+◌, ◌-◌, ◌≤◌, Bool, true, false, Option, Some, None, List, [], ◌∷◌, ◌++◌, length, take, arith, refl, sym, ap, ap₂, ◌∙◌, subst, ◌⊎◌, inl, inr, length-append}
 use Rattle.std.specs.Prelude.{option_map, position, ◌==◌}
 use Rattle.std.proofs.lemmas.Bool.{cases_Bool, cond-true, eqb-true}
@@ -15,7 +15,7 @@ one_less : (o : Option ℕ) (n : ℕ) → option_map (λ m. m + 1) o ≡ Some n 
 one_less None n h = absurd (cc)
 one_less (Some k) n h = (k, refl)
 
--- bytes hold the end of a text in quotes; where a quote stands just before them, it may be that end
+-- the bytes contain the end of a text in quotes; a quote just before them may be that end
 abbrev Ends : Bool → List ℕ → Type 0
 Ends false body = (text : List ℕ) × (rest : List ℕ) × IsQuoted body text rest
 Ends true body = (begins 39 body ≡ false) ⊎ ((next : List ℕ) × (body ≡ 39 ∷ next) × (text : List ℕ) × (rest : List ℕ) × IsQuoted next text rest)
@@ -26,7 +26,7 @@ ends_behind c cs true e (inl q) = ([], cs, record { written = ap (λ (b : ℕ). 
 ends_behind c cs true e (inr q) =
     (39 ∷ q.2, q.3, record { written = ap₂ (λ (b : ℕ) (bs : List ℕ). b ∷ bs) (eqb-true c 39 e) (q.1 ∙ ap (λ (bs : List ℕ). 39 ∷ bs) q.4.written); ended = q.4.ended })
 
--- a text that has an end is in quotes
+-- a text with an end is in quotes
 text_rest-Some : (closing : Bool) (body : List ℕ) (n : ℕ) → text_rest closing body ≡ Some n → Ends closing body
 text_rest-Some true [] n h = inl refl
 text_rest-Some false [] n h = absurd (cc)
@@ -46,7 +46,7 @@ text_rest-ended : (rest : List ℕ) → begins 39 rest ≡ false → text_rest t
 text_rest-ended [] e = refl
 text_rest-ended (c ∷ cs) e = rw e refl
 
--- a text in quotes has its end there
+-- the end of a text in quotes is found there
 text_rest-doubled : (text rest : List ℕ) → begins 39 rest ≡ false → text_rest false (doubled text ++ 39 ∷ rest) ≡ Some (length (doubled text) + 1)
 text_rest-doubled [] rest e = ap (option_map (λ m. m + 1)) (text_rest-ended rest e)
 text_rest-doubled (c ∷ cs) rest e =
@@ -69,7 +69,7 @@ closed_text-quoted : (body text : List ℕ) (len : ℕ) (o : Option ℕ) → tak
 closed_text-quoted body text len None raw l = ap₂ (λ (t : List ℕ) (n : ℕ). piece.Token (kind.Text t) n) (ap (undoubled false) raw ∙ undoubled-doubled text) l
 closed_text-quoted body text len (Some place) raw l = refl
 
--- what is read where a text stands in quotes
+-- the piece read from a text in quotes
 pub text_piece-quoted : (body text rest : List ℕ) → IsQuoted body text rest → text_piece body ≡ quoted_piece text (position is_forbidden (doubled text))
 unfolding text_piece
 text_piece-quoted body text rest q =
@@ -90,7 +90,7 @@ text_piece-at body None h =
     )
 text_piece-at body (Some n) h = let q = text_rest-Some false body n h in inl (q.0, q.1, q.2, text_piece-quoted body q.0 q.1 q.2)
 
--- what is read behind a quote is what it begins, and nothing else is
+-- after a quote, the lexer reads the piece that begins there, and there is no other
 pub text_piece-is : (body : List ℕ) → IsTextPiece body (text_piece body)
 text_piece-is body = text_piece-at body (text_rest false body) refl
 
@@ -106,7 +106,7 @@ quoted_within : (text : List ℕ) (room : ℕ) (o : Option ℕ) → position is_
 quoted_within text room None h l = (omega arith, l)
 quoted_within text room (Some place) h l = omega (arith, (position-Some is_forbidden (doubled text) place 0 h).0)
 
--- a text takes no more than there is
+-- a text is no longer than the bytes
 pub text_within : (body : List ℕ) → IsWithin (suc (length body)) (text_piece body)
 text_within body =
     elim (text_piece-is body) [
@@ -121,7 +121,7 @@ quoted_len : (text : List ℕ) (o : Option ℕ) (k : Kind) (len : ℕ) → quote
 quoted_len text None k len h = cc
 quoted_len text (Some place) k len h = absurd (cc)
 
--- the bytes of a text in quotes, alone, are that text
+-- the bytes of a text in quotes, taken alone, are that text
 pub text_alone : (body : List ℕ) (k : Kind) (len : ℕ) → text_piece body ≡ piece.Token k len → text_piece (take (len - 1) body) ≡ piece.Token k len
 text_alone body k len h =
     elim (text_piece-is body) [

@@ -1,4 +1,4 @@
--- What reading takes, and how it repeats.
+-- What reading takes, and how repetitions are read.
 use Rattle.std.proofs.Common.{◌≡◌, ℕ, zero, suc, ◌+◌, ◌≤◌, ◌<◌, Bool, true, false, Result, Ok, Err, List, [], ◌∷◌, ◌++◌, length, arith, refl, sym, ap, ◌∙◌, subst, append_assoc}
 use Rattle.std.specs.Prelude.{◌&&◌, ◌||◌, ◌==◌, if◌then◌else◌}
 use Rattle.std.proofs.lemmas.Bool.{cond_both}
@@ -10,7 +10,7 @@ use Rattle.escrow_sql.specs.Predictive.{run, run_many, and_then, starts, first, 
 use Rattle.escrow_sql.specs.Cursor.{bare}
 use Rattle.escrow_sql.specs.Statement.{separated, ◌then◌}
 
--- what reading gives: a value and what is left, or what is left from the fault on
+-- the result of reading: a value and the remaining tokens, or the tokens from the fault on
 abbrev pub Read : Type 0 → Type 0
 Read V = Result (V × List Token) (List Token)
 
@@ -21,7 +21,7 @@ and_then-Ok (Err e) f y h = absurd (cc)
 pub Ok-same : {A E : Type 0} (x y : A) → ◌≡◌ {A = Result A E} (Ok x) (Ok y) → x ≡ y
 Ok-same x y h = cc
 
--- how many tokens a sentence has at least
+-- the least number of tokens of a sentence
 abbrev pub at_least : Bool → ℕ
 at_least true = 0
 at_least false = 1
@@ -55,7 +55,7 @@ run_many-takes {A} classes read h (suc n) ts r e =
     omega (arith, i, h ts x.0 x.1, left {A = List A} (x.0.0 ∷ y.0.0, y.0.1) r y.2))
     (λ s q. omega (arith, left {A = List A} ([], ts) r q)) e
 
--- reading takes tokens from the front, and at least as many as a sentence has
+-- reading takes tokens from the front, at least as many as a sentence has
 pub run-takes : {V : Type 0} (g : Grammar V) (ts : List Token) (r : V × List Token) → run g ts ≡ Ok r → at_least (may_be_empty g) + length r.1 ≤ length ts
 run-takes (token like f) [] r e = absurd (cc)
 run-takes {V} (token like f) (t ∷ ts) r e =
@@ -74,20 +74,20 @@ run-takes {V} (many {A} a f) ts r e =
     let x = and_then-Ok (run_many (first a) (run a) (length ts) ts) (λ xs end. Ok (f xs, end)) r e in
     omega (arith, run_many-takes (first a) (run a) (λ us q h. omega (arith, run-takes a us q h)) (length ts) ts x.0 x.1, left {A = V} (f x.0.0, x.0.1) r x.2)
 
--- what is never empty takes a token
+-- a grammar without an empty sentence takes a token
 pub run-shorter : {V : Type 0} (g : Grammar V) → may_be_empty g ≡ false → (ts : List Token) (r : V × List Token) → run g ts ≡ Ok r → length r.1 < length ts
 run-shorter g e ts r h = let t = run-takes g ts r h in let o : at_least (may_be_empty g) ≡ 1 = ap at_least e in omega (arith, t, o)
 
--- two ways to go on that are the same wherever reading comes to
+-- two continuations that agree on every result
 and_then-same : {A B : Type 0} (r : Read A) (f g : A → List Token → Read B) → ((x : A × List Token) → r ≡ Ok x → f x.0 x.1 ≡ g x.0 x.1) → and_then r f ≡ and_then r g
 and_then-same (Ok x) f g h = h x refl
 and_then-same (Err e) f g h = refl
 
--- one before the others
+-- one item before the others
 abbrev pub onto : {A : Type 0} → A → Read (List A) → Read (List A)
 onto x r = and_then r (λ xs end. Ok (x ∷ xs, end))
 
--- a repetition that may go on as long as the tokens do goes on as long as it can
+-- a repetition that may be as long as the tokens is read as far as possible
 run_many-enough : {A : Type 0} (classes : List ℕ) (read : List Token → Read A)
     → ((ts : List Token) (r : A × List Token) → read ts ≡ Ok r → length r.1 < length ts)
     → (m n : ℕ) (ts : List Token) → length ts ≤ m → length ts ≤ n → run_many classes read m ts ≡ run_many classes read n ts
@@ -102,7 +102,7 @@ run_many-enough {A} classes read h (suc m) (suc n) ts l k =
     (λ x e. ap (onto x.0) (run_many-enough classes read h m n x.1 (let q = h ts x e in omega (arith, q)) (let q = h ts x e in omega (arith, q)))) in
     ap (λ (q : Read (List A)). if starts classes ts then q else Ok ([], ts)) s
 
--- a repetition where one comes next
+-- a repetition of which one item comes next
 unrolled : {A : Type 0} (classes : List ℕ) (read : List Token → Read A)
     → ((ts : List Token) (r : A × List Token) → read ts ≡ Ok r → length r.1 < length ts)
     → (ts : List Token) → starts classes ts ≡ true
@@ -128,7 +128,7 @@ pub items-unrolled : {A : Type 0} (g : Grammar A) → may_be_empty g ≡ false �
     → items g ts ≡ and_then (run g ts) (λ x rest. onto x (items g rest))
 items-unrolled g e ts s = unrolled (first g) (run g) (run-shorter g e) ts s
 
--- reading any number
+-- reading any number of items
 abbrev all : {A : Type 0} → Grammar A → List Token → Read (List A)
 all g ts = run (many g (λ xs. xs)) ts
 
@@ -139,7 +139,7 @@ all-unrolled {A} g e ts s =
     ∙ and_then-same (run g ts) (λ x rest. onto x (run_many (first g) (run g) (length rest) rest)) (λ x rest. onto x (all g rest))
     (λ x q. ap (onto x.0) (sym (same_again (run_many (first g) (run g) (length x.1) x.1)))))
 
--- these before the others
+-- these items before the others
 abbrev pub with_front : {A : Type 0} → List A → Read (List A) → Read (List A)
 with_front front (Ok read) = Ok (front ++ read.0, read.1)
 with_front front (Err rest) = Err rest
@@ -171,7 +171,7 @@ read_behind : {A : Type 0} (front : List A) (r : Read (List A)) → and_then r (
 read_behind front (Ok read) = refl
 read_behind front (Err rest) = refl
 
--- any number behind some
+-- any number of items after some
 abbrev pub more_behind : {A : Type 0} → Grammar A → List A → List Token → Read (List A)
 more_behind g front ts = run (many g (λ xs. front ++ xs)) ts
 
@@ -180,11 +180,11 @@ pub more-kept : {A : Type 0} (g : Grammar A) → may_be_empty g ≡ false → (f
 more-kept g e front ts rest x whole s h same =
     read_behind (front ++ x ∷ []) (items g rest) ∙ all-kept g e front ts rest x whole s h (sym (read_behind front (items g ts)) ∙ same)
 
--- what is read behind a separator
+-- an item after a separator
 abbrev behind : {A : Type 0} → Kind → Grammar A → Grammar A
 behind k g = bare k then g
 
--- one or more, with a separator of the kind between two
+-- one or more items, with a separator of this kind between them
 abbrev pub parted : {A : Type 0} → Kind → Grammar A → Grammar (List A)
 parted k g = separated (bare k) g
 
@@ -213,14 +213,14 @@ parted-more {A} k g ts rest after x h c =
     all-unrolled (behind k g) refl rest s ∙ ap (λ (r : Read A). and_then r (λ x rest. onto x (all (behind k g) rest))) (separator-read k g rest after c) in
     ap (λ (r : Read A). and_then r (λ x rest. onto x (all (behind k g) rest))) h ∙ (ap (onto x) u ∙ front_one x (run (parted k g) after))
 
--- one more, and a separator
+-- one more item, and a separator
 pub parted-kept : {A : Type 0} (k : Kind) (g : Grammar A) (front : List A) (ts rest after : List Token) (x : A) (whole : Read (List A))
     → run g ts ≡ Ok (x, rest) → run (bare k) rest ≡ Ok (tt, after)
     → with_front front (run (parted k g) ts) ≡ whole → with_front (front ++ x ∷ []) (run (parted k g) after) ≡ whole
 parted-kept k g front ts rest after x whole h c same =
     sym (front_again front x (run (parted k g) after)) ∙ (sym (ap (with_front front) (parted-more k g ts rest after x h c)) ∙ same)
 
--- the last one
+-- the last item
 pub parted-ended : {A : Type 0} (k : Kind) (g : Grammar A) (front : List A) (ts rest : List Token) (x : A) (whole : Read (List A))
     → run g ts ≡ Ok (x, rest) → starts (class_number k ∷ []) rest ≡ false
     → with_front front (run (parted k g) ts) ≡ whole → whole ≡ Ok (front ++ x ∷ [], rest)
@@ -233,7 +233,7 @@ EndsWith rest ts = (front : List Token) × (ts ≡ front ++ rest)
 ends_trans : (a b c : List Token) → EndsWith a b → EndsWith b c → EndsWith a c
 ends_trans a b c h k = (k.0 ++ h.0, k.1 ∙ (ap (λ (x : List Token). k.0 ++ x) h.1 ∙ sym (append_assoc k.0 h.0 a)))
 
--- reading leaves an end of the tokens
+-- reading leaves a suffix of the tokens
 abbrev Leaves : {V : Type 0} → Read V → List Token → Type 0
 Leaves (Ok r) ts = EndsWith r.1 ts
 Leaves (Err rest) ts = EndsWith rest ts
@@ -274,6 +274,6 @@ whole-leaves : {V : Type 0} (r : Read V) (ts rest : List Token) → Leaves r ts 
 whole-leaves (Ok r) ts rest l h = subst (λ (x : List Token). EndsWith x ts) (ended-leaves r.0 r.1 rest h) l
 whole-leaves (Err e) ts rest l h = let same : e ≡ rest = cc in subst (λ (x : List Token). EndsWith x ts) same l
 
--- what is left from a fault on is an end of the tokens
+-- the tokens from a fault on are a suffix of the tokens
 pub run_whole-leaves : {V : Type 0} (g : Grammar V) (ts rest : List Token) → run_whole g ts ≡ Err rest → EndsWith rest ts
 run_whole-leaves g ts rest h = whole-leaves (run g ts) ts rest (run-leaves g ts) h

@@ -1,4 +1,4 @@
--- What a sentence begins with, and that reading gives back what a sentence means.
+-- What a sentence begins with; reading returns the value of a sentence.
 use Rattle.std.proofs.Common.{◌≡◌, ℕ, Bool, true, false, Ok, Err, List, [], ◌∷◌, ◌++◌, refl, sym, ap, ◌∙◌, subst, inl, inr, append_assoc}
 use Rattle.std.specs.Prelude.{◌==◌, ◌&&◌, not, if◌then◌else◌}
 use Rattle.std.proofs.lemmas.Bool.{or_left, or_right, and_parts, and_from, not-true, eq-eqb, cond-true, cond-false}
@@ -10,7 +10,7 @@ use Rattle.escrow_sql.proofs.ClassLemmas.{same_number}
 use Rattle.escrow_sql.proofs.Heads.{has-front, has-back, starts-none, apart-none, cut, none_of_both}
 use Rattle.escrow_sql.proofs.Reading.{Read, items, items-none, items-unrolled, onto}
 
--- a grammar of which no token is a sentence may be empty
+-- if the empty list of tokens is a sentence, the grammar may be empty
 pub empty-sentence : {V : Type 0} (g : Grammar V) (v : V) (ts : List Token) → ts ≡ [] → Sentence g ts v → may_be_empty g ≡ true
 empty-sentence (token like f) v ts e h = absurd (let both : [] ≡ h.0 ∷ [] = sym e ∙ h.1 in cc)
 empty-sentence (nothing d) v ts e h = refl
@@ -30,7 +30,7 @@ repeats_lead S P lead (x ∷ xs) u w ts e h =
       | inr c ↦ lead u c.0 h.0 x c.1 h.3
     ]
 
--- a sentence's first token is of a class that sentences begin with
+-- the first token of a sentence is of a class with which sentences begin
 pub leads : {V : Type 0} (g : Grammar V) (u : Token) (w ts : List Token) (v : V) → ts ≡ u ∷ w → Sentence g ts v → has (first g) (class_number u.kind) ≡ true
 leads (token like f) u w ts v e h =
     let both : h.0 ∷ [] ≡ u ∷ w = sym h.1 ∙ e in
@@ -49,7 +49,7 @@ leads (either a b) u w ts v e (inl h) = has-front (first a) (first b) (class_num
 leads (either a b) u w ts v e (inr h) = has-back (first a) (first b) (class_number u.kind) (leads b u w ts v e h)
 leads (many a f) u w ts v e h = repeats_lead (Sentence a) (λ t. has (first a) (class_number t.kind) ≡ true) (leads a) h.0 u w ts e h.1
 
--- what a part may be followed by, where the next part is read behind it
+-- what may follow a part, if the next part is read after it
 not_more : (closes opens : List ℕ) (t y : List Token) → apart closes opens ≡ true → ((u : Token) (w : List Token) → t ≡ u ∷ w → has opens (class_number u.kind) ≡ true)
     → (t ≡ [] → starts closes y ≡ false) → starts closes (t ++ y) ≡ false
 not_more closes opens [] y a h k = k refl
@@ -58,12 +58,12 @@ not_more closes opens (u ∷ w) y a h k = apart-none closes opens (class_number 
 chosen : (b : Bool) (cs : List ℕ) (y : List Token) → b ≡ true → starts (if b then cs else []) y ≡ false → starts cs y ≡ false
 chosen b cs y e h = subst (λ (ds : List ℕ). starts ds y ≡ false) (cond-true b cs [] e) h
 
--- tokens that begin as sentences do
+-- tokens that begin as a sentence does
 starts-first : (cs : List ℕ) (w y : List Token) → ((u : Token) (v : List Token) → w ≡ u ∷ v → has cs (class_number u.kind) ≡ true) → (w ≡ [] → ⊥) → starts cs (w ++ y) ≡ true
 starts-first cs [] y h n = absurd (n refl)
 starts-first cs (u ∷ v) y h n = h u v refl
 
--- a repetition reads back
+-- a repetition is read back
 reads_items : {A : Type 0} (a : Grammar A) → may_be_empty a ≡ false → apart (more a) (first a) ≡ true
     → ((w y : List Token) (x : A) → Sentence a w x → starts (more a) y ≡ false → run a (w ++ y) ≡ Ok (x, y))
     → (xs : List A) (w y : List Token) → Repeats (Sentence a) w xs → starts (first a) y ≡ false → starts (more a) y ≡ false → items a (w ++ y) ≡ Ok (xs, y)
@@ -79,7 +79,7 @@ reads_items {A} a n p back (x ∷ xs) w y h f m =
     ap (λ (ts : List Token). items a (ts ++ y)) h.2 ∙ (ap (items a) (append_assoc s t y)
     ∙ (items-unrolled a n (s ++ (t ++ y)) begins ∙ (ap (λ (r : Read A). and_then r (λ x rest. onto x (items a rest))) one ∙ ap (onto x) others)))
 
--- a sentence is read back, whatever follows, if that doesn't go on with it
+-- a sentence is read back, if what follows does not continue it
 pub reads_back : {V : Type 0} (g : Grammar V) → is_predictive g ≡ true → (w y : List Token) (v : V) → Sentence g w v → starts (more g) y ≡ false → run g (w ++ y) ≡ Ok (v, y)
 reads_back {V} (token like f) p w y v h m =
     ap (λ (ts : List Token). run (token like f) (ts ++ y)) h.1

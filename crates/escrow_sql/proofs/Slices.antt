@@ -1,4 +1,4 @@
--- The bytes of a token, alone, are that token.
+-- The bytes of a token, taken alone, are that token.
 use Rattle.std.proofs.Common.{◌≡◌, ℕ, zero, suc, ◌+◌, ◌-◌, ◌≤◌, Bool, false, cond, Ok, List, [], ◌∷◌, length, drop, take, arith, refl, sym, ap, ap₂, ◌∙◌, subst, map, inl, inr}
 use Rattle.std.specs.Prelude.{nat_lt, not, ◌&&◌, ◌==◌, if◌then◌else◌, slice_range}
 use Rattle.std.specs.Char.{is_ascii_alphabetic, is_ascii_digit, to_ascii_uppercase}
@@ -23,7 +23,7 @@ use Rattle.escrow_sql.proofs.Pieces.{is_lexed}
 use Rattle.escrow_sql.proofs.QuotedLemmas.{text_alone}
 use Rattle.escrow_sql.proofs.TokenLemmas.{after, by_piece, tokens_from-piece, with_token-Ok, whole_at_end}
 
--- a prefix that passes, alone, passes whole
+-- a prefix that passes a test passes completely when taken alone
 prefix_alone : (p : ℕ → Bool) (xs : List ℕ) → prefix_len p (take (prefix_len p xs) xs) ≡ prefix_len p xs
 prefix_alone p xs =
     let n = prefix_len p xs in
@@ -31,7 +31,7 @@ prefix_alone p xs =
     prefix_len_is p (take n xs) n 0 (omega arith)
     (λ k l. ap p (get_or-take n xs k 0 l) ∙ prefix_len_passes p xs k 0 l) (λ l. absurd (omega arith))
 
--- a name, by its length and its bytes
+-- a name, given by its length and its bytes
 abbrev name_with : ℕ → List ℕ → Piece
 name_with len front =
     let upper = map to_ascii_uppercase front in
@@ -44,7 +44,7 @@ name_alone xs =
     let e = prefix_alone goes_on xs in
     ap₂ (λ (l : ℕ) (front : List ℕ). name_with l front) e (ap (λ (l : ℕ). take l (take n xs)) e ∙ take-take n n xs (omega arith))
 
--- how long the token of a name is
+-- the length of a name's token
 name_len : (xs : List ℕ) (k : Kind) (len : ℕ) → name_piece xs ≡ piece.Token k len → len ≡ prefix_len goes_on xs
 unfolding name_piece
 name_len xs k len h =
@@ -87,7 +87,7 @@ symbol_alone c next k len h =
           ]
     ]
 
--- what doesn't begin a comment doesn't alone
+-- bytes that do not begin a comment do not begin one when cut off
 begins_alone : (b m : ℕ) (next : List ℕ) → begins b next ≡ false → begins b (take m next) ≡ false
 begins_alone b zero next h = refl
 begins_alone b (suc m) [] h = refl
@@ -100,7 +100,7 @@ no_comment c m next h =
       | inr e ↦ and_right (c == 45) (begins 45 (take m next)) (begins_alone 45 m next e)
     ]
 
--- the piece of bytes that begin neither with a blank nor with a comment
+-- the piece of bytes that begin with neither a blank nor a comment
 abbrev token_piece : ℕ → List ℕ → Piece
 token_piece c next =
     if is_ascii_alphabetic c then name_piece (c ∷ next)
@@ -161,7 +161,7 @@ plain_alone c next k len one h =
     let b = no_blank c next k len h in
     begins_token c (take (len - 1) next) b.0 (no_comment c (len - 1) next b.1) ∙ token_alone c next k len one (sym (begins_token c next b.0 b.1) ∙ h)
 
--- the bytes of a token, alone, begin with it
+-- the bytes of a token, taken alone, begin with it
 piece_alone : (c : ℕ) (next : List ℕ) (k : Kind) (len : ℕ) → 1 ≤ len → piece_of c next ≡ piece.Token k len → piece_of c (take (len - 1) next) ≡ piece.Token k len
 piece_alone c next k len one h =
     let short = take (len - 1) next in
@@ -176,7 +176,7 @@ tokens_from-past (suc skip) at [] l = refl
 tokens_from-past zero at (c ∷ next) l = absurd (omega arith)
 tokens_from-past (suc skip) at (c ∷ next) l = tokens_from-past skip (at + 1) next (omega arith)
 
--- the tokens of one token's bytes
+-- the tokens of a single token's bytes
 one_token : (c : ℕ) (next : List ℕ) (k : Kind) (len : ℕ) → 1 ≤ len → piece_of c next ≡ piece.Token k len
     → tokens_from 0 0 (take len (c ∷ next)) ≡ Ok (record { kind = k; start = 0; end = len } ∷ [])
 one_token c next k len one h =
@@ -187,7 +187,7 @@ one_token c next k len one h =
     ∙ (ap (with_token t) (tokens_from-past (len - 1) 1 short (omega (arith, length-take (len - 1) next)))
     ∙ ap (λ (n : ℕ). Ok (record { kind = k; start = 0; end = n } ∷ [])) e))
 
--- a token is what its bytes are, read from the first of them
+-- a token is the one read from the first of its bytes
 abbrev IsRead : List ℕ → Token → Type 0
 IsRead text t = tokens_from 0 0 (slice_range text t.start t.end) ≡ Ok (record { kind = t.kind; start = 0; end = t.end - t.start } ∷ [])
 
@@ -223,7 +223,7 @@ all_slices text (t ∷ ts) l h =
     let short : length (slice_range text t.start t.end) ≤ MAX_TEXT = omega (arith, length-take (t.end - t.start) (drop t.start text), length-drop t.start text) in
     (is_lexed (slice_range text t.start t.end) (Ok (record { kind = t.kind; start = 0; end = t.end - t.start } ∷ [])) short h.0, all_slices text ts l h.1)
 
--- each token that was read is its slice
+-- each token that was read matches its slice
 pub slices_at_end : (front : List Token) (text : List ℕ) (at : ℕ) → length text ≤ MAX_TEXT → length text ≤ at → after front (tokens_from 0 at (drop at text)) ≡ tokens_from 0 0 text
     → AllByRecursion (IsItsSlice text) front
 slices_at_end front text at l past same = all_slices text front l (all_read text text 0 0 front refl (whole_at_end front text at past same))

@@ -23,11 +23,11 @@ use Rattle.escrow_sql.proofs.TokenLemmas.{tokens_from-piece}
 use Rattle.escrow_sql.proofs.Writing.{Writes, is_behind, reads_written, writes_left, writes_meaning, writes_right}
 use Rattle.escrow_sql.proofs.WritingTokens.{begins_number, digits_all, whole_alone, writes_digits, writes_point}
 
--- a number that is a fault is one at its first digit
+-- if a number is a fault, the fault is at its first digit
 fault_first : (c : ℕ) (next : List ℕ) → is_ascii_digit c ≡ true → number_piece (c ∷ next) ≡ piece.Fault 0 → length (c ∷ next) ≤ MAX_TEXT → IsLexed (c ∷ next) (Err 1)
 fault_first c next digit e short = is_lexed (c ∷ next) (Err 1) short (tokens_from-piece c 0 next (piece.Fault 0) (sym (begins_number c next digit ∙ e)))
 
--- what digits alone spell
+-- the value of digits alone
 digits_alone : (digits : List ℕ) → millionths_of digits [] ≡ cond (nat_le (number_of digits) 999999999999999) (Some (pos (number_of digits * unit_at 0))) None
 unfolding millionths_of
 digits_alone digits = ap (λ (ds : List ℕ). cond (nat_le (number_of ds) 999999999999999) (Some (pos (number_of ds * unit_at 0))) None) (append-nil digits)
@@ -68,7 +68,7 @@ whole_read digits h short = record {
       (λ r. r ≡ None → IsLexed digits (Err 1)) (λ small some. absurd (cc)) (λ large none. digits_fault digits h short large) (digits_spell digits None h e);
 }
 
--- a point and digits behind it
+-- a point and the digits after it
 writes_both_parts : (front behind : List ℕ) (z : ℤ) → is_numeral front ≡ true → is_numeral behind ≡ true → millionths_of front behind ≡ Some z
     → Writes is_behind number (front ++ 46 ∷ behind) z
 unfolding number

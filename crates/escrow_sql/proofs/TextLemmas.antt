@@ -15,7 +15,7 @@ shift-one : (i : ℕ) (o : Option ℕ) → option_map (λ n. i + n) (option_map 
 shift-one i None = refl
 shift-one i (Some n) = ap (λ (m : ℕ). Some m) (omega arith)
 
--- a text's byte that doesn't end it
+-- a byte of a text that does not end it
 text_rest-cons : (closing next : Bool) (b : ℕ) (bs : List ℕ)
     → ((b ≡ 39) × (next ≡ not closing)) ⊎ ((b ≡ 39 → ⊥) × (closing ≡ false) × (next ≡ closing))
     → text_rest closing (b ∷ bs) ≡ option_map (λ n. n + 1) (text_rest next bs)
@@ -34,7 +34,7 @@ text_rest-more closing next i body below cases same =
     let e = at_drop_more (text_rest closing) body i 0 below in
     same ∙ (ap (option_map (λ n. i + n)) (e ∙ text_rest-cons closing next (get_or body i 0) (drop (i + 1) body) cases) ∙ shift-one i (text_rest next (drop (i + 1) body)))
 
--- bytes without a quote stay
+-- bytes without a quote are unchanged
 undoubled-plain : (front rest : List ℕ) → ((k : ℕ) → k < length front → get_or front k 0 ≡ 39 → ⊥) → undoubled false (front ++ rest) ≡ front ++ undoubled false rest
 undoubled-plain [] rest h = refl
 undoubled-plain (c ∷ front) rest h =
@@ -56,7 +56,7 @@ undoubled-one true c rest h =
     let e : nat_eq c 39 ≡ false = grind (arith, nat_tests, h refl) in
     rw e refl
 
--- a character that isn't a doubled quote's second is copied
+-- a character that is not the second of two quotes is copied
 undoubled-char : (behind : Bool) (c : ℕ) (rest : List ℕ) → (behind ≡ true → c ≡ 39 → ⊥) → undoubled behind (encode c ++ rest) ≡ encode c ++ undoubled (nat_eq c 39) rest
 undoubled-char behind c rest h =
     elim (cases_lt c 128) [

@@ -1,4 +1,4 @@
--- The tokens from a place on, after one piece more.
+-- The tokens from a place on, after one more piece.
 use Rattle.std.proofs.Common.{◌≡◌, ℕ, zero, suc, ◌+◌, ◌-◌, ◌≤◌, ◌<◌, Result, Ok, Err, List, [], ◌∷◌, ◌++◌, length, get_or, drop, arith, refl, sym, ap, ap₂, ◌∙◌, subst, append_assoc, add-zero}
 use Rattle.std.proofs.lemmas.List.{append-nil, at_drop_all, at_drop_more, drop-drop}
 use Rattle.escrow_sql.specs.declared.lexer.piece.Piece.{Piece}
@@ -11,12 +11,12 @@ use Rattle.escrow_sql.proofs.PieceLemmas.{piece_of-within}
 use Rattle.escrow_sql.specs.Lex.{with_token}
 use Rattle.escrow_sql.specs.Scan.{tokens_from, piece_of, IsWithin}
 
--- these tokens, and then those
+-- these tokens, followed by those
 abbrev pub after : List Token → Result (List Token) ℕ → Result (List Token) ℕ
 after front (Ok ts) = Ok (front ++ ts)
 after front (Err column) = Err column
 
--- what is skipped could as well be dropped
+-- skipping bytes equals dropping them
 tokens_from-skip : (skip at : ℕ) (bytes : List ℕ) → tokens_from skip at bytes ≡ tokens_from 0 (at + skip) (drop skip bytes)
 tokens_from-skip zero at bytes = rw add-zero refl
 tokens_from-skip (suc skip) at [] = refl
@@ -24,7 +24,7 @@ tokens_from-skip (suc skip) at (c ∷ next) =
     let e : at + 1 + skip ≡ at + suc skip = omega arith in
     tokens_from-skip skip (at + 1) next ∙ ap (λ (n : ℕ). tokens_from 0 n (drop skip next)) e
 
--- what stands behind a piece
+-- the text after a piece
 behind : (text : List ℕ) (at len : ℕ) → 1 ≤ len → tokens_from (len - 1) (at + 1) (drop (at + 1) text) ≡ tokens_from 0 (at + len) (drop (at + len) text)
 behind text at len one =
     let e : at + 1 + (len - 1) ≡ at + len = omega arith in
@@ -38,7 +38,7 @@ tokens_from-behind c next at (suc len) one =
     let end : at + 1 + len ≡ at + suc len = omega arith in
     ap (λ (n : ℕ). tokens_from n (at + 1) next) less ∙ (tokens_from-skip len (at + 1) next ∙ ap (λ (n : ℕ). tokens_from 0 n (drop len next)) end)
 
--- the tokens from a place on, by the piece that stands there
+-- the tokens from a place on, given the piece at that place
 abbrev pub by_piece : ℕ → List ℕ → Piece → Result (List Token) ℕ
 by_piece at next (piece.Blank len) = tokens_from (len - 1) (at + 1) next
 by_piece at next (piece.Token k len) = with_token (record { kind = k; start = at; end = at + len }) (tokens_from (len - 1) (at + 1) next)
@@ -69,7 +69,7 @@ pub after-token : (front : List Token) (t : Token) (rest : Result (List Token) �
 after-token front t (Ok ts) = ap (λ (x : List Token). Ok x) (sym (append_assoc front (t ∷ []) ts))
 after-token front t (Err column) = refl
 
--- the same where tokens stand before
+-- the same after earlier tokens
 pub after-blank : (front : List Token) (text : List ℕ) (at len : ℕ) (p : Piece) (whole : Result (List Token) ℕ) → at < length text → 1 ≤ len
     → p ≡ piece.Blank len → p ≡ piece_of (get_or text at 0) (drop (at + 1) text)
     → after front (tokens_from 0 at (drop at text)) ≡ whole → after front (tokens_from 0 (at + len) (drop (at + len) text)) ≡ whole
@@ -115,12 +115,12 @@ tokens_from-in_order (c ∷ next) (suc skip) at ts l h =
     in_order-moved (at + 1 + skip) (at + 1 + length next) (at + suc skip) (at + length (c ∷ next)) ts (omega arith) (omega arith)
     (tokens_from-in_order next skip (at + 1) ts (omega arith) h)
 
--- the tokens of a text stand in order
+-- the tokens of a text are in order
 pub tokens_in_order : (text : List ℕ) (ts : List Token) → tokens_from 0 0 text ≡ Ok ts → AreInOrder 0 (length text) ts
 tokens_in_order text ts h =
     in_order-moved (0 + 0) (0 + length text) 0 (length text) ts (omega arith) (omega arith) (tokens_from-in_order text 0 0 ts (omega arith) h)
 
--- what is true of the tokens is true of those that are left of them
+-- what holds of the tokens holds of the remaining ones
 pub in_order-rest : (front rest : List Token) (from to : ℕ) → AreInOrder from to (front ++ rest) → (near : ℕ) × AreInOrder near to rest
 in_order-rest [] rest from to h = (from, h)
 in_order-rest (t ∷ front) rest from to h = in_order-rest front rest t.end to h.2
@@ -129,23 +129,23 @@ in_order-end : (ts : List Token) (from to : ℕ) → AreInOrder from to ts → f
 in_order-end [] from to h = h
 in_order-end (t ∷ ts) from to h = omega (arith, h.0, h.1, in_order-end ts t.end to h.2)
 
--- a column of a text fits
+-- a column of a text is in range
 pub column_at-small : (ts : List Token) (from len : ℕ) → len ≤ MAX_TEXT → AreInOrder from len ts → column_at ts len ≤ MAX_TEXT + 1
 column_at-small [] from len l h = omega arith
 column_at-small (t ∷ ts) from len l h = omega (arith, h.1, in_order-end ts t.end len h.2)
 
--- what was read to the end are the tokens
+-- after reading to the end, the tokens are complete
 pub whole_at_end : (front : List Token) (text : List ℕ) (at : ℕ) → length text ≤ at → after front (tokens_from 0 at (drop at text)) ≡ tokens_from 0 0 text → tokens_from 0 0 text ≡ Ok front
 whole_at_end front text at past same =
     let end = at_drop_all (λ (bytes : List ℕ). after front (tokens_from 0 at bytes)) text at past in
     sym same ∙ (end ∙ ap (λ (ts : List Token). Ok ts) (append-nil front))
 
--- where a fault was met is the fault
+-- the fault that lexing met is the text's fault
 pub fault_met : (front : List Token) (text : List ℕ) (at place : ℕ) (p : Piece) → at < length text → p ≡ piece.Fault place → p ≡ piece_of (get_or text at 0) (drop (at + 1) text)
     → after front (tokens_from 0 at (drop at text)) ≡ tokens_from 0 0 text → tokens_from 0 0 text ≡ Err (at + place + 1)
 fault_met front text at place p below e is same = sym same ∙ ap (after front) (tokens_from-fault text at place below (sym e ∙ is))
 
--- the tokens that were read to the end stand in order
+-- the tokens read up to the end are in order
 pub spans_at_end : (front : List Token) (text : List ℕ) (at : ℕ) → length text ≤ at → after front (tokens_from 0 at (drop at text)) ≡ tokens_from 0 0 text → AreInOrder 0 (length text) front
 spans_at_end front text at past same =
     tokens_in_order text front (whole_at_end front text at past same)

@@ -1,4 +1,4 @@
--- Numbers with a scale, with their sign, and the sizes of types, as they are written, are read as themselves.
+-- Printed numbers with a scale, with their sign, and printed sizes of types are read back as the same.
 use Rattle.std.proofs.Common.{◌≡◌, ℕ, zero, suc, ℤ, pos, negsuc, ◌*◌, ◌*ℤ◌, ◌≤◌, ◌<◌, ◌/◌, ◌%◌, ◌+◌, true, Some, None, List, [], ◌∷◌, ◌++◌, length, get_or, arith, refl, sym, subst, append_assoc}
 use Rattle.std.specs.Prelude.{codes}
 use Rattle.std.specs.Char.{is_ascii_digit}
@@ -20,7 +20,7 @@ use Rattle.escrow_sql.specs.Statement.{number, point, sign, signed_number, size,
 use Rattle.escrow_sql.proofs.Writing.{Writes, is_behind, writes_both, writes_joined, writes_apart, writes_first, writes_left, writes_right, writes_meaning, writes_nothing}
 use Rattle.escrow_sql.proofs.WritingTokens.{no_minus, writes_point, writes_symbol, writes_whole}
 
--- digits begin with no minus
+-- digits begin without a minus
 pub digits_no_minus : (ds rest : List ℕ) → 0 < length ds → 48 < get_or ds 0 0 → no_minus (ds ++ rest) ≡ true
 digits_no_minus [] rest long first = absurd (omega arith)
 digits_no_minus (c ∷ cs) rest long first = grind (arith, nat_tests)
@@ -29,13 +29,13 @@ numeral_no_minus : (ds rest : List ℕ) → is_numeral ds ≡ true → no_minus 
 numeral_no_minus [] rest h = absurd (cc)
 numeral_no_minus (c ∷ cs) rest h = let digit = (and_parts (is_ascii_digit c) (all_ascii_digits cs) h).0 in grind (arith, nat_tests)
 
--- nor does a magnitude
+-- so does a magnitude
 pub magnitude_no_minus : (k n : ℕ) (rest : List ℕ) → n ≤ 999999999999999 → no_minus (magnitude_text k n ++ rest) ≡ true
 magnitude_no_minus k n rest h =
     rw (append_assoc (decimal (before_last k n)) (pointed (last_digits k n)) rest)
     (numeral_no_minus (decimal (before_last k n)) (pointed (last_digits k n) ++ rest) (before-whole k n h))
 
--- units of a scale with digits behind the point are a number with a point
+-- units of a scale with digits after the point are a number with a point
 writes_pointed : (j n : ℕ) → IsScale (suc j) → n ≤ 999999999999999 → Writes is_behind point (magnitude_text (suc j) n) (pos (n * unit_at (suc j)))
 writes_pointed j n scaled h =
     let some : 0 < length (last_digits (suc j) n) = omega (arith, last-length (suc j) n) in
@@ -43,7 +43,7 @@ writes_pointed j n scaled h =
     (writes_point (decimal (before_last (suc j) n)) (last_digits (suc j) n) (pos (n * unit_at (suc j))) (before-whole (suc j) n h)
     (parts-numeral (last_digits (suc j) n) (last-digits (suc j) n) some) (parts-spelled (suc j) n scaled h))
 
--- and without any they are a number without one
+-- units of a scale without such digits are a number without a point
 writes_plain : (n : ℕ) → n ≤ 999999999999999 → Writes is_behind whole (magnitude_text 0 n) (pos n)
 writes_plain n h = subst (λ (xs : List ℕ). Writes is_behind whole xs (pos n)) (sym (append-nil (decimal n))) (writes_whole n h)
 
@@ -53,7 +53,7 @@ unfolding number
 writes_magnitude zero n scaled h = writes_left (writes_meaning (writes_plain n h))
 writes_magnitude (suc j) n scaled h = writes_right (writes_pointed j n scaled h)
 
--- and as a term
+-- a magnitude is read as a term
 pub writes_magnitude_term : (k n : ℕ) → IsScale k → n ≤ 999999999999999 → Writes is_behind term (magnitude_text k n) (terms.Number (pos (n * unit_at k)))
 unfolding term
 writes_magnitude_term zero n scaled h = writes_left (writes_first (writes_plain n h) (writes_right writes_nothing))
@@ -72,7 +72,7 @@ pub writes_size : (p : ℕ) → p ≤ 999999999999999 → Writes is_behind size 
 unfolding size
 writes_size p h = writes_first (writes_whole p h) (writes_right writes_nothing)
 
--- and with one
+-- the size of a type, with a scale
 pub writes_scaled_size : (p s : ℕ) → p ≤ 999999999999999 → s ≤ 999999999999999
     → Writes is_behind size (decimal p ++ (codes "," ++ decimal s)) (record { digits = pos p; scale = Some (pos s) })
 unfolding size

@@ -1,4 +1,4 @@
--- Terms, sums and what is asked of them, as they are written, are read as themselves.
+-- Printed terms, sums and comparisons are read back as the same.
 use Rattle.std.proofs.Common.{◌≡◌, ℕ, suc, ℤ, pos, negsuc, ◌*ℤ◌, ◌^◌, ◌≤◌, ◌<◌, false, true, List, [], ◌∷◌, ◌++◌, arith, refl}
 use Rattle.std.specs.Prelude.{codes}
 use Rattle.std.specs.Fmt.{decimal}
@@ -21,7 +21,7 @@ use Rattle.escrow_sql.proofs.Writing.{Writes, is_behind, none_more, writes_both,
 use Rattle.escrow_sql.proofs.WritingNumbers.{digits_no_minus, magnitude_no_minus, writes_magnitude_term, writes_signed}
 use Rattle.escrow_sql.proofs.WritingTokens.{no_minus, writes_whole, writes_symbol, writes_symbol_apart, writes_word, written}
 
--- a column by itself, and a number of times
+-- a column by itself, and a multiple of a column
 pub writes_once : {n : List ℕ} → Writes is_behind name n n → Writes is_behind term n (terms.Column (pos 1) n)
 unfolding term
 writes_once w = writes_right (writes_right (writes_first w (writes_right writes_nothing)))
@@ -31,7 +31,7 @@ unfolding term
 writes_times m small w =
     writes_left (writes_apart (writes_whole m small) refl (writes_left (writes_meaning (writes_blank (writes_joined (writes_symbol symbols.Star) (writes_blank w))))))
 
--- a term behind others, with its sign
+-- a term after others, with its sign
 pub writes_plus : {t : List ℕ} {x : Term} → Writes is_behind term t x → Writes is_behind signed_term (codes " + " ++ t) (signed false x)
 unfolding signed_term sign
 writes_plus w = writes_blank (writes_joined (writes_left (writes_meaning (writes_symbol symbols.Plus))) (writes_blank w))
@@ -47,13 +47,13 @@ first_term = sequence (optional false sign) term signed
 pub writes_unsigned : {t : List ℕ} {x : Term} → Writes is_behind term t x → Writes is_behind first_term t (signed false x)
 writes_unsigned w = writes_joined (writes_right writes_nothing) w
 
--- a minus right before it, where it begins with none
+-- a minus directly before a term, if the term begins with none
 pub writes_negated : {t : List ℕ} {x : Term} → ((rest : List ℕ) → no_minus (t ++ rest) ≡ true) → Writes is_behind term t x
     → Writes is_behind first_term (codes "-" ++ t) (signed true x)
 unfolding sign
 writes_negated plain w = writes_both (writes_left (writes_right (writes_meaning (writes_symbol symbols.Minus)))) (λ rest q. plain rest) w
 
--- a first term, and others behind it
+-- the first term, and the others after it
 pub writes_sum : {s t : List ℕ} {x : Term} {xs : List Term} → Writes is_behind first_term s x → is_behind t ≡ true → Writes is_behind (many signed_term (λ ts. ts)) t xs
     → Writes is_behind sum (s ++ t) (x ∷ xs)
 unfolding sum
@@ -62,7 +62,7 @@ writes_sum w behind others = writes_apart w behind others
 pub digits_plain : (n : ℕ) (rest : List ℕ) → 0 < n → n < 2 ^ 64 → no_minus (decimal n ++ rest) ≡ true
 digits_plain n rest some fits = digits_no_minus (decimal n) rest (decimal_nonempty n fits) (first_decimal n some fits)
 
--- a sum that is one number, written with a scale
+-- a sum that is one number, printed with a scale
 pub writes_number_sum : (k : ℕ) (z : ℤ) → IsScale k → IsAmount z → Writes is_behind sum (scaled_text k z) (terms.Number (z *ℤ pos (unit_at k)) ∷ [])
 unfolding scaled_text sum
 writes_number_sum k (pos n) scaled h = writes_first (writes_unsigned (writes_magnitude_term k n scaled (omega (arith, ints, h.1)))) none_more
@@ -86,7 +86,7 @@ writes_comparison comparisons.Above = writes_right (writes_right (writes_left (w
 writes_comparison comparisons.AtLeast = writes_right (writes_right (writes_right (writes_left (writes_meaning (writes_symbol_apart symbols.AtLeast)))))
 writes_comparison comparisons.Equal = writes_right (writes_right (writes_right (writes_right (writes_meaning (writes_symbol_apart symbols.Equal)))))
 
--- a comparison with a number that is written with a scale
+-- a comparison with a number printed with a scale
 pub writes_compare : (c : Comparison) (k : ℕ) (z : ℤ) → IsScale k → IsAmount z
     → Writes is_behind test_part (written (symbol_of c) ++ (codes " " ++ scaled_text k z)) (tests.Compare c (terms.Number (z *ℤ pos (unit_at k)) ∷ []))
 unfolding test_part

@@ -1,4 +1,4 @@
--- Words, symbols, names and numbers, as they are written, are read as themselves.
+-- Printed words, symbols, names and numbers are read back as the same.
 use Rattle.std.proofs.Common.{◌≡◌, ℕ, ℤ, pos, ◌+◌, ◌^◌, ◌≤◌, ◌<◌, Bool, true, false, Result, Ok, Err, List, [], ◌∷◌, ◌++◌, length, take, drop, map, Some, None, arith, rules, refl, sym, ap, ap₂, ◌∙◌, append_assoc, length-append, inl}
 use Rattle.std.specs.Prelude.{codes, position, not, nat_lt, nat_le, ◌==◌, if◌then◌else◌}
 use Rattle.std.specs.Char.{is_ascii_alphabetic, is_ascii_uppercase, is_ascii_digit, to_ascii_uppercase}
@@ -44,7 +44,7 @@ no_quote : (rest : List ℕ) → is_behind rest ≡ true → begins 39 rest ≡ 
 no_quote [] e = refl
 no_quote (c ∷ cs) e = grind (arith, nat_tests)
 
--- bytes that begin with a token, whatever may follow, write it
+-- bytes that begin with a token, whatever may follow, print it
 writes_token : {V : Type 0} (P : List ℕ → Bool) (like k : Kind) (f : Kind → V) (c : ℕ) (cs : List ℕ) → class_of k ≡ class_of like
     → ((rest : List ℕ) → P rest ≡ true → piece_of c (cs ++ rest) ≡ piece.Token k (length (c ∷ cs))) → Writes P (token like f) (c ∷ cs) (f k)
 writes_token P like k f c cs same reads = record {
@@ -59,7 +59,7 @@ writes_token P like k f c cs same reads = record {
       );
 }
 
--- how each symbol is written
+-- how each symbol is printed
 abbrev pub written : Symbol → List ℕ
 written symbols.Open = codes "("
 written symbols.Close = codes ")"
@@ -74,7 +74,7 @@ written symbols.AtMost = codes "<="
 written symbols.Above = codes ">"
 written symbols.AtLeast = codes ">="
 
--- a minus may not follow a minus, which would begin a comment
+-- a minus may not follow a minus: the two would begin a comment
 abbrev pub no_minus : List ℕ → Bool
 no_minus rest = not (begins 45 rest)
 
@@ -100,7 +100,7 @@ writes_symbol symbols.Below = mark symbols.Below is_behind 60 [] (λ rest q. let
 writes_symbol symbols.Above = mark symbols.Above is_behind 62 [] (λ rest q. let e = no_equal rest q in rw e refl)
 writes_symbol other = mark other anything _ _ (λ rest q. refl)
 
--- what may stand behind a word may stand behind a symbol
+-- whatever may follow a word may follow a symbol
 behind_symbol : (s : Symbol) (rest : List ℕ) → is_behind rest ≡ true → may_follow s rest ≡ true
 behind_symbol symbols.Minus [] q = refl
 behind_symbol symbols.Minus (c ∷ cs) q = grind (arith, nat_tests)
@@ -122,12 +122,12 @@ number_ends : (rest : List ℕ) → is_behind rest ≡ true → ends is_ascii_di
 number_ends [] e = refl
 number_ends (c ∷ cs) e = grind (arith, nat_tests)
 
--- nor does a number go on with a point there
+-- it does not continue a number with a point either
 no_point : (rest : List ℕ) → is_behind rest ≡ true → point_digits rest ≡ []
 no_point [] e = refl
 no_point (c ∷ cs) e = cond-false (c == 46) (front_digits cs) [] (grind (arith, nat_tests))
 
--- bytes of a name are in upper case, and it goes on with them
+-- a name's bytes are in upper case, and a name may continue with them
 byte_upper : (c : ℕ) → is_name_byte c ≡ true → to_ascii_uppercase c ≡ c
 byte_upper c e = let u = uppercase_is c in grind (arith, nat_tests)
 
@@ -139,7 +139,7 @@ bytes_upper (c ∷ cs) e =
     let others = bytes_upper cs all.1 in
     (ap₂ (λ (d : ℕ) (ds : List ℕ). d ∷ ds) same others.0, rw (same, all.0) others.1)
 
--- what letters and digits are not, with which a piece begins that is read otherwise
+-- letters and digits are none of the bytes that begin other pieces
 plain_byte : (c : ℕ) → 48 ≤ c → ((c == 39) ≡ false) × (is_blank c ≡ false) × ((c == 45) ≡ false)
 plain_byte c h = (grind (arith, nat_tests), grind (arith, nat_tests), grind (arith, nat_tests))
 
@@ -158,7 +158,7 @@ begins_number c next h =
     let letter : is_ascii_alphabetic c ≡ false = grind (arith, nat_tests) in
     rw (plain.0, plain.1, plain.2, letter, h) refl
 
--- a name, by its length and its bytes
+-- a name, given by its length and its bytes
 abbrev name_with : ℕ → List ℕ → Piece
 name_with len upper = if nat_lt MAX_WRITTEN len then piece.Fault 0 else piece.Token (word_or_name upper (reserved upper)) len
 
@@ -176,7 +176,7 @@ whole_read : (digits rest : List ℕ) → list_all is_ascii_digit digits ≡ tru
 whole_read digits rest h q =
     ap (λ (xs : List ℕ). number_piece (xs ++ rest)) (sym (append-nil digits)) ∙ number_read digits [] rest h refl (number_ends rest q) (no_point rest q)
 
--- what spells a name is read as a word or a name
+-- the spelling of a name is read as a word or a name
 writes_spelled : {V : Type 0} (like : Kind) (f : Kind → V) (n : List ℕ) (k : Kind) → spells_name n ≡ true → length n ≤ MAX_WRITTEN → word_or_name n (reserved n) ≡ k → class_of k ≡ class_of like
     → Writes is_behind (token like f) n (f k)
 writes_spelled like f [] k h short e same = absurd (cc)
@@ -187,7 +187,7 @@ writes_spelled like f (c ∷ cs) k h short e same =
     writes_token is_behind like k f c cs same
     (λ rest q. begins_name c (cs ++ rest) parts.0 ∙ (name_read (c ∷ cs) rest all short q ∙ ap (λ (l : Kind). piece.Token l (length (c ∷ cs))) e))
 
--- each reserved word is spelled as names are, and is the one that is spelled so
+-- each reserved word is spelled like a name, and no other word is spelled the same
 word_spelled : (w : Word) → (spells_name (spelling w) ≡ true) × (nat_le (length (spelling w)) MAX_WRITTEN ≡ true) × (reserved (spelling w) ≡ Some w)
 word_spelled words.Add = (refl, refl, refl)
 word_spelled other = (refl, refl, refl)
@@ -204,7 +204,7 @@ pub digits_all : (ds : List ℕ) → all_ascii_digits ds ≡ true → list_all i
 digits_all [] h = refl
 digits_all (c ∷ cs) h = let p = and_parts (is_ascii_digit c) (all_ascii_digits cs) h in and_from (is_ascii_digit c) (list_all is_ascii_digit cs) p.0 (digits_all cs p.1)
 
--- digits alone are a number without a point
+-- digits without a point are a number without a point
 pub whole_alone : (digits : List ℕ) → is_numeral digits ≡ true → number_piece digits ≡ whole_piece digits
 whole_alone [] h = absurd (cc)
 whole_alone (c ∷ cs) h = ap number_piece (sym (append-nil (c ∷ cs))) ∙ whole_read (c ∷ cs) [] (digits_all (c ∷ cs) h) refl
@@ -218,7 +218,7 @@ writes_digits n (c ∷ cs) h long value small =
     ∙ (ap (λ (m : ℕ). if is_amount (pos m) then piece.Token (kind.Number (pos m)) (length (c ∷ cs)) else piece.Fault 0) value
     ∙ cond-true (is_amount (pos n)) (piece.Token (kind.Number (pos n)) (length (c ∷ cs))) (piece.Fault 0) small)))
 
--- the digits and the number of specs/Amount.antt are those that are written
+-- the digits and the number of specs/Amount.antt are the printed ones
 own : IsNumeralModel (λ ds. all_ascii_digits ds ≡ true) number_of
 own = numerals_by_fold _ tells_all_ascii_digits number_after (search rules)
 
@@ -244,7 +244,7 @@ writes_point (c ∷ cs) (d ∷ ds) z h k value =
     ∙ (number_read (c ∷ cs) (d ∷ ds) rest (digits_all (c ∷ cs) h) (digits_all (d ∷ ds) k) (number_ends rest q) (no_point rest q)
     ∙ ap₂ point_piece len value))
 
--- a text in quotes, with each quote in it twice, is read back where all of its characters may stand in one
+-- a text in quotes, with its quotes doubled, is read back if all of its characters are allowed
 pub writes_text : (t : List ℕ) → position is_forbidden (doubled t) ≡ None → Writes is_behind text ((39 ∷ doubled t) ++ 39 ∷ []) t
 writes_text t allowed =
     writes_token is_behind (kind.Text []) (kind.Text t) text_in 39 (doubled t ++ 39 ∷ []) refl

@@ -1,4 +1,4 @@
--- Names and reserved words as they are written, in any case of their letters.
+-- Names and reserved words, in any case of their letters.
 use Rattle.std.proofs.Common.{◌≡◌, ◌≢◌, ℕ, ◌≤◌, ◌<◌, Bool, true, false, List, [], ◌∷◌, ◌+◌, ◌*◌, ◌%◌, Option, Some, None, length, map, bytes_eq, slice_index, get_or, ◌↔◌, arith, refl, sym, ap, ap₂, ◌∙◌}
 use Rattle.std.specs.Prelude.{IsTrue, slice_get}
 use Rattle.std.specs.Char.{to_ascii_lowercase, to_ascii_uppercase}
@@ -26,7 +26,7 @@ lower_of_upper : (text : List ℕ) → map to_ascii_lowercase (map to_ascii_uppe
 lower_of_upper [] = refl
 lower_of_upper (c ∷ cs) = ap₂ (λ (b : ℕ) (bs : List ℕ). b ∷ bs) (lowercase-uppercase c) (lower_of_upper cs)
 
--- the place of bytes among the numbers of reserved words, and the word whose number stands there
+-- the index of bytes in the table of reserved words, and the word at that index
 abbrev place : List ℕ → ℕ
 place text = (5 * (get_or text 0 0 % 32) + 3 * (get_or text 1 0 % 32) + length text) % 128
 
@@ -39,7 +39,7 @@ spelled_in_upper_case = each_word (λ w. map to_ascii_uppercase (spelling w)) sp
 found_by_spelling : (w : Word) → reserved (spelling w) ≡ Some w
 found_by_spelling = each_word (λ w. reserved (spelling w)) Some refl
 
--- the number of a reserved word stands at its place
+-- each reserved word is at its index
 found_at_place : (w : Word) → candidate (spelling w) ≡ Some w
 found_at_place = each_word (λ w. candidate (spelling w)) Some refl
 
@@ -54,7 +54,7 @@ candidate_is (c ∷ (d ∷ cs)) first second some f s w same =
     rw (f ∙ sym (same_letter c), s ∙ sym (same_letter d))
     (ap (λ (n : ℕ). slice_get WORDS.now (get_or NUMBERS ((5 * (to_ascii_uppercase c % 32) + 3 * (to_ascii_uppercase d % 32) + n) % 128) 0)) (sym (length-map (c ∷ (d ∷ cs)) to_ascii_uppercase)) ∙ (ap candidate same ∙ found_at_place w))
 
--- what the number at the place is, where the bytes are a reserved word
+-- if the bytes are a reserved word, the number at their index is the word's
 pub number_is : (text : List ℕ) (first second number : ℕ) → 2 ≤ length text → first ≡ slice_index text 0 % 32 → second ≡ slice_index text 1 % 32
     → number ≡ get_or NUMBERS ((5 * first + 3 * second + length text) % 128) 0 → (w : Word) → map to_ascii_uppercase text ≡ spelling w
     → (number < length WORDS.now) × ((d : Word) → get_or WORDS.now number d ≡ w)
@@ -67,7 +67,7 @@ same_answer true b there back = sym (there refl)
 same_answer false true there back = back refl
 same_answer false false there back = refl
 
--- what is spelled as the word is so in upper case too
+-- the spelling of a word is also its spelling in upper case
 pub kept_in_upper_case : (text : List ℕ) (w : Word) → text ≡ spelling w → map to_ascii_uppercase text ≡ spelling w
 kept_in_upper_case text w e = ap (map to_ascii_uppercase) e ∙ spelled_in_upper_case w
 
@@ -76,7 +76,7 @@ is_spelled w text r e h =
     let same : text ≡ spelling w = sym ((bytes_eq-Decides (spelling w) text).0 (sym e ∙ h)) in
     h ∙ sym ((bytes_eq-Decides (spelling w) (map to_ascii_uppercase text)).1 (sym (kept_in_upper_case text w same)))
 
--- what is the word without regard to case is the word in upper case
+-- bytes that are the word without regard to case are the word in upper case
 pub is_written : (w : Word) (text : List ℕ) (r : Bool) → (IsTrue r ↔ (map to_ascii_lowercase (spelling w) ≡ map to_ascii_lowercase text)) → r ≡ bytes_eq (spelling w) (map to_ascii_uppercase text)
 is_written w text r test =
     let decides = bytes_eq-Decides (spelling w) (map to_ascii_uppercase text) in
@@ -84,13 +84,13 @@ is_written w text r test =
     (λ h. decides.1 (sym (spelled_in_upper_case w) ∙ (sym (upper_of_lower (spelling w)) ∙ (ap (map to_ascii_uppercase) (test.0 h) ∙ upper_of_lower text))))
     (λ h. test.1 (ap (map to_ascii_lowercase) (decides.0 h) ∙ lower_of_upper text))
 
--- what has another length is not the word
+-- bytes of another length are not the word
 pub is_another : (w : Word) (text : List ℕ) → length (spelling w) ≢ length text → false ≡ bytes_eq (spelling w) (map to_ascii_uppercase text)
 is_another w text differ =
     same_answer false (bytes_eq (spelling w) (map to_ascii_uppercase text)) (λ h. absurd (cc))
     (λ h. absurd (differ (ap (λ (bytes : List ℕ). length bytes) ((bytes_eq-Decides (spelling w) (map to_ascii_uppercase text)).0 h) ∙ length-map text to_ascii_uppercase)))
 
--- where the only candidate is spelled so it is the reserved word, and else there is none
+-- if the only candidate has this spelling, it is the reserved word; otherwise there is none
 pub is_reserved : (text : List ℕ) (w : Word) → bytes_eq (spelling w) text ≡ true → Some w ≡ reserved text
 is_reserved text w h = sym (ap reserved (sym ((bytes_eq-Decides (spelling w) text).0 h)) ∙ found_by_spelling w)
 

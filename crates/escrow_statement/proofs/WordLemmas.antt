@@ -1,4 +1,4 @@
--- What agrees along the list of reserved words agrees at each of them.
+-- What holds along the list of reserved words holds for each of them.
 use Rattle.std.proofs.Common.{◌≡◌, get_or, refl, sym, ap, ap₂, ◌∙◌}
 use Rattle.std.specs.Prelude.{map}
 use Rattle.std.proofs.Math.ListN.{get_or-map}
@@ -12,7 +12,7 @@ word_found : (w : Word) → get_or reserved_words (number_of w) word.Add ≡ w
 word_found word.Add = refl
 word_found other = refl
 
--- what agrees along the list of reserved words agrees at each of them
+-- two functions that agree along the list of reserved words agree on each word
 pub each_word : {A : Type 0} (f g : Word → A) → map f reserved_words ≡ map g reserved_words → (w : Word) → f w ≡ g w
 each_word f g same w =
     let n = number_of w in

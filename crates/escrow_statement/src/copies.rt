@@ -29,11 +29,7 @@ impl Copied for Literal {
     }
 
     fn is_same(&self, other: &Literal) -> bool {
-        match (self, other) {
-            (Literal::Number(a), Literal::Number(b)) => *a == *b,
-            (Literal::Text(a), Literal::Text(b)) => a.is_same(b),
-            _ => false,
-        }
+        *self == *other
     }
 }
 
@@ -200,17 +196,7 @@ impl Copied for Assigned {
     }
 
     fn is_same(&self, other: &Assigned) -> bool {
-        match (self, other) {
-            (Assigned::Literal(a), Assigned::Literal(b)) => a.is_same(b),
-            (
-                Assigned::Change { source, change },
-                Assigned::Change {
-                    source: other_source,
-                    change: other_change,
-                },
-            ) => *source == *other_source && *change == *other_change,
-            _ => false,
-        }
+        *self == *other
     }
 }
 
@@ -223,7 +209,7 @@ impl Copied for Assign {
     }
 
     fn is_same(&self, other: &Assign) -> bool {
-        self.column == other.column && self.value.is_same(&other.value)
+        *self == *other
     }
 }
 
@@ -237,13 +223,6 @@ impl WhereText {
             column: self.column,
             literal: self.literal.copied(alloc)?,
         })
-    }
-
-    /// Returns whether two conditions are equal.
-    fn is_same(&self, other: &WhereText) -> bool
-        ensures { IsTrue result ↔ (self.now ≡ other.now) }
-    {
-        self.column == other.column && self.literal.is_same(&other.literal)
     }
 }
 
@@ -259,7 +238,7 @@ impl Copied for UpdateText {
     fn is_same(&self, other: &UpdateText) -> bool {
         self.table == other.table
             && are_same(self.assigns.as_slice(), other.assigns.as_slice())
-            && self.row.is_same(&other.row)
+            && self.row == other.row
     }
 }
 
@@ -273,13 +252,6 @@ impl RowText {
             table: self.table,
             row: self.row.copy(alloc)?,
         })
-    }
-
-    /// Returns whether two texts name the same row.
-    fn is_same(&self, other: &RowText) -> bool
-        ensures { IsTrue result ↔ (self.now ≡ other.now) }
-    {
-        self.table == other.table && self.row.is_same(&other.row)
     }
 }
 
@@ -297,20 +269,6 @@ impl SelectText {
             table: self.table,
             row,
         })
-    }
-
-    /// Returns whether two SELECTs are equal.
-    fn is_same(&self, other: &SelectText) -> bool
-        ensures { IsTrue result ↔ (self.now ≡ other.now) }
-    {
-        if self.table != other.table {
-            return false;
-        }
-        match (&self.row, &other.row) {
-            (None, None) => true,
-            (Some(a), Some(b)) => a.is_same(b),
-            _ => false,
-        }
     }
 }
 
@@ -350,11 +308,11 @@ impl Statement {
             (Statement::Alter(a), Statement::Alter(b)) => a.is_same(b),
             (Statement::Insert(a), Statement::Insert(b)) => a.is_same(b),
             (Statement::Update(a), Statement::Update(b)) => a.is_same(b),
-            (Statement::Delete(a), Statement::Delete(b)) => a.is_same(b),
-            (Statement::Select(a), Statement::Select(b)) => a.is_same(b),
+            (Statement::Delete(a), Statement::Delete(b)) => *a == *b,
+            (Statement::Select(a), Statement::Select(b)) => *a == *b,
             (Statement::ShowTable(a), Statement::ShowTable(b)) => *a == *b,
             (Statement::ShowJournal(a), Statement::ShowJournal(b)) => *a == *b,
-            (Statement::ShowBounds(a), Statement::ShowBounds(b)) => a.is_same(b),
+            (Statement::ShowBounds(a), Statement::ShowBounds(b)) => *a == *b,
             (Statement::Commit, Statement::Commit) => true,
             (Statement::Rollback, Statement::Rollback) => true,
             (Statement::RollbackTo(a), Statement::RollbackTo(b)) => *a == *b,

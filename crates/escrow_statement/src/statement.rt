@@ -231,7 +231,7 @@ pub struct UpdateText {
 }
 
 /// An assignment, `column = value`.
-#[derive(Debug, Drop)]
+#[derive(Debug, PartialEq, Eq, Drop)]
 pub struct Assign {
     /// The column that is assigned.
     pub column: Name,
@@ -240,7 +240,7 @@ pub struct Assign {
 }
 
 /// The right side of an assignment.
-#[derive(Debug, Drop)]
+#[derive(Debug, PartialEq, Eq, Drop)]
 pub enum Assigned {
     /// A literal.
     Literal(Literal),
@@ -254,7 +254,7 @@ pub enum Assigned {
 }
 
 /// The text that names a row of a table, in a DELETE and a SHOW BOUNDS.
-#[derive(Debug, Drop)]
+#[derive(Debug, PartialEq, Eq, Drop)]
 pub struct RowText {
     /// The table's name.
     pub table: Name,
@@ -263,7 +263,7 @@ pub struct RowText {
 }
 
 /// The text of a SELECT.
-#[derive(Debug, Drop)]
+#[derive(Debug, PartialEq, Eq, Drop)]
 pub struct SelectText {
     /// The table's name.
     pub table: Name,
@@ -272,7 +272,7 @@ pub struct SelectText {
 }
 
 /// The condition of a WHERE, `column = literal`.
-#[derive(Debug, Drop)]
+#[derive(Debug, PartialEq, Eq, Drop)]
 pub struct WhereText {
     /// The column.
     pub column: Name,
@@ -281,7 +281,7 @@ pub struct WhereText {
 }
 
 /// A literal, as written. It becomes a value once it is known to fit a column.
-#[derive(Debug, Drop)]
+#[derive(Debug, PartialEq, Eq, Drop)]
 pub enum Literal {
     /// A number, in millionths.
     Number(Decimal),

@@ -6,7 +6,7 @@ use Rattle.escrow_checks.specs.declared.fault.CheckFault.{CheckFault}
 use Rattle.escrow_checks.proofs.FoundLemmas.{text_more, text_none, text_all}
 use Rattle.escrow_checks.proofs.condition.normalise_behind.Goals as goal
 
--- the fault of a call, passed on
+-- `?` returns the fault of a call
 passed_on : {X Y : Type 0} (r : Result X CheckFault) (call : Result Y CheckFault) (why : CheckFault)
     → IsErrAnd r (λ e. e ≡ why) → call ≡ Err why → IsErrOf r CheckFault.Definition → IsErrOf call CheckFault.Definition
 passed_on (Ok x) call why is was refused = absurd is

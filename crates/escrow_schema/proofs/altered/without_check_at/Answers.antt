@@ -11,7 +11,7 @@ remove-dropped-requires c =
     let there = place_within c.args.table.now c.args.place c.requires.table c.requires.declared in
     omega (arith, there, ap (λ (checks : List Check). length checks) copied)
 
--- the table with the checks that are left
+-- the table with the remaining checks
 made : (c : goal.After-with_checks) → IfOk c.with_checks.result (λ made. made ≡ without_check_at c.args.table.now c.args.place)
 made c =
     let table = c.args.table.now in

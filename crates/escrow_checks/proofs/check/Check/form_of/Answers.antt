@@ -6,7 +6,7 @@ use Rattle.escrow_checks.specs.Contribution.{IsContribution}
 use Rattle.escrow_checks.specs.Listed.{with_column}
 use Rattle.escrow_checks.proofs.check.Check.form_of.Goals as goal
 
--- a contribution in 128 bits
+-- a contribution fits into 128 bits
 same : (z : ℤ) → IsContribution z → to_z w128 (of_z w128 z) ≡ z
 same z small = to_z-of_z w128 z (omega (arith, ints, small.0, small.1))
 

@@ -4,7 +4,7 @@ use Rattle.escrow_checks.specs.Checks.{coefficient_of, is_coefficient}
 use Rattle.escrow_checks.proofs.CoefficientsLemmas.{mapped-more, small-more, small-not, summed_kept}
 use Rattle.escrow_checks.proofs.coefficients.Coefficients.summed.Goals as goal
 
--- no coefficient: it is past the greatest magnitude
+-- if it is no coefficient, it is beyond the greatest magnitude
 past : (c : ℤ) → None ≡ cond (is_coefficient c) (Some c) None → is_coefficient c ≡ false
 past c e = go (is_coefficient c) e
   where

@@ -7,11 +7,11 @@ use Rattle.escrow_checks.specs.Parts.{millionths}
 use Rattle.escrow_checks.proofs.LimitLemmas.{between_some, compare_none, compare_some, high_none, limits_found, low_none}
 use Rattle.escrow_checks.proofs.condition.limits.limits_of.Goals as goal
 
--- a difference of two numbers that are known
+-- the difference of two known numbers
 difference : (z a b a' b' : ℤ) → z ≡ a -ℤ b → a ≡ a' → b ≡ b' → z ≡ a' -ℤ b'
 difference z a b a' b' e is is' = e ∙ ap₂ (λ (x y : ℤ). x -ℤ y) is is'
 
--- a difference of the sums of two lists of terms
+-- the difference of the sums of two lists of terms
 sums_less : (z a b : ℤ) (sum left sum' left' : List Term) → z ≡ a -ℤ b → a ≡ total number_in sum → b ≡ total number_in left → sum ≡ sum' → left ≡ left'
     → z ≡ total number_in sum' -ℤ total number_in left'
 sums_less z a b sum left sum' left' e is is' same same' = difference _ _ _ _ _ e (is ∙ ap (total number_in) same) (is' ∙ ap (total number_in) same')

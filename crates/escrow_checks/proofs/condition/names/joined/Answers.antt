@@ -19,7 +19,7 @@ returns-then-front-gt30 c =
     ] in
     rw (unwritten name (λ h. absurd (omega (arith, h.0)))) refl
 
--- what the two copies leave in front: one text behind the other
+-- after the two copies, the array begins with the two texts joined
 both_copied : (front back zeros front' back' : List ℕ) (k : ℕ) → front' ≡ front → back' ≡ back
     → take (length front + length back) (put_mid (length front) k (front' ++ zeros) back') ≡ front ++ back
 both_copied front back zeros front' back' k is is' =

@@ -12,7 +12,7 @@ two_digits : (n : ℕ) → 10 ≤ n → n ≤ 32 → (48 + n / 10) ∷ (48 + n %
 two_digits n above small =
     ap (λ front. front ++ (48 + n % 10) ∷ []) (sym (decimal_digit (n / 10) (omega arith))) ∙ sym (decimal_step n above (omega arith))
 
--- `_` and digits behind a text
+-- `_` and the digits are appended to a text
 behind : (text digits : List ℕ) (n : ℕ) → digits ≡ decimal n → text ++ (95 ∷ digits) ≡ text ++ codes "_" ++ decimal n
 behind text digits n e = ap (λ ds. text ++ (95 ∷ ds)) e ∙ sym (append_assoc text (95 ∷ []) (decimal n))
 

@@ -8,7 +8,7 @@ use Rattle.escrow_schema.proofs.CatalogLemmas.{not_there}
 use Rattle.escrow_schema.proofs.Listed.{listed_less, none_named, taken_at}
 use Rattle.escrow_schema.proofs.catalog.Catalog.remove.Goals as goal
 
--- the table is found, and the others are left
+-- the table is found, and the others stay
 taken : (c : goal.After-remove) → (table_named (catalog_of c.self.inside.tables.items) c.args.name ≡ Some c.remove.result.stored.table)
     × (c.remove.new.self.items ≡ without_counted c.args.name c.self.inside.tables.items)
 taken c =

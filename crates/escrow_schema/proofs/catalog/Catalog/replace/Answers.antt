@@ -13,7 +13,7 @@ define_at-requires c =
     let at = subst (λ ts. position (λ (o : CountedTable). bytes_eq o.stored.table.name c.args.table.name) ts ≡ Some c.in-Some.place) c.deref.ensures.value (sym c.place_by_name.ensures ∙ c.in-Some.is) in
     (defined_at c.args.table c.self.inside.tables.items c.in-Some.place c.self.invariant at).0
 
--- what was put over it
+-- the table that replaces it
 defined : (c : goal.After-define_at) → c.define_at.new.tables.items ≡ with_definition c.args.table c.self.inside.tables.items
 defined c =
     let at = subst (λ ts. position (λ (o : CountedTable). bytes_eq o.stored.table.name c.args.table.name) ts ≡ Some c.in-Some.place) c.deref.ensures.value (sym c.place_by_name.ensures ∙ c.in-Some.is) in
