@@ -13,14 +13,14 @@ use Rattle.escrow_history.specs.declared.committed.Committed.{Committed}
 use Rattle.escrow_history.specs.Commits.{commits_of}
 use Rattle.escrow_history.specs.Entered.{asked_by, AreEntered, IsNoCommit}
 
--- a reply that tells of no COMMIT left the state
+-- a reply that reports no COMMIT left the state unchanged
 left_by : (s : State) (session : ℕ) (answer : Reply) (new : State) (o : Option Failure) → IsNoCommit answer
     → MatchOption o (IsStep s session statement.Commit answer new) (λ f. IsTrue (may_fail s session statement.Commit f) × (new ≡ s)) → new ≡ s
 left_by s session answer new (Some f) none event = event.1
 left_by s session answer new None none event =
     absurd (none _ (ap (λ (p : Reply × State). p.0) event.is_step ∙ commit_answers s session))
 
--- so those that were served are the machine's steps
+-- the COMMITs that were served are steps of the machine
 pub entered_steps : (before : ℕ) (s new : State) (sessions : List ℕ) (answers : List Reply) (outcomes : List (Result Committed Failure)) → AreEntered before answers outcomes
     → IsRun s (asked_by sessions) answers new → AreSteps s (commits_of sessions outcomes) new
 entered_steps before s new [] [] [] entered run = sym run
@@ -42,7 +42,7 @@ entered_steps before s new (x ∷ sessions) (a ∷ answers) (Err f ∷ outcomes)
     subst (λ (mid : State). AreSteps mid (commits_of sessions outcomes) new) (left_by s x a run.0 (failure_of a) entered.0 run.1)
     (entered_steps before run.0 new sessions answers outcomes entered.1 run.2)
 
--- and their numbers run on
+-- their numbers are consecutive
 pub entered_numbered : (before : ℕ) (sessions : List ℕ) (answers : List Reply) (outcomes : List (Result Committed Failure)) → AreEntered before answers outcomes
     → AreNumbered before (commits_of sessions outcomes)
 entered_numbered before [] answers outcomes entered = tt
@@ -52,12 +52,12 @@ entered_numbered before (x ∷ sessions) (a ∷ answers) (Ok c ∷ outcomes) ent
     (entered.0.0, entered_numbered (before + 1) sessions answers outcomes entered.1)
 entered_numbered before (x ∷ sessions) (a ∷ answers) (Err f ∷ outcomes) entered = entered_numbered before sessions answers outcomes entered.1
 
--- each session asks one
+-- each session requests one COMMIT
 pub asked_each : (sessions : List ℕ) → length (asked_by sessions) ≡ length sessions
 asked_each [] = refl
 asked_each (x ∷ sessions) = let each = asked_each sessions in omega (arith, each)
 
--- each reply tells of one
+-- each reply reports one
 pub entered_each : (before : ℕ) (answers : List Reply) (outcomes : List (Result Committed Failure)) → AreEntered before answers outcomes → length outcomes ≡ length answers
 entered_each before [] [] entered = refl
 entered_each before [] (o ∷ outcomes) entered = absurd entered
@@ -65,7 +65,7 @@ entered_each before (a ∷ answers) [] entered = absurd entered
 entered_each before (a ∷ answers) (Ok c ∷ outcomes) entered = let each = entered_each (before + 1) answers outcomes entered.1 in omega (arith, each)
 entered_each before (a ∷ answers) (Err f ∷ outcomes) entered = let each = entered_each before answers outcomes entered.1 in omega (arith, each)
 
--- there is no more than one of each session
+-- there is at most one for each session
 pub commits_few : (sessions : List ℕ) (outcomes : List (Result Committed Failure)) → length (commits_of sessions outcomes) ≤ length sessions
 commits_few [] outcomes = omega arith
 commits_few (x ∷ sessions) [] = omega arith

@@ -1,4 +1,4 @@
--- What a database with its transcript keeps over its calls.
+-- What a database and its transcript keep over calls.
 use Rattle.std.specs.Prelude.{◌≡◌, ℕ, ◌+◌, ◌≤◌, ◌<◌, true, false, Option, Some, None, MatchOption, Result, Ok, Err, IsOk, OnErr, IsTrue, Bool, List, [], ◌++◌, length, Vec, vec_len}
 use Rattle.std.proofs.Common.{ap, arith, inl, inr, refl, subst, sym, ◌∙◌}
 use Rattle.std.proofs.lemmas.Bool.{false≢true}
@@ -37,7 +37,7 @@ use Rattle.escrow_history.proofs.Entering.{asked_each, commits_few, entered_each
 use Rattle.escrow_history.proofs.NeverFull.{never_told}
 
 module _ {S : Type 0} (g : Ghosts S) where
-  -- a transcript begins at a base, which is what the database holds
+  -- a transcript begins at a base, the current state of the database
   pub begun_keeps : {Z : Type 0} (d : Database S) (base : Base) (entries : Vec Entry Z) → entries.items ≡ [] → (HasCleanDisk (state g d.store) → d.state ≡ started base.image)
       → base.before + MAX_ENTRIES ≤ MAX_NUMBER → IsKept g (audited_of d base entries)
   begun_keeps d base entries none is numbers = record {
@@ -54,7 +54,7 @@ module _ {S : Type 0} (g : Ghosts S) where
     numbers = rw stays.base kept.numbers;
   }
 
-  -- there is one entry more
+  -- there is one more entry
   pub appended_keeps : (old new : Audited S) (session : ℕ) (asked : Statement) (number : ℕ) (answer : Reply) → IsKept g old → length old.entries < MAX_ENTRIES
       → (HasCleanDisk (state g new.store) → HasCleanDisk (state g old.store)) → Appends g old session asked number answer new → IsKept g new
   appended_keeps old new session asked number answer kept room was appends =
@@ -65,7 +65,7 @@ module _ {S : Type 0} (g : Ghosts S) where
         numbers = rw appends.base kept.numbers;
       }
 
-  -- what was entered of a run is what COMMITs make of a database and its transcript
+  -- the entries of a run are what COMMITs add to a database and its transcript
   pub commits_made : {Z : Type 0} (d after : Database S) (base : Base) (entries room more : Vec Entry Z) (sessions : List ℕ) (events : List Event) (answers told : List Reply)
       (outcomes : List (Result Committed Failure)) → events ≡ asked_by sessions → length answers ≡ length events → told ≡ answers
       → (HasCleanDisk (state g after.store) → IsRun d.state events answers after.state) → room.items ≡ entries.items
@@ -82,7 +82,7 @@ module _ {S : Type 0} (g : Ghosts S) where
         entries = added ∙ ap (λ (es : List Entry). es ++ commits_of sessions outcomes) same;
       }
 
-  -- there is an entry more for each COMMIT that was served
+  -- there is one more entry for each COMMIT that was served
   pub committed_keeps : (old new : Audited S) (sessions : List ℕ) (outcomes : List (Result Committed Failure)) → IsKept g old → length old.entries + length sessions ≤ MAX_ENTRIES
       → (HasCleanDisk (state g new.store) → HasCleanDisk (state g old.store)) → Commits g old sessions outcomes new → IsKept g new
   committed_keeps old new sessions outcomes kept room was commits =
@@ -104,34 +104,34 @@ module _ (s : State) (session : ℕ) (asked : Statement) (answer : Reply) (new :
   served_step succeeds event =
       subst (λ (o : Option Failure). MatchOption o (IsStep s session asked answer new) (λ failure. IsTrue (may_fail s session asked failure) × (new ≡ s))) succeeds event
 
-  -- and a failure leaves the state
+  -- a failure leaves the state unchanged
   failed_stays : (f : Failure) → failure_of answer ≡ Some f → StepOrRefusal s session asked answer new → new ≡ s
   failed_stays f fails event =
       let told : MatchOption (Some f) (IsStep s session asked answer new) (λ failure. IsTrue (may_fail s session asked failure) × (new ≡ s)) =
       subst (λ (o : Option Failure). MatchOption o (IsStep s session asked answer new) (λ failure. IsTrue (may_fail s session asked failure) × (new ≡ s))) fails event in
       told.1
 
-  -- a reply that no step gives isn't given
+  -- no step gives this reply
   never_stays : answer ≡ reply.Refused refusal.TranscriptFull → StepOrRefusal s session asked answer new → new ≡ s
   never_stays full event = absurd (never_told s session asked answer new (served_step (ap failure_of full) event) full)
 
-  -- so does a reply that holds memory: what isn't kept leaves the state
+  -- a reply that is not kept, for a failure or for memory, leaves the state unchanged
   pub unserved_stays : (f : Failure) → IsNotKept answer f → StepOrRefusal s session asked answer new → new ≡ s
   unserved_stays f (inl (inl fails)) event = failed_stays f fails event
   unserved_stays f (inl (inr full)) event = never_stays full event
   unserved_stays f (inr holds) event = shown_stays s session asked answer new event holds
 
--- what holds anyway holds of an error
+-- a fact holds in particular if there is an error
 pub on_err : {T E P : Type 0} (r : Result T E) → P → OnErr r P
 on_err (Ok x) p = tt
 on_err (Err e) p = p
 
--- a failure is told as 51 or 60
+-- a failure is reported as 51 or 60
 pub failed_is : (f : Failure) → IsFailed (refusal_for f)
 failed_is failure.Memory = inl refl
 failed_is failure.Store = inr refl
 
--- what can't be copied holds memory
+-- a reply that cannot be copied holds memory
 pub uncopied_holds : {A E : Type 0} (holds : Bool) (copy : Result A E) (e : E) → copy ≡ Err e → (holds ≡ false → IsOk copy) → holds ≡ true
 uncopied_holds true copy e is succeeds = refl
 uncopied_holds false copy e is succeeds = absurd (false≢true (subst IsOk is (succeeds refl)))

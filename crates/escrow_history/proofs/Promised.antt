@@ -1,4 +1,4 @@
--- What needs nothing but room for its entry is served.
+-- A statement that needs only room for its entry is served.
 use Rattle.std.specs.Prelude.{◌≡◌, ℕ, IsTrue}
 use Rattle.std.proofs.Common.{sym, ap, ◌∙◌, inl, inr}
 use Rattle.std.proofs.lemmas.Bool.{false≢true}
@@ -14,7 +14,7 @@ use Rattle.escrow_machine.proofs.LawsSteps.{machine_never_fails}
 use Rattle.escrow_history.specs.Inside.{IsNotKept}
 use Rattle.escrow_history.proofs.NeverFull.{never_told}
 
--- what is promised is answered by a reply that is no failure, and of which copies take no memory
+-- the reply to a promised statement is no failure, and copying it takes no memory
 pub promised_is_kept : (s : State) (session : ℕ) (asked : Statement) (answer : Reply) (new : State) (f : Failure) → IsTrue (is_promised s session asked)
     → IsStep s session asked answer new → IsNotKept answer f → ⊥
 promised_is_kept s session asked answer new f promise taken (inl (inr full)) = never_told s session asked answer new taken full

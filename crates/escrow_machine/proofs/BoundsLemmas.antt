@@ -1,7 +1,7 @@
--- The bounds of a row of these amounts, from those of its table's checks.
+-- The bounds of a row with these amounts, from the checks of its table.
 use Rattle.std.specs.Prelude.{◌≡◌, ℕ, ℤ, ◌-◌, ◌≤◌, bytes_eq, true, false, List, [], ◌∷◌, ◌++◌, length, take, drop, map}
 use Rattle.std.specs.List.{AllZip, list_any}
-use Rattle.std.proofs.Common.{refl, ap, ap₂, ◌∙◌, arith, length-append, length-drop}
+use Rattle.std.proofs.Common.{refl, ap, ap₂, ◌∙◌, arith, length-append}
 use Rattle.std.proofs.Math.Seq.{drop-append_seam}
 use Rattle.std.proofs.lemmas.Bool.{or_parts}
 use Rattle.std.proofs.lemmas.List.{length-map, take-map, drop-map}
@@ -20,7 +20,7 @@ use Rattle.escrow_machine.specs.declared.reply.CheckBounds.{CheckBounds}
 use Rattle.escrow_machine.specs.Bounds.{check_bounds, column_bounds}
 use Rattle.escrow_machine.specs.Walked.{columns_from}
 
--- each column of distinct names has its own amount
+-- if names are distinct, each column has its own amount
 abbrev HasAmount : List (List ℕ) → List ℤ → Column → ℤ → Type 0
 HasAmount names amounts column a = amount_of names amounts column.name ≡ a
 
@@ -43,7 +43,7 @@ have_amounts (column ∷ columns) (a ∷ amounts) distinct same =
     let apart = first_apart column.name (names_of columns) distinct in
     (rw (same_name column.name) refl, amounts_behind column.name (names_of columns) a amounts amounts columns apart.0 (have_amounts columns amounts apart.1 (omega arith)))
 
--- a column's bounds are its amount, and the scale and the bounds of its range
+-- a column's bounds are its amount, its scale, and the bounds of its range
 columns_shown : (names : List (List ℕ)) (amounts rest : List ℤ) (reservations : List (List ℤ)) (columns : List Column)
     → AllZip (HasAmount names amounts) columns rest
     → columns_from (names_of columns) rest (map (check_bounds amounts reservations) (map (range_check names) columns))
@@ -54,7 +54,7 @@ columns_shown names amounts [] reservations (column ∷ columns) have = absurd h
 columns_shown names amounts (a ∷ rest) reservations (column ∷ columns) have =
     rw (← have.0, columns_shown names amounts rest reservations columns have.1) refl
 
--- the ranges are the last checks of a table, and its declared checks are those before them
+-- the last checks of a table are the ranges, and those before them are the declared ones
 pub record Split (table : TableDef) (amounts : List ℤ) : Type 0 where
   pub within : length amounts ≤ length table.checks
   pub declared : take (length table.checks - length amounts) table.checks ≡ declared_checks table
@@ -76,7 +76,7 @@ split table amounts is_table many =
       distinct = reservables_distinct table.columns (rules_on table.columns table.key p.follow).distinct;
     }
 
--- the bounds that are shown, from those of all checks
+-- the bounds shown for the declared checks, from those of all checks
 pub shown_checks : (table : TableDef) (amounts : List ℤ) (reservations : List (List ℤ)) (n : ℕ) → Split table amounts → n ≡ length table.checks - length amounts
     → take n (map (check_bounds amounts reservations) table.checks) ≡ map (check_bounds amounts reservations) (declared_checks table)
 shown_checks table amounts reservations n s at =
@@ -94,14 +94,6 @@ shown_columns table amounts reservations n many s at =
     ∙ ap (λ (m : ℕ). map (check_bounds amounts reservations) (drop m table.checks)) at
     ∙ ap (map (check_bounds amounts reservations)) s.ranges)
     ∙ columns_shown names amounts amounts reservations (reservables table.columns) (have_amounts (reservables table.columns) amounts s.distinct many)
-
--- there are as many of them as columns
-pub ranges_shown : (table : TableDef) (amounts : List ℤ) (reservations : List (List ℤ)) (n : ℕ) → length amounts ≡ length (reservables table.columns) → Split table amounts → n ≡ length table.checks - length amounts
-    → length (drop n (map (check_bounds amounts reservations) table.checks)) ≡ length (reservables table.columns)
-ranges_shown table amounts reservations n many s at =
-    let all : length (map (check_bounds amounts reservations) table.checks) ≡ length table.checks = length-map table.checks (check_bounds amounts reservations) in
-    let within = s.within in
-    omega (arith, length-drop n (map (check_bounds amounts reservations) table.checks), many)
 
 pub names_shown : (columns : List Column) → length (names_of columns) ≡ length columns
 names_shown columns = length-map columns (λ (column : Column). column.name)

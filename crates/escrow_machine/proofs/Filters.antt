@@ -1,10 +1,10 @@
--- What tests keep of lists.
+-- The items of a list that pass a test.
 use Rattle.std.specs.Prelude.{◌≡◌, Bool, true, false, cond, List, [], ◌∷◌, filter, find, Some, None}
 use Rattle.std.proofs.Common.{inl, inr, refl, sym, ap, ◌∙◌}
 use Rattle.std.proofs.lemmas.Bool.{cond_both, cond-true, cond-false, false_from_ne_true}
 use Rattle.escrow_num.proofs.Items.{Has}
 
--- two tests keep the same items in either order
+-- filtering by two tests gives the same in either order
 pub filter_kept : {A : Type 0} (p : A → Bool) (b : Bool) (x : A) (xs : List A)
     → filter p (cond b (x ∷ xs) xs) ≡ cond b (cond (p x) (x ∷ filter p xs) (filter p xs)) (filter p xs)
 filter_kept p true x xs = refl
@@ -24,7 +24,7 @@ filters_commute {A} p q (x ∷ xs) =
     ∙ ap (λ (zs : List A). cond (p x) (cond (q x) (x ∷ zs) zs) zs) (filters_commute p q xs)
     ∙ sym (filter_kept q (p x) x (filter p xs))
 
--- a test that asks more keeps what it keeps of the whole list
+-- after filtering by a weaker test, the stronger test keeps the same items
 pub filter_within_items : {A : Type 0} (p q : A → Bool) (xs : List A) → ((x : A) → Has xs x → p x ≡ true → q x ≡ true) → filter p (filter q xs) ≡ filter p xs
 filter_within_items p q [] within = refl
 filter_within_items {A} p q (x ∷ xs) within =
@@ -36,7 +36,7 @@ filter_within_items {A} p q (x ∷ xs) within =
 pub filter_within : {A : Type 0} (p q : A → Bool) (xs : List A) → ((x : A) → p x ≡ true → q x ≡ true) → filter p (filter q xs) ≡ filter p xs
 filter_within p q xs within = filter_within_items p q xs (λ x _ t. within x t)
 
--- a test that each item passes keeps all, and one that each fails keeps and finds none
+-- if every item passes, all are kept; if none passes, none is kept or found
 pub filter_all : {A : Type 0} (p : A → Bool) (xs : List A) → ((x : A) → Has xs x → p x ≡ true) → filter p xs ≡ xs
 filter_all p [] passes = refl
 filter_all {A} p (x ∷ xs) passes =

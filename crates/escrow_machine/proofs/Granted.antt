@@ -11,7 +11,7 @@ use Rattle.escrow_checks.proofs.LawsLemmas.{granted_where_all_always_met}
 use Rattle.escrow_machine.proofs.Choices.{IsChoice, all_choices, choices_all}
 use Rattle.escrow_num.proofs.Items.{all_has, has_all}
 
--- where a new reservation breaks nothing of all checks, it and any choice of the others meet all of them
+-- if a new reservation breaks no check, it and any choice of the others meet all checks
 pub granted_meets : (checks : List Check) (amounts changes : List ℤ) (reservations chosen : List (List ℤ)) → broken checks amounts changes reservations ≡ None
     → IsChoice reservations chosen → AllByRecursion (λ check. Meets check (all_changed (changed amounts changes) chosen)) checks
 granted_meets checks amounts changes reservations chosen granted choice =
@@ -21,8 +21,8 @@ granted_meets checks amounts changes reservations chosen granted choice =
     let Met : List (List ℤ) → Type 0 = λ c. Meets check (all_changed (changed amounts changes) c) in
     all_choices Met reservations (recursion_from_All Met (sublists reservations) (all_has Always checks always check h)) chosen choice)
 
--- and so does a new one of other amounts with other open ones, each choice of which comes to what some choice came to:
--- it breaks nothing either
+-- a reservation also breaks nothing at other amounts and beside other open ones, if each choice of these
+-- comes to the amounts of some choice before
 pub moved_grant : (checks : List Check) (amounts moved changes : List ℤ) (reservations left : List (List ℤ)) → broken checks amounts changes reservations ≡ None
     → ((chosen : List (List ℤ)) → IsChoice left chosen
     → (whole : List (List ℤ)) × IsChoice reservations whole × (all_changed (changed amounts changes) whole ≡ all_changed (changed moved changes) chosen))
@@ -38,7 +38,7 @@ moved_grant checks amounts moved changes reservations left granted choices =
     (all_has (λ k. Meets k (all_changed (changed amounts changes) was.0)) checks
     (granted_meets checks amounts changes reservations was.0 granted was.1) check h))))))
 
--- so it is with fewer open ones
+-- a reservation that breaks nothing breaks nothing beside fewer open ones
 pub fewer_grant : (checks : List Check) (amounts changes : List ℤ) (reservations fewer : List (List ℤ)) → broken checks amounts changes reservations ≡ None
     → ((chosen : List (List ℤ)) → IsChoice fewer chosen → IsChoice reservations chosen) → broken checks amounts changes fewer ≡ None
 fewer_grant checks amounts changes reservations fewer granted choices =

@@ -1,4 +1,4 @@
--- Rows and tables that a test keeps, and what is found among them.
+-- Rows and tables that pass a test, and what a lookup finds among them.
 use Rattle.std.specs.Prelude.{◌≡◌, Bool, true, false, cond, ◌||◌, Option, Some, List, [], ◌∷◌, filter, find, IsSome, IsSomeAnd, bytes_eq, length}
 use Rattle.std.specs.List.{AllByRecursion, list_any}
 use Rattle.std.proofs.Common.{inl, inr, sym, ap, ◌∙◌, subst, refl, le_trans}
@@ -24,13 +24,13 @@ or_none : (a b : Bool) → (a || b) ≡ false → (a ≡ false) × (b ≡ false)
 or_none true b e = absurd (cc)
 or_none false b e = (refl, e)
 
--- where no item passes a test, each fails it
+-- if no item passes a test, each fails it
 pub any_none : {A : Type 0} (p : A → Bool) (xs : List A) → list_any p xs ≡ false → (x : A) → Has xs x → p x ≡ false
 any_none p [] e x h = absurd h
 any_none p (y ∷ ys) e x (inl same) = ap p (sym same) ∙ (or_none (p y) (list_any p ys) e).0
 any_none p (y ∷ ys) e x (inr h) = any_none p ys (or_none (p y) (list_any p ys) e).1 x h
 
--- what is looked for and kept is found as before
+-- a lookup of an item that is kept finds the same item
 pub find_filter : {A : Type 0} (p q : A → Bool) (xs : List A) → ((x : A) → p x ≡ true → q x ≡ true) → find p (filter q xs) ≡ find p xs
 find_filter p q [] kept = refl
 find_filter {A} p q (x ∷ xs) kept =
@@ -39,12 +39,12 @@ find_filter {A} p q (x ∷ xs) kept =
     (λ _. ap (λ (o : Option A). cond (p x) (Some x) o) rest)
     (λ f. rest ∙ sym (cond-false (p x) (Some x) (find p xs) (false_from_ne_true (p x) (λ t. let yes = kept x t in absurd (cc)))))
 
--- a row that a reservation is of is still found where it is kept
+-- if a reservation's row is kept, it is still found
 still_stands : (keep : Row → Bool) (rows : List Row) (r : Reservation) → ((row : Row) → same_row row.name r.row ≡ true → keep row ≡ true)
     → HasRow rows r → HasRow (filter keep rows) r
 still_stands keep rows r kept h = subst (λ (o : Option Row). IsSome o) (sym (find_filter (λ (x : Row). same_row x.name r.row) keep rows kept)) h
 
--- the rows that a test keeps are safe, where their tables and the rows of the reservations are kept
+-- the kept rows are safe if their tables are kept, and so are the rows of open reservations
 pub kept_safe : (s : State) (keep : Row → Bool) (catalog : List TableDef) → IsValid s
     → ((row : Row) → keep row ≡ true → table_named catalog row.name.table ≡ table_named s.catalog row.name.table)
     → ((r : Reservation) → Has s.reservations r → (row : Row) → same_row row.name r.row ≡ true → keep row ≡ true)
@@ -66,11 +66,11 @@ kept_safe s keep catalog valid found kept =
       safe = choices_all Safe s.reservations (λ c h. safe_rows catalog rows c (met c h));
     }
 
--- a reservation may have a change for each RESERVABLE column of its table
+-- a reservation has one change for each RESERVABLE column of its table
 abbrev pub HasChanges : List TableDef → Reservation → Type 0
 HasChanges catalog r = IsSomeAnd (table_named catalog r.row.table) (λ table. length r.changes ≡ length (reservables table.columns))
 
--- what is in order is so beside other tables, among which each open reservation has its table as before
+-- the order of a state holds with another catalog, if each open reservation finds its table unchanged there
 pub over_catalog : (s : State) (catalog : List TableDef) → IsOrderly s.catalog s.reservations s.savepoints s.next_id → IsCatalog catalog
     → ((r : Reservation) → Has s.reservations r → HasChanges s.catalog r → HasChanges catalog r)
     → IsOrderly catalog s.reservations s.savepoints s.next_id

@@ -1,4 +1,4 @@
--- Going back to a savepoint: at once, and what would be granted before it.
+-- ROLLBACK TO a savepoint: directly after it was made, and what would be granted before it.
 use Rattle.std.specs.Prelude.{◌≡◌, ℕ, ℤ, ◌<◌, ◌≤◌, ◌==◌, Bool, false, not, is_none, nat_le, option_map, unwrap_or, Option, Some, None, List, [], ◌∷◌, length, map, filter}
 use Rattle.std.specs.List.{AllByRecursion}
 use Rattle.std.proofs.Common.{refl, sym, ap, ap₂, ◌∙◌, subst, arith}
@@ -42,11 +42,11 @@ use Rattle.escrow_machine.proofs.LawsGrants.{choice_of_image, granted_none, gran
 use Rattle.escrow_machine.proofs.LawsSteps.{step_has}
 use Rattle.escrow_machine.proofs.Lengths.{length-filter_filter}
 use Rattle.escrow_journal.proofs.Free.{unrefused}
-use Rattle.escrow_machine.proofs.Refusals.{passed}
+use Rattle.escrow_machine.proofs.Refusals.{all_passed}
 use Rattle.escrow_machine.proofs.SavepointNames.{none_named, found_put, through_put}
 use Rattle.escrow_machine.proofs.ValidEnds.{returned_to, back_has}
 
--- the step of a ROLLBACK TO a savepoint that there is
+-- the step of a ROLLBACK TO a savepoint that exists
 pub back_step : (s : State) (session : ℕ) (name : List ℕ) (p : Savepoint) → savepoint_of session name s.savepoints ≡ Some p
     → step s session (statement.RollbackTo name) ≡ (reply.RolledBackTo name (length (after p s.reservations)), returned_to s p)
 unfolding transition_of
@@ -56,7 +56,7 @@ back_step s session name p found = rw found refl
 abbrev pub made_in : State → ℕ → List ℕ → Savepoint
 made_in s session name = record { session = session; name = name; id = s.next_id }
 
--- no reservation came after it yet
+-- no reservation was made after it yet
 none_after : (s : State) (session : ℕ) (name : List ℕ) → IsValid s → (r : Reservation) → Has s.reservations r → is_after (made_in s session name) r ≡ false
 none_after s session name valid r h =
     let below : r.id < s.next_id = (all_has (IsReservationIn s.catalog s.next_id) s.reservations valid.orderly.reservations_in r h).below in
@@ -68,11 +68,11 @@ all_stay s session name valid =
     let p = made_in s session name in
     filter_all (λ (r : Reservation). not (is_after p r)) s.reservations (λ r h. not_from_false (is_after p r) (none_after s session name valid r h))
 
--- it is found
+-- its name finds it
 pub made_found : (s : State) (session : ℕ) (name : List ℕ) → savepoint_of session name (after_savepoint s session name).savepoints ≡ Some (made_in s session name)
 made_found s session name = found_put (made_in s session name) (without_savepoint session name s.savepoints) (none_named session name s.savepoints)
 
--- so going back to it at once drops nothing
+-- a ROLLBACK TO it, directly after it was made, drops nothing
 back_at_once : (s : State) (session : ℕ) (name : List ℕ) → IsValid s
     → step (after_savepoint s session name) session (statement.RollbackTo name) ≡ (reply.RolledBackTo name 0, after_savepoint s session name)
 back_at_once s session name valid =
@@ -97,22 +97,22 @@ back_at_once_changes_nothing s session name valid =
 
 -- WHAT WOULD BE GRANTED
 
--- where none of several refusals applies, the first that applies is none
+-- if none of several refusals applies, there is no first one
 none_applies : (refusals : List (Option Refusal)) → AllByRecursion (λ o. o ≡ None) refusals → first_refusal refusals ≡ None
 none_applies [] all = refl
 none_applies (o ∷ rest) all = ap (λ (x : Option Refusal). first_refusal (x ∷ rest)) all.0 ∙ none_applies rest all.1
 
--- a state with other rows, reservations and savepoints, but with the same catalog and the same next id
+-- a state with other rows, reservations and savepoints, but with the same catalog and next id
 abbrev pub beside : State → List Row → List Reservation → List Savepoint → State
 beside s rows reservations savepoints = record s { rows = rows; reservations = reservations; savepoints = savepoints }
 
--- the row of a name is there, and changes of it break nothing of a table's checks beside reservations
+-- the row exists, and the changes to it break no check of the table beside the reservations
 abbrev pub BreaksNone : TableDef → RowName → List ℤ → List Row → List Reservation → Type 0
 BreaksNone table name changes rows reservations =
     (row : Row) × (row_named rows name ≡ Some row) × (broken table.checks row.amounts changes (map (changes_to row) reservations) ≡ None)
 
--- what is accepted in a state is accepted beside other rows and reservations, of which the session has no more, where
--- changes that broke nothing break nothing still
+-- an accepted UPDATE is also accepted beside other rows and reservations, if the session holds no more of them,
+-- and changes that broke nothing still break nothing
 late_beside : (s : State) (rows : List Row) (reservations : List Reservation) (savepoints : List Savepoint) (session : ℕ) (text : UpdateText) (key : Value) (changes : List (Option ℤ))
     → length (own session reservations) ≤ length (own session s.reservations)
     → ((table : TableDef) (name : RowName) → BreaksNone table name (deltas changes) s.rows s.reservations → BreaksNone table name (deltas changes) rows reservations)
@@ -146,12 +146,11 @@ accepted_beside s rows reservations savepoints session text key changes fewer st
     let unknown = refuse_if (is_none (table_named s.catalog text.table)) refusal.NoSuchTable in
     let before = unwrap_or (option_map (update_refusals s session text.table) (plan_of s text)) [] in
     let later = unwrap_or (option_map (update_refusals t session text.table) (plan_of s text)) [] in
-    let known = passed unknown (plan_refusal_of s text ∷ before) accepted in
-    let planned = passed (plan_refusal_of s text) before known.others in
+    let none = all_passed (unknown ∷ plan_refusal_of s text ∷ before) accepted in
     let late : AllByRecursion (λ o. o ≡ None) later =
     subst (λ (o : Option Plan). AllByRecursion (λ r. r ≡ None) (unwrap_or (option_map (update_refusals t session text.table) o) [])) (sym is)
     (late_beside s rows reservations savepoints session text key changes fewer still is accepted) in
-    none_applies (unknown ∷ plan_refusal_of s text ∷ later) (known.first, (planned.first, late))
+    none_applies (unknown ∷ plan_refusal_of s text ∷ later) (none.0, (none.1.0, late))
 
 -- a reservation that breaks nothing beside all open ones breaks nothing beside some of them
 fewer_break : (keep : Reservation → Bool) (s : State) (table : TableDef) (name : RowName) (changes : List ℤ)
@@ -167,7 +166,7 @@ fewer_break keep s table name changes stands =
           (choice_map (changes_to row) s.reservations from.0 (choice_filter keep s.reservations from.0 from.1))),
     )
 
--- the reply to a reservation that is accepted
+-- the reply to an accepted reservation
 pub reserved_reply : (s : State) (session : ℕ) (text : UpdateText) (key : Value) (changes : List (Option ℤ)) → plan_of s text ≡ Some (plan.Reserve key changes)
     → (transition_of s session (statement.Update text)).reply ≡ reply.Reserved s.next_id
 unfolding transition_of
@@ -194,7 +193,7 @@ granted_beside s keep savepoints session text id granted =
     ∙ sym (reserved_reply s session text is.0 is.1 is.2)
     ∙ none.1
 
--- the state after a ROLLBACK TO that is accepted
+-- the state after an accepted ROLLBACK TO
 back_next : (s : State) (session : ℕ) (name : List ℕ) → (transition_of s session (statement.RollbackTo name)).next ≡ after_rollback_to s session name
 unfolding transition_of
 back_next s session name = refl

@@ -1,5 +1,5 @@
--- What SHOW BOUNDS shows, and that what shows something changes nothing.
-use Rattle.std.specs.Prelude.{◌≡◌, ℕ, ℤ, ◌≤ℤ◌, ◌-◌, zero, suc, is_none, option_map, option_and_then, unwrap_or, bytes_eq, Option, Some, List, [], ◌∷◌, map, take, length, Contains}
+-- What SHOW BOUNDS shows; and a statement that shows something changes nothing.
+use Rattle.std.specs.Prelude.{◌≡◌, ℕ, ℤ, ◌≤ℤ◌, ◌-◌, zero, suc, option_map, option_and_then, unwrap_or, bytes_eq, Option, Some, List, [], ◌∷◌, map, take, length, Contains}
 use Rattle.std.specs.List.{AllByRecursion, AllZip, IsDistinct}
 use Rattle.std.proofs.Common.{inl, inr, refl, sym, ap, subst, ◌∙◌}
 use Rattle.std.proofs.lemmas.List.Elements.{recursion_from_All}
@@ -8,12 +8,10 @@ use Rattle.escrow_num.specs.declared.reservation.Reservation.{Reservation}
 use Rattle.escrow_num.specs.declared.row.Row.{Row}
 use Rattle.escrow_num.specs.declared.value.RowName.{RowName}
 use Rattle.escrow_num.specs.Order.{same_row}
-use Rattle.escrow_num.specs.Refusal.{refuse_if}
 use Rattle.escrow_num.specs.Span.{Holds}
 use Rattle.escrow_num.proofs.Items.{Has, all_has, find_has}
 use Rattle.escrow_num.proofs.Orders.{row_same}
 use Rattle.escrow_statement.specs.declared.statement.RowText.{RowText}
-use Rattle.escrow_statement.specs.declared.statement.Statement.{Statement}
 use Rattle.escrow_statement.specs.declared.statement.Statement.TheVariants as statement
 use Rattle.escrow_checks.specs.declared.check.Check.{Check}
 use Rattle.escrow_checks.specs.Checks.{unit_of}
@@ -34,26 +32,26 @@ use Rattle.escrow_machine.specs.declared.reply.CheckBounds.{CheckBounds}
 use Rattle.escrow_machine.specs.declared.reply.ColumnBounds.{ColumnBounds}
 use Rattle.escrow_machine.specs.declared.reply.Reply.{Reply}
 use Rattle.escrow_machine.specs.declared.reply.Reply.TheVariants as reply
-use Rattle.escrow_machine.specs.Asked.{key_refusal_of, named_by}
+use Rattle.escrow_machine.specs.Asked.{named_by}
 use Rattle.escrow_machine.specs.Bounds.{bounds_in, check_bounds, column_bounds}
-use Rattle.escrow_machine.specs.Laws.{AreBounds, BoundsAreReached, IsCheckLine, IsColumnLine, IsShownBounds, QueriesIgnoreWhoAsks}
+use Rattle.escrow_machine.specs.Laws.{AreBounds, BoundsAreReached, IsCheckLine, IsColumnLine, IsShownBounds}
 use Rattle.escrow_machine.specs.Accepted.{IsAccepted}
 use Rattle.escrow_machine.specs.State.{State}
 use Rattle.escrow_schema.specs.Rows.{row_named, changes_to, row_after}
-use Rattle.escrow_machine.specs.Step.{step}
 use Rattle.escrow_machine.specs.Transition.{transition_of}
 use Rattle.escrow_machine.specs.Valid.{IsValid}
 use Rattle.escrow_machine.proofs.BoundsLemmas.{split}
 use Rattle.escrow_machine.proofs.Choices.{IsChoice, all_choices, choices_all, choice_map}
 use Rattle.escrow_machine.proofs.LawsGrants.{choice_contained, choice_of_image, contained_has}
 use Rattle.escrow_machine.proofs.LawsSteps.{step_has}
-use Rattle.escrow_machine.proofs.Refusals.{passed, failed, some_there}
+use Rattle.escrow_machine.specs.Step.{refusals}
+use Rattle.escrow_machine.proofs.Refusals.{all_passed, present}
 use Rattle.escrow_machine.proofs.Safe.{safe_row, some_at}
 use Rattle.escrow_machine.proofs.Shapes.{is_table_found, row_found}
 
 -- ---- the bounds of a form
 
--- a choice of what reservations change of a row is that of some of the reservations
+-- a choice of the changes of reservations to a row comes from a choice of the reservations
 reached_by : (row : Row) (reservations : List Reservation) (coeffs : List ℤ) (z : ℤ) → IsReached coeffs row.amounts (map (changes_to row) reservations) z
     → (chosen : List Reservation) × Contains (sublists reservations) chosen × (form coeffs (row_after chosen row).amounts ≡ z)
 reached_by row reservations coeffs z reached =
@@ -99,7 +97,7 @@ column_line row reservations names distinct column =
 
 -- ---- the line of a check
 
--- in a valid state a row meets a check of its table whichever of the open reservations are applied
+-- in a valid state, a row meets a check of its table whichever of the open reservations are applied
 check_met : (s : State) → IsValid s → (name : RowName) (table : TableDef) (row : Row) → table_named s.catalog name.table ≡ Some table → row_named s.rows name ≡ Some row
     → (check : Check) → Has table.checks check → (chosen : List Reservation) → Contains (sublists s.reservations) chosen → Meets check (row_after chosen row).amounts
 check_met s valid name table row named found check has chosen contained =
@@ -126,14 +124,14 @@ check_line s valid name table row named found check has =
       subst (Holds check.span) high.2 (check_met s valid name table row named found check has high.0 high.1),
     )
 
--- an item of the first ones is an item of the list
+-- an item of the first `n` is an item of the list
 has_take : {A : Type 0} (n : ℕ) (xs : List A) (x : A) → Has (take n xs) x → Has xs x
 has_take zero xs x h = absurd h
 has_take (suc n) [] x h = absurd h
 has_take (suc n) (y ∷ ys) x (inl e) = inl e
 has_take (suc n) (y ∷ ys) x (inr h) = inr (has_take n ys x h)
 
--- what holds of each item and its image holds of two lists, one the image of the other
+-- what holds for each item and its image holds for a list and its image
 zip_map : {A B : Type 0} (P : A → B → Type 0) (f : A → B) (xs : List A) → ((x : A) → Has xs x → P x (f x)) → AllZip P xs (map f xs)
 zip_map P f [] each = tt
 zip_map P f (x ∷ xs) each = (each x (inl refl), zip_map P f xs (λ y h. each y (inr h)))
@@ -169,7 +167,7 @@ shown_in s valid text table row named found =
           (λ check has. check_line s valid name table row named found check (has_take (length table.checks - length (reservables table.columns)) table.checks check has));
     }
 
--- the table and the row of a SHOW BOUNDS that is accepted
+-- the table and the row of an accepted SHOW BOUNDS
 record Stands (s : State) (text : RowText) : Type 0 where
   table : TableDef
   named : table_named s.catalog text.table ≡ Some table
@@ -179,15 +177,9 @@ record Stands (s : State) (text : RowText) : Type 0 where
 bounds_stand : (s : State) (session : ℕ) (text : RowText) → IsAccepted s session (statement.ShowBounds text) → Stands s text
 unfolding transition_of
 bounds_stand s session text accepted =
-    let name = named_by s.catalog text.table text.row in
-    let unknown = refuse_if (is_none (table_named s.catalog text.table)) refusal.NoSuchTable in
-    let bad_key = key_refusal_of s text.table text.row in
-    let no_row = refuse_if (is_none (row_named s.rows name)) refusal.NoSuchRow in
-    let known = passed unknown (bad_key ∷ no_row ∷ []) accepted in
-    let keyed = passed bad_key (no_row ∷ []) known.others in
-    let stands = passed no_row [] keyed.others in
-    let table = some_there (table_named s.catalog text.table) (failed (is_none (table_named s.catalog text.table)) refusal.NoSuchTable known.first) in
-    let row = some_there (row_named s.rows name) (failed (is_none (row_named s.rows name)) refusal.NoSuchRow stands.first) in
+    let none = all_passed (refusals (transition_of s session (statement.ShowBounds text))) accepted in
+    let table = present (table_named s.catalog text.table) refusal.NoSuchTable none.0 in
+    let row = present (row_named s.rows (named_by s.catalog text.table text.row)) refusal.NoSuchRow none.1.1.0 in
     record { table = table.0; named = table.1; row = row.0; found = row.1 }
 
 reply_in : (s : State) (session : ℕ) (text : RowText) (stands : Stands s text)
@@ -213,15 +205,4 @@ bounds_are_reached s session text columns checks valid =
     (subst (λ (ks : List CheckBounds). IsShownBounds s text (columns_of s stands.table stands.row) ks) same_checks
     (shown_in s valid text stands.table stands.row stands.named stands.found)))
 
--- ---- whoever asks
-
-shows_alone : (s : State) (session : ℕ) (asked : Statement) → (transition_of s session asked).next ≡ s → (step s session asked).1 ≡ s
-shows_alone s session asked same = step_has (λ (p : Reply × State). p.1 ≡ s) s session asked (λ _ _. refl) (λ _. same)
-
-pub queries_ignore_who_asks : QueriesIgnoreWhoAsks
-unfolding transition_of
-queries_ignore_who_asks s session other (statement.Select text) shows = (shows_alone s session (statement.Select text) refl, refl)
-queries_ignore_who_asks s session other (statement.ShowTable name) shows = (shows_alone s session (statement.ShowTable name) refl, refl)
-queries_ignore_who_asks s session other (statement.ShowJournal table) shows = (shows_alone s session (statement.ShowJournal table) refl, refl)
-queries_ignore_who_asks s session other (statement.ShowBounds text) shows = (shows_alone s session (statement.ShowBounds text) refl, refl)
-queries_ignore_who_asks s session other _ shows = absurd shows
+-- ---- any session that asks

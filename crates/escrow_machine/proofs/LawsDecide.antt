@@ -1,4 +1,4 @@
--- What SHOW BOUNDS shows decides what is granted.
+-- What SHOW BOUNDS shows decides which requests are granted.
 use Rattle.std.specs.Prelude.{◌≡◌, ℕ, ℤ, option_and_then, Option, Some, None, List, [], ◌∷◌, map}
 use Rattle.std.specs.List.{AllByRecursion}
 use Rattle.std.proofs.Common.{refl, sym, ap, subst, ◌∙◌}
@@ -25,12 +25,12 @@ use Rattle.escrow_machine.specs.Step.{step}
 use Rattle.escrow_machine.proofs.LawsGrants.{asked_table, granted_one, refused_violation, refused_first}
 use Rattle.escrow_machine.proofs.Shapes.{covered_found}
 
--- of two verdicts neither is a violation
+-- if two verdicts have no first violation, neither is one
 none_of_two : (o : Option Violation) (other : Option Violation) → first_of_two o other ≡ None → (o ≡ None) × (other ≡ None)
 none_of_two None other e = (refl, e)
 none_of_two (Some violation) other e = absurd (cc)
 
--- nothing is broken where the bounds of every check stay within its limits, and only there
+-- nothing is broken exactly if the bounds of every check stay within its limits
 within_all : (checks : List Check) (row : Row) (reservations : List Reservation) (changes : List ℤ) → AllByRecursion (λ check. IsCovered check.coeffs row.amounts) checks
     → broken checks row.amounts changes (map (changes_to row) reservations) ≡ None → AllByRecursion (StaysWithin row reservations changes) checks
 within_all [] row reservations changes covered e = tt
@@ -48,7 +48,7 @@ unbroken_all (check ∷ checks) row reservations changes covered within =
     let rest : broken checks row.amounts changes open_ones ≡ None = unbroken_all checks row reservations changes covered.1 within.1 in
     ap (λ (o : Option Violation). first_of_two o (broken checks row.amounts changes open_ones)) here ∙ rest
 
--- the violation of the reservation that is asked
+-- the violation of the requested reservation
 violation_is : (s : State) (session : ℕ) (text : UpdateText) (table : TableDef) (row : Row) (new : Reservation) → IsAsked s session text table row new
     → violation_of s new ≡ broken table.checks row.amounts (deltas new.changes) (map (changes_to row) s.reservations)
 violation_is s session text table row new asked =
@@ -61,7 +61,7 @@ violation_is s session text table row new asked =
 same_some : {A : Type 0} {x y : A} → Some x ≡ Some y → x ≡ y
 same_some e = cc
 
--- what is granted breaks nothing
+-- a granted reservation breaks no check
 granted_none : (s : State) (session : ℕ) (text : UpdateText) (table : TableDef) (row : Row) (new : Reservation) (id : ℕ) → IsAsked s session text table row new
     → (step s session (statement.Update text)).0 ≡ reply.Reserved id → violation_of s new ≡ None
 granted_none s session text table row new id asked granted =
@@ -69,7 +69,7 @@ granted_none s session text table row new id asked granted =
     let same : one.new ≡ new = same_some (sym one.asked.1 ∙ asked.1) in
     subst (λ (r : Reservation). violation_of s r ≡ None) same (violation_is s session text one.table one.row one.new one.asked ∙ one.safe)
 
--- and what a check refuses breaks it
+-- a reservation that a check refuses breaks that check
 refused_some : (s : State) (session : ℕ) (text : UpdateText) (table : TableDef) (row : Row) (new : Reservation) (violation : Violation) → IsAsked s session text table row new
     → (step s session (statement.Update text)).0 ≡ reply.Refused (refusal.Check violation) → violation_of s new ≡ Some violation
 refused_some s session text table row new violation asked refused =

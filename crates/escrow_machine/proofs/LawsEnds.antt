@@ -1,4 +1,4 @@
--- The ends of transactions: they commute, and keep a valid state valid in any order.
+-- The ends of transactions commute, and keep a valid state valid in any order.
 use Rattle.std.specs.Prelude.{◌≡◌, ℕ, ℤ, ◌==◌, not, List, [], ◌∷◌, map, take}
 use Rattle.std.proofs.Common.{refl, sym, ap, ap₂, ◌∙◌}
 use Rattle.std.proofs.lemmas.Bool.{false_from_ne_true, eqb-true}
@@ -18,7 +18,7 @@ use Rattle.escrow_machine.proofs.Changes.{all_changed_later}
 use Rattle.escrow_machine.proofs.Filters.{filters_commute, filter_within}
 use Rattle.escrow_machine.proofs.ValidEnds.{commit_valid, rollback_valid}
 
--- a session's own stay when another's go
+-- the end of one session's transaction leaves the reservations of another
 pub own_stay : (a b : ℕ) (reservations : List Reservation) → ¬ (a ≡ b) → own b (others a reservations) ≡ own b reservations
 own_stay a b reservations differ =
     filter_within (λ (r : Reservation). r.session == b) (λ (r : Reservation). not (r.session == a)) reservations
@@ -37,13 +37,13 @@ applied_comm (row ∷ rows) xs ys =
     (ap (λ (amounts : List ℤ). record row { amounts = amounts }) (all_changed_comm row.amounts (map (changes_to row) xs) (map (changes_to row) ys)))
     (applied_comm rows xs ys)
 
--- states of equal parts
+-- states with equal parts are equal
 pub same_state : (s : State) (rows later : List Row) (reservations still : List Reservation) (savepoints left : List Savepoint)
     → rows ≡ later → reservations ≡ still → savepoints ≡ left
     → (record s { rows = rows; reservations = reservations; savepoints = savepoints }) ≡ (record s { rows = later; reservations = still; savepoints = left })
 same_state s rows later reservations still savepoints left e f g = rw (e, f, g) refl
 
--- the rows after two commits
+-- the rows after two COMMITs
 both_commit : (rows : List Row) (a b : ℕ) (reservations : List Reservation) → ¬ (a ≡ b)
     → applied (applied rows (own a reservations)) (own b (others a reservations)) ≡ applied (applied rows (own b reservations)) (own a (others b reservations))
 both_commit rows a b reservations differ =
@@ -51,7 +51,7 @@ both_commit rows a b reservations differ =
     ∙ applied_comm rows (own a reservations) (own b reservations)
     ∙ sym (ap (applied (applied rows (own b reservations))) (own_stay b a reservations (λ e. differ (sym e))))
 
--- the ends of two sessions lead to one state in either order
+-- the ends of two sessions' transactions give the same state in either order
 pub transactions_commute : (s : State) (a b : ℕ) (x y : End) → ¬ (a ≡ b) → after_end (after_end s a x) b y ≡ after_end (after_end s b y) a x
 unfolding transition_of
 transactions_commute s a b end.Commit end.Commit differ =
@@ -81,6 +81,6 @@ ends_valid : (s : State) (ends : List (ℕ × End)) → IsValid s → IsValid (a
 ends_valid s [] valid = valid
 ends_valid s (ending ∷ ends) valid = ends_valid (after_end s ending.0 ending.1) ends (end_valid s ending.0 ending.1 valid)
 
--- and so do any ends in any order
+-- any ends in any order keep it valid too
 pub any_order_of_ends : (s : State) (ends : List (ℕ × End)) (n : ℕ) → IsValid s → IsValid (after_ends s (take n ends))
 any_order_of_ends s ends n valid = ends_valid s (take n ends) valid

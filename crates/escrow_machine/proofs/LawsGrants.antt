@@ -1,4 +1,4 @@
--- What an UPDATE that is granted, or refused by a check, says of the choices of the open reservations.
+-- What a granted UPDATE, or one that a check refuses, says about the choices of the open reservations.
 use Rattle.std.specs.Prelude.{◌≡◌, ℕ, ℤ, ◌==◌, true, not, is_none, option_map, option_and_then, unwrap_or, List, [], ◌∷◌, ◌++◌, map, Contains, Option, Some, None}
 use Rattle.std.specs.List.{AllByRecursion}
 use Rattle.std.proofs.Common.{inl, inr, refl, sym, ap, ◌∙◌, subst}
@@ -50,13 +50,13 @@ use Rattle.escrow_machine.proofs.Refusals.{if_among, passed_over}
 use Rattle.escrow_machine.proofs.Plans.{plan_among}
 use Rattle.escrow_machine.proofs.Transitions.{is_transition}
 
--- an item is contained
+-- an item of a list is contained in it
 pub has_contains : {A : Type 0} (xs : List A) (x : A) → Has xs x → Contains xs x
 has_contains [] x h = absurd h
 has_contains (y ∷ ys) x (inl e) = subst (Contains (y ∷ ys)) e (Contains-append_left (y ∷ []) ys y (Contains-push [] y))
 has_contains (y ∷ ys) x (inr h) = Contains-append_right (y ∷ []) ys x (has_contains ys x h)
 
--- a choice is one of the sublists, and each sublist has what each choice has
+-- each choice is one of the sublists, so all sublists have what all choices have
 pub choice_contained : {A : Type 0} (xs chosen : List A) → IsChoice xs chosen → Contains (sublists xs) chosen
 choice_contained {A} xs chosen h =
     all_choices (λ (c : List A). Contains (sublists xs) c) xs (has_all (λ (c : List A). Contains (sublists xs) c) (sublists xs) (has_contains (sublists xs))) chosen h
@@ -65,7 +65,7 @@ pub contained_has : {A : Type 0} (P : List A → Type 0) (xs : List A) → ((cho
     → (chosen : List A) → Contains (sublists xs) chosen → P chosen
 contained_has P xs each chosen h = subst P h.2 (All-from_recursion P (sublists xs) (choices_all P xs each) h.0 chosen h.1)
 
--- a choice of an image is the image of a choice
+-- a choice of the image is the image of a choice
 pub choice_of_image : {A B : Type 0} (f : A → B) (xs : List A) (image : List B) → IsChoice (map f xs) image
     → (chosen : List A) × IsChoice xs chosen × (map f chosen ≡ image)
 choice_of_image f [] image h = ([], refl, h)
@@ -74,7 +74,7 @@ choice_of_image f (x ∷ xs) image (inr h) =
     let found = choice_of_image f xs h.0 h.1 in
     (x ∷ found.0, inr (found.0, found.1, refl), ap (λ rest. f x ∷ rest) found.2 ∙ h.2)
 
--- the amounts of a row after a choice and a reservation of the row
+-- a row's amounts after a choice of reservations and one more
 amounts_with : (row : Row) (r : Reservation) (chosen : List Reservation) → same_row row.name r.row ≡ true
     → (row_after (chosen ++ r ∷ []) row).amounts ≡ all_changed (changed row.amounts (deltas r.changes)) (map (changes_to row) chosen)
 amounts_with row r chosen same =
@@ -86,7 +86,7 @@ amounts_with row r chosen same =
 row_is_named : (s : State) (r : Reservation) (row : Row) → row_named s.rows r.row ≡ Some row → same_row row.name r.row ≡ true
 row_is_named s r row found = (find_has (λ (x : Row). same_row x.name r.row) s.rows row found).1
 
--- what is granted has no refusal, and its plan is to reserve changes
+-- a granted UPDATE has no refusal, and its plan is a reservation
 pub granted_none : (s : State) (session : ℕ) (text : UpdateText) (id : ℕ) → (step s session (statement.Update text)).0 ≡ reply.Reserved id
     → IsAccepted s session (statement.Update text) × ((transition_of s session (statement.Update text)).reply ≡ reply.Reserved id)
 granted_none s session text id =
@@ -105,7 +105,7 @@ pub granted_plan : (s : State) (session : ℕ) (text : UpdateText) (id : ℕ) �
 unfolding transition_of
 granted_plan s session text id e = reserve_of_reply s id (plan_of s text) e
 
--- the reservation that is granted
+-- what holds of the granted reservation
 pub record Granted (s : State) (session : ℕ) (text : UpdateText) : Type 0 where
   pub table : TableDef
   pub row : Row
@@ -123,7 +123,7 @@ granted_one s session text id granted =
     let of_plan : reservation_of s session text ≡ Some r = ap (option_and_then (reserved_by s session text.table)) is.2 in
     record { table = stands.table; row = stands.row; new = r; asked = (stands.named, of_plan, stands.found); found = stands.found; safe = stands.safe }
 
--- so its row meets the checks with each choice
+-- its row meets the checks with each choice of the open reservations
 meets_with : (s : State) (table : TableDef) (row : Row) (r : Reservation) → row_named s.rows r.row ≡ Some row
     → broken table.checks row.amounts (deltas r.changes) (map (changes_to row) s.reservations) ≡ None
     → (chosen : List Reservation) → IsChoice s.reservations chosen → MeetsWith table row r chosen
@@ -139,7 +139,7 @@ granted_in_every_choice s session text id granted =
     let one = granted_one s session text id granted in
     (one.table, one.row, one.new, one.asked, choices_all (MeetsWith one.table one.row one.new) s.reservations (meets_with s one.table one.row one.new one.found one.safe))
 
--- with each choice of the others' too
+-- it also meets them with each choice of the other sessions' reservations
 pub own_increment_not_spent : (s : State) (session : ℕ) (text : UpdateText) (id : ℕ) → (step s session (statement.Update text)).0 ≡ reply.Reserved id
     → (table : TableDef) × (row : Row) × (new : Reservation) × IsAsked s session text table row new
     × AllByRecursion (MeetsWith table row new) (sublists (others session s.reservations))
@@ -154,7 +154,7 @@ own_increment_not_spent s session text id granted =
           (choice_filter (λ (r : Reservation). not (r.session == session)) s.reservations chosen choice)),
     )
 
--- what a check refuses
+-- the check's refusal is the first that applies
 pub refused_first : (s : State) (session : ℕ) (text : UpdateText) (violation : Violation) → (step s session (statement.Update text)).0 ≡ reply.Refused (refusal.Check violation)
     → first_refusal (refusals (transition_of s session (statement.Update text))) ≡ Some (refusal.Check violation)
 refused_first s session text violation =
@@ -166,7 +166,7 @@ last_violation : (o : Option Violation) (violation : Violation) → first_refusa
 last_violation None violation e = absurd (cc)
 last_violation (Some other) violation e = cc
 
--- is the violation of its reservation: a plan of plain values has none
+-- the violation is that of the reservation, since a plan of plain values has none
 late_violation : (s : State) (session : ℕ) (text : UpdateText) (o : Option Plan) (violation : Violation)
     → first_refusal (unwrap_or (option_map (update_refusals s session text.table) o) []) ≡ Some (refusal.Check violation)
     → option_and_then (violation_of s) (option_and_then (reserved_by s session text.table) o) ≡ Some violation
@@ -205,7 +205,7 @@ refused_violation s session text violation first =
     let past_plan = passed_over unplanned late here (plan_among P s text (λ q. absurd (cc)) (λ q. absurd (cc)) (λ q. absurd (cc))) past_table in
     late_violation s session text (plan_of s text) violation past_plan
 
--- a violation of a list of checks is one of a check in it
+-- a violation of a list of checks is a violation of one of them
 either_broken : (checks : List Check) (amounts changes : List ℤ) (reservations : List (List ℤ)) (violation : Violation) (check : Check) (o : Option Violation)
     → broken_by check amounts changes reservations ≡ o → first_of_two o (broken checks amounts changes reservations) ≡ Some violation
     → (broken checks amounts changes reservations ≡ Some violation → (c : Check) × Has checks c × (broken_by c amounts changes reservations ≡ Some violation))
@@ -219,7 +219,7 @@ broken_check [] amounts changes reservations violation e = absurd (cc)
 broken_check (check ∷ checks) amounts changes reservations violation e =
     either_broken checks amounts changes reservations violation check (broken_by check amounts changes reservations) refl e (broken_check checks amounts changes reservations violation)
 
--- and some choice reaches it
+-- some choice of the open reservations reaches the worst value
 reached_with : (row : Row) (r : Reservation) (reservations : List Reservation) (coeffs : List ℤ) (worst : ℤ) → same_row row.name r.row ≡ true
     → IsReached coeffs (changed row.amounts (deltas r.changes)) (map (changes_to row) reservations) worst
     → (chosen : List Reservation) × Contains (sublists reservations) chosen × (form coeffs (row_after (chosen ++ r ∷ []) row).amounts ≡ worst)
@@ -247,7 +247,7 @@ violation_reached s table row r violation found e =
       reached_with row r s.reservations check.0.coeffs violation.worst (row_is_named s r row found) known.2,
     )
 
--- a reservation that is asked is of the table that is named
+-- a requested reservation belongs to the table that the UPDATE names
 pub asked_table : (s : State) (session : ℕ) (text : UpdateText) (o : Option Plan) (r : Reservation) → option_and_then (reserved_by s session text.table) o ≡ Some r
     → r.row.table ≡ text.table
 asked_table s session text None r e = absurd (cc)

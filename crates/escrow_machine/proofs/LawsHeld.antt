@@ -1,4 +1,4 @@
--- COMMITs that are held back: what waits is a run in the order in which it was asked.
+-- COMMITs that are held back: the waiting statements are a run in the order of their requests.
 use Rattle.std.specs.Prelude.{◌≡◌, ℕ, Bool, true, false, cond, not, ◌==◌, ◌&&◌, ◌||◌, nat_lt, MatchBool, MatchOption, IsTrue, is_none, option_map, unwrap_or, Option, Some, None, List, [], ◌∷◌, ◌++◌, length}
 use Rattle.std.specs.List.{AllByRecursion}
 use Rattle.std.proofs.Common.{refl, sym, ap, ap₂, ◌∙◌, subst}
@@ -28,9 +28,9 @@ use Rattle.escrow_machine.proofs.LawsPass.{IsInOrder, passing_in_order, passes_c
 use Rattle.escrow_machine.proofs.LawsSteps.{machine_never_fails}
 use Rattle.escrow_machine.proofs.Savepoints.{session_up_to, by_session}
 
--- THE COMMITS OF OTHERS
+-- THE COMMITS OF OTHER SESSIONS
 
--- no COMMIT of the session is held back
+-- no COMMIT of this session is held back
 abbrev IsNotHeld : ℕ → List Waiting → Type 0
 IsNotHeld session earlier = AllByRecursion (λ held. ¬ (held ≡ session)) (holding earlier)
 
@@ -41,7 +41,7 @@ others_held session w earlier =
     (λ sessions. AllByRecursion Other sessions → (w.is_held ≡ true → Other w.session) × AllByRecursion Other (holding earlier))
     (λ _ all. (λ _. all.0, all.1)) (λ f all. (λ t. absurd (cc), all))
 
--- so once they are done, or failed, the session's own reservations are what they were
+-- after the held COMMITs succeed or fail, the session's own reservations are unchanged
 own_stay_one : (b : Bool) (session other : ℕ) (t : State) (reservations : List Reservation) → (b ≡ true → ¬ (other ≡ session)) → own session t.reservations ≡ reservations
     → own session (cond b (step t other statement.Commit).1 t).reservations ≡ reservations
 unfolding transition_of
@@ -56,14 +56,14 @@ own_stays outcome (w ∷ earlier) now session free =
     own_stay_one (is_done outcome w) session w.session (ended_by outcome earlier now) (own session now.reservations)
     (λ t. parts.0 (and_parts w.is_held (is_none (outcome w.session)) t).0) (own_stays outcome earlier now session parts.1)
 
--- A STATEMENT BEHIND THEM
+-- A STATEMENT AFTER HELD COMMITS
 
--- a statement may be served where its session holds a reservation alike
+-- whether a statement may be served depends only on whether its session holds a reservation
 own_kept : (s t : State) (session : ℕ) (asked : Statement) → holds t session ≡ holds s session → is_own t session asked ≡ is_own s session asked
 own_kept s t session statement.Commit same = ap not same
 own_kept s t session asked same = refl
 
--- it is answered so in a state, leads to another, and may be served while more COMMITs are held back
+-- the statement has this reply and next state, and may be served while more COMMITs are held back
 record IsPassing (session : ℕ) (asked : Statement) (answer : Reply) (t new : State) : Type 0 where
   pub is_step : step t session asked ≡ (answer, new)
   pub may_pass : passes t session asked ≡ true
@@ -100,13 +100,13 @@ run_more s [] (a ∷ answers) mid happened answer new run served = absurd run
 run_more s (e ∷ events) [] mid happened answer new run served = absurd run
 run_more s (e ∷ events) (a ∷ answers) mid happened answer new run served = (run.0, run.1, run_more run.0 events answers mid happened answer new run.2 served)
 
--- what the machine does is served
+-- a step of the machine is a service
 stepped : (s : State) (session : ℕ) (asked : Statement) (answer : Reply) (new : State) → (answer, new) ≡ step s session asked → StepOrRefusal s session asked answer new
 stepped s session asked answer new is =
     let never : failure_of answer ≡ None = ap (λ (x : Reply × State). failure_of x.0) is ∙ machine_never_fails s session asked in
     subst (λ (o : Option Failure). MatchOption o (IsStep s session asked answer new) (λ f. IsTrue (may_fail s session asked f) × (new ≡ s))) (sym never) (record { is_step = is })
 
--- a COMMIT that was held back is done in the end
+-- a COMMIT that was held back succeeds at the end
 done_last : (session : ℕ) (asked : Statement) (answer : Reply) (mid now : State) (ended : State → State) → own session (ended mid).reservations ≡ own session mid.reservations
     → IsHeldBack session asked answer mid now → (answer, (step (ended now) session statement.Commit).1) ≡ step (ended mid) session asked
 unfolding transition_of
@@ -115,7 +115,7 @@ done_last session asked answer mid now ended same held =
     ∙ ap (λ (rs : List Reservation). (reply.Committed (length rs), after_commit (ended mid) session)) (sym same)
     ∙ sym (ap (step (ended mid) session) held.is_commit)
 
--- or it fails, as it may
+-- or it fails with a fault that it may have
 may_fail_last : (session : ℕ) (asked : Statement) (answer : Reply) (mid now : State) (ended : State → State) (f : Failure) → own session (ended mid).reservations ≡ own session mid.reservations
     → IsHeldBack session asked answer mid now → IsTrue (may_fail (ended mid) session asked f) × (ended now ≡ ended mid)
 unfolding transition_of
@@ -124,7 +124,7 @@ may_fail_last session asked answer mid now ended f same held = (
   ap ended held.same,
 )
 
--- so what was asked last is served where all earlier COMMITs are done, or failed
+-- the last statement is served after all earlier COMMITs succeed or fail
 served_last : (b : Bool) (o : Option Failure) (session : ℕ) (asked : Statement) (answer : Reply) (mid now : State) (ended : State → State)
     → own session (ended mid).reservations ≡ own session mid.reservations
     → (passes mid session asked ≡ true → step (ended mid) session asked ≡ ((step mid session asked).0, ended (step mid session asked).1))
@@ -138,7 +138,7 @@ served_last true (Some failure.Store) session asked answer mid now ended same pa
 served_last false o session asked answer mid now ended same passed beside =
     stepped (ended mid) session asked answer (ended now) (ap (λ (x : Reply × State). (x.0, ended x.1)) beside.is_step ∙ sym (passed beside.may_pass))
 
--- what waits leaves savepoints in order
+-- the waiting statements leave savepoints in order
 order_stays : (b : Bool) (session : ℕ) (asked : Statement) (answer : Reply) (mid now : State) → IsInOrder mid
     → MatchBool b (IsHeldBack session asked answer mid now) (IsServedBeside session asked answer mid now) → IsInOrder now
 order_stays true session asked answer mid now order held = subst IsInOrder (sym held.same) order
@@ -149,7 +149,7 @@ held_in_order : (s : State) (waiting : List Waiting) (now : State) → IsInOrder
 held_in_order s [] now order held = subst IsInOrder (sym held) order
 held_in_order s (w ∷ earlier) now order held = order_stays w.is_held w.session w.asked w.answer held.0 now (held_in_order s earlier held.0 order held.1) held.3
 
--- what waits is a run, whatever becomes of the COMMITs
+-- the waiting statements are a run, whether the COMMITs succeed or fail
 pub held_run : (s : State) (waiting : List Waiting) (now : State) (outcome : Outcome) → IsAscending savepoint_before s.savepoints
     → IsHeldRun s waiting now → IsRun s (events_of waiting) (answers_by outcome waiting) (ended_by outcome waiting now)
 held_run s [] now outcome order held = held

@@ -1,4 +1,4 @@
--- What may be served while another session's COMMIT is held back passes that COMMIT.
+-- A statement that may be served while another session's COMMIT is held back commutes with that COMMIT.
 use Rattle.std.specs.Prelude.{◌≡◌, ℕ, ℤ, ◌+◌, ◌≤◌, ◌==◌, Bool, true, not, nat_le, is_none, option_map, unwrap_or, Option, Some, None, List, [], ◌∷◌, ◌++◌, length, map}
 use Rattle.std.proofs.Common.{refl, sym, ap, ap₂, ◌∙◌, subst, arith}
 use Rattle.std.proofs.lemmas.Bool.{cond-true, cond-false, and_parts, not_from_false, false_from_ne_true, eqb-true, false≢true}
@@ -59,7 +59,7 @@ granted_is : (answer : Reply) → is_grant answer ≡ true → (id : ℕ) × (an
 granted_is (reply.Reserved id) t = (id, refl)
 granted_is _ t = absurd (false≢true t)
 
--- what leaves the next id grants nothing
+-- a statement that leaves the next id unchanged grants nothing
 grants_none : (s : State) (session : ℕ) (asked : Statement) → (transition_of s session asked).next.next_id ≡ s.next_id → ¬ (is_grant (step s session asked).0 ≡ true)
 grants_none s session asked same =
     step_has (λ (p : Reply × State). ¬ (is_grant p.0 ≡ true)) s session asked (λ _ _ t. false≢true t) (λ accepted t.
@@ -67,7 +67,7 @@ grants_none s session asked same =
     let more = ((is_transition s session asked).next accepted granted.0 granted.1).1 in
     absurd (omega arith))
 
--- it is an UPDATE that is granted, or one of four kinds
+-- such a statement is a granted UPDATE, or of one of four kinds
 passing_has : (P : Statement → Type 0) (s : State) (session : ℕ)
     → ((text : UpdateText) (id : ℕ) → (step s session (statement.Update text)).0 ≡ reply.Reserved id → P (statement.Update text))
     → ((name : List ℕ) → P (statement.Savepoint name)) → P statement.Commit → P statement.Rollback → ((name : List ℕ) → P (statement.RollbackTo name))
@@ -90,13 +90,13 @@ passing_has P s session granted saved done dropped back statement.Commit may = d
 passing_has P s session granted saved done dropped back statement.Rollback may = dropped
 passing_has P s session granted saved done dropped back (statement.RollbackTo name) may = back name
 
--- the state after an UPDATE that is granted
+-- the state after a granted UPDATE
 reserved_next : (s : State) (session : ℕ) (text : UpdateText) (key : Value) (changes : List (Option ℤ)) → plan_of s text ≡ Some (plan.Reserve key changes)
     → (transition_of s session (statement.Update text)).next ≡ after_update s session text.table (plan.Reserve key changes)
 unfolding transition_of
 reserved_next s session text key changes is = ap (λ (o : Option Plan). unwrap_or (option_map (after_update s session text.table) o) s) is
 
--- it leaves the savepoints in order of session
+-- the savepoints are in order of session
 abbrev pub IsInOrder : State → Type 0
 IsInOrder s = IsAscending session_up_to s.savepoints
 
@@ -124,13 +124,13 @@ passing_in_order s session asked order may =
     (back_has IsInOrder s session name order (λ p. through_ascending session_up_to p.session p.name s.savepoints order)))
     asked may
 
--- BEHIND A COMMIT
+-- AFTER A COMMIT
 
--- a statement of another session is answered alike behind a COMMIT, and both orders lead to one state
+-- a statement of another session has the same reply after the COMMIT, and both orders give the same state
 abbrev Passes : State → ℕ → ℕ → Statement → Type 0
 Passes s session other asked = step (after_commit s session) other asked ≡ ((step s other asked).0, after_commit (step s other asked).1 session)
 
--- a refusal, with an equal state, or else a reply and a new state
+-- a refusal with the state unchanged, or a reply and a new state
 abbrev either : State → Reply → State → Option Refusal → Reply × State
 either s done new o = unwrap_or (option_map (λ r. (reply.Refused r, s)) o) (done, new)
 
@@ -139,7 +139,7 @@ either_passes : (f : State → State) (s : State) (done : Reply) (new : State) (
 either_passes f s done new None = refl
 either_passes f s done new (Some r) = refl
 
--- it is where it is refused alike, the reply is the same, and the next state passes the COMMIT
+-- it commutes if it is refused alike, has the same reply, and its next state commutes with the COMMIT
 alike : (s : State) (session other : ℕ) (asked : Statement) → let t : State = after_commit s session in
     first_refusal (refusals (transition_of t other asked)) ≡ first_refusal (refusals (transition_of s other asked))
     → (transition_of t other asked).reply ≡ (transition_of s other asked).reply
@@ -154,7 +154,7 @@ alike s session other asked refused answered next =
     ∙ ap₂ (λ (answer : Reply) (new : State). either t answer new first) answered next
     ∙ either_passes (λ (u : State). after_commit u session) s transition.reply transition.next first
 
--- what is another session's isn't the session's
+-- an item of another session is not one of this session
 apart : (session other : ℕ) → ¬ (session ≡ other) → (n : ℕ) → n ≡ other → not (n == session) ≡ true
 apart session other differ n same = ap not (false_from_ne_true (n == session) (λ u. differ (sym (eqb-true n session u) ∙ same)))
 
@@ -170,7 +170,7 @@ commit_passes s session other differ =
     alike s session other statement.Commit refl (ap (λ (rs : List Reservation). reply.Committed (length rs)) (own_stay session other s.reservations differ))
     (transactions_commute s session other end.Commit end.Commit differ)
 
--- a savepoint is put among those that are left as it is put among all
+-- a savepoint is put at the same place among the remaining ones as among all
 savepoint_passes : (s : State) (session other : ℕ) (name : List ℕ) → IsInOrder s → ¬ (session ≡ other) → Passes s session other (statement.Savepoint name)
 unfolding transition_of
 savepoint_passes s session other name order differ =
@@ -187,7 +187,7 @@ savepoint_passes s session other name order differ =
     (ap (λ (ps : List Savepoint). first_refusal (refuse_if (nat_le MAX_SAVEPOINTS (length ps)) refusal.TooManySavepoints ∷ [])) (ap (own_savepoints other) commute ∙ counted))
     refl (same_state s _ _ _ _ _ _ refl refl (ap (put_savepoint new) commute ∙ sym put))
 
--- the reservations that came after a savepoint are as many, and going back to it leads to one state
+-- as many reservations came after a savepoint, and ROLLBACK TO it gives the same state
 back_alike : (s : State) (session other : ℕ) (o : Option Savepoint) → ¬ (session ≡ other) → ((p : Savepoint) → o ≡ Some p → p.session ≡ other)
     → let t : State = after_commit s session in
     (unwrap_or (option_map (λ (p : Savepoint). length (after p t.reservations)) o) 0 ≡ unwrap_or (option_map (λ (p : Savepoint). length (after p s.reservations)) o) 0)
@@ -222,8 +222,8 @@ back_passes s session other name differ =
     ∙ ap (reply.RolledBackTo name) same.0)
     (ap (λ (o : Option Savepoint). with_open t (unwrap_or (option_map (journal.returned_to (open_in t)) o) (open_in t))) found ∙ same.1)
 
--- changes that break nothing break nothing once a session's reservations are applied: these and a choice of
--- the others were a choice of all
+-- changes that break nothing still break nothing once a session's reservations are applied,
+-- since those and a choice of the others are a choice of all
 committed_break : (s : State) (session : ℕ) (table : TableDef) (name : RowName) (changes : List ℤ) → BreaksNone table name changes s.rows s.reservations
     → BreaksNone table name changes (applied s.rows (own session s.reservations)) (others session s.reservations)
 committed_break s session table name changes stands =
@@ -244,7 +244,7 @@ committed_break s session table name changes stands =
           )),
     )
 
--- a reservation of another session is granted behind the COMMIT as before it
+-- a reservation of another session is granted after the COMMIT as before it
 granted_alike : (s : State) (session other : ℕ) (table : List ℕ) (key : Value) (changes : List (Option ℤ)) → ¬ (session ≡ other)
     → after_update (after_commit s session) other table (plan.Reserve key changes) ≡ after_commit (after_update s other table (plan.Reserve key changes)) session
 granted_alike s session other table key changes differ =
@@ -278,7 +278,7 @@ update_passes s session other text id differ granted =
     ∙ granted_alike s session other text.table is.0 is.1 differ
     ∙ ap (λ (u : State). after_commit u session) (sym (reserved_next s other text is.0 is.1 is.2)))
 
--- whatever may be served passes the COMMIT
+-- every statement that may be served commutes with the COMMIT
 pub passes_commit : (s : State) (session other : ℕ) (asked : Statement) → IsInOrder s → ¬ (session ≡ other) → passes s other asked ≡ true
     → step (after_commit s session) other asked ≡ ((step s other asked).0, after_commit (step s other asked).1 session)
 passes_commit s session other asked order differ may =

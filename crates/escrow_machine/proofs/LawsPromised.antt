@@ -1,4 +1,4 @@
--- What is promised is answered by a reply that holds no memory.
+-- A statement that is promised to succeed has a reply that holds no memory.
 use Rattle.std.specs.Prelude.{◌≡◌, ℕ, true, false, IsTrue}
 use Rattle.std.proofs.Common.{refl, inl, inr}
 use Rattle.std.proofs.lemmas.Bool.{or_cases}
@@ -14,7 +14,7 @@ use Rattle.escrow_machine.specs.Step.{step}
 use Rattle.escrow_machine.specs.Transition.{transition_of}
 use Rattle.escrow_machine.proofs.LawsSteps.{step_has}
 
--- the reply of what needs neither memory nor the store holds none
+-- the reply to a statement that needs neither memory nor the store holds no memory
 transition_holds_none : (s : State) (session : ℕ) (asked : Statement) → needs_nothing s session asked ≡ true → holds_memory (transition_of s session asked).reply ≡ false
 unfolding transition_of
 transition_holds_none s session (statement.Create text) none = absurd (cc)
@@ -35,12 +35,12 @@ transition_holds_none s session (statement.RollbackTo name) none = refl
 step_holds_none : (s : State) (session : ℕ) (asked : Statement) → needs_nothing s session asked ≡ true → holds_memory (step s session asked).0 ≡ false
 step_holds_none s session asked none = step_has (λ (p : Reply × State). holds_memory p.0 ≡ false) s session asked (λ _ _. refl) (λ _. transition_holds_none s session asked none)
 
--- a reply that is a refusal without need is a refusal
+-- a plain refusal is a refusal
 pub plain_refused : (asked : Statement) (answer : Reply) → is_plain_refusal asked answer ≡ true → (r : Refusal) × (answer ≡ reply.Refused r)
 plain_refused asked (reply.Refused r) plain = (r, refl)
 plain_refused asked _ plain = absurd (cc)
 
--- so no reply to what is promised holds memory
+-- no reply to a promised statement holds memory
 pub promised_holds_none : (s : State) (session : ℕ) (asked : Statement) → IsTrue (is_promised s session asked) → holds_memory (step s session asked).0 ≡ false
 promised_holds_none s session asked promise = elim (or_cases (needs_nothing s session asked) (is_plain_refusal asked (step s session asked).0) promise) [
   | inl nothing ↦ step_holds_none s session asked nothing

@@ -1,4 +1,4 @@
--- The committed rows of a valid state: they meet the checks of their tables, and their values fit.
+-- The committed rows of a valid state meet the checks of their tables, and their values fit.
 use Rattle.std.specs.Prelude.{◌≡◌, IsSomeAnd, List, Option, Some, None}
 use Rattle.std.specs.List.{AllByRecursion}
 use Rattle.std.proofs.Common.{refl}
@@ -22,13 +22,13 @@ use Rattle.escrow_machine.proofs.Safe.{committed_rows_meet_checks}
 use Rattle.escrow_machine.proofs.Shapes.{is_table_found}
 use Rattle.escrow_machine.proofs.ValidEmpty.{empty_valid}
 
--- after any run from the beginning each row meets each check of its table
+-- after any run from the beginning, each row meets each check of its table
 pub every_run_is_safe : (events : List Event) (answers : List Reply) (new : State)
     → AllByRecursion HasSession events → IsRun empty events answers new → AllByRecursion (MeetsChecks new.catalog) new.rows
 every_run_is_safe events answers new of_sessions h =
     committed_rows_meet_checks new (run_keeps_valid empty events answers new empty_valid of_sessions h)
 
--- the values of a row of a table, whose amounts meet its checks, fit
+-- the values of a row fit if its amounts meet the checks of its table
 fitting : (s : State) → IsValid s → (row : Row) (o : Option TableDef) → table_named s.catalog row.name.table ≡ o → IsSomeAnd o (λ t. IsRowOf t row)
     → IsSomeAnd o (λ t. AllByRecursion (λ check. Meets check row.amounts) t.checks) → IsSomeAnd o (λ t. FitColumns t.columns (values_of t row))
 fitting s valid row None found of_table met = absurd of_table

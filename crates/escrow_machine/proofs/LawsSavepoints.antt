@@ -1,4 +1,4 @@
--- What a run of events leaves of a savepoint, and of the reservations before it.
+-- What a run of events does to a savepoint and to the reservations before it.
 use Rattle.std.specs.Prelude.{◌≡◌, ◌⊎◌, ℕ, ◌≤◌, ◌==◌, Bool, true, false, not, nat_le, option_map, unwrap_or, MatchOption, IsSome, IsTrue, Option, Some, None, List, [], ◌∷◌, ◌++◌, filter}
 use Rattle.std.specs.List.{AllByRecursion}
 use Rattle.std.proofs.Common.{inl, inr, refl, sym, ap, ◌∙◌, subst, arith}
@@ -40,11 +40,11 @@ use Rattle.escrow_machine.proofs.ValidSavepoint.{savepoint_valid}
 
 -- THE RESERVATIONS BEFORE A SAVEPOINT
 
--- those of its session that didn't come after it
+-- the session's reservations that were not made after the savepoint
 abbrev front : Savepoint → List Reservation → List Reservation
 front p reservations = own p.session (not_after p reservations)
 
--- they stay where a test keeps each of them
+-- they stay if a test keeps each of them
 front_kept : (p : Savepoint) (keep : Reservation → Bool) (reservations : List Reservation)
     → ((r : Reservation) → r.session ≡ p.session → is_after p r ≡ false → keep r ≡ true) → front p (filter keep reservations) ≡ front p reservations
 front_kept p keep reservations kept =
@@ -54,7 +54,7 @@ front_kept p keep reservations kept =
     ∙ filter_within_items mine keep (filter early reservations)
     (λ r h t. kept r (eqb-true r.session p.session t) (not-true (is_after p r) (has_filter early reservations r h).1))
 
--- and where a later one is granted
+-- they stay if a later one is granted
 front_push : (p : Savepoint) (reservations : List Reservation) (r : Reservation) → p.id ≤ r.id → front p (reservations ++ r ∷ []) ≡ front p reservations
 front_push p reservations r later =
     let mine : Reservation → Bool = λ x. x.session == p.session in
@@ -79,14 +79,14 @@ front_push p reservations r later =
 
 -- WHAT A STEP LEAVES
 
--- the savepoint goes; or one of its name is found as before, and the reservations before it stay
+-- the savepoint goes; or its name still finds it, and the reservations before it stay
 abbrev Keeps : Savepoint → State → State → Type 0
 Keeps p s new =
     (savepoint_of p.session p.name new.savepoints ≡ None)
     ⊎ ((savepoint_of p.session p.name new.savepoints ≡ savepoint_of p.session p.name s.savepoints)
     × (savepoint_of p.session p.name s.savepoints ≡ Some p → front p new.reservations ≡ front p s.reservations))
 
--- an UPDATE may grant a reservation, whose id no savepoint's is above
+-- an UPDATE may grant a reservation, and no savepoint has a greater id
 kept_by_update : (p : Savepoint) (s : State) (session : ℕ) (text : UpdateText) (o : Option Plan) → IsValid s
     → Keeps p s (unwrap_or (option_map (after_update s session text.table) o) s)
 kept_by_update p s session text None valid = inr (refl, λ _. refl)
@@ -97,7 +97,7 @@ kept_by_update p s session text (Some (plan.Reserve key changes)) valid = inr (
 )
 kept_by_update p s session text (Some (plan.Plain key values)) valid = inr (refl, λ _. refl)
 
--- a SAVEPOINT of another session or name
+-- a SAVEPOINT of another session or of another name
 kept_by_savepoint : (p : Savepoint) (s : State) (session : ℕ) (name : List ℕ) → (session ≡ p.session → ¬ (name ≡ p.name)) → Keeps p s (after_savepoint s session name)
 kept_by_savepoint p s session name other =
     let q = made_in s session name in
@@ -131,7 +131,7 @@ kept_by_end p s new session reservations savepoints =
     of_its_own : session ≡ p.session → savepoint_of p.session p.name (other_savepoints session s.savepoints) ≡ None
     of_its_own same = subst (λ (k : ℕ). savepoint_of p.session p.name (other_savepoints k s.savepoints) ≡ None) (sym same) (found_of_own p.session p.name s.savepoints)
 
--- going back to a savepoint
+-- a ROLLBACK TO
 kept_by_back_to : (p q : Savepoint) (s : State) → IsValid s → savepoint_of q.session q.name s.savepoints ≡ Some q → Keeps p s (returned_to s q)
 kept_by_back_to p q s valid found =
     let keep : Reservation → Bool = λ r. not (is_after q r) in
@@ -173,7 +173,7 @@ kept_by_back p s session name (Some q) valid found =
     kept_by_back_to p q s valid
     (ap (λ (k : ℕ). savepoint_of k q.name s.savepoints) named.0 ∙ ap (λ (n : List ℕ). savepoint_of session n s.savepoints) named.1 ∙ found)
 
--- each statement that doesn't make it anew
+-- every statement but a SAVEPOINT of the same session and name
 kept_by_transition : (p : Savepoint) (s : State) (session : ℕ) (asked : Statement) → IsValid s → (session ≡ p.session → ¬ (asked ≡ statement.Savepoint p.name))
     → Keeps p s (transition_of s session asked).next
 unfolding transition_of
@@ -197,7 +197,7 @@ kept_by_step : (p : Savepoint) (s : State) (session : ℕ) (asked : Statement) �
 kept_by_step p s session asked valid other =
     step_has (λ (x : Reply × State). Keeps p s x.1) s session asked (λ _ _. inr (refl, λ _. refl)) (λ _. kept_by_transition p s session asked valid other)
 
--- and what comes in place of a step
+-- a failure in place of a step
 kept_by_event : (p : Savepoint) (s : State) (session : ℕ) (asked : Statement) (answer : Reply) (new : State) (o : Option Failure) → IsValid s
     → (session ≡ p.session → ¬ (asked ≡ statement.Savepoint p.name))
     → MatchOption o (IsStep s session asked answer new) (λ f. IsTrue (may_fail s session asked f) × (new ≡ s)) → Keeps p s new
@@ -207,7 +207,7 @@ kept_by_event p s session asked answer new (Some f) valid other h = subst (Keeps
 
 -- WHAT A RUN LEAVES
 
--- the savepoint is gone; or it stands, and so do the reservations before it
+-- the savepoint is gone; or it is still there, and so are the reservations before it
 abbrev Stands : Savepoint → List Reservation → State → Type 0
 Stands p before s =
     (savepoint_of p.session p.name s.savepoints ≡ None)
@@ -240,7 +240,7 @@ stands_through p before s (event.Restart ∷ events) (answer ∷ answers) new va
     (restart_keeps_valid s answer run.0 valid run.1)
     of_sessions.1 makes_none.1 (stands_restarted p before s answer run.0 stands run.1) run.2
 
--- so going back to it leaves them
+-- a ROLLBACK TO it leaves those reservations
 abbrev LeavesWhatWas : State → ℕ → State → State → Type 0
 LeavesWhatWas s session later back =
     (own session back.reservations ≡ own session s.reservations)
@@ -263,7 +263,7 @@ left_by_back s session name later (inr stands) still =
     ) in
     subst (LeavesWhatWas s session later) (sym (ap (λ (x : Reply × State). x.1) (back_step later session name p stands.0))) left
 
--- the state after a SAVEPOINT that is accepted
+-- the state after an accepted SAVEPOINT
 made_next : (s : State) (session : ℕ) (name : List ℕ) → (transition_of s session (statement.Savepoint name)).next ≡ after_savepoint s session name
 unfolding transition_of
 made_next s session name = refl

@@ -1,4 +1,4 @@
--- How many items of a list a test keeps.
+-- How many items of a list pass a test.
 use Rattle.std.specs.Prelude.{◌≡◌, ℕ, zero, suc, ◌+◌, ◌*◌, ◌≤◌, Bool, true, false, cond, not, ◌==◌, List, [], ◌∷◌, map, filter, find, length, Option, Some, option_map}
 use Rattle.std.proofs.Common.{inl, inr, ap, ◌∙◌, refl, arith, le_trans, mul-suc}
 use Rattle.std.proofs.lemmas.Bool.{cond_both, not-true, eqb-false, cases_lt}
@@ -6,7 +6,7 @@ use Rattle.std.proofs.lemmas.List.Filters.{length-filter_both}
 use Rattle.escrow_num.proofs.Items.{Has, has_filter}
 use Rattle.escrow_num.proofs.Put.{length_kept}
 
--- a test keeps at most as many items of a part as of the whole
+-- at most as many items of a part of a list pass as of the whole list
 pub length-filter_filter : {A : Type 0} (p q : A → Bool) (xs : List A) → length (filter p (filter q xs)) ≤ length (filter p xs)
 length-filter_filter p q [] = omega arith
 length-filter_filter p q (x ∷ xs) =
@@ -15,7 +15,7 @@ length-filter_filter p q (x ∷ xs) =
     let whole = length_kept (p x) x (filter p xs) in
     cond_both (q x) (x ∷ filter q xs) (filter q xs) (λ zs. length (filter p zs) ≤ length (filter p (x ∷ xs))) (λ _. omega arith) (λ _. omega arith)
 
--- a change that a test doesn't see changes no count
+-- a change that the test does not see leaves the number
 pub length-filter_map : {A : Type 0} (p : A → Bool) (f : A → A) → ((x : A) → p (f x) ≡ p x) → (xs : List A) → length (filter p (map f xs)) ≡ length (filter p xs)
 length-filter_map p f same [] = refl
 length-filter_map p f same (x ∷ xs) =
@@ -24,7 +24,7 @@ length-filter_map p f same (x ∷ xs) =
     let after = length_kept (p x) x (filter p xs) in
     ap (λ b. length (cond b (f x ∷ filter p (map f xs)) (filter p (map f xs)))) (same x) ∙ omega arith
 
--- and the same item is found
+-- and leaves the item that a lookup finds
 found_map : {A : Type 0} (f : A → A) (b : Bool) (x : A) (o later : Option A) → o ≡ option_map f later
     → cond b (Some (f x)) o ≡ option_map f (cond b (Some x) later)
 found_map f true x o later e = refl
@@ -36,14 +36,14 @@ find_map p f same (x ∷ xs) =
     ap (λ b. cond b (Some (f x)) (find p (map f xs))) (same x)
     ∙ found_map f (p x) x (find p (map f xs)) (find p xs) (find_map p f same xs)
 
--- a number up to the last one that isn't the last is below it
+-- a number that is at most `n + 1` and not equal to it is at most `n`
 below_last : (k n : ℕ) → k ≤ suc n → ¬ (k ≡ suc n) → k ≤ n
 below_last k n h differs = elim (cases_lt k (suc n)) [ inl l ↦ omega arith | inr l ↦ absurd (differs (omega arith)) ]
 
 sum_below : (a b c m n : ℕ) → a + b ≡ c → a ≤ m → b ≤ m * n → c ≤ m * suc n
 sum_below a b c m n e h k = omega (arith, mul-suc m n)
 
--- items numbered from 1 to n, at most m of each number, are at most m * n
+-- a list of items numbered 1 to n, at most m with each number, has at most m * n items
 pub length-by_number : {A : Type 0} (number : A → ℕ) (m n : ℕ) (xs : List A) → ((x : A) → Has xs x → (1 ≤ number x) × (number x ≤ n))
     → ((k : ℕ) → length (filter (λ x. number x == k) xs) ≤ m) → length xs ≤ m * n
 length-by_number number m zero [] numbered few = omega arith

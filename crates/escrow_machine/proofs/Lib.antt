@@ -20,7 +20,6 @@ pub mod LawsPass
 pub mod LawsPromised
 pub mod LawsRows
 pub mod LawsSavepoints
-pub mod LawsShown
 pub mod LawsSteps
 pub mod Lengths
 pub mod Plans
@@ -32,6 +31,7 @@ pub mod SavepointNames
 pub mod Savepoints
 pub mod Settling
 pub mod Shapes
+pub mod TransitionRefusals
 pub mod TransitionSavepoints
 pub mod TransitionUpdate
 pub mod TransitionWords

@@ -1,4 +1,4 @@
--- The refusals of an UPDATE's plan, and of a WHERE.
+-- The refusals of an UPDATE's plan, and of WHERE.
 use Rattle.std.specs.Prelude.{◌≡◌, ◌⊎◌, ℕ, List, Option, Some, None, IfSome, option_and_then, Result, Ok, Err}
 use Rattle.std.specs.Result.{result_err}
 use Rattle.std.proofs.Common.{inl, inr, sym, refl, subst}
@@ -16,7 +16,7 @@ use Rattle.escrow_machine.specs.Asked.{plan_refusal_of, key_refusal_of, select_r
 use Rattle.escrow_machine.specs.State.{State}
 use Rattle.escrow_schema.proofs.PlanLemmas.{refusals_of_plans, refusals_of_keys}
 
--- what holds of a bad assignment, of another column than the key and of a bad value holds of a plan's refusal
+-- a plan is refused for a bad assignment, for a column that is not the key, or for a bad value
 one_of : (P : Refusal → Type 0) (r : Refusal) → P refusal.BadAssignment → P refusal.NotTheKey → P refusal.BadValue
     → (r ≡ refusal.BadAssignment) ⊎ ((r ≡ refusal.NotTheKey) ⊎ (r ≡ refusal.BadValue)) → P r
 one_of P r assignment key value (inl e) = subst P (sym e) assignment
@@ -37,7 +37,7 @@ pub plan_among : (P : Refusal → Type 0) (s : State) (text : UpdateText) → P 
     → IfSome (plan_refusal_of s text) P
 plan_among P s text assignment key value = at_table P text (table_named s.catalog text.table) assignment key value
 
--- and what holds of the last two holds of a WHERE's refusal
+-- WHERE is refused for one of the last two
 key_one_of : (P : Refusal → Type 0) (r : Refusal) → P refusal.NotTheKey → P refusal.BadValue → (r ≡ refusal.NotTheKey) ⊎ (r ≡ refusal.BadValue) → P r
 key_one_of P r key value (inl e) = subst P (sym e) key
 key_one_of P r key value (inr e) = subst P (sym e) value

@@ -1,4 +1,4 @@
--- A row put among the rows in order.
+-- A row is inserted among the rows in their order.
 use Rattle.std.specs.Prelude.{◌≡◌, cond, List, [], ◌∷◌}
 use Rattle.std.proofs.Common.{ap, refl}
 use Rattle.escrow_num.specs.declared.row.Row.{Row}

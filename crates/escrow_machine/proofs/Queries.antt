@@ -1,4 +1,4 @@
--- What queries show of a state: its committed tables and rows alone.
+-- What queries show of a state: only its committed tables and rows.
 use Rattle.std.specs.Prelude.{◌≡◌, ℕ, is_none, unwrap_or, option_map, Option, Some, None, List, [], ◌∷◌}
 use Rattle.std.proofs.Common.{refl, sym, ap₂, ◌∙◌}
 use Rattle.escrow_num.specs.declared.refusal.Refusal.{Refusal}
@@ -20,7 +20,7 @@ use Rattle.escrow_machine.specs.State.{State, opened}
 use Rattle.escrow_machine.specs.Step.{step}
 use Rattle.escrow_machine.specs.Transition.{transition_of}
 
--- the reply alone
+-- the reply of a query that may be refused
 reply_part : (s : State) (o : Option Refusal) (done : Reply)
     → (let answered : Reply × State = unwrap_or (option_map (λ (r : Refusal). (reply.Refused r, s)) o) (done, s) in answered.0) ≡ unwrap_or (option_map reply.Refused o) done
 reply_part s None done = refl
@@ -44,14 +44,14 @@ show_alike s session other name reservations savepoints next_id =
     let o = first_refusal (refuse_if (is_none (table_named s.catalog name)) refusal.NoSuchTable ∷ []) in
     reply_part (beside s reservations savepoints next_id) o (show_reply s name) ∙ sym (reply_part s o (show_reply s name))
 
--- a query is answered alike whatever is open, and whoever asks
+-- a query has the same reply whatever is open, and whichever session asks
 pub query_alike : (s : State) (session other : ℕ) (asked : Statement) (reservations : List Reservation) (savepoints : List Savepoint) (next_id : ℕ) → IsQuery asked
     → (step (beside s reservations savepoints next_id) other asked).0 ≡ (step s session asked).0
 query_alike s session other (statement.Select text) reservations savepoints next_id query = select_alike s session other text reservations savepoints next_id
 query_alike s session other (statement.ShowTable name) reservations savepoints next_id query = show_alike s session other name reservations savepoints next_id
 query_alike s session other _ reservations savepoints next_id query = absurd query
 
--- so a state shows its own tables and rows
+-- a state therefore shows just its own tables and rows
 pub shows_just : (s : State) (tables : List TableDef) (committed : List Row) → s.catalog ≡ tables → s.rows ≡ committed → ShowsJust s tables committed
 shows_just s tables committed catalog rows = record {
   catalog = catalog;

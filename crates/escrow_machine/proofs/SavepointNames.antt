@@ -1,4 +1,4 @@
--- Which savepoint a name names, where one is put among the others, and where some go.
+-- Which savepoint a name finds, after one is inserted and after some are removed.
 use Rattle.std.specs.Prelude.{◌≡◌, ◌⊎◌, ◌<◌, ◌≤◌, ℕ, Bool, true, false, ◌==◌, not, nat_lt, cond, List, [], ◌∷◌, bytes_eq, IsTrue, Option, Some, None}
 use Rattle.std.proofs.Common.{inl, inr, sym, ap, ◌∙◌, subst, refl, arith, le_refl}
 use Rattle.std.proofs.lemmas.Bool.{cond_both, cond-true, cond-false, and_left, cases_Bool, false_from_ne_true, and_from, and_parts, not_from_false, not-true, ltb-true, eqb-true, eq-eqb}
@@ -17,18 +17,18 @@ use Rattle.escrow_machine.proofs.Savepoints.{before_parts, sessions_rise, sessio
 named_itself : (p : Savepoint) → is_named p.session p.name p ≡ true
 named_itself p = and_from (p.session == p.session) (bytes_eq p.name p.name) (eq-eqb p.session p.session refl) (same_name p.name)
 
--- the session and the name of one that is named
+-- a savepoint that is named has this session and this name
 pub named_is : (session : ℕ) (name : List ℕ) (p : Savepoint) → is_named session name p ≡ true → (p.session ≡ session) × (p.name ≡ name)
 named_is session name p t =
     let parts = and_parts (p.session == session) (bytes_eq p.name name) t in
     (eqb-true p.session session parts.0, name_same p.name name parts.1)
 
--- of a session's savepoints without the one of a name none is named
+-- without the savepoint of a name, none of that session has the name
 pub none_named : (session : ℕ) (name : List ℕ) (savepoints : List Savepoint) (q : Savepoint) → Has (without_savepoint session name savepoints) q
     → is_named session name q ≡ false
 none_named session name savepoints q h = not-true (is_named session name q) (has_filter (λ (p : Savepoint). not (is_named session name p)) savepoints q h).1
 
--- one that is put where none has its name is found
+-- a savepoint with a new name is found by that name once it is inserted
 pub found_put : (p : Savepoint) (savepoints : List Savepoint) → ((q : Savepoint) → Has savepoints q → is_named p.session p.name q ≡ false)
     → savepoint_of p.session p.name (put_savepoint p savepoints) ≡ Some p
 found_put p [] others = cond-true (is_named p.session p.name p) (Some p) None (named_itself p)
@@ -38,7 +38,7 @@ found_put p (q ∷ rest) others =
     (λ _. cond-false (is_named p.session p.name q) (Some q) (savepoint_of p.session p.name (put_savepoint p rest)) (others q (inl refl))
     ∙ found_put p rest (λ r h. others r (inr h)))
 
--- and is the last of its session
+-- that savepoint is the last of its session
 pub through_put : (p : Savepoint) (savepoints : List Savepoint) → IsAscending savepoint_before savepoints
     → ((q : Savepoint) → Has savepoints q → is_named p.session p.name q ≡ false)
     → through p.session p.name (put_savepoint p savepoints) ≡ put_savepoint p savepoints
@@ -58,26 +58,26 @@ through_put p (q ∷ rest) order others =
     from_first r (inl same) = subst (λ (x : Savepoint). q.session ≤ x.session) same (le_refl q.session)
     from_first r (inr h) = sessions_rise q r (all_has (λ (x : Savepoint). IsTrue (savepoint_before q x)) rest order.0 r h)
 
--- where one that isn't named is put, the same is found
+-- putting a savepoint of another name leaves what a name finds
 pub found_beside : (session : ℕ) (name : List ℕ) (q : Savepoint) (savepoints : List Savepoint) → is_named session name q ≡ false
     → savepoint_of session name (put_savepoint q savepoints) ≡ savepoint_of session name savepoints
 found_beside session name q savepoints other =
     ap (savepoint_of session name) (put_is q savepoints) ∙ find_put session_before (is_named session name) q savepoints other
 
--- a session's are found when another's go
+-- a session's savepoints are found after another session's are removed
 pub found_of_other : (session : ℕ) (name : List ℕ) (other : ℕ) (savepoints : List Savepoint) → ¬ (other ≡ session)
     → savepoint_of session name (other_savepoints other savepoints) ≡ savepoint_of session name savepoints
 found_of_other session name other savepoints differ =
     find_filter (is_named session name) (λ (p : Savepoint). not (p.session == other)) savepoints
     (λ p t. not_from_false (p.session == other) (false_from_ne_true (p.session == other) (λ u. differ (sym (eqb-true p.session other u) ∙ (named_is session name p t).0))))
 
--- and not when its own go
+-- after its own are removed, none is found
 pub found_of_own : (session : ℕ) (name : List ℕ) (savepoints : List Savepoint) → savepoint_of session name (other_savepoints session savepoints) ≡ None
 found_of_own session name savepoints =
     none_found (is_named session name) (other_savepoints session savepoints)
     (λ p h. and_left (p.session == session) (bytes_eq p.name name) (not-true (p.session == session) (has_filter (λ (q : Savepoint). not (q.session == session)) savepoints p h).1))
 
--- a session's are found when another goes back
+-- a session's savepoints are found after another session's ROLLBACK TO
 pub found_through_other : (session : ℕ) (name : List ℕ) (other : ℕ) (back : List ℕ) (savepoints : List Savepoint) → ¬ (other ≡ session)
     → savepoint_of session name (through other back savepoints) ≡ savepoint_of session name savepoints
 found_through_other session name other back [] differ = refl
@@ -87,8 +87,8 @@ found_through_other session name other back (p ∷ rest) differ =
     (λ zs. savepoint_of session name zs ≡ savepoint_of session name (p ∷ rest))
     (λ _. ap first (found_of_other session name other rest differ)) (λ _. ap first (found_through_other session name other back rest differ))
 
--- where a session goes back, one of its own is taken out; or it is found as before, and was made no later than
--- the one that the session goes back to
+-- after a ROLLBACK TO of its session, a savepoint is removed; or it is found as before, and is no later than
+-- the one that the session returned to
 abbrev pub IsBehind : ℕ → List ℕ → Savepoint → List Savepoint → List Savepoint → Type 0
 IsBehind session name q savepoints left =
     (savepoint_of session name left ≡ None)

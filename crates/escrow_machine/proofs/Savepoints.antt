@@ -1,4 +1,4 @@
--- Savepoints in their order: one more put among them, and those up to one of them.
+-- Savepoints in their order: after one is inserted, and those up to a named one.
 use Rattle.std.specs.Prelude.{◌≡◌, ◌⊎◌, ◌+◌, ◌<◌, ◌≤◌, ℕ, Bool, true, false, ◌==◌, ◌&&◌, not, nat_lt, nat_le, cond, List, [], ◌∷◌, filter, length, bytes_eq, IsTrue}
 use Rattle.std.proofs.Common.{inl, inr, sym, ap, ◌∙◌, subst, refl, arith}
 use Rattle.std.proofs.lemmas.Bool.{cond_both, cond-true, cond-false, and_from, and_cases, and_parts, or_left, or_right, or_cases, not_from_false, not-true, lt-ltb, ltb-true, ltb-false, le-leb, leb-true, eqb-true, eq-eqb, cases_lt}
@@ -15,13 +15,13 @@ use Rattle.escrow_machine.proofs.Lengths.{length-filter_filter}
 
 -- THE ORDER
 
--- one savepoint was made before another of its session
+-- a savepoint was made before another of the same session
 pub record IsEarlier (a b : Savepoint) : Type 0 where
   pub session : a.session ≡ b.session
   pub made : a.id ≤ b.id
   pub named : bytes_eq a.name b.name ≡ false
 
--- of two savepoints in order the first is of an earlier session, or was made before the other
+-- the first of two savepoints in order has an earlier session, or was made earlier in the same session
 pub before_parts : (a b : Savepoint) → IsTrue (savepoint_before a b) → (a.session < b.session) ⊎ IsEarlier a b
 before_parts a b before =
     let made : Bool = (a.session == b.session) && nat_le a.id b.id in
@@ -51,13 +51,13 @@ before_made a b e =
     (and_from (a.session == b.session) (nat_le a.id b.id) (eq-eqb a.session b.session e.session) (le-leb a.id b.id e.made))
     (not_from_false (bytes_eq a.name b.name) e.named))
 
--- in order sessions never fall
+-- sessions never fall along the order
 pub sessions_rise : (a b : Savepoint) → IsTrue (savepoint_before a b) → a.session ≤ b.session
 sessions_rise a b before = elim (before_parts a b before) [ inl lower ↦ omega arith | inr e ↦ let same : a.session ≡ b.session = e.session in omega arith ]
 
--- ONE MORE
+-- ONE MORE SAVEPOINT
 
--- a savepoint is put in front of the first of a later session
+-- a savepoint is inserted before the first one of a later session
 abbrev pub session_before : Savepoint → Savepoint → Bool
 session_before a b = nat_lt a.session b.session
 
@@ -65,11 +65,11 @@ pub put_is : (p : Savepoint) (savepoints : List Savepoint) → put_savepoint p s
 put_is p [] = refl
 put_is p (q ∷ rest) = ap (λ zs. cond (nat_lt p.session q.session) (p ∷ q ∷ rest) (q ∷ zs)) (put_is p rest)
 
--- they are that one and the others
+-- the list then has that savepoint and the others
 pub has_put_savepoint : (p : Savepoint) (savepoints : List Savepoint) (q : Savepoint) → Has (put_savepoint p savepoints) q → (p ≡ q) ⊎ Has savepoints q
 has_put_savepoint p savepoints q h = has_put session_before p savepoints q (subst (λ zs. Has zs q) (put_is p savepoints) h)
 
--- it stands behind those of its session, and they stay in an order by sessions in which each of those is before it
+-- it comes after those of its session; an order by sessions stays, if each of those is before it in that order
 pub put_ascending : (before : Savepoint → Savepoint → Bool)
     → ((a b : Savepoint) → a.session < b.session → IsTrue (before a b)) → ((a b : Savepoint) → IsTrue (before a b) → a.session ≤ b.session)
     → (p : Savepoint) (savepoints : List Savepoint) → ((q : Savepoint) → Has savepoints q → q.session ≡ p.session → IsTrue (before q p))
@@ -94,7 +94,7 @@ put_ascending before lower rise p (q ∷ rest) last h =
     (has_all (from q) (put_savepoint p rest) each, put_ascending before lower rise p rest (λ r k. last r (inr k)) h.1) in
     cond_both (nat_lt p.session q.session) (p ∷ q ∷ rest) (q ∷ put_savepoint p rest) (IsAscending before) front behind
 
--- a session's are one more, or as many as before
+-- a session has one more savepoint, or as many as before
 pub few_put : (p : Savepoint) (savepoints : List Savepoint) (session : ℕ) → length (own_savepoints session savepoints) ≤ MAX_SAVEPOINTS
     → length (own_savepoints p.session savepoints) < MAX_SAVEPOINTS → length (own_savepoints session (put_savepoint p savepoints)) ≤ MAX_SAVEPOINTS
 few_put p savepoints session few room =
@@ -106,7 +106,7 @@ few_put p savepoints session few room =
     (λ t e. let here : length (own_savepoints session savepoints) < MAX_SAVEPOINTS = subst (λ k. length (own_savepoints k savepoints) < MAX_SAVEPOINTS) (eqb-true p.session session t) room in omega arith)
     (λ f e. omega arith) parts
 
--- of a session's savepoints without the one of a name none has that name
+-- without the savepoint of a name, none of the session has that name
 pub other_name : (session : ℕ) (name : List ℕ) (savepoints : List Savepoint) (q : Savepoint) → Has (without_savepoint session name savepoints) q
     → Has savepoints q × (q.session ≡ session → bytes_eq q.name name ≡ false)
 other_name session name savepoints q h =
@@ -118,9 +118,9 @@ other_name session name savepoints q h =
       ],
     )
 
--- THOSE UP TO ONE
+-- THE SAVEPOINTS UP TO A NAMED ONE
 
--- they are some of them
+-- they are some of all savepoints
 pub has_through : (session : ℕ) (name : List ℕ) (savepoints : List Savepoint) (q : Savepoint) → Has (through session name savepoints) q → Has savepoints q
 has_through session name [] q h = h
 has_through session name (p ∷ rest) q h =
@@ -131,7 +131,7 @@ has_through session name (p ∷ rest) q h =
     cond_both (is_named session name p) (p ∷ other_savepoints session rest) (p ∷ through session name rest) (λ zs. Has zs q → Has (p ∷ rest) q)
     (λ _. named) (λ _. other) h
 
--- in the same order
+-- they are in the same order
 pub through_ascending : (before : Savepoint → Savepoint → Bool) (session : ℕ) (name : List ℕ) (savepoints : List Savepoint)
     → IsAscending before savepoints → IsAscending before (through session name savepoints)
 through_ascending before session name [] h = tt
@@ -143,7 +143,7 @@ through_ascending before session name (p ∷ rest) h =
     (λ _. (has_all After (other_savepoints session rest) (λ q k. each q (has_filter other rest q k).0), ascending_filter before other rest h.1))
     (λ _. (has_all After (through session name rest) (λ q k. each q (has_through session name rest q k)), through_ascending before session name rest h.1))
 
--- and no more of them
+-- no more of them pass a test
 pub length-filter_through : (kept : Savepoint → Bool) (session : ℕ) (name : List ℕ) (savepoints : List Savepoint)
     → length (filter kept (through session name savepoints)) ≤ length (filter kept savepoints)
 length-filter_through kept session name [] = omega arith
@@ -158,7 +158,7 @@ length-filter_through kept session name (p ∷ rest) =
 
 -- BY SESSION
 
--- a savepoint is of a session up to that of another
+-- a savepoint's session is at most that of another
 abbrev pub session_up_to : Savepoint → Savepoint → Bool
 session_up_to a b = nat_le a.session b.session
 
@@ -171,25 +171,25 @@ by_session (p ∷ rest) h = (
   by_session rest h.1,
 )
 
--- and stay so where one is put among them
+-- they stay in order of session when one is inserted
 pub put_by_session : (p : Savepoint) (savepoints : List Savepoint) → IsAscending session_up_to savepoints → IsAscending session_up_to (put_savepoint p savepoints)
 put_by_session p savepoints h =
     put_ascending session_up_to (λ a b lower. le-leb a.session b.session (omega arith)) (λ a b t. leb-true a.session b.session t) p savepoints
     (λ q _ same. le-leb q.session p.session (omega arith)) h
 
--- one is put in front of those of later sessions
+-- a savepoint is inserted before those of later sessions
 put_first : (p : Savepoint) (savepoints : List Savepoint) → ((q : Savepoint) → Has savepoints q → p.session < q.session) → put_savepoint p savepoints ≡ p ∷ savepoints
 put_first p [] later = refl
 put_first p (q ∷ rest) later =
     cond-true (nat_lt p.session q.session) (p ∷ q ∷ rest) (q ∷ put_savepoint p rest) (lt-ltb p.session q.session (later q (inl refl)))
 
--- and behind one of no later session, if that is kept
+-- a savepoint is put after one whose session is no later
 put_behind : (b : Bool) (p q : Savepoint) (left : List Savepoint) → nat_lt p.session q.session ≡ false
     → cond b (q ∷ put_savepoint p left) (put_savepoint p left) ≡ put_savepoint p (cond b (q ∷ left) left)
 put_behind true p q left f = sym (cond-false (nat_lt p.session q.session) (p ∷ q ∷ left) (q ∷ put_savepoint p left) f)
 put_behind false p q left f = refl
 
--- so a test that keeps it keeps of the others the same before and after
+-- if a test keeps the new savepoint, filtering and putting it may be done in either order
 pub put_kept : (keep : Savepoint → Bool) (p : Savepoint) (savepoints : List Savepoint) → keep p ≡ true → IsAscending session_up_to savepoints
     → filter keep (put_savepoint p savepoints) ≡ put_savepoint p (filter keep savepoints)
 put_kept keep p [] kept h = cond-true (keep p) (p ∷ []) [] kept
@@ -206,7 +206,7 @@ put_kept keep p (q ∷ rest) kept h =
         let risen : q.session ≤ r.session = leb-true q.session r.session (all_has (λ x. IsTrue (session_up_to q x)) rest h.0 r k) in
         omega arith
 
--- those up to one of a name are kept alike by a test that keeps each of that name
+-- if a test keeps every savepoint of a name, filtering and going up to that name may be done in either order
 pub through_kept : (keep : Savepoint → Bool) (session : ℕ) (name : List ℕ) (savepoints : List Savepoint) → ((p : Savepoint) → is_named session name p ≡ true → keep p ≡ true)
     → filter keep (through session name savepoints) ≡ through session name (filter keep savepoints)
 through_kept keep session name [] kept = refl

@@ -1,4 +1,4 @@
--- A plan of ends: what it leaves, entry by entry.
+-- The state after a plan of ends, entry by entry.
 use Rattle.std.specs.Prelude.{◌≡◌, ℕ, ◌+◌, ◌<◌, ◌≤◌, ℤ, Bool, true, false, cond, not, ◌==◌, ◌||◌, ◌&&◌, Option, Some, option_map, is_none, List, [], ◌∷◌, ◌++◌, map, filter, find, length, take, slice_get}
 use Rattle.std.proofs.Common.{refl, sym, ap, ap₂, subst, arith, drop, get_or, ◌∙◌}
 use Rattle.std.proofs.lemmas.List.{drop_all, drop_more, take_all, take_more}
@@ -26,7 +26,7 @@ use Rattle.escrow_machine.proofs.Filters.{filter_kept, filter_all, filter_none}
 use Rattle.escrow_machine.proofs.LawsEnds.{any_order_of_ends, same_state}
 use Rattle.escrow_machine.proofs.Shapes.{HasOrder, few_reservations}
 
--- of reservations of either of two kinds one more is one of one of them
+-- a reservation counted under one of two kinds is one more of both kinds together
 count_one : (r : Reservation) (a b c : Bool) (part other whole : List Reservation) → c ≡ (a || b) → (a && b) ≡ false
     → length part + length other ≡ length whole → length (cond a (r ∷ part) part) + length (cond b (r ∷ other) other) ≡ length (cond c (r ∷ whole) whole)
 count_one r true true c part other whole either both rest = absurd (cc)
@@ -34,14 +34,14 @@ count_one r true false c part other whole either both rest = rw either (omega (a
 count_one r false true c part other whole either both rest = rw either (omega (arith, rest))
 count_one r false false c part other whole either both rest = rw either rest
 
--- TESTS OF A LIST
+-- FILTERS OF A LIST
 
 -- tests that agree keep the same items
 filter_alike : {A : Type 0} (p q : A → Bool) → ((x : A) → p x ≡ q x) → (xs : List A) → filter p xs ≡ filter q xs
 filter_alike p q same [] = refl
 filter_alike {A} p q same (x ∷ xs) = ap₂ (λ (b : Bool) (rest : List A). cond b (x ∷ rest) rest) (same x) (filter_alike p q same xs)
 
--- two tests, one after the other, keep what passes both
+-- filtering by two tests in turn keeps the items that pass both
 both_kept : {A : Type 0} (a b c : Bool) (x : A) (part whole : List A) → c ≡ (a && b) → part ≡ whole
     → cond a (cond b (x ∷ part) part) part ≡ cond c (x ∷ whole) whole
 both_kept true b c x part whole e same = rw (e, same) refl
@@ -53,7 +53,7 @@ filter_twice p q both same (x ∷ xs) =
     filter_kept q (p x) x (filter p xs)
     ∙ both_kept (p x) (q x) (both x) x (filter q (filter p xs)) (filter both xs) (same x) (filter_twice p q both same xs)
 
--- the changes of what passes one test, and then of what passes another, are those of what passes either
+-- the changes of the items that pass one of two tests, in two parts, are those of the items that pass either
 parts_kept : {A : Type 0} (f : A → List ℤ) (x : A) (a b c : Bool) (first second whole : List A) → c ≡ (a || b) → (a && b) ≡ false
     → ((amounts : List ℤ) → all_changed (all_changed amounts (map f first)) (map f second) ≡ all_changed amounts (map f whole))
     → (amounts : List ℤ) → all_changed (all_changed amounts (map f (cond a (x ∷ first) first))) (map f (cond b (x ∷ second) second)) ≡ all_changed amounts (map f (cond c (x ∷ whole) whole))
@@ -76,7 +76,7 @@ applied_parts a b c either apart reservations (row ∷ rows) =
     ap₂ (λ (amounts : List ℤ) (rest : List Row). (record row { amounts = amounts }) ∷ rest)
     (changes_parts (changes_to row) a b c either apart reservations row.amounts) (applied_parts a b c either apart reservations rows)
 
--- and so are they as many
+-- the two parts have as many items as the whole
 length_parts : (a b c : Reservation → Bool) → ((r : Reservation) → c r ≡ (a r || b r)) → ((r : Reservation) → (a r && b r) ≡ false)
     → (reservations : List Reservation) → length (filter a reservations) + length (filter b reservations) ≡ length (filter c reservations)
 length_parts a b c either apart [] = refl
@@ -85,94 +85,74 @@ length_parts a b c either apart (r ∷ rest) =
 
 -- A PLAN'S FIRST ENTRY
 
--- how the plan ends the transaction of a session, which is that of its first entry or isn't
+-- how the plan ends a session's transaction: by its first entry, or by a later one
 abbrev first_end : Bool → ℕ → End → Option (ℕ × End) → Option End
 first_end is_first a x later = option_map (λ (entry : ℕ × End). entry.1) (cond is_first (Some (a, x)) later)
 
-commit_first : (t : Bool) (a : ℕ) (later : Option (ℕ × End))
-    → is_commit (first_end t a end.Commit later) ≡ (t || (not t && is_commit (option_map (λ (entry : ℕ × End). entry.1) later)))
-commit_first true a later = refl
-commit_first false a later = refl
+-- a test that it passes, and one that it fails
+first_passes : (test : Option End → Bool) (x : End) → test (Some x) ≡ true → (t : Bool) (a : ℕ) (later : Option (ℕ × End))
+    → test (first_end t a x later) ≡ (t || (not t && test (option_map (λ (entry : ℕ × End). entry.1) later)))
+first_passes test x passes true a later = passes
+first_passes test x passes false a later = refl
 
-no_commit_first : (t : Bool) (a : ℕ) (later : Option (ℕ × End))
-    → is_commit (first_end t a end.Rollback later) ≡ (not t && is_commit (option_map (λ (entry : ℕ × End). entry.1) later))
-no_commit_first true a later = refl
-no_commit_first false a later = refl
+first_fails : (test : Option End → Bool) (x : End) → test (Some x) ≡ false → (t : Bool) (a : ℕ) (later : Option (ℕ × End))
+    → test (first_end t a x later) ≡ (not t && test (option_map (λ (entry : ℕ × End). entry.1) later))
+first_fails test x fails true a later = fails
+first_fails test x fails false a later = refl
 
-rollback_first : (t : Bool) (a : ℕ) (later : Option (ℕ × End))
-    → is_rollback (first_end t a end.Rollback later) ≡ (t || (not t && is_rollback (option_map (λ (entry : ℕ × End). entry.1) later)))
-rollback_first true a later = refl
-rollback_first false a later = refl
-
-no_rollback_first : (t : Bool) (a : ℕ) (later : Option (ℕ × End))
-    → is_rollback (first_end t a end.Commit later) ≡ (not t && is_rollback (option_map (λ (entry : ℕ × End). entry.1) later))
-no_rollback_first true a later = refl
-no_rollback_first false a later = refl
-
-none_first : (t : Bool) (a : ℕ) (x : End) (later : Option (ℕ × End))
-    → is_none (first_end t a x later) ≡ (not t && is_none (option_map (λ (entry : ℕ × End). entry.1) later))
-none_first true a x later = refl
-none_first false a x later = refl
-
--- one test or the other, but not both
+-- a test, or the other one without it, but not both
 apart : (t b : Bool) → (t && (not t && b)) ≡ false
 apart true b = refl
 apart false b = refl
 
 module _ (a : ℕ) (plan : List (ℕ × End)) where
-  -- the entry that a plan has of a session
+  -- the later entry of a session in the plan
   abbrev later : ℕ → Option (ℕ × End)
   later session = find (λ (entry : ℕ × End). session == entry.0) plan
 
-  -- of what is open the first entry leaves what is of others, and the rest leaves what it leaves of that
+  -- the first entry leaves the reservations of others, and the later entries leave what remains of those
   open_first : (x : End) (reservations : List Reservation)
       → filter (λ (r : Reservation). is_none (end_of ((a, x) ∷ plan) r.session)) reservations ≡ filter (λ (r : Reservation). is_none (end_of plan r.session)) (others a reservations)
   open_first x reservations =
       sym (filter_twice (λ (r : Reservation). not (r.session == a)) (λ (r : Reservation). is_none (end_of plan r.session))
-      (λ (r : Reservation). is_none (end_of ((a, x) ∷ plan) r.session)) (λ r. none_first (r.session == a) a x (later r.session)) reservations)
+      (λ (r : Reservation). is_none (end_of ((a, x) ∷ plan) r.session)) (λ r. first_fails is_none x refl (r.session == a) a (later r.session)) reservations)
 
   savepoints_first : (x : End) (savepoints : List Savepoint)
       → filter (λ (p : Savepoint). is_none (end_of ((a, x) ∷ plan) p.session)) savepoints ≡ filter (λ (p : Savepoint). is_none (end_of plan p.session)) (other_savepoints a savepoints)
   savepoints_first x savepoints =
       sym (filter_twice (λ (p : Savepoint). not (p.session == a)) (λ (p : Savepoint). is_none (end_of plan p.session))
-      (λ (p : Savepoint). is_none (end_of ((a, x) ∷ plan) p.session)) (λ p. none_first (p.session == a) a x (later p.session)) savepoints)
+      (λ (p : Savepoint). is_none (end_of ((a, x) ∷ plan) p.session)) (λ p. first_fails is_none x refl (p.session == a) a (later p.session)) savepoints)
 
-  -- what is committed of the others
-  committed_later : (reservations : List Reservation)
-      → committed_by plan (others a reservations) ≡ filter (λ (r : Reservation). not (r.session == a) && is_commit (end_of plan r.session)) reservations
-  committed_later reservations =
-      filter_twice (λ (r : Reservation). not (r.session == a)) (λ (r : Reservation). is_commit (end_of plan r.session))
-      (λ (r : Reservation). not (r.session == a) && is_commit (end_of plan r.session)) (λ _. refl) reservations
-
-  released_later : (reservations : List Reservation)
-      → released_by plan (others a reservations) ≡ filter (λ (r : Reservation). not (r.session == a) && is_rollback (end_of plan r.session)) reservations
-  released_later reservations =
-      filter_twice (λ (r : Reservation). not (r.session == a)) (λ (r : Reservation). is_rollback (end_of plan r.session))
-      (λ (r : Reservation). not (r.session == a) && is_rollback (end_of plan r.session)) (λ _. refl) reservations
+  -- what a test lets pass of the other entries
+  passed_later : (test : Option End → Bool) (reservations : List Reservation)
+      → filter (λ (r : Reservation). test (end_of plan r.session)) (others a reservations) ≡ filter (λ (r : Reservation). not (r.session == a) && test (end_of plan r.session)) reservations
+  passed_later test reservations =
+      filter_twice (λ (r : Reservation). not (r.session == a)) (λ (r : Reservation). test (end_of plan r.session))
+      (λ (r : Reservation). not (r.session == a) && test (end_of plan r.session)) (λ _. refl) reservations
 
   -- a first entry that rolls back commits nothing, and one that commits releases nothing
   committed_past : (reservations : List Reservation) → committed_by ((a, end.Rollback) ∷ plan) reservations ≡ committed_by plan (others a reservations)
   committed_past reservations =
       filter_alike (λ (r : Reservation). is_commit (end_of ((a, end.Rollback) ∷ plan) r.session)) (λ (r : Reservation). not (r.session == a) && is_commit (end_of plan r.session))
-      (λ r. no_commit_first (r.session == a) a (later r.session)) reservations
-      ∙ sym (committed_later reservations)
+      (λ r. first_fails is_commit end.Rollback refl (r.session == a) a (later r.session)) reservations
+      ∙ sym (passed_later is_commit reservations)
 
   released_past : (reservations : List Reservation) → released_by ((a, end.Commit) ∷ plan) reservations ≡ released_by plan (others a reservations)
   released_past reservations =
       filter_alike (λ (r : Reservation). is_rollback (end_of ((a, end.Commit) ∷ plan) r.session)) (λ (r : Reservation). not (r.session == a) && is_rollback (end_of plan r.session))
-      (λ r. no_rollback_first (r.session == a) a (later r.session)) reservations
-      ∙ sym (released_later reservations)
+      (λ r. first_fails is_rollback end.Commit refl (r.session == a) a (later r.session)) reservations
+      ∙ sym (passed_later is_rollback reservations)
 
   -- the rows after a plan whose first entry commits
   rows_first : (rows : List Row) (reservations : List Reservation)
       → applied rows (committed_by ((a, end.Commit) ∷ plan) reservations) ≡ applied (applied rows (own a reservations)) (committed_by plan (others a reservations))
   rows_first rows reservations =
-      sym (ap (applied (applied rows (own a reservations))) (committed_later reservations)
+      sym (ap (applied (applied rows (own a reservations))) (passed_later is_commit reservations)
       ∙ applied_parts (λ (r : Reservation). r.session == a) (λ (r : Reservation). not (r.session == a) && is_commit (end_of plan r.session))
       (λ (r : Reservation). is_commit (end_of ((a, end.Commit) ∷ plan) r.session))
-      (λ r. commit_first (r.session == a) a (later r.session)) (λ r. apart (r.session == a) (is_commit (end_of plan r.session))) reservations rows)
+      (λ r. first_passes is_commit end.Commit refl (r.session == a) a (later r.session)) (λ r. apart (r.session == a) (is_commit (end_of plan r.session))) reservations rows)
 
-  -- what a plan leaves is what the rest of it leaves of the state after its first entry
+  -- a plan is its first entry followed by the rest
   settled_first : (s : State) (x : End) → settled ((a, x) ∷ plan) s ≡ settled plan (after_end s a x)
   unfolding transition_of
   settled_first s end.Commit =
@@ -180,27 +160,20 @@ module _ (a : ℕ) (plan : List (ℕ × End)) where
   settled_first s end.Rollback =
       same_state s _ _ _ _ _ _ (ap (applied s.rows) (committed_past s.reservations)) (open_first end.Rollback s.reservations) (savepoints_first end.Rollback s.savepoints)
 
-  -- what is counted at the first entry, and what is counted after it, are what is counted of the plan
-  committed_first : (reservations : List Reservation)
-      → length (own a reservations) + length (committed_by plan (others a reservations)) ≡ length (committed_by ((a, end.Commit) ∷ plan) reservations)
-  committed_first reservations =
-      ap (λ (rs : List Reservation). length (own a reservations) + length rs) (committed_later reservations)
-      ∙ length_parts (λ (r : Reservation). r.session == a) (λ (r : Reservation). not (r.session == a) && is_commit (end_of plan r.session))
-      (λ (r : Reservation). is_commit (end_of ((a, end.Commit) ∷ plan) r.session))
-      (λ r. commit_first (r.session == a) a (later r.session)) (λ r. apart (r.session == a) (is_commit (end_of plan r.session))) reservations
-
-  released_first : (reservations : List Reservation)
-      → length (own a reservations) + length (released_by plan (others a reservations)) ≡ length (released_by ((a, end.Rollback) ∷ plan) reservations)
-  released_first reservations =
-      ap (λ (rs : List Reservation). length (own a reservations) + length rs) (released_later reservations)
-      ∙ length_parts (λ (r : Reservation). r.session == a) (λ (r : Reservation). not (r.session == a) && is_rollback (end_of plan r.session))
-      (λ (r : Reservation). is_rollback (end_of ((a, end.Rollback) ∷ plan) r.session))
-      (λ r. rollback_first (r.session == a) a (later r.session)) (λ r. apart (r.session == a) (is_rollback (end_of plan r.session))) reservations
+  -- the counts of the first entry and of the rest add up to those of the plan
+  counted_first : (test : Option End → Bool) (x : End) → test (Some x) ≡ true → (reservations : List Reservation)
+      → length (own a reservations) + length (filter (λ (r : Reservation). test (end_of plan r.session)) (others a reservations))
+      ≡ length (filter (λ (r : Reservation). test (end_of ((a, x) ∷ plan) r.session)) reservations)
+  counted_first test x passes reservations =
+      ap (λ (rs : List Reservation). length (own a reservations) + length rs) (passed_later test reservations)
+      ∙ length_parts (λ (r : Reservation). r.session == a) (λ (r : Reservation). not (r.session == a) && test (end_of plan r.session))
+      (λ (r : Reservation). test (end_of ((a, x) ∷ plan) r.session))
+      (λ r. first_passes test x passes (r.session == a) a (later r.session)) (λ r. apart (r.session == a) (test (end_of plan r.session))) reservations
 
 -- THE LOOP OVER A PLAN
 
--- what is counted, and what the rest of the plan will count, are what is counted of the whole plan; and all
--- that was open is counted or still open
+-- the counts so far and those of the rest of the plan add up to those of the whole plan;
+-- each reservation that was open is counted or still open
 pub record CountsSoFar (whole : List (ℕ × End)) (all : List Reservation) (rest : List (ℕ × End)) (reservations : List Reservation) (done : Settled) : Type 0 where
   pub committed : done.committed + length (committed_by rest reservations) ≡ length (committed_by whole all)
   pub released : done.released + length (released_by rest reservations) ≡ length (released_by whole all)
@@ -215,7 +188,7 @@ counts_more : (whole : List (ℕ × End)) (all : List Reservation) (a : ℕ) (x 
 counts_more whole all a end.Commit rest reservations done count is so_far =
     let counted = so_far.committed in
     let few = so_far.few in
-    let parts = committed_first a rest reservations in
+    let parts = counted_first a rest is_commit end.Commit refl reservations in
     let both = own_and_others a reservations in
     record {
       committed = omega (arith, counted, parts, is);
@@ -225,7 +198,7 @@ counts_more whole all a end.Commit rest reservations done count is so_far =
 counts_more whole all a end.Rollback rest reservations done count is so_far =
     let counted = so_far.released in
     let few = so_far.few in
-    let parts = released_first a rest reservations in
+    let parts = counted_first a rest is_rollback end.Rollback refl reservations in
     let both = own_and_others a reservations in
     record {
       committed = ap (λ (rs : List Reservation). done.committed + length rs) (sym (committed_past a rest reservations)) ∙ so_far.committed;
@@ -242,7 +215,7 @@ counts_next plan all i entry reservations left done count below is_entry is_coun
     subst (λ (rs : List Reservation). CountsSoFar plan all (drop (i + 1) plan) rs (counted_end entry.1 count done)) (sym is_left)
     (counts_more plan all entry.0 entry.1 (drop (i + 1) plan) reservations done count is_count before)
 
--- at the end all is counted
+-- at the end, all are counted
 pub counts_end : (plan : List (ℕ × End)) (all : List Reservation) (i : ℕ) (reservations : List Reservation) (done : Settled) → length plan ≤ i
     → CountsSoFar plan all (drop i plan) reservations done → AreCounts plan all done
 counts_end plan all i reservations done past so_far =
@@ -257,7 +230,7 @@ counts_end plan all i reservations done past so_far =
       released = omega (arith, rw no_releases at released);
     }
 
--- there is room to count them
+-- the counts stay within the limit of open reservations
 pub counts_fit : (s : State) (whole rest : List (ℕ × End)) (reservations : List Reservation) (done : Settled) (a count : ℕ) → HasOrder s
     → CountsSoFar whole s.reservations rest reservations done → count ≡ length (own a reservations) → done.committed + done.released + count ≤ MAX_OPEN
 counts_fit s whole rest reservations done a count orderly so_far is =
@@ -278,7 +251,7 @@ pub ends_more : (s : State) (ends : List (ℕ × End)) (ending : ℕ × End) →
 ends_more s [] ending = refl
 ends_more s (first ∷ ends) ending = ends_more (after_end s first.0 first.1) ends ending
 
--- a plan of nothing leaves all
+-- an empty plan leaves the state unchanged
 settled_none : (s : State) → settled [] s ≡ s
 settled_none s =
     same_state s _ _ _ _ _ _
@@ -300,18 +273,18 @@ settled_in_any_order s plan other alike =
     (filter_alike (λ (r : Reservation). is_none (end_of plan r.session)) (λ (r : Reservation). is_none (end_of other r.session)) (λ r. ap is_none (alike r.session)) s.reservations)
     (filter_alike (λ (p : Savepoint). is_none (end_of plan p.session)) (λ (p : Savepoint). is_none (end_of other p.session)) (λ p. ap is_none (alike p.session)) s.savepoints)
 
--- the state after one entry more
+-- the state after one more entry
 pub ends_next : (plan : List (ℕ × End)) (i : ℕ) (entry : ℕ × End) (s mid new : State) → i < length plan → entry ≡ get_or plan i entry
     → mid ≡ after_ends s (take i plan) → new ≡ after_end mid entry.0 entry.1 → new ≡ after_ends s (take (i + 1) plan)
 ends_next plan i entry s mid new below is_entry before ended =
     let more : take (i + 1) plan ≡ take i plan ++ entry ∷ [] = take_more plan i entry below ∙ ap (λ (e : ℕ × End). take i plan ++ e ∷ []) (sym is_entry) in
     ended ∙ ap (λ (t : State). after_end t entry.0 entry.1) before ∙ sym (ends_more s (take i plan) entry) ∙ ap (after_ends s) (sym more)
 
--- and at the end
+-- the state after the last entry
 pub ends_all : (plan : List (ℕ × End)) (i : ℕ) (s new : State) → length plan ≤ i → new ≡ after_ends s (take i plan) → new ≡ settled plan s
 ends_all plan i s new past ended = ended ∙ ap (after_ends s) (take_all i plan past) ∙ sym (settled_is_the_run s plan)
 
--- a plan that stops at a place
+-- a plan that stops at an entry
 pub stops : (plan : List (ℕ × End)) (stop : Stop) (entry : ℕ × End) (s mid new : State) → stop.place < length plan → entry ≡ get_or plan stop.place entry
     → mid ≡ after_ends s (take stop.place plan) → new ≡ mid → entry.1 ≡ end.Commit → 0 < length (own entry.0 mid.reservations) → IsStop plan s stop new
 stops plan stop entry s mid new below is_entry before same commits holds =

@@ -1,4 +1,4 @@
--- What a valid state bounds, and the shapes that its tables, rows and reservations have.
+-- What a valid state bounds, and the shapes of its tables, rows and reservations.
 use Rattle.std.specs.Prelude.{◌≡◌, ◌≤◌, ℕ, ℤ, List, Some, length, bytes_eq, IsSomeAnd}
 use Rattle.std.specs.List.{AllByRecursion}
 use Rattle.std.proofs.Common.{subst, arith}
@@ -25,18 +25,18 @@ use Rattle.escrow_machine.proofs.Lengths.{length-by_number}
 use Rattle.escrow_num.proofs.Orders.{row_same}
 use Rattle.escrow_machine.proofs.Safe.{some_at}
 
--- what holds of a state whatever its rows are
+-- what holds for a state whatever its rows are
 abbrev pub HasOrder : State → Type 0
 HasOrder s = IsOrderly s.catalog s.reservations s.savepoints s.next_id
 
 -- TABLES AND RESERVATIONS
 
--- the table that is found is one
+-- a table in the catalog is well formed
 pub is_table_found : (s : State) → HasOrder s → (name : List ℕ) (table : TableDef) → table_named s.catalog name ≡ Some table → IsTable table
 is_table_found s orderly name table found =
     all_has IsTable s.catalog orderly.tables.tables table (find_has (λ (t : TableDef). bytes_eq t.name name) s.catalog table found).0
 
--- a database has at most 16384 open reservations: 256 of each of 64 sessions
+-- a database has at most 16384 open reservations: 256 for each of 64 sessions
 pub few_reservations : (s : State) → HasOrder s → length s.reservations ≤ MAX_OPEN
 few_reservations s orderly =
     length-by_number (λ (r : Reservation). r.session) MAX_RESERVATIONS MAX s.reservations
@@ -44,14 +44,14 @@ few_reservations s orderly =
 
 -- ROWS
 
--- a row of a table in the catalog is one of the table of its name
+-- a row whose table is in the catalog has the shape of that table
 pub row_of_table : (catalog : List TableDef) (name : RowName) (table : TableDef) (row : Row) → table_named catalog name.table ≡ Some table
     → HasTable catalog row → row.name ≡ name → IsRowOf table row
 row_of_table catalog name table row named has same =
     let at_name = subst (λ (n : RowName). IsSomeAnd (table_named catalog n.table) (λ t. IsRowOf t row)) same has in
     some_at (λ t. IsRowOf t row) (table_named catalog name.table) table named at_name
 
--- and so is a row that stands in a valid state
+-- a row of a valid state has the shape of its table
 pub row_found : (s : State) → IsValid s → (name : RowName) (table : TableDef) (row : Row)
     → table_named s.catalog name.table ≡ Some table → row_named s.rows name ≡ Some row → IsRowOf table row
 row_found s valid name table row named found =
@@ -60,7 +60,7 @@ row_found s valid name table row named found =
 
 -- COVERED CHECKS
 
--- amounts of a table's RESERVABLE columns are one for each coefficient of each check
+-- a row has an amount for each coefficient of each check
 pub covered : (table : TableDef) (amounts : List ℤ) → IsTable table → length amounts ≡ length (reservables table.columns)
     → AllByRecursion (λ check. IsCovered check.coeffs amounts) table.checks
 covered table amounts is_table long =
@@ -68,7 +68,7 @@ covered table amounts is_table long =
     let whole = all_has (λ (c : Check). length c.coeffs ≡ length (reservables table.columns)) table.checks (checks_of_whole_row table is_table) check h in
     omega arith)
 
--- so are those of a row that stands in a valid state
+-- so has a row that a name finds in a valid state
 pub covered_found : (s : State) → IsValid s → (name : RowName) (table : TableDef) (row : Row)
     → table_named s.catalog name.table ≡ Some table → row_named s.rows name ≡ Some row → AllByRecursion (λ check. IsCovered check.coeffs row.amounts) table.checks
 covered_found s valid name table row named found =

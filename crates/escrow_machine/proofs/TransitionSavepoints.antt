@@ -7,18 +7,15 @@ use Rattle.escrow_machine.specs.State.{State}
 use Rattle.escrow_machine.specs.Transition.{transition_of, after_savepoint}
 use Rattle.escrow_machine.proofs.Accepted.{savepoint_room}
 use Rattle.escrow_machine.proofs.Queries.{shows_just}
-use Rattle.escrow_machine.proofs.Refusals.{if_among}
 use Rattle.escrow_machine.proofs.ValidEnds.{returned_to, back_has, back_valid}
 use Rattle.escrow_machine.proofs.ValidSavepoint.{savepoint_valid}
-use Rattle.escrow_machine.proofs.TransitionWords.{IsJudged, IsTransition}
+use Rattle.escrow_machine.proofs.TransitionWords.{IsTransition}
 
 pub savepoint_transition : (s : State) (session : ℕ) (name : List ℕ) → IsTransition s session (statement.Savepoint name) (transition_of s session (statement.Savepoint name))
 unfolding transition_of
 savepoint_transition s session name = record {
   answers = λ r e. absurd (cc);
   succeeds = refl;
-  judged = (if_among IsJudged _ _ refl, tt);
-  late = tt;
   seen = λ _. shows_just (after_savepoint s session name) s.catalog s.rows refl refl;
   ids = λ _. le_refl _;
   next = λ _ id e. absurd (cc);
@@ -32,8 +29,6 @@ back_transition s session name =
     record {
       answers = λ r e. absurd (cc);
       succeeds = refl;
-      judged = (if_among IsJudged _ _ refl, tt);
-      late = tt;
       seen = λ _. back_has Seen s session name (shows_just s s.catalog s.rows refl refl) (λ p. shows_just (returned_to s p) s.catalog s.rows refl refl);
       ids = λ _. back_has (λ (t : State). s.next_id ≤ t.next_id) s session name (le_refl _) (λ _. le_refl _);
       next = λ _ id e. absurd (cc);

@@ -12,22 +12,19 @@ use Rattle.escrow_schema.specs.declared.plan.Plan.{Plan}
 use Rattle.escrow_schema.specs.declared.plan.Plan.TheVariants as plan
 use Rattle.escrow_schema.specs.Catalog.{table_named}
 use Rattle.escrow_machine.specs.declared.reply.Reply.TheVariants as reply
-use Rattle.escrow_machine.specs.Asked.{plan_of, plan_refusal_of, row_name, reservation_from, violation_of}
+use Rattle.escrow_machine.specs.Asked.{plan_of, plan_refusal_of, row_name, reservation_from}
 use Rattle.escrow_machine.specs.Accepted.{IsAccepted}
-use Rattle.escrow_machine.specs.State.{State, open_in}
+use Rattle.escrow_machine.specs.State.{State}
 use Rattle.escrow_schema.specs.Rows.{with_plain}
 use Rattle.escrow_machine.specs.Step.{refusals}
 use Rattle.escrow_machine.specs.Transition.{Transition, transition_of, update_refusals, update_reply, after_update}
 use Rattle.escrow_machine.specs.Valid.{IsValid}
-use Rattle.escrow_journal.proofs.Free.{grant_among}
 use Rattle.escrow_machine.proofs.Accepted.{plan_there, reserve_stands, plain_stands}
-use Rattle.escrow_machine.proofs.Plans.{plan_among}
 use Rattle.escrow_machine.proofs.Queries.{shows_just}
-use Rattle.escrow_machine.proofs.Refusals.{if_among, check_among}
 use Rattle.escrow_schema.proofs.PlanLemmas.{plans_of_whole_row, plain_plans_fit}
 use Rattle.escrow_machine.proofs.ValidPlain.{plain_valid}
 use Rattle.escrow_machine.proofs.ValidUpdate.{update_valid}
-use Rattle.escrow_machine.proofs.TransitionWords.{IsJudged, NeedsMore, IsTransition}
+use Rattle.escrow_machine.proofs.TransitionWords.{IsTransition}
 
 -- the transition of an UPDATE, by its plan
 abbrev update_by : State → ℕ → UpdateText → Option Plan → Transition
@@ -38,7 +35,7 @@ update_by s session text o = record {
   next = unwrap_or (option_map (after_update s session text.table) o) s;
 }
 
--- a reservation that is granted leaves the state valid
+-- a granted reservation leaves the state valid
 pub reserved_valid : (s : State) (session : ℕ) (text : UpdateText) (key : Value) (changes : List (Option ℤ)) → IsValid s → IsSession session
     → plan_of s text ≡ Some (plan.Reserve key changes) → IsAccepted s session (statement.Update text)
     → IsValid (after_update s session text.table (plan.Reserve key changes))
@@ -47,7 +44,7 @@ reserved_valid s session text key changes valid of_session is accepted =
     update_valid s stands.table stands.row (reservation_from s session (row_name text.table key) changes) valid stands.named stands.found of_session refl stands.free.more_ids
     (plans_of_whole_row stands.table text key changes stands.planned) stands.free.room stands.safe
 
--- and so do plain values that are replaced
+-- replaced plain values leave the state valid
 pub replaced_valid : (s : State) (session : ℕ) (text : UpdateText) (key : Value) (values : List (Option Value)) → IsValid s
     → plan_of s text ≡ Some (plan.Plain key values) → IsAccepted s session (statement.Update text)
     → IsValid (record s { rows = with_plain (row_name text.table key) values s.rows })
@@ -69,8 +66,6 @@ update_transition_by : (s : State) (session : ℕ) (text : UpdateText) (o : Opti
 update_transition_by s session text None is accepts = record {
   answers = λ r e. absurd (cc);
   succeeds = refl;
-  judged = (if_among IsJudged _ _ refl, (plan_among IsJudged s text refl refl refl, tt));
-  late = tt;
   seen = λ accepted. absurd (no_plan s text [] is accepted);
   ids = λ _. le_refl _;
   next = λ _ id e. absurd (cc);
@@ -79,26 +74,6 @@ update_transition_by s session text None is accepts = record {
 update_transition_by s session text (Some (plan.Reserve key changes)) is accepts = record {
   answers = λ r e. absurd (cc);
   succeeds = refl;
-  judged = (
-    if_among IsJudged _ _ refl,
-    (
-      plan_among IsJudged s text refl refl refl,
-      (
-        if_among IsJudged _ _ refl,
-        (
-          grant_among IsJudged session (open_in s) refl refl,
-          (check_among IsJudged (violation_of s (reservation_from s session (row_name text.table key) changes)) (λ _. refl), tt),
-        ),
-      ),
-    ),
-  );
-  late = (
-    if_among (NeedsMore (statement.Update text)) _ _ refl,
-    (
-      grant_among (NeedsMore (statement.Update text)) session (open_in s) refl refl,
-      (check_among (NeedsMore (statement.Update text)) (violation_of s (reservation_from s session (row_name text.table key) changes)) (λ _. refl), tt),
-    ),
-  );
   seen = λ _. (plan.Reserve key changes, is, shows_just (after_update s session text.table (plan.Reserve key changes)) s.catalog s.rows refl refl);
   ids = λ _. more s.next_id;
   next = λ _ id answered. let same : id ≡ s.next_id = cc in (same, refl);
@@ -107,11 +82,6 @@ update_transition_by s session text (Some (plan.Reserve key changes)) is accepts
 update_transition_by s session text (Some (plan.Plain key values)) is accepts = record {
   answers = λ r e. absurd (cc);
   succeeds = refl;
-  judged = (
-    if_among IsJudged _ _ refl,
-    (plan_among IsJudged s text refl refl refl, (if_among IsJudged _ _ refl, (if_among IsJudged _ _ refl, tt))),
-  );
-  late = (if_among (NeedsMore (statement.Update text)) _ _ refl, (if_among (NeedsMore (statement.Update text)) _ _ refl, tt));
   seen = λ _.
       let next : State = record s { rows = with_plain (row_name text.table key) values s.rows } in
       (plan.Plain key values, is, shows_just next s.catalog (with_plain (row_name text.table key) values s.rows) refl refl);

@@ -1,12 +1,9 @@
--- What each statement's transition is like, one lemma a statement: what the laws of steps rest on.
-use Rattle.std.specs.Prelude.{◌≡◌, ℕ, ◌<◌, is_none, unwrap_or, option_map, option_and_then, IfSome, Option, Some, None, List, [], length}
+-- The transition of each statement, one lemma for each statement: the laws of steps rest on them.
+use Rattle.std.specs.Prelude.{◌≡◌, ℕ, ◌<◌, unwrap_or, option_map, option_and_then, Option, Some, None, List, [], length}
 use Rattle.std.specs.List.{AllByRecursion}
 use Rattle.std.proofs.Common.{refl, sym, ap, subst, le_refl, ◌∙◌}
-use Rattle.escrow_num.specs.declared.refusal.Violation.{Violation}
 use Rattle.escrow_num.specs.declared.refusal.Refusal.{Refusal}
-use Rattle.escrow_num.specs.declared.refusal.Refusal.TheVariants as refusal
 use Rattle.escrow_num.specs.declared.row.Row.{Row}
-use Rattle.escrow_num.specs.Refusal.{refuse_if, first_refusal}
 use Rattle.escrow_statement.specs.declared.statement.Statement.{Statement}
 use Rattle.escrow_statement.specs.declared.statement.Statement.TheVariants as statement
 use Rattle.escrow_statement.specs.declared.statement.AlterText.{AlterText}
@@ -22,9 +19,10 @@ use Rattle.escrow_schema.specs.Catalog.{table_named, with_table, without_table}
 use Rattle.escrow_schema.specs.declared.table.TheConstants.TableDef.{MAX_ROWS}
 use Rattle.escrow_machine.specs.declared.reply.Reply.{Reply}
 use Rattle.escrow_machine.specs.declared.reply.Reply.TheVariants as reply
-use Rattle.escrow_machine.specs.Altered.{added_violation, drop_refusal_of, table_altered, after_alter}
-use Rattle.escrow_machine.specs.Asked.{new_row, insert_violation, named_by, select_reply, show_reply}
+use Rattle.escrow_machine.specs.Altered.{table_altered, after_alter}
+use Rattle.escrow_machine.specs.Asked.{new_row, named_by, select_reply, show_reply}
 use Rattle.escrow_machine.specs.Bounds.{bounds_in, bounds_reply}
+use Rattle.escrow_machine.specs.Laws.{ShowsAfter}
 use Rattle.escrow_machine.specs.Reply.{failure_of}
 use Rattle.escrow_machine.specs.Accepted.{IsAccepted}
 use Rattle.escrow_journal.specs.Reservations.{own}
@@ -33,9 +31,7 @@ use Rattle.escrow_schema.specs.Rows.{row_named, rows_of, applied, with_row, with
 use Rattle.escrow_machine.specs.Transition.{transition_of, alter_refusals, after_create, after_drop, after_insert, after_delete, after_commit, after_rollback}
 use Rattle.escrow_machine.specs.Valid.{IsValid}
 use Rattle.escrow_machine.proofs.Accepted.{create_stands, insert_stands, drop_stands, alter_stands, add_unbroken, delete_stands}
-use Rattle.escrow_machine.proofs.Plans.{key_among, select_among}
 use Rattle.escrow_machine.proofs.Queries.{shows_just}
-use Rattle.escrow_machine.proofs.Refusals.{if_among, check_among}
 use Rattle.escrow_machine.proofs.ValidAlter.{name_found, add_check_valid, drop_check_valid}
 use Rattle.escrow_machine.proofs.ValidCreate.{create_valid}
 use Rattle.escrow_machine.proofs.ValidDelete.{delete_valid}
@@ -43,7 +39,7 @@ use Rattle.escrow_machine.proofs.ValidDrop.{drop_valid}
 use Rattle.escrow_machine.proofs.ValidEnds.{commit_valid, rollback_valid}
 use Rattle.escrow_machine.proofs.ValidInsert.{insert_valid}
 use Rattle.escrow_machine.proofs.TransitionSavepoints.{savepoint_transition, back_transition}
-use Rattle.escrow_machine.proofs.TransitionWords.{IsJudged, NeedsMore, IsTransition}
+use Rattle.escrow_machine.proofs.TransitionWords.{IsTransition}
 use Rattle.escrow_machine.proofs.TransitionUpdate.{update_transition}
 
 create_transition : (s : State) (session : ℕ) (text : CreateText) → IsTransition s session (statement.Create text) (transition_of s session (statement.Create text))
@@ -51,8 +47,6 @@ unfolding transition_of
 create_transition s session text = record {
   answers = λ r e. absurd (cc);
   succeeds = refl;
-  judged = (if_among IsJudged _ _ refl, (if_among IsJudged _ _ refl, (if_among IsJudged _ _ refl, (if_among IsJudged _ _ refl, tt))));
-  late = (if_among (NeedsMore (statement.Create text)) _ _ refl, (if_among (NeedsMore (statement.Create text)) _ _ refl, tt));
   seen = λ accepted.
       let stands = create_stands s session text accepted in
       (stands.table, stands.defines, shows_just (after_create s text) (with_table stands.table s.catalog) s.rows (rw stands.defines refl) refl);
@@ -68,27 +62,15 @@ unfolding transition_of
 drop_transition s session name = record {
   answers = λ r e. absurd (cc);
   succeeds = refl;
-  judged = (if_among IsJudged _ _ refl, (if_among IsJudged _ _ refl, (if_among IsJudged _ _ refl, tt)));
-  late = tt;
   seen = λ _. shows_just (after_drop s name) (without_table name s.catalog) (without_rows_of name s.rows) refl refl;
   ids = λ _. le_refl _;
   next = λ _ id e. absurd (cc);
   valid = λ accepted valid _. drop_valid s name valid (drop_stands s session name accepted).free;
 }
 
--- the refusals of an ALTER TABLE, by its change
-lacking_among : (P : Refusal → Type 0) (s : State) (name : List ℕ) (asked : TableChange) → P refusal.NoSuchConstraint → IfSome (drop_refusal_of s name asked) P
-lacking_among P s name (change.Add text) lacking = tt
-lacking_among P s name (change.Drop check) lacking = if_among P _ _ lacking
-
-alter_among : (P : Refusal → Type 0) (s : State) (name : List ℕ) (asked : TableChange) → P refusal.BadDefinition → ((violation : Violation) → P (refusal.Check violation))
-    → AllByRecursion (λ o. IfSome o P) (alter_refusals s name asked)
-alter_among P s name (change.Add text) bad breaks = (if_among P _ _ bad, (check_among P (added_violation s name text) breaks, tt))
-alter_among P s name (change.Drop check) bad breaks = tt
-
--- a table that is altered leaves the state valid
+-- an altered table leaves the state valid
 altered_valid : (s : State) (name : List ℕ) (asked : TableChange) (table made : TableDef) → IsValid s → table_named s.catalog name ≡ Some table
-    → table_altered s name asked ≡ Some made → first_refusal (alter_refusals s name asked) ≡ None → IsValid (record s { catalog = with_altered made s.catalog })
+    → table_altered s name asked ≡ Some made → AllByRecursion (λ (o : Option Refusal). o ≡ None) (alter_refusals s name asked) → IsValid (record s { catalog = with_altered made s.catalog })
 altered_valid s name (change.Add text) table made valid named makes safe =
     add_check_valid s name text table made valid named (ap (option_and_then (λ (t : TableDef). with_check t text)) (sym named) ∙ makes) (add_unbroken s name text safe)
 altered_valid s name (change.Drop check) table made valid named makes safe =
@@ -99,14 +81,6 @@ unfolding transition_of
 alter_transition s session text = record {
   answers = λ r e. absurd (cc);
   succeeds = refl;
-  judged = (
-    if_among IsJudged _ _ refl,
-    (
-      if_among IsJudged _ _ refl,
-      (lacking_among IsJudged s text.table text.change refl, alter_among IsJudged s text.table text.change refl (λ _. refl)),
-    ),
-  );
-  late = alter_among (NeedsMore (statement.Alter text)) s text.table text.change refl (λ _. refl);
   seen = λ accepted.
       let stands = alter_stands s session text accepted in (
         stands.made,
@@ -125,7 +99,7 @@ alter_transition s session text = record {
 some_same : {A : Type 0} {x y : A} → Some x ≡ Some y → x ≡ y
 some_same e = cc
 
--- a row that is inserted leaves the state valid
+-- an inserted row leaves the state valid
 pub inserted_valid : (s : State) (session : ℕ) (text : InsertText) (row : Row) → IsValid s → IsAccepted s session (statement.Insert text)
     → new_row s text ≡ Some row → IsValid (record s { rows = with_row row s.rows })
 inserted_valid s session text row valid accepted made =
@@ -142,23 +116,6 @@ unfolding transition_of
 insert_transition s session text = record {
   answers = λ r e. absurd (cc);
   succeeds = refl;
-  judged = (
-    if_among IsJudged _ _ refl,
-    (
-      if_among IsJudged _ _ refl,
-      (
-        if_among IsJudged _ _ refl,
-        (if_among IsJudged _ _ refl, (if_among IsJudged _ _ refl, (check_among IsJudged (insert_violation s text) (λ _. refl), tt))),
-      ),
-    ),
-  );
-  late = (
-    if_among (NeedsMore (statement.Insert text)) _ _ refl,
-    (
-      if_among (NeedsMore (statement.Insert text)) _ _ refl,
-      (check_among (NeedsMore (statement.Insert text)) (insert_violation s text) (λ _. refl), tt),
-    ),
-  );
   seen = λ accepted.
       let stands = insert_stands s session text accepted in
       (stands.row, stands.made, shows_just (after_insert s text) s.catalog (with_row stands.row s.rows) refl (rw stands.made refl));
@@ -174,21 +131,13 @@ unfolding transition_of
 delete_transition s session text = record {
   answers = λ r e. absurd (cc);
   succeeds = refl;
-  judged = (
-    if_among IsJudged _ _ refl,
-    (
-      if_among IsJudged _ _ refl,
-      (key_among IsJudged s text.table text.row refl refl, (if_among IsJudged _ _ refl, (if_among IsJudged _ _ refl, tt))),
-    ),
-  );
-  late = (if_among (NeedsMore (statement.Delete text)) _ _ refl, (if_among (NeedsMore (statement.Delete text)) _ _ refl, tt));
   seen = λ _. shows_just (after_delete s text) s.catalog (without_row (named_by s.catalog text.table text.row) s.rows) refl refl;
   ids = λ _. le_refl _;
   next = λ _ id e. absurd (cc);
   valid = λ accepted valid _. delete_valid s (named_by s.catalog text.table text.row) valid (delete_stands s session text accepted).free;
 }
 
--- what is shown is the reply to a query, whatever table there is
+-- a reply that shows a table, whichever table it is
 shown_as : (P : Reply → Type 0) (f : TableDef → Reply) (o : Option TableDef) (none : Reply) → P none → ((table : TableDef) → P (f table))
     → P (unwrap_or (option_map f o) none)
 shown_as P f None none at_none each = at_none
@@ -208,7 +157,7 @@ table_shows s name =
     shown_as IsShow _ (table_named s.catalog name) (reply.Table [])
     (λ r e. absurd (cc), refl, λ id e. absurd (cc)) (λ table. (λ r e. absurd (cc), refl, λ id e. absurd (cc)))
 
--- so is what is shown of a row, whatever table and row there are
+-- a reply that shows a row, whichever table and row they are
 shown_of_row : (P : Reply → Type 0) (f : TableDef → Row → Reply) (o : Option TableDef) (row : Option Row) (none : Reply) → P none
     → ((table : TableDef) (r : Row) → P (f table r)) → P (unwrap_or (option_and_then (λ (table : TableDef). option_map (f table) row) o) none)
 shown_of_row P f None row none at_none each = at_none
@@ -220,76 +169,40 @@ bounds_show s text =
     shown_of_row IsShow (λ table row. bounds_in s.reservations table row.name row.amounts) (table_named s.catalog text.table) (row_named s.rows (named_by s.catalog text.table text.row)) (reply.Bounds [] [])
     (λ r e. absurd (cc), refl, λ id e. absurd (cc)) (λ table row. (λ r e. absurd (cc), refl, λ id e. absurd (cc)))
 
+-- a statement that shows something leaves the state unchanged
+shown_transition : (s : State) (session : ℕ) (asked : Statement) (early late : List (Option Refusal)) (answer : Reply) → IsShow answer → ShowsAfter s session asked s
+    → IsTransition s session asked (record { early = early; late = late; reply = answer; next = s })
+shown_transition s session asked early late answer shows seen = record {
+  answers = shows.0;
+  succeeds = shows.1;
+  seen = λ _. seen;
+  ids = λ _. le_refl _;
+  next = λ _ id e. absurd (shows.2 id e);
+  valid = λ _ valid _. valid;
+}
+
 select_transition : (s : State) (session : ℕ) (text : SelectText) → IsTransition s session (statement.Select text) (transition_of s session (statement.Select text))
 unfolding transition_of
-select_transition s session text =
-    let shows = select_shows s text in
-    record {
-      answers = shows.0;
-      succeeds = shows.1;
-      judged = (if_among IsJudged _ _ refl, (select_among IsJudged s text refl refl, tt));
-      late = tt;
-      seen = λ _. shows_just s s.catalog s.rows refl refl;
-      ids = λ _. le_refl _;
-      next = λ _ id e. absurd (shows.2 id e);
-      valid = λ _ valid _. valid;
-    }
+select_transition s session text = shown_transition s session (statement.Select text) _ _ _ (select_shows s text) (shows_just s s.catalog s.rows refl refl)
 
 show_transition : (s : State) (session : ℕ) (name : List ℕ) → IsTransition s session (statement.ShowTable name) (transition_of s session (statement.ShowTable name))
 unfolding transition_of
-show_transition s session name =
-    let shows = table_shows s name in
-    record {
-      answers = shows.0;
-      succeeds = shows.1;
-      judged = (if_among IsJudged _ _ refl, tt);
-      late = tt;
-      seen = λ _. shows_just s s.catalog s.rows refl refl;
-      ids = λ _. le_refl _;
-      next = λ _ id e. absurd (shows.2 id e);
-      valid = λ _ valid _. valid;
-    }
+show_transition s session name = shown_transition s session (statement.ShowTable name) _ _ _ (table_shows s name) (shows_just s s.catalog s.rows refl refl)
 
 bounds_transition : (s : State) (session : ℕ) (text : RowText) → IsTransition s session (statement.ShowBounds text) (transition_of s session (statement.ShowBounds text))
 unfolding transition_of
-bounds_transition s session text =
-    let shows = bounds_show s text in
-    record {
-      answers = shows.0;
-      succeeds = shows.1;
-      judged = (if_among IsJudged _ _ refl, (key_among IsJudged s text.table text.row refl refl, (if_among IsJudged _ _ refl, tt)));
-      late = (if_among (NeedsMore (statement.ShowBounds text)) _ _ refl, tt);
-      seen = λ _. shows_just s s.catalog s.rows refl refl;
-      ids = λ _. le_refl _;
-      next = λ _ id e. absurd (shows.2 id e);
-      valid = λ _ valid _. valid;
-    }
-
--- the table that a SHOW JOURNAL names, if it names one
-journal_among : (s : State) (table : Option (List ℕ)) → IfSome (option_and_then (λ name. refuse_if (is_none (table_named s.catalog name)) refusal.NoSuchTable) table) IsJudged
-journal_among s None = tt
-journal_among s (Some name) = if_among IsJudged _ _ refl
+bounds_transition s session text = shown_transition s session (statement.ShowBounds text) _ _ _ (bounds_show s text) (shows_just s s.catalog s.rows refl refl)
 
 journal_transition : (s : State) (session : ℕ) (table : Option (List ℕ)) → IsTransition s session (statement.ShowJournal table) (transition_of s session (statement.ShowJournal table))
 unfolding transition_of
-journal_transition s session table = record {
-  answers = λ r e. absurd (cc);
-  succeeds = refl;
-  judged = (journal_among s table, tt);
-  late = tt;
-  seen = λ _. shows_just s s.catalog s.rows refl refl;
-  ids = λ _. le_refl _;
-  next = λ _ id e. absurd (cc);
-  valid = λ _ valid _. valid;
-}
+journal_transition s session table =
+    shown_transition s session (statement.ShowJournal table) _ _ _ (λ r e. absurd (cc), refl, λ id e. absurd (cc)) (shows_just s s.catalog s.rows refl refl)
 
 commit_transition : (s : State) (session : ℕ) → IsTransition s session statement.Commit (transition_of s session statement.Commit)
 unfolding transition_of
 commit_transition s session = record {
   answers = λ r e. absurd (cc);
   succeeds = refl;
-  judged = tt;
-  late = tt;
   seen = λ _. shows_just (after_commit s session) s.catalog (applied s.rows (own session s.reservations)) refl refl;
   ids = λ _. le_refl _;
   next = λ _ id e. absurd (cc);
@@ -301,15 +214,13 @@ unfolding transition_of
 rollback_transition s session = record {
   answers = λ r e. absurd (cc);
   succeeds = refl;
-  judged = tt;
-  late = tt;
   seen = λ _. (shows_just (after_rollback s session) s.catalog s.rows refl refl, refl);
   ids = λ _. le_refl _;
   next = λ _ id e. absurd (cc);
   valid = λ _ valid _. rollback_valid s session valid;
 }
 
--- THE TURNS
+-- ALL STATEMENTS
 pub is_transition : (s : State) (session : ℕ) (asked : Statement) → IsTransition s session asked (transition_of s session asked)
 is_transition s session (statement.Create text) = create_transition s session text
 is_transition s session (statement.Drop name) = drop_transition s session name

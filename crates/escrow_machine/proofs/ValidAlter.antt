@@ -1,4 +1,4 @@
--- ALTER TABLE: no check is broken by any choice of the open reservations, neither an old one nor a new one.
+-- ALTER TABLE: no choice of the open reservations breaks a check, neither an old one nor a new one.
 use Rattle.std.specs.Prelude.{◌≡◌, ◌<◌, ℕ, ℤ, zero, suc, true, cond, Option, Some, None, option_map, option_and_then, List, [], ◌∷◌, ◌++◌, length, map, remove, bytes_eq, IsSomeAnd}
 use Rattle.std.specs.List.{AllByRecursion}
 use Rattle.std.proofs.Common.{inl, inr, refl, sym, ap, ◌∙◌, subst}
@@ -37,18 +37,18 @@ use Rattle.escrow_machine.proofs.Kept.{over_catalog}
 use Rattle.escrow_machine.proofs.Lengths.{find_map}
 use Rattle.escrow_machine.proofs.Safe.{safe_row, safe_rows}
 
--- TABLES WITH AN ALTERED ONE AMONG THEM
+-- CATALOGS WITH AN ALTERED TABLE
 
--- a table in the place of another, if that is of its name
+-- the altered table in place of the table of its name
 abbrev pub in_place : TableDef → TableDef → TableDef
 in_place table other = cond (bytes_eq other.name table.name) table other
 
--- names stay
+-- the name stays
 name_stays : (table other : TableDef) → (in_place table other).name ≡ other.name
 name_stays table other =
     cond_both (bytes_eq other.name table.name) table other (λ (t : TableDef). t.name ≡ other.name) (λ same. sym (name_same other.name table.name same)) (λ _. refl)
 
--- what is found is the altered table in the place of the one of its name
+-- a lookup finds the altered table in place of the old one
 pub altered_named : (table : TableDef) (catalog : List TableDef) (name : List ℕ) → table_named (with_altered table catalog) name ≡ option_map (in_place table) (table_named catalog name)
 altered_named table catalog name =
     find_map (λ (t : TableDef). bytes_eq t.name name) (in_place table) (λ t. ap (λ (n : List ℕ). bytes_eq n name) (name_stays table t)) catalog
@@ -57,12 +57,12 @@ altered_named table catalog name =
 pub name_found : (catalog : List TableDef) (name : List ℕ) (table : TableDef) → table_named catalog name ≡ Some table → table.name ≡ name
 name_found catalog name table named = name_same table.name name (find_has (λ (t : TableDef). bytes_eq t.name name) catalog table named).1
 
--- a table over other checks
+-- a table with other checks
 abbrev pub over_checks : TableDef → List Check → TableDef
 over_checks table checks = record table { checks = checks }
 
--- what holds of the table of a name holds of the one that is found then: of another table, as it did; of the altered
--- one, where it holds of that too
+-- what holds for a table that a name finds still holds: for another table, as before; for the altered one,
+-- if it holds with the new checks
 still_some : (catalog : List TableDef) (table : TableDef) (checks : List Check) (name : List ℕ) (P : TableDef → Type 0) (o : Option TableDef)
     → table_named catalog table.name ≡ Some table → table_named catalog name ≡ o → (name ≡ table.name → P table → P (over_checks table checks))
     → IsSomeAnd o P → IsSomeAnd (option_map (in_place (over_checks table checks)) o) P
@@ -82,17 +82,17 @@ still_has catalog table checks name P named new h =
     subst (λ (o : Option TableDef). IsSomeAnd o P) (sym (altered_named (over_checks table checks) catalog name))
     (still_some catalog table checks name P (table_named catalog name) named refl new h)
 
--- A TABLE OVER OTHER CHECKS
+-- A TABLE WITH OTHER CHECKS
 
--- a row stays one of its table
+-- a row still has the shape of its table
 still_row_of : (table : TableDef) (checks : List Check) (row : Row) → IsRowOf table row → IsRowOf (over_checks table checks) row
 still_row_of table checks row is_row = record { table_name = is_row.table_name; key = is_row.key; plain = is_row.plain; amounts = is_row.amounts }
 
--- the checks are met by a row's amounts
+-- the amounts meet all checks
 abbrev pub MeetsAll : List ℤ → List Check → Type 0
 MeetsAll amounts checks = AllByRecursion (λ check. Meets check amounts) checks
 
--- what is in order stays in order
+-- the order of the state stays
 pub alter_orderly : (s : State) (table : TableDef) (checks : List Check) → IsOrderly s.catalog s.reservations s.savepoints s.next_id
     → table_named s.catalog table.name ≡ Some table → IsTable (over_checks table checks)
     → IsOrderly (with_altered (over_checks table checks) s.catalog) s.reservations s.savepoints s.next_id
@@ -100,7 +100,7 @@ alter_orderly s table checks orderly named is_table =
     over_catalog s (with_altered (over_checks table checks) s.catalog) orderly (with_one_altered s.catalog (over_checks table checks) orderly.tables is_table)
     (λ r _. still_has s.catalog table checks r.row.table (λ t. length r.changes ≡ length (reservables t.columns)) named (λ _ same. same))
 
--- a table's checks may be replaced by others that in each choice each of its rows meets, if it meets the old ones
+-- a table's checks may be replaced if each of its rows that meets the old ones meets the new ones in each choice
 pub alter_valid : (s : State) (table : TableDef) (checks : List Check) → IsValid s → table_named s.catalog table.name ≡ Some table → IsTable (over_checks table checks)
     → ((chosen : List Reservation) → IsChoice s.reservations chosen → (row : Row) → Has s.rows row → row.name.table ≡ table.name
     → MeetsAll (row_after chosen row).amounts table.checks → MeetsAll (row_after chosen row).amounts checks)
@@ -129,7 +129,7 @@ none_of_two : {A : Type 0} (a b : Option A) → first_of_two a b ≡ None → (a
 none_of_two None b e = (refl, e)
 none_of_two (Some x) b e = absurd (cc)
 
--- where rows break no check, none of them does
+-- if no row breaks the checks, this row does not
 unbroken_row : (checks : List Check) (reservations : List Reservation) (rows : List Row) (row : Row) → rows_violation checks reservations rows ≡ None → Has rows row
     → broken checks row.amounts [] (map (changes_to row) reservations) ≡ None
 unbroken_row checks reservations [] row e h = absurd h
@@ -140,14 +140,14 @@ unbroken_row checks reservations (other ∷ rows) row e (inr h) =
     unbroken_row checks reservations rows row
     (none_of_two (broken checks other.amounts [] (map (changes_to other) reservations)) (rows_violation checks reservations rows) e).1 h
 
--- and it meets them in each choice
+-- this row meets them in each choice
 meets_added : (checks : List Check) (reservations chosen : List Reservation) (row : Row) → broken checks row.amounts [] (map (changes_to row) reservations) ≡ None
     → IsChoice reservations chosen → MeetsAll (row_after chosen row).amounts checks
 meets_added checks reservations chosen row unbroken choice =
     subst (λ (amounts : List ℤ). MeetsAll (all_changed amounts (map (changes_to row) chosen)) checks) (changed_nil row.amounts)
     (granted_meets checks row.amounts [] (map (changes_to row) reservations) (map (changes_to row) chosen) unbroken (choice_map (changes_to row) reservations chosen choice))
 
--- a table with the checks of one more CHECK has those between its declared ones and its ranges
+-- the table gets the new checks between its declared ones and its ranges
 pub record IsAdded (table : TableDef) (text : CheckText) (made : TableDef) : Type 0 where
   pub more : List Check
   pub new : new_checks table text ≡ Some more
@@ -174,13 +174,13 @@ is_added table text made e =
       alike = sym is ∙ ap (over_checks table) (sym checks);
     })
 
--- what holds of the old checks and of the new ones holds of all
+-- what holds for the old checks and for the new ones holds for all
 all_added : (P : Check → Type 0) (declared more ranges : List Check) → AllByRecursion P (declared ++ ranges) → AllByRecursion P more → AllByRecursion P ((declared ++ more) ++ ranges)
 all_added P declared more ranges old new =
     let parts = all_append P declared ranges old in
     append_all P (declared ++ more) ranges (append_all P declared more parts.0 new) parts.1
 
--- ADD keeps a valid state valid, where the table's rows break none of the new checks
+-- ADD keeps a valid state valid if the table's rows break none of the new checks
 pub add_check_valid : (s : State) (name : List ℕ) (text : CheckText) (table made : TableDef) → IsValid s → table_named s.catalog name ≡ Some table
     → with_check table text ≡ Some made → added_violation s name text ≡ None → IsValid (record s { catalog = with_altered made s.catalog })
 add_check_valid s name text table made valid named e unbroken =
@@ -206,7 +206,7 @@ add_check_valid s name text table made valid named e unbroken =
 
 -- DROP CONSTRAINT
 
--- what holds of all checks holds of those that are left
+-- what holds for all checks holds for the remaining ones
 all_left : {A : Type 0} (P : A → Type 0) (xs : List A) (i : ℕ) → AllByRecursion P xs → AllByRecursion P (remove xs i)
 all_left P [] zero h = tt
 all_left P [] (suc i) h = tt

@@ -1,4 +1,4 @@
--- CREATE TABLE: the tables that stand are found as before.
+-- CREATE TABLE: existing tables are found as before.
 use Rattle.std.specs.Prelude.{◌≡◌, ◌<◌, ℕ, List, Some, None, length, bytes_eq, IsSomeAnd}
 use Rattle.std.specs.List.{AllByRecursion}
 use Rattle.std.proofs.Common.{inl, inr, sym, ap, ◌∙◌, subst}
@@ -25,7 +25,7 @@ use Rattle.escrow_machine.proofs.Safe.{safe_row, safe_rows}
 use Rattle.escrow_schema.proofs.CatalogLemmas.{with_new, with_table_put}
 use Rattle.escrow_schema.proofs.LawLemmas.{name_of_table}
 
--- a table that is found is found with a new one beside it
+-- a table that is found is also found after a new one is added
 still_named : (catalog : List TableDef) (table : TableDef) (name : List ℕ) (P : TableDef → Type 0) → table_named catalog table.name ≡ None
     → IsSomeAnd (table_named catalog name) P → IsSomeAnd (table_named (with_table table catalog) name) P
 still_named catalog table name P new h =
@@ -35,11 +35,11 @@ still_named catalog table name P new h =
           (subst (λ o. IsSomeAnd o P) (sym (find_put table_before (λ t. bytes_eq t.name name) table catalog f)) h)
     ]
 
--- a table's name is free where the name in its text is
+-- a table's name is free if the name in its text is
 free_name : (catalog : List TableDef) (text : CreateText) (table : TableDef) → definition_of text ≡ Some table → table_named catalog text.table ≡ None → table_named catalog table.name ≡ None
 free_name catalog text table made new = subst (λ n. table_named catalog n ≡ None) (sym (name_of_table text table made)) new
 
--- CREATE TABLE keeps what is in order in order
+-- CREATE TABLE keeps the order of the state
 pub create_orderly : (s : State) (text : CreateText) (table : TableDef) → IsOrderly s.catalog s.reservations s.savepoints s.next_id
     → definition_of text ≡ Some table → table_named s.catalog text.table ≡ None → length s.catalog < MAX_TABLES
     → IsOrderly (with_table table s.catalog) s.reservations s.savepoints s.next_id
@@ -48,7 +48,7 @@ create_orderly s text table orderly made new room =
     over_catalog s (with_table table s.catalog) orderly (with_new s.catalog table orderly.tables (text, made) free room)
     (λ r _. still_named s.catalog table r.row.table (λ t. length r.changes ≡ length (reservables t.columns)) free)
 
--- and a valid state valid
+-- CREATE TABLE keeps a valid state valid
 pub create_valid : (s : State) (text : CreateText) (table : TableDef) → IsValid s → definition_of text ≡ Some table
     → table_named s.catalog text.table ≡ None → length s.catalog < MAX_TABLES
     → IsValid (record s { catalog = with_table table s.catalog })

@@ -1,4 +1,4 @@
--- DELETE: no open reservation is of the row that is taken out.
+-- DELETE: no open reservation is of the deleted row.
 use Rattle.std.specs.Prelude.{◌≡◌, true, false, not}
 use Rattle.std.proofs.Common.{ap, ◌∙◌, refl}
 use Rattle.escrow_num.specs.declared.row.Row.{Row}
@@ -12,7 +12,7 @@ use Rattle.escrow_schema.specs.Rows.{without_row}
 use Rattle.escrow_machine.specs.Valid.{IsValid}
 use Rattle.escrow_machine.proofs.Kept.{any_none, kept_safe}
 
--- a row that a reservation is of isn't one that no reservation is of
+-- a reservation is of another row than one without reservations
 pub other_row : (s : State) (name : RowName) → is_reserved s name ≡ false → (r : Reservation) → Has s.reservations r
     → (row : Row) → same_row row.name r.row ≡ true → same_row row.name name ≡ false
 other_row s name free r h row same =

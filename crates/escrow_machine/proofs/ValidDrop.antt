@@ -1,4 +1,4 @@
--- DROP TABLE: no open reservation is of a row of the table that is taken out.
+-- DROP TABLE: no open reservation is of a row of the dropped table.
 use Rattle.std.specs.Prelude.{◌≡◌, ℕ, false, not, Option, List, bytes_eq, length, IsSomeAnd}
 use Rattle.std.proofs.Common.{sym, ap, ◌∙◌, subst}
 use Rattle.std.proofs.lemmas.Bool.{not-true}
@@ -21,18 +21,18 @@ other_table catalog name other differs =
     find_filter (λ (t : TableDef). bytes_eq t.name other) (λ (t : TableDef). not (bytes_eq t.name name)) catalog
     (λ t same. ap not (ap (λ (n : List ℕ). bytes_eq n name) (name_same t.name other same) ∙ differs))
 
--- no reservation is of a row of a table that isn't reserved
+-- if a table is not reserved, no reservation is of one of its rows
 other_tables : (s : State) (name : List ℕ) → is_table_reserved s name ≡ false → (r : Reservation) → Has s.reservations r → bytes_eq r.row.table name ≡ false
 other_tables s name free = any_none (λ (r : Reservation). bytes_eq r.row.table name) s.reservations free
 
--- DROP TABLE keeps what is in order in order
+-- DROP TABLE keeps the order of the state
 pub drop_orderly : (s : State) (name : List ℕ) → IsOrderly s.catalog s.reservations s.savepoints s.next_id → is_table_reserved s name ≡ false
     → IsOrderly (without_table name s.catalog) s.reservations s.savepoints s.next_id
 drop_orderly s name orderly free =
     over_catalog s (without_table name s.catalog) orderly (without_one s.catalog name orderly.tables)
     (λ r h. subst (λ (o : Option TableDef). IsSomeAnd o (λ t. length r.changes ≡ length (reservables t.columns))) (sym (other_table s.catalog name r.row.table (other_tables s name free r h))))
 
--- and a valid state valid
+-- DROP TABLE keeps a valid state valid
 pub drop_valid : (s : State) (name : List ℕ) → IsValid s → is_table_reserved s name ≡ false → IsValid (after_drop s name)
 drop_valid s name valid free = record {
   orderly = drop_orderly s name valid.orderly free;

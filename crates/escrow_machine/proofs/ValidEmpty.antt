@@ -1,4 +1,4 @@
--- The state that a database begins with, and that a restart leaves.
+-- The state of a new database, and the state after a restart.
 use Rattle.std.proofs.Common.{List, [], sym, subst, arith}
 use Rattle.std.specs.List.{AllByRecursion}
 use Rattle.escrow_num.specs.declared.row.Row.{Row}
@@ -10,7 +10,7 @@ use Rattle.escrow_machine.specs.Valid.{AreSafeRows, IsOrderly, IsValid}
 use Rattle.escrow_machine.proofs.Applying.{applied_none}
 use Rattle.escrow_machine.proofs.Safe.{committed_rows_meet_checks}
 
--- where nothing is open all is in order
+-- a state with nothing open is in order
 pub opened_orderly : (catalog : List TableDef) → IsCatalog catalog → IsOrderly catalog [] [] 1
 opened_orderly catalog tables = record {
   tables = tables;
@@ -24,7 +24,7 @@ opened_orderly catalog tables = record {
   last_id = omega arith;
 }
 
--- and rows that meet their checks are safe
+-- rows that meet their checks are safe if nothing is open
 pub opened_safe : (catalog : List TableDef) (rows : List Row) → AreRowsOf catalog rows → AllByRecursion (MeetsChecks catalog) rows → AreSafeRows catalog rows []
 opened_safe catalog rows are met = record {
   tables = are.tables;

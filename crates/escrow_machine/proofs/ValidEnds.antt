@@ -1,5 +1,5 @@
--- COMMIT, ROLLBACK and ROLLBACK TO: a session's reservations, and then a choice of the others, are together
--- a choice of the open ones; a choice of what stays open is a choice of what was open.
+-- COMMIT, ROLLBACK and ROLLBACK TO: a session's reservations and a choice of the others are a choice of the open ones;
+-- a choice of what stays open is a choice of what was open.
 use Rattle.std.specs.Prelude.{◌≡◌, ℕ, Bool, ◌==◌, not, List, ◌≤◌, length, map, filter, bytes_eq, Option, Some, None, option_map, unwrap_or, IsSome}
 use Rattle.std.specs.List.{AllByRecursion}
 use Rattle.std.proofs.Common.{le_trans, sym, ◌∙◌, subst, refl}
@@ -22,14 +22,15 @@ use Rattle.escrow_schema.specs.Rows.{row_named, changes_to, row_after, applied, 
 use Rattle.escrow_machine.specs.Transition.{after_commit, after_rollback, after_rollback_to}
 use Rattle.escrow_machine.specs.Valid.{IsValid, IsOrderly, AreSafeRows, IsReservationIn, IsSavepointIn, HasRow}
 use Rattle.escrow_num.proofs.Items.{Has, all_has, has_all, has_filter, has_map, all_filter}
-use Rattle.escrow_machine.proofs.Choices.{IsChoice, all_choices, choices_all, choice_filter, map_all}
+use Rattle.escrow_machine.proofs.Choices.{IsChoice, all_choices, choices_all, choice_filter}
+use Rattle.escrow_schema.proofs.Listed.{all_map}
 use Rattle.escrow_machine.proofs.Changes.{IsMerged, merge_choice}
 use Rattle.escrow_num.proofs.Ascending.{ascending_filter, ascending_map}
 use Rattle.escrow_machine.proofs.Lengths.{length-filter_filter, length-filter_map, find_map}
 use Rattle.escrow_machine.proofs.Savepoints.{has_through, through_ascending, length-filter_through}
 use Rattle.escrow_machine.proofs.Safe.{some_weaker, some_image, safe_row, safe_rows}
 
--- what is in order stays so where only the reservations that pass a test are kept, and savepoints stay in order
+-- the order of the state stays if only the reservations that pass a test are kept, and savepoints stay in order
 kept_orderly : (catalog : List TableDef) (reservations : List Reservation) (savepoints left : List Savepoint) (next_id : ℕ) (keep : Reservation → Bool)
     → IsOrderly catalog reservations savepoints next_id
     → AllByRecursion (IsSavepointIn next_id) left → IsAscending savepoint_before left → ((session : ℕ) → length (own_savepoints session left) ≤ MAX_SAVEPOINTS)
@@ -46,7 +47,7 @@ kept_orderly catalog reservations savepoints left next_id keep orderly left_in o
   last_id = orderly.last_id;
 }
 
--- so it is where a session's transaction is over: after ROLLBACK, and after COMMIT
+-- the order of the state stays after ROLLBACK and after COMMIT
 pub rollback_orderly : (s : State) (session : ℕ) → IsOrderly s.catalog s.reservations s.savepoints s.next_id
     → IsOrderly s.catalog (others session s.reservations) (other_savepoints session s.savepoints) s.next_id
 rollback_orderly s session orderly =
@@ -60,7 +61,7 @@ pub commit_orderly : (s : State) (session : ℕ) → IsOrderly s.catalog s.reser
     → let after = after_commit s session in IsOrderly after.catalog after.reservations after.savepoints after.next_id
 commit_orderly = rollback_orderly
 
--- and the rows are safe whatever is dropped
+-- the rows stay safe whichever reservations are dropped
 fewer_safe : (s : State) (keep : Reservation → Bool) → IsValid s → AreSafeRows s.catalog s.rows (filter keep s.reservations)
 fewer_safe s keep valid =
     let Safe : List Reservation → Type 0 = λ c. AllByRecursion (MeetsChecks s.catalog) (applied s.rows c) in
@@ -79,11 +80,11 @@ rollback_valid s session valid = record {
   safe_rows = fewer_safe s (λ r. not (r.session == session)) valid;
 }
 
--- a state returned to a savepoint
+-- the state after a return to a savepoint
 abbrev pub returned_to : State → Savepoint → State
 returned_to s p = with_open s (journal.returned_to (open_in s) p)
 
--- ROLLBACK TO too
+-- a return to a savepoint keeps the order of the state
 returned_orderly : (s : State) (p : Savepoint) → IsOrderly s.catalog s.reservations s.savepoints s.next_id
     → let after = returned_to s p in IsOrderly after.catalog after.reservations after.savepoints after.next_id
 returned_orderly s p orderly =
@@ -100,7 +101,7 @@ returned_valid s p valid = record {
   safe_rows = fewer_safe s (λ r. not (is_after p r)) valid;
 }
 
--- what holds of a state and of it returned to each savepoint holds after a ROLLBACK TO
+-- what holds for a state, and after a return to any savepoint, holds after a ROLLBACK TO
 returned_has : (P : State → Type 0) (s : State) (o : Option Savepoint) → P s → ((p : Savepoint) → P (returned_to s p)) → P (with_open s (unwrap_or (option_map (journal.returned_to (open_in s)) o) (open_in s)))
 returned_has P s None same returned = same
 returned_has P s (Some p) same returned = returned p
@@ -116,7 +117,7 @@ back_orderly s session name orderly =
 pub back_valid : (s : State) (session : ℕ) (name : List ℕ) → IsValid s → IsValid (after_rollback_to s session name)
 back_valid s session name valid = back_has IsValid s session name valid (λ p. returned_valid s p valid)
 
--- a row with changes added is one of the same table
+-- a row with changes added still has the shape of its table
 still_row_of : (table : TableDef) (row : Row) (chosen : List Reservation) → IsRowOf table row → IsRowOf table (row_after chosen row)
 still_row_of table row chosen is_row = record {
   table_name = is_row.table_name;
@@ -129,7 +130,7 @@ still_has_table : (catalog : List TableDef) (row : Row) (chosen : List Reservati
 still_has_table catalog row chosen h =
     some_weaker (λ t. IsRowOf t row) (λ t. IsRowOf t (row_after chosen row)) (table_named catalog row.name.table) (λ t. still_row_of t row chosen) h
 
--- a reservation's row still stands
+-- a reservation's row is still there
 still_stands : (rows : List Row) (chosen : List Reservation) (r : Reservation) → HasRow rows r → HasRow (applied rows chosen) r
 still_stands rows chosen r h =
     let same_found : row_named (applied rows chosen) r.row ≡ option_map (row_after chosen) (row_named rows r.row) =
@@ -159,7 +160,7 @@ commit_valid s session valid =
     record {
       orderly = commit_orderly s session valid.orderly;
       safe_rows = record {
-        tables = map_all (HasTable s.catalog) (row_after mine) s.rows
+        tables = all_map (HasTable s.catalog) (row_after mine) s.rows
             (has_all (λ r. HasTable s.catalog (row_after mine r)) s.rows
             (λ r h. still_has_table s.catalog r mine (all_has (HasTable s.catalog) s.rows valid.safe_rows.tables r h)));
         row_order = ascending_map row_before (row_after mine) (λ _ _. refl) s.rows valid.safe_rows.row_order;

@@ -30,7 +30,7 @@ use Rattle.escrow_machine.proofs.Put.{with_row_put}
 use Rattle.escrow_machine.proofs.Safe.{some_from, safe_row, safe_rows}
 use Rattle.escrow_schema.proofs.LawLemmas.{rows_of_table}
 
--- a new row stands in its order
+-- the rows with the new one are in order
 in_order : (rows : List Row) (row : Row) → row_named rows row.name ≡ None → IsAscending row_before rows
     → IsAscending row_before (with_row row rows)
 in_order rows row new ascending =
@@ -42,7 +42,7 @@ in_order rows row new ascending =
     (put_ascending row_before (before_trans by_row row_total) row rows
     (λ y h f. not_before by_row row_total row y f (differs y h)) ascending)
 
--- an open reservation isn't of a new row
+-- no open reservation is of a new row
 not_of_new : (rows : List Row) (row : Row) (r : Reservation) → row_named rows row.name ≡ None → HasRow rows r → same_row row.name r.row ≡ false
 not_of_new rows row r new stands =
     false_from_ne_true (same_row row.name r.row) (λ t.
@@ -50,13 +50,13 @@ not_of_new rows row r new stands =
     let nothing : IsSome {T = Row} None = subst (λ (o : Option Row). IsSome o) none stands in
     absurd (cc))
 
--- and its row is found with the new one beside it
+-- a reservation's row is also found after the insertion
 still_found : (rows : List Row) (row : Row) (r : Reservation) → row_named rows row.name ≡ None → HasRow rows r → HasRow (with_row row rows) r
 still_found rows row r new stands =
     subst (λ rs. IsSome (row_named rs r.row)) (sym (with_row_put row rows))
     (subst (λ (o : Option Row). IsSome o) (sym (find_put row_before (λ (x : Row). same_row x.name r.row) row rows (not_of_new rows row r new stands))) stands)
 
--- a new row meets its checks after each choice of the open reservations, which aren't of it
+-- a new row meets its checks after each choice of the open reservations, since none is of it
 meets_new : (s : State) (table : TableDef) (row : Row) → IsValid s → table_named s.catalog row.name.table ≡ Some table
     → row_named s.rows row.name ≡ None → broken table.checks row.amounts [] [] ≡ None
     → (chosen : List Reservation) → IsChoice s.reservations chosen → MeetsChecks s.catalog (row_after chosen row)
@@ -69,7 +69,7 @@ meets_new s table row valid named new granted chosen choice =
     some_from (λ (t : TableDef). AllByRecursion (λ check. Meets check (row_after chosen row).amounts) t.checks) (table_named s.catalog row.name.table) table named
     (subst (λ zs. AllByRecursion (λ check. Meets check zs) table.checks) same (granted_meets table.checks row.amounts [] [] [] granted refl))
 
--- few rows of a table, with one more
+-- the table has at most as many rows as the limit, with the new one
 few_with : (rows : List Row) (row : Row) (table : List ℕ) → length (rows_of rows table) ≤ MAX_ROWS → length (rows_of rows row.name.table) < MAX_ROWS
     → length (rows_of (with_row row rows) table) ≤ MAX_ROWS
 few_with rows row table few room =

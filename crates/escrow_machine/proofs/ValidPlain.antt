@@ -1,4 +1,4 @@
--- UPDATE of plain values: names and amounts stay, so that each row is as safe as it was.
+-- UPDATE of plain values: names and amounts stay, so each row is as safe as before.
 use Rattle.std.specs.Prelude.{◌≡◌, ◌≤◌, true, Option, Some, None, option_map, List, [], ◌∷◌, bytes_eq, IfSome, IsSome, IsTrue}
 use Rattle.std.specs.List.{AllByRecursion, AllZip}
 use Rattle.std.specs.Ordering.{is_lt}
@@ -21,24 +21,25 @@ use Rattle.escrow_schema.specs.declared.table.TheConstants.TableDef.{MAX_ROWS}
 use Rattle.escrow_machine.specs.State.{State}
 use Rattle.escrow_schema.specs.Rows.{row_named, row_after, applied, replaced, with_values, with_plain, HasTable, MeetsChecks, row_before}
 use Rattle.escrow_machine.specs.Valid.{IsValid, HasRow}
-use Rattle.escrow_machine.proofs.Choices.{IsChoice, choices_all, map_all}
+use Rattle.escrow_machine.proofs.Choices.{IsChoice, choices_all}
+use Rattle.escrow_schema.proofs.Listed.{all_map}
 use Rattle.escrow_machine.proofs.Lengths.{length-filter_map, find_map}
 use Rattle.escrow_machine.proofs.Safe.{some_at, some_image, some_from, safe_row, safe_rows}
 
--- new values, where there are some, fit the columns that are neither RESERVABLE nor the key
+-- the new values fit the columns that are neither RESERVABLE nor the key
 abbrev pub FitPlain : TableDef → List (Option Value) → Type 0
 FitPlain table values = AllZip (λ column o. IfSome o (λ v. IsTrue (fits column.kind v))) (plains table.columns 0 table.key) values
 
--- what holds of a row with its values replaced, and as it is, holds of the row with_values gives
+-- what holds for a row as it is, and with its values replaced, holds after `with_values`
 pub values_both : (P : Row → Type 0) (name : RowName) (values : List (Option Value)) (row : Row)
     → (same_row row.name name ≡ true → P (record row { plain = replaced values row.plain })) → P row → P (with_values name values row)
 values_both P name values row new old = cond_both (same_row row.name name) (record row { plain = replaced values row.plain }) row P new (λ _. old)
 
--- its name and its amounts stay
+-- a row's name and its amounts stay
 pub name_stays : (name : RowName) (values : List (Option Value)) (row : Row) → (with_values name values row).name ≡ row.name
 name_stays name values row = values_both (λ r. r.name ≡ row.name) name values row (λ _. refl) refl
 
--- values that fit, replaced by others that fit, fit
+-- fitting values, some of them replaced by fitting ones, still fit
 replaced_fit : (columns : List Column) (values : List (Option Value)) (plain : List Value)
     → AllZip (λ column o. IfSome o (λ v. IsTrue (fits column.kind v))) columns values
     → AllZip (λ column v. IsTrue (fits column.kind v)) columns plain
@@ -51,7 +52,7 @@ replaced_fit (column ∷ columns) (o ∷ values) [] new old = absurd old
 replaced_fit (column ∷ columns) (None ∷ values) (v ∷ plain) new old = (old.0, replaced_fit columns values plain new.1 old.1)
 replaced_fit (column ∷ columns) (Some w ∷ values) (v ∷ plain) new old = (new.0, replaced_fit columns values plain new.1 old.1)
 
--- a row stays one of its table
+-- a row still has the shape of its table
 still_row_of : (table : TableDef) (row : Row) (values : List (Option Value)) → FitPlain table values → IsRowOf table row
     → IsRowOf table (record row { plain = replaced values row.plain })
 still_row_of table row values fit is_row = record {
@@ -61,7 +62,7 @@ still_row_of table row values fit is_row = record {
   amounts = is_row.amounts;
 }
 
--- the named row is of the named table
+-- the named row still has its table
 still_has_table : (catalog : List TableDef) (table : TableDef) (name : RowName) (values : List (Option Value)) (row : Row)
     → table_named catalog name.table ≡ Some table → FitPlain table values → HasTable catalog row → HasTable catalog (with_values name values row)
 still_has_table catalog table name values row named fit h =
@@ -72,7 +73,7 @@ still_has_table catalog table name values row named fit h =
     (still_row_of table row values fit (some_at (λ t. IsRowOf t row) (table_named catalog row.name.table) table of_table h)))
     h
 
--- the test of a name answers alike
+-- a test of names gives the same result
 pub same_test : (name other : RowName) (values : List (Option Value)) (row : Row)
     → same_row (with_values name values row).name other ≡ same_row row.name other
 same_test name other values row = ap (λ (n : RowName). same_row n other) (name_stays name values row)
@@ -92,7 +93,7 @@ plain_valid s table name values valid named fit =
     record {
       orderly = valid.orderly;
       safe_rows = record {
-        tables = map_all (HasTable s.catalog) (with_values name values) s.rows
+        tables = all_map (HasTable s.catalog) (with_values name values) s.rows
             (has_all (λ r. HasTable s.catalog (with_values name values r)) s.rows
             (λ r h. still_has_table s.catalog table name values r named fit (all_has (HasTable s.catalog) s.rows valid.safe_rows.tables r h)));
         row_order = ascending_map row_before (with_values name values) (same_order name values) s.rows valid.safe_rows.row_order;

@@ -1,4 +1,4 @@
--- SAVEPOINT: what it makes is the last of its session, and takes the place of one of its name.
+-- SAVEPOINT: the new savepoint is the last of its session, and replaces one of the same name.
 use Rattle.std.specs.Prelude.{◌≡◌, ◌<◌, ℕ, ◌==◌, Bool, not, List, length}
 use Rattle.std.proofs.Common.{inl, inr, subst, le_refl, le_trans}
 use Rattle.escrow_num.specs.declared.reservation.Savepoint.{Savepoint}
@@ -14,7 +14,7 @@ use Rattle.escrow_machine.specs.Valid.{IsOrderly, IsSavepointIn, IsValid}
 use Rattle.escrow_machine.proofs.Lengths.{length-filter_filter}
 use Rattle.escrow_machine.proofs.Savepoints.{IsEarlier, before_session, before_made, sessions_rise, has_put_savepoint, put_ascending, few_put, other_name}
 
--- SAVEPOINT keeps what is in order, where there is room for one more
+-- SAVEPOINT keeps the order of the state, if there is room for one more
 pub savepoint_orderly : (s : State) (session : ℕ) (name : List ℕ) → IsOrderly s.catalog s.reservations s.savepoints s.next_id → IsSession session
     → length (own_savepoints session (without_savepoint session name s.savepoints)) < MAX_SAVEPOINTS
     → let after = after_savepoint s session name in IsOrderly after.catalog after.reservations after.savepoints after.next_id
@@ -41,7 +41,7 @@ savepoint_orderly s session name orderly of_session room =
       last_id = orderly.last_id;
     }
 
--- so a valid state stays valid
+-- SAVEPOINT keeps a valid state valid
 pub savepoint_valid : (s : State) (session : ℕ) (name : List ℕ) → IsValid s → IsSession session
     → length (own_savepoints session (without_savepoint session name s.savepoints)) < MAX_SAVEPOINTS → IsValid (after_savepoint s session name)
 savepoint_valid s session name valid of_session room =

@@ -1,4 +1,4 @@
--- A reservation: a choice of the open ones and the new one is a choice of the old ones, or one with the new one at its end.
+-- A reservation: a choice of the open ones with the new one is an old choice, with or without the new one at its end.
 use Rattle.std.specs.Prelude.{◌≡◌, ◌<◌, ◌≤◌, ℕ, ℤ, ◌+◌, ◌==◌, Bool, true, false, List, [], ◌∷◌, ◌++◌, Option, Some, None, length, map, filter, IsTrue, IsSome}
 use Rattle.std.specs.List.{AllByRecursion}
 use Rattle.std.proofs.Common.{inl, inr, sym, ap, ◌∙◌, subst, refl, arith, length-append}
@@ -41,14 +41,14 @@ amounts_push : (row : Row) (front : List Reservation) (r : Reservation)
 amounts_push row front r =
     ap (all_changed row.amounts) (map_push (changes_to row) front r) ∙ all_changed_push row.amounts (changes_to row r) (map (changes_to row) front)
 
--- which are none to another row
+-- the changes to another row are none
 amounts_other : (row : Row) (front : List Reservation) (r : Reservation) → same_row row.name r.row ≡ false
     → amounts_after row front ≡ amounts_after row (front ++ r ∷ [])
 amounts_other row front r other =
     let none : changes_to row r ≡ [] = cond-false (same_row row.name r.row) (deltas r.changes) [] other in
     sym (amounts_push row front r ∙ ap (λ zs. all_changed zs (map (changes_to row) front)) (ap (changed row.amounts) none ∙ changed_nil row.amounts))
 
--- and its own to its row
+-- the changes to its own row are added
 amounts_own : (row : Row) (front : List Reservation) (r : Reservation) → same_row row.name r.row ≡ true
     → all_changed (changed row.amounts (deltas r.changes)) (map (changes_to row) front) ≡ amounts_after row (front ++ r ∷ [])
 amounts_own row front r same =
@@ -67,7 +67,7 @@ meets_own s table row r named same safe front choice =
     some_from (λ (t : TableDef). AllByRecursion (λ check. Meets check (amounts_after row (front ++ r ∷ []))) t.checks) (table_named s.catalog row.name.table) table of_table
     (subst (λ zs. AllByRecursion (λ check. Meets check zs) table.checks) (amounts_own row front r same) met)
 
--- and so does each row
+-- each row meets its checks then
 meets_push : (s : State) (table : TableDef) (row : Row) (r : Reservation) → IsValid s
     → table_named s.catalog r.row.table ≡ Some table → row_named s.rows r.row ≡ Some row
     → broken table.checks row.amounts (deltas r.changes) (map (changes_to row) s.reservations) ≡ None
@@ -81,7 +81,7 @@ meets_push s table row r valid named found safe front choice other h =
           (safe_row s valid front choice other h)
     ]
 
--- few open reservations of a session, with one more
+-- a session has at most as many reservations as the limit, with the new one
 few_own : (reservations : List Reservation) (r : Reservation) (session : ℕ) → length (own session reservations) ≤ MAX_RESERVATIONS → length (own r.session reservations) < MAX_RESERVATIONS
     → length (own session (reservations ++ r ∷ [])) ≤ MAX_RESERVATIONS
 few_own reservations r session few room =
@@ -94,7 +94,7 @@ few_own reservations r session few room =
     omega arith)
     (λ f e. omega arith) parts
 
--- a reservation with the next id is the last in order, and takes the id
+-- a reservation with the next id is the last in order, and takes that id
 pub granted_orderly : (s : State) (table : TableDef) (r : Reservation) → IsOrderly s.catalog s.reservations s.savepoints s.next_id → table_named s.catalog r.row.table ≡ Some table
     → IsSession r.session → r.id ≡ s.next_id → s.next_id ≤ MAX_ID
     → length r.changes ≡ length (reservables table.columns) → length (own r.session s.reservations) < MAX_RESERVATIONS

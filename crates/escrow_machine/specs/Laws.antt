@@ -1,5 +1,5 @@
 -- Believed: the statements of the laws in src/laws.rt.
-use Rattle.std.specs.Prelude.{◌≡◌, ◌↔◌, ℕ, nat_lt, ℤ, ◌+◌, ◌<◌, ◌≤◌, ◌+ℤ◌, ◌≤ℤ◌, Bool, true, false, Option, Some, None, IsSome, IsSomeAnd, List, [], ◌∷◌, ◌++◌, length, map, take, slice_get, Contains, IsTrue}
+use Rattle.std.specs.Prelude.{◌≡◌, ℕ, ℤ, ◌+◌, ◌<◌, ◌≤◌, ◌+ℤ◌, ◌≤ℤ◌, true, false, Some, None, IsSome, IsSomeAnd, List, [], ◌∷◌, ◌++◌, length, map, take, slice_get, Contains, IsTrue}
 use Rattle.std.specs.List.{AllByRecursion, AllZip}
 use Rattle.escrow_num.specs.declared.refusal.Violation.{Violation}
 use Rattle.escrow_num.specs.declared.refusal.Refusal.{Refusal}
@@ -7,21 +7,15 @@ use Rattle.escrow_num.specs.declared.refusal.Refusal.TheVariants as refusal
 use Rattle.escrow_num.specs.declared.reservation.Reservation.{Reservation}
 use Rattle.escrow_num.specs.declared.reservation.Savepoint.{Savepoint}
 use Rattle.escrow_num.specs.declared.row.Row.{Row}
-use Rattle.escrow_num.specs.declared.value.RowName.{RowName}
-use Rattle.escrow_num.specs.declared.value.Value.{Value}
 use Rattle.escrow_num.specs.declared.session.End.{End}
-use Rattle.escrow_num.specs.Ascending.{IsAscending}
 use Rattle.escrow_num.specs.Refusal.{first_refusal}
 use Rattle.escrow_num.specs.Reservation.{deltas}
 use Rattle.escrow_num.specs.Session.{IsSession}
 use Rattle.escrow_num.specs.Span.{Holds}
 use Rattle.escrow_statement.specs.declared.statement.Statement.{Statement}
 use Rattle.escrow_statement.specs.declared.statement.Statement.TheVariants as statement
-use Rattle.escrow_statement.specs.declared.statement.AlterText.{AlterText}
 use Rattle.escrow_statement.specs.declared.statement.UpdateText.{UpdateText}
 use Rattle.escrow_statement.specs.declared.statement.RowText.{RowText}
-use Rattle.escrow_statement.specs.declared.statement.SelectText.{SelectText}
-use Rattle.escrow_statement.specs.declared.statement.WhereText.{WhereText}
 use Rattle.escrow_checks.specs.declared.check.Check.{Check}
 use Rattle.escrow_checks.specs.Condition.{amount_of}
 use Rattle.escrow_checks.specs.Extremes.{least, greatest}
@@ -38,27 +32,23 @@ use Rattle.escrow_schema.specs.Catalog.{table_named, with_table, without_table}
 use Rattle.escrow_schema.specs.Column.{names_of, reservables, scale_of}
 use Rattle.escrow_schema.specs.Definition.{definition_of}
 use Rattle.escrow_schema.specs.Fit.{FitColumns, values_of}
-use Rattle.escrow_schema.specs.Plan.{key_in}
-use Rattle.escrow_schema.specs.Print.{canonical, declared_checks}
+use Rattle.escrow_schema.specs.Print.{declared_checks}
 use Rattle.escrow_machine.specs.declared.event.Event.{Event}
 use Rattle.escrow_machine.specs.declared.event.Event.TheVariants as event
-use Rattle.escrow_machine.specs.declared.reply.JournalEntry.{JournalEntry}
 use Rattle.escrow_machine.specs.declared.reply.CheckBounds.{CheckBounds}
 use Rattle.escrow_machine.specs.declared.reply.ColumnBounds.{ColumnBounds}
-use Rattle.escrow_machine.specs.declared.reply.Heading.{Heading}
 use Rattle.escrow_machine.specs.declared.reply.Reply.{Reply}
 use Rattle.escrow_machine.specs.declared.reply.Reply.TheVariants as reply
 use Rattle.escrow_machine.specs.Event.{HasSession}
 use Rattle.escrow_machine.specs.Reply.{failure_of, holds_memory, is_refused}
 use Rattle.escrow_journal.specs.Reservations.{own, others, own_savepoints}
-use Rattle.escrow_journal.specs.Savepoints.{savepoint_of, without_savepoint}
+use Rattle.escrow_journal.specs.Savepoints.{savepoint_of}
 use Rattle.escrow_machine.specs.Held.{passes, Waiting, IsHeldRun, Outcome, events_of, answers_by, ended_by}
-use Rattle.escrow_machine.specs.Journal.{entry_of}
 use Rattle.escrow_machine.specs.Altered.{table_altered}
-use Rattle.escrow_machine.specs.Asked.{new_row, plan_of, row_name, named_by, reservation_of, heading_of}
+use Rattle.escrow_machine.specs.Asked.{new_row, plan_of, row_name, named_by, reservation_of}
 use Rattle.escrow_machine.specs.Settle.{end_of, settled, after_end, after_ends}
 use Rattle.escrow_machine.specs.State.{State, empty, opened}
-use Rattle.escrow_schema.specs.Rows.{row_named, rows_of, changes_to, row_after, applied, with_row, without_row, without_rows_of, with_plain, MeetsChecks, row_before}
+use Rattle.escrow_schema.specs.Rows.{row_named, changes_to, row_after, applied, with_row, without_row, without_rows_of, with_plain, MeetsChecks}
 use Rattle.escrow_machine.specs.Step.{step, StepOrRefusal, IsRun}
 use Rattle.escrow_machine.specs.Transition.{transition_of}
 use Rattle.escrow_machine.specs.Valid.{IsValid}
@@ -112,10 +102,6 @@ EarlyRefusalsStand = (s : State) (session : ℕ) (asked : Statement) (answer : R
 abbrev pub CommitIsNeverRefused : Type 0
 CommitIsNeverRefused = (s : State) (session : ℕ) → (step s session statement.Commit).0 ≡ reply.Committed (length (own session s.reservations))
 
--- the reply to ROLLBACK is too
-abbrev pub RollbackIsNeverRefused : Type 0
-RollbackIsNeverRefused = (s : State) (session : ℕ) → (step s session statement.Rollback).0 ≡ reply.RolledBack (length (own session s.reservations))
-
 -- WHAT A STATEMENT CHANGES
 
 -- a query of what is committed
@@ -162,11 +148,6 @@ pub record SeesCommitsAlone (s : State) (session : ℕ) (asked : Statement) (ans
 abbrev pub QueriesSeeCommitsAlone : Type 0
 QueriesSeeCommitsAlone = (s : State) (session : ℕ) (asked : Statement) → let after = step s session asked in SeesCommitsAlone s session asked after.0 after.1
 
--- a reservation takes the next id, and the next id rises by one
-abbrev pub ReservedTakesTheNextId : Type 0
-ReservedTakesTheNextId = (s : State) (session : ℕ) (asked : Statement) (id : ℕ)
-    → (step s session asked).0 ≡ reply.Reserved id → (id ≡ s.next_id) × ((step s session asked).1.next_id ≡ s.next_id + 1)
-
 -- no step lowers the next id
 abbrev pub IdsNeverFall : Type 0
 IdsNeverFall = (s : State) (session : ℕ) (asked : Statement) → s.next_id ≤ (step s session asked).1.next_id
@@ -195,41 +176,6 @@ pub record AreIdsInOrder (s : State) : Type 0 where
 abbrev pub IdsTellTheOrder : Type 0
 IdsTellTheOrder = (s : State) → IsValid s → AreIdsInOrder s
 
--- an accepted DROP TABLE removes only the table and its rows; everything else stays
-abbrev pub DropsOneTable : Type 0
-DropsOneTable = (s : State) (session : ℕ) (name : List ℕ) → let after = step s session (statement.Drop name) in after.0 ≡ reply.Dropped name
-    → (after.1 ≡ record s { catalog = after.1.catalog; rows = after.1.rows })
-    × (table_named after.1.catalog name ≡ None) × (rows_of after.1.rows name ≡ [])
-    × ((other : List ℕ) → ¬ (other ≡ name)
-    → (table_named after.1.catalog other ≡ table_named s.catalog other) × (rows_of after.1.rows other ≡ rows_of s.rows other))
-
--- an accepted ALTER TABLE changes only the checks of the table that it names; everything else stays
-abbrev pub AltersOneTable : Type 0
-AltersOneTable = (s : State) (session : ℕ) (text : AlterText) → let after = step s session (statement.Alter text) in after.0 ≡ reply.Altered text.table
-    → (after.1 ≡ record s { catalog = after.1.catalog })
-    × ((old new : TableDef) × (table_named s.catalog text.table ≡ Some old) × (table_named after.1.catalog text.table ≡ Some new)
-    × (new ≡ record old { checks = new.checks }))
-    × ((other : List ℕ) → ¬ (other ≡ text.table) → table_named after.1.catalog other ≡ table_named s.catalog other)
-
--- an accepted DELETE removes only the row that it names
-abbrev pub DeletesOneRow : Type 0
-DeletesOneRow = (s : State) (session : ℕ) (text : RowText) → let after = step s session (statement.Delete text) in after.0 ≡ reply.Deleted
-    → (after.1 ≡ record s { rows = after.1.rows })
-    × IsSome (row_named s.rows (named_by s.catalog text.table text.row)) × (row_named after.1.rows (named_by s.catalog text.table text.row) ≡ None)
-    × ((other : RowName) → ¬ (other ≡ named_by s.catalog text.table text.row) → row_named after.1.rows other ≡ row_named s.rows other)
-
--- the names and the amounts of rows, in order
-abbrev pub names_and_amounts : List Row → List (RowName × List ℤ)
-names_and_amounts rows = map (λ row. (row.name, row.amounts)) rows
-
--- an accepted UPDATE of plain values changes only plain values of the row that it names: no key, no amount, and no
--- reservation
-abbrev pub PlainUpdatesKeepAmounts : Type 0
-PlainUpdatesKeepAmounts = (s : State) (session : ℕ) (text : UpdateText) → let after = step s session (statement.Update text) in after.0 ≡ reply.Updated
-    → (after.1 ≡ record s { rows = after.1.rows })
-    × (names_and_amounts after.1.rows ≡ names_and_amounts s.rows)
-    × ((other : RowName) → ¬ (other ≡ named_by s.catalog text.table text.row) → row_named after.1.rows other ≡ row_named s.rows other)
-
 -- after a step from a valid state, the row of each open reservation exists, and so does its table
 abbrev pub ReservationsKeepRows : Type 0
 ReservationsKeepRows = (s : State) (session : ℕ) (asked : Statement) → IsValid s → IsSession session
@@ -237,108 +183,12 @@ ReservationsKeepRows = (s : State) (session : ℕ) (asked : Statement) → IsVal
 
 -- WHAT A QUERY SHOWS
 
--- a row of a table is the one that a WHERE, if there is one, names by its key: the literal's value in the key's column
-abbrev pub IsKeyed : TableDef → Option WhereText → Row → Type 0
-IsKeyed table None row = Unit {0}
-IsKeyed table (Some where_text) row = key_in table where_text.literal ≡ Some row.name.key
-
--- a SELECT shows the headings of its table's columns, each with name and scale. In order of key, it shows the values of
--- exactly these committed rows: those of its table, and with a WHERE the one of its key
-pub record IsSelected (s : State) (text : SelectText) (headings : List Heading) (values : List (List Value)) : Type 0 where
-  pub table : TableDef
-  pub named : table_named s.catalog text.table ≡ Some table
-  pub columns : headings ≡ map heading_of table.columns
-  pub rows : List Row
-  pub shown : values ≡ map (values_of table) rows
-  pub each : (row : Row) → Contains rows row ↔ (Contains s.rows row × (row.name.table ≡ text.table) × IsKeyed table text.row row)
-  pub order : IsAscending row_before s.rows → IsAscending row_before rows
-
--- a SELECT shows this, and changes nothing
-abbrev pub SelectsShowRows : Type 0
-SelectsShowRows = (s : State) (session : ℕ) (text : SelectText) (headings : List Heading) (values : List (List Value))
-    → let after = step s session (statement.Select text) in after.0 ≡ reply.Rows headings values → IsSelected s text headings values × (after.1 ≡ s)
-
--- a SHOW TABLE shows its table's text, and changes nothing
-abbrev pub ShowsTheTable : Type 0
-ShowsTheTable = (s : State) (session : ℕ) (name shown : List ℕ)
-    → let after = step s session (statement.ShowTable name) in after.0 ≡ reply.Table shown
-    → ((table : TableDef) × (table_named s.catalog name ≡ Some table) × (shown ≡ canonical table)) × (after.1 ≡ s)
-
--- the reply to a query is the same whichever reservations and savepoints are open, and whoever asks
-abbrev pub QueriesIgnoreWhatIsOpen : Type 0
-QueriesIgnoreWhatIsOpen = (s : State) (session other : ℕ) (asked : Statement) (reservations : List Reservation) (savepoints : List Savepoint) → IsQuery asked
-    → (step (record s { reservations = reservations; savepoints = savepoints }) other asked).0 ≡ (step s session asked).0
-
--- whether a statement shows something
-abbrev pub Shows : Statement → Type 0
-Shows (statement.Select text) = Unit {0}
-Shows (statement.ShowTable name) = Unit {0}
-Shows (statement.ShowJournal table) = Unit {0}
-Shows (statement.ShowBounds text) = Unit {0}
-Shows _ = ⊥
-
--- such a statement changes nothing, and its reply is the same whoever asks
-abbrev pub QueriesIgnoreWhoAsks : Type 0
-QueriesIgnoreWhoAsks = (s : State) (session other : ℕ) (asked : Statement) → Shows asked
-    → ((step s session asked).1 ≡ s) × ((step s other asked).0 ≡ (step s session asked).0)
-
 -- a step whose reply holds memory, as the lists and the text in the replies to queries do, leaves the state equal
 abbrev pub ShownStays : Type 0
 ShownStays = (s : State) (session : ℕ) (asked : Statement) (answer : Reply) (new : State)
     → StepOrRefusal s session asked answer new → IsTrue (holds_memory answer) → new ≡ s
 
--- a reservation is of a row of a table, if one is named
-abbrev pub IsOfTable : Option (List ℕ) → Reservation → Type 0
-IsOfTable None r = Unit {0}
-IsOfTable (Some table) r = r.row.table ≡ table
-
--- entries are in order of id, and no two have the same id
-abbrev pub entry_before : JournalEntry → JournalEntry → Bool
-entry_before a b = nat_lt a.id b.id
-
--- a SHOW JOURNAL shows exactly the open reservations of all sessions, or those of the rows of its table, in order of id
-pub record IsJournal (s : State) (table : Option (List ℕ)) (entries : List JournalEntry) : Type 0 where
-  pub reservations : List Reservation
-  pub shown : entries ≡ map (entry_of s.catalog) reservations
-  pub each : (r : Reservation) → Contains reservations r ↔ (Contains s.reservations r × IsOfTable table r)
-  pub order : IsValid s → IsAscending entry_before entries
-
--- a SHOW JOURNAL shows this, and changes nothing
-abbrev pub ShowsTheJournal : Type 0
-ShowsTheJournal = (s : State) (session : ℕ) (table : Option (List ℕ)) (entries : List JournalEntry)
-    → let after = step s session (statement.ShowJournal table) in after.0 ≡ reply.Journal entries → IsJournal s table entries × (after.1 ≡ s)
-
 -- SAVEPOINTS
-
--- an accepted SAVEPOINT makes the last of its session's savepoints, in place of an earlier one of its name, with the id
--- that the next reservation takes; the savepoints of the other sessions stay, and so does everything else
-abbrev pub SavepointsStandAsMade : Type 0
-SavepointsStandAsMade = (s : State) (session : ℕ) (name : List ℕ) → IsValid s
-    → let after = step s session (statement.Savepoint name) in after.0 ≡ reply.Savepoint name
-    → (after.1 ≡ record s { savepoints = after.1.savepoints })
-    × (own_savepoints session after.1.savepoints
-    ≡ without_savepoint session name (own_savepoints session s.savepoints) ++ (record { session = session; name = name; id = s.next_id }) ∷ [])
-    × ((other : ℕ) → ¬ (other ≡ session) → own_savepoints other after.1.savepoints ≡ own_savepoints other s.savepoints)
-
--- what a ROLLBACK TO leaves: of its session's savepoints, those up to the one that it names; of the open reservations,
--- all but those of its session with that one's id or a greater one, which came after it. Its reply says how many these
--- are. The savepoints of the other sessions stay, and so does everything else
-pub record IsBack (s : State) (session : ℕ) (name : List ℕ) (count : ℕ) (new : State) : Type 0 where
-  pub front : List Savepoint
-  pub named : Savepoint
-  pub later : List Savepoint
-  pub is_named : named.name ≡ name
-  pub stood : own_savepoints session s.savepoints ≡ front ++ named ∷ later
-  pub stand : own_savepoints session new.savepoints ≡ front ++ named ∷ []
-  pub other_savepoints : (other : ℕ) → ¬ (other ≡ session) → own_savepoints other new.savepoints ≡ own_savepoints other s.savepoints
-  pub left : (r : Reservation) → Contains new.reservations r ↔ (Contains s.reservations r × (¬ ((r.session ≡ session) × (named.id ≤ r.id))))
-  pub told : length new.reservations + count ≡ length s.reservations
-  pub else_stays : new ≡ record s { reservations = new.reservations; savepoints = new.savepoints }
-
--- a ROLLBACK TO leaves this
-abbrev pub BackDropsWhatCameAfter : Type 0
-BackDropsWhatCameAfter = (s : State) (session : ℕ) (name : List ℕ) (count : ℕ)
-    → let after = step s session (statement.RollbackTo name) in after.0 ≡ reply.RolledBackTo name count → IsBack s session name count after.1
 
 -- going back to a savepoint right after it was made drops nothing: the state stays as it was then, and making the
 -- savepoint changed only savepoints

@@ -1,7 +1,7 @@
 ghost use Rattle.std.specs.Prelude.{◌≡◌, ◌↔◌, IsTrue};
 
 use crate::reply::{CheckBounds, ColumnBounds, ColumnChange, Heading, JournalEntry};
-use escrow_num::{Copied, Span, are_same, copy_all};
+use escrow_num::{Copied, Refusal, Span, Violation, are_same, copy_all};
 use std::alloc::{AllocError, Global};
 
 impl Copied for Heading {
@@ -10,7 +10,7 @@ impl Copied for Heading {
     }
 
     fn is_same(&self, other: &Heading) -> bool {
-        self.name == other.name && self.scale == other.scale
+        *self == *other
     }
 }
 
@@ -20,11 +20,7 @@ impl Copied for ColumnBounds {
     }
 
     fn is_same(&self, other: &ColumnBounds) -> bool {
-        self.column == other.column
-            && self.scale == other.scale
-            && self.value == other.value
-            && self.inf == other.inf
-            && self.sup == other.sup
+        *self == *other
     }
 }
 
@@ -48,7 +44,7 @@ impl Copied for ColumnChange {
     }
 
     fn is_same(&self, other: &ColumnChange) -> bool {
-        self.column == other.column && self.scale == other.scale && self.change == other.change
+        *self == *other
     }
 }
 
@@ -77,4 +73,29 @@ fn same_limits(limits: &Span, others: &Span) -> bool
     ensures { IsTrue result ↔ (limits.now ≡ others.now) }
 {
     *limits == *others
+}
+
+/// Returns whether two refusals are equal: in number, and in the column or the violation if they
+/// have one.
+pub(crate) fn are_same_refusals(refusal: &Refusal, other: &Refusal) -> bool
+    ensures { IsTrue result ↔ (refusal.now ≡ other.now) }
+{
+    match (refusal, other) {
+        (Refusal::Syntax { column: a }, Refusal::Syntax { column: b }) => *a == *b,
+        (Refusal::Check(a), Refusal::Check(b)) => are_same_violations(a, b),
+        (Refusal::Syntax { .. } | Refusal::Check(_), _) => false,
+        (_, Refusal::Syntax { .. } | Refusal::Check(_)) => false,
+        _ => refusal.number() == other.number(),
+    }
+}
+
+/// Returns whether two violations are equal: in check, side, worst value, limit and scale.
+fn are_same_violations(violation: &Violation, other: &Violation) -> bool
+    ensures { IsTrue result ↔ (violation.now ≡ other.now) }
+{
+    violation.check == other.check
+        && violation.side == other.side
+        && violation.worst == other.worst
+        && violation.limit == other.limit
+        && violation.scale == other.scale
 }

@@ -1,7 +1,7 @@
 //! Laws of the machine. Each is the contract of a function that does nothing. They state for its
 //! steps what O'Neil's escrow method (1986) promises of transactions.
 
-ghost use Rattle.escrow_machine.specs.Laws.{StepKeepsValid, RunKeepsValid, CommittedRowsMeetChecks, CommittedValuesFit, EveryRunIsSafe, RefusedChangesNothing, MachineNeverFails, EarlyRefusalsStand, CommitIsNeverRefused, RollbackIsNeverRefused, QueriesSeeCommitsAlone, ReservedTakesTheNextId, IdsNeverFall, IdsAreUsedOnce, IdsTellTheOrder, TransactionsCommute, AnyOrderOfEnds, SettledIsTheRun, SettledStaysValid, SettledInAnyOrder, PassesCommits, HeldCommitsMayComeLast, DropsOneTable, AltersOneTable, DeletesOneRow, PlainUpdatesKeepAmounts, ReservationsKeepRows, SelectsShowRows, ShowsTheTable, QueriesIgnoreWhatIsOpen, QueriesIgnoreWhoAsks, ShownStays, ShowsTheJournal, BoundsAreReached, SavepointsStandAsMade, BackDropsWhatCameAfter, BackAtOnceChangesNothing, BackLeavesWhatWas, BackRefusesNothing, GrantedInEveryChoice, OwnIncrementNotSpent, RefusedByAChoice, BoundsDecideGrants};
+ghost use Rattle.escrow_machine.specs.Laws.{StepKeepsValid, RunKeepsValid, CommittedRowsMeetChecks, CommittedValuesFit, EveryRunIsSafe, RefusedChangesNothing, MachineNeverFails, EarlyRefusalsStand, CommitIsNeverRefused, QueriesSeeCommitsAlone, IdsNeverFall, IdsAreUsedOnce, IdsTellTheOrder, TransactionsCommute, AnyOrderOfEnds, SettledIsTheRun, SettledStaysValid, SettledInAnyOrder, PassesCommits, HeldCommitsMayComeLast, ReservationsKeepRows, ShownStays, BoundsAreReached, BackAtOnceChangesNothing, BackLeavesWhatWas, BackRefusesNothing, GrantedInEveryChoice, OwnIncrementNotSpent, RefusedByAChoice, BoundsDecideGrants};
 
 /// Whatever a session asks in a valid state, the state after it is valid: whichever of the open
 /// reservations are applied, each row meets each check of its table.
@@ -41,21 +41,11 @@ pub fn commit_is_never_refused()
     ensures { CommitIsNeverRefused }
 {}
 
-/// ROLLBACK is never refused. Its reply says how many reservations were dropped.
-pub fn rollback_is_never_refused()
-    ensures { RollbackIsNeverRefused }
-{}
-
 /// A query shows what was committed. A reservation shows in no row, not even to its own session,
 /// until its COMMIT adds its changes; a ROLLBACK leaves no trace of it. INSERT, DELETE, CREATE,
 /// ALTER and DROP TABLE, and UPDATE of plain values commit their changes at once.
 pub fn queries_see_commits_alone()
     ensures { QueriesSeeCommitsAlone }
-{}
-
-/// A reservation takes the next id, and the next id rises by one.
-pub fn reserved_takes_the_next_id()
-    ensures { ReservedTakesTheNextId }
 {}
 
 /// No statement lowers the next id.
@@ -75,54 +65,9 @@ pub fn ids_tell_the_order()
     ensures { IdsTellTheOrder }
 {}
 
-/// DROP TABLE removes only the table and its rows.
-pub fn drops_one_table()
-    ensures { DropsOneTable }
-{}
-
-/// ALTER TABLE changes only the checks of the table that it names, whatever is open.
-pub fn alters_one_table()
-    ensures { AltersOneTable }
-{}
-
-/// DELETE removes only the row that it names.
-pub fn deletes_one_row()
-    ensures { DeletesOneRow }
-{}
-
-/// UPDATE of plain values changes only plain values of the row that it names: no key, no amount,
-/// and no reservation.
-pub fn plain_updates_keep_amounts()
-    ensures { PlainUpdatesKeepAmounts }
-{}
-
 /// No open reservation loses its row or its table.
 pub fn reservations_keep_rows()
     ensures { ReservationsKeepRows }
-{}
-
-/// A SELECT shows the committed rows of its table, and with a WHERE only the row of its key. It
-/// shows each of them and no others, in order of key, under the name and the scale of each column.
-/// It changes nothing.
-pub fn selects_show_rows()
-    ensures { SelectsShowRows }
-{}
-
-/// SHOW TABLE shows the text that defines its table. It changes nothing.
-pub fn shows_the_table()
-    ensures { ShowsTheTable }
-{}
-
-/// The reply to a SELECT or a SHOW TABLE is the same whatever is open, and whoever asks. No
-/// reservation shows in it, not even to the session that holds it.
-pub fn queries_ignore_what_is_open()
-    ensures { QueriesIgnoreWhatIsOpen }
-{}
-
-/// A statement that shows something changes nothing, and its reply is the same whoever asks. This
-/// includes SHOW JOURNAL and SHOW BOUNDS, which show what is open in all sessions.
-pub fn queries_ignore_who_asks()
-    ensures { QueriesIgnoreWhoAsks }
 {}
 
 /// If a reply holds memory, the state is unchanged. So a statement that changes something has a
@@ -137,25 +82,6 @@ pub fn shown_stays()
 /// shown with it.
 pub fn bounds_are_reached()
     ensures { BoundsAreReached }
-{}
-
-/// SHOW JOURNAL shows exactly the open reservations of all sessions, or those of the rows of its
-/// table, in order of id. It changes nothing.
-pub fn shows_the_journal()
-    ensures { ShowsTheJournal }
-{}
-
-/// A savepoint comes after all others of its session, in place of an earlier one of its name, and
-/// has the id that the next reservation takes. Nothing else changes.
-pub fn savepoints_stand_as_made()
-    ensures { SavepointsStandAsMade }
-{}
-
-/// ROLLBACK TO drops exactly the reservations of its session that came after the savepoint, whose
-/// ids aren't below its own, and the savepoints that its session made after it. Its reply says how
-/// many reservations these are. Nothing else changes.
-pub fn back_drops_what_came_after()
-    ensures { BackDropsWhatCameAfter }
 {}
 
 /// Going back to a savepoint right after it was made drops nothing: the state stays as it is.

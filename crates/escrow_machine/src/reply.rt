@@ -1,5 +1,6 @@
 ghost use Rattle.std.specs.Prelude.{◌≡◌, ◌↔◌, IfOk, IsOk, IsTrue, false};
 
+use crate::copies::are_same_refusals;
 use escrow_num::{
     Amount, Failure, Name, Refusal, RowName, Scale, Seq, Session, Span, Text, Value, Wide,
     are_same, copy_all,
@@ -68,7 +69,7 @@ pub enum Reply {
 }
 
 /// The heading over the values of a column that is shown.
-#[derive(Clone, Copy, Debug)]
+#[derive(Clone, Copy, Debug, PartialEq, Eq)]
 pub struct Heading {
     /// The column's name.
     pub name: Name,
@@ -94,7 +95,7 @@ pub struct JournalEntry {
 }
 
 /// The change of a RESERVABLE column, which may be zero.
-#[derive(Clone, Copy, Debug)]
+#[derive(Clone, Copy, Debug, PartialEq, Eq)]
 pub struct ColumnChange {
     /// The column's name.
     pub column: Name,
@@ -106,7 +107,7 @@ pub struct ColumnChange {
 
 /// The bounds of a RESERVABLE column of a row: O'Neil's `inf` and `sup` (1986). The amounts are in
 /// units of its scale.
-#[derive(Clone, Copy, Debug)]
+#[derive(Clone, Copy, Debug, PartialEq, Eq)]
 pub struct ColumnBounds {
     /// The column's name.
     pub column: Name,
@@ -199,7 +200,7 @@ impl Reply {
         ensures { IsTrue result ↔ (self.now ≡ other.now) }
     {
         match (self, other) {
-            (Reply::Refused(a), Reply::Refused(b)) => a.is_same(b),
+            (Reply::Refused(a), Reply::Refused(b)) => are_same_refusals(a, b),
             (Reply::Created(a), Reply::Created(b)) => *a == *b,
             (Reply::Dropped(a), Reply::Dropped(b)) => *a == *b,
             (Reply::Altered(a), Reply::Altered(b)) => *a == *b,
@@ -217,7 +218,7 @@ impl Reply {
                     rows: y,
                 },
             ) => are_same(a.as_slice(), b.as_slice()) && are_same(x.as_slice(), y.as_slice()),
-            (Reply::Table(a), Reply::Table(b)) => a.is_same(b),
+            (Reply::Table(a), Reply::Table(b)) => *a == *b,
             (
                 Reply::Bounds {
                     columns: a,

@@ -13,11 +13,11 @@ use Rattle.escrow_transcript.proofs.Numbers.{numbered_join, numbered_more, numbe
 use Rattle.escrow_transcript.proofs.Runs.{steps_run, events_of_sessions, steps_same}
 use Rattle.escrow_transcript.proofs.Steps.{steps_join, steps_more, steps_part}
 
--- a list without an item
+-- a list without an item is empty
 none_in : {A : Type 0} (xs : List A) → nat_lt 0 (length xs) ≡ false → xs ≡ []
 none_in {A} xs none = nil_from_length xs (omega (arith, ltb-false 0 (length xs) none))
 
--- where nothing is open the image is all
+-- if nothing is open, the image is the whole state
 pub started_image : (s : State) → has_open s ≡ false → started (image_of s) ≡ s
 started_image s closed =
     let none = or_parts (nat_lt 0 (length s.reservations)) (nat_lt 0 (length s.savepoints)) closed in

@@ -1,4 +1,4 @@
--- A transcript as a run of the machine, and what the calls tell of it.
+-- A transcript as a run of the machine, and what calls and replies say about it.
 use Rattle.std.specs.Prelude.{◌≡◌, ℕ, ◌+◌, Option, None, MatchOption, IsTrue, List, [], ◌∷◌, map}
 use Rattle.std.specs.List.{AllByRecursion}
 use Rattle.std.proofs.Common.{refl, sym, ap, ap₂, subst, ◌∙◌}
@@ -14,19 +14,19 @@ use Rattle.escrow_transcript.specs.declared.entry.Entry.{Entry}
 use Rattle.escrow_transcript.specs.Laws.{event_of, call_of}
 use Rattle.escrow_transcript.specs.Legal.{AreSteps, AreNumbered}
 
--- a step is what a database may do
+-- a database may serve a step of the machine
 step_serves : (s : State) (e : Entry) (mid : State) → failure_of e.reply ≡ None → IsStep s e.session e.statement e.reply mid
     → StepOrRefusal s e.session e.statement e.reply mid
 step_serves s e mid succeeds done =
     subst (λ (o : Option Failure). MatchOption o (IsStep s e.session e.statement e.reply mid) (λ f. IsTrue (may_fail s e.session e.statement f) × (mid ≡ s)))
     (sym succeeds) done
 
--- so steps are a run
+-- a list of steps is a run
 pub steps_run : (s t : State) (entries : List Entry) → AreSteps s entries t → IsRun s (map event_of entries) (map (λ e. e.reply) entries) t
 steps_run s t [] steps = sym steps
 steps_run s t (e ∷ es) steps = (steps.1.0, step_serves s e steps.1.0 steps.0 steps.1.1.0, steps_run steps.1.0 t es steps.1.1.1)
 
--- of sessions
+-- the events of the run have sessions
 pub events_of_sessions : (entries : List Entry) → AllByRecursion (λ e. IsSession e.session) entries → AllByRecursion HasSession (map event_of entries)
 events_of_sessions [] sessions = tt
 events_of_sessions (e ∷ es) sessions = (sessions.0, events_of_sessions es sessions.1)
@@ -39,7 +39,7 @@ entry_same a b number session statement reply =
     (subst (λ (t : Statement). a ≡ record { number = a.number; session = a.session; statement = t; reply = b.reply }) statement
     (subst (λ (r : Reply). a ≡ record { number = a.number; session = a.session; statement = a.statement; reply = r }) reply refl)))
 
--- equal calls have equal replies, and lead to equal states
+-- equal calls have equal replies and lead to equal states
 record IsSameStep (a b : Entry) (s t : State) : Type 0 where
   entries : a ≡ b
   states : s ≡ t
@@ -55,7 +55,7 @@ step_same s a b t u number call first second =
       states = ap (λ (p : Reply × State). p.1) same;
     }
 
--- so do equal lists of calls
+-- equal lists of calls do so too
 pub steps_same : (s t u : State) (before : ℕ) (entries others : List Entry) → AreSteps s entries t → AreNumbered before entries
     → AreSteps s others u → AreNumbered before others → map call_of entries ≡ map call_of others → (entries ≡ others) × (t ≡ u)
 steps_same s t u before [] [] first numbered second renumbered calls = (refl, sym first ∙ second)

@@ -1,5 +1,0 @@
-use Rattle.escrow_machine.proofs.LawsShown.{shows_the_journal}
-use Rattle.escrow_machine.proofs.laws.shows_the_journal.Goals as goal
-
-pub returns : goal.returns
-returns c = shows_the_journal
