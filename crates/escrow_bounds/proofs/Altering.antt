@@ -1,4 +1,4 @@
--- Places of a table whose checks are altered.
+-- The places of a table whose checks ALTER TABLE changes.
 use Rattle.std.specs.Prelude.{ℤ, Bool, true, false, Option, Some, None, option_map, option_to_list, List, [], ◌∷◌, ◌++◌, length, map, take, drop, remove, slice_get, bytes_eq}
 use Rattle.std.specs.List.{AllByRecursion}
 use Rattle.std.proofs.Common.{◌≡◌, ◌∙◌, ℕ, zero, suc, ◌<◌, ◌≤◌, cond, refl, sym, ap, subst, set, ◌+◌, arith}
@@ -25,7 +25,7 @@ use Rattle.escrow_bounds.proofs.Forms.{values_at}
 use Rattle.escrow_bounds.proofs.LawLemmas.{split, each_row, other_way}
 use Rattle.escrow_bounds.proofs.Steps.{AllStepped, Stepped, stepped_more}
 
--- ---- lists without an item, and some of their items
+-- ---- lists with an item removed, and parts of lists
 
 pub all_without : {X : Type 0} (P : X → Type 0) (xs : List X) (i : ℕ) → AllByRecursion P xs → AllByRecursion P (remove xs i)
 all_without P [] zero all = tt
@@ -49,9 +49,9 @@ all_dropped P zero xs all = all
 all_dropped P (suc n) [] all = tt
 all_dropped P (suc n) (x ∷ xs) all = all_dropped P n xs all.1
 
--- ---- some of a place's checks
+-- ---- consecutive forms of a place
 
--- the forms of some checks that stand one behind another
+-- `count` consecutive forms, from the index `first` on
 abbrev pub some_of : List Tracked → ℕ → ℕ → List Tracked
 some_of forms first count = take count (drop first forms)
 
@@ -64,7 +64,7 @@ some_covered forms amounts first count all =
     let P : Check → Type 0 = λ check. IsCovered check.coeffs amounts in
     subst (λ (checks : List Check). AllByRecursion P checks) (sym (some_checks forms first count)) (all_taken P count (drop first (checks_of forms)) (all_dropped P first (checks_of forms) all))
 
--- the values of some of the forms are some of the values
+-- the values of these forms are the same part of the values
 pub some_values : (forms : List Tracked) (amounts values : List ℤ) (first count : ℕ) → values ≡ values_at amounts (checks_of forms)
     → take count (drop first values) ≡ values_at amounts (checks_of (some_of forms first count))
 some_values forms amounts values first count are = ap (λ (vs : List ℤ). take count (drop first vs)) are ∙ simp (drop-map, take-map) refl
@@ -74,7 +74,7 @@ some_sums forms reservations first count sums =
     let P : Tracked → Type 0 = λ form. IsSpread form.check.coeffs reservations form.spread in
     all_taken P count (drop first forms) (all_dropped P first forms sums)
 
--- ---- a place without one of its checks
+-- ---- a place with one check removed
 
 without_counts : (index : ℕ) (old new : Place) → new.count ≡ old.count → new.checks ≡ remove old.checks index → new.columns ≡ old.columns → (reservations : List (List ℤ)) → Counts old reservations → Counts new reservations
 without_counts index old new count checks columns reservations known = (
@@ -83,7 +83,7 @@ without_counts index old new count checks columns reservations known = (
   subst (λ (forms : List Tracked). HaveSums forms reservations) (sym columns) known.2,
 )
 
--- the values of the forms that are left are those that are left
+-- removing a value gives the values of the remaining forms
 pub values_without : (forms : List Tracked) (amounts values : List ℤ) (index : ℕ) → values ≡ values_at amounts (checks_of forms)
     → remove values index ≡ values_at amounts (checks_of (remove forms index))
 values_without forms amounts values index are =
@@ -110,12 +110,12 @@ place_without index old new place amounts count checks columns =
 
 -- ---- the places of a table, one after another
 
--- an entry's place has lost the check at an index, where its row is of a table, and else it stays
+-- if the entry's row is of the table, its place has lost the check at `index`; otherwise it is unchanged
 abbrev pub EntryStep : List ℕ → ℕ → RowName × Place → RowName × Place → Type 0
 EntryStep table index old new =
     (new.0 ≡ old.0) × (bytes_eq old.0.table table ≡ true → IsWithout index old.1 new.1) × (bytes_eq old.0.table table ≡ false → new.1 ≡ old.1)
 
--- a value that is written at a place of a map
+-- writing a value at an index of a map replaces the value of that entry
 put_at : (places : Bounds) (i : ℕ) (row : RowName) (old new : Place) → slice_get places i ≡ Some (row, old) → set_value_at places i new ≡ set places i (row, new)
 put_at [] i row old new at = absurd (cc)
 put_at (entry ∷ places) zero row old new at =
@@ -163,16 +163,16 @@ stepped_others table index row apart (x ∷ xs) (y ∷ ys) all =
     (λ same. all.0.2 (ap (λ (key : RowName). bytes_eq key.table table) (sym (row_same row x.0 same)) ∙ apart))
     (stepped_others table index row apart xs ys all.1))
 
--- all entries have been gone through
+-- if each entry takes its step, so does the whole table
 pub table_stepped : (table : List ℕ) (index : ℕ) (old new : Bounds) → AllStepped (EntryStep table index) old new → TableGoes table (λ row. IsWithout index) old new
 table_stepped table index old new all = record {
   own = λ row within. stepped_own table index row within old new all;
   others = λ row apart. stepped_others table index row apart old new all;
 }
 
--- ---- an addition's places, put one after another
+-- ---- putting an addition's places, one after another
 
--- a place, or the last one where there is none
+-- a place, or the last one if there is none
 abbrev or_last : Option Place → Option Place → Option Place
 or_last None last = last
 or_last (Some place) last = Some place
@@ -185,7 +185,7 @@ last_one : (is : Bool) (place : Place) (all some last : Option Place) → all �
 last_one true place all some last same = refl
 last_one false place all some last same = same
 
--- what is found where one more entry stands last
+-- what a lookup finds after one entry was appended
 found_last : (row : RowName) (places : Bounds) (last : RowName × Place) → place_at (places ++ last ∷ []) row ≡ or_last (place_at places row) (cond (same_row row last.0) (Some last.1) None)
 found_last row [] last = refl
 found_last row (entry ∷ places) last =
@@ -197,7 +197,7 @@ put_own place None (Some old) = refl
 put_own place (Some first) None = refl
 put_own place (Some first) (Some old) = refl
 
--- the last one is put, and the others are left
+-- the last place is put, and the others remain to be put
 pub adopted_next : (all left now mid : Bounds) (row : RowName) (place : Place) → all ≡ left ++ (row, place) ∷ []
     → place_at mid row ≡ option_map (λ (old : Place). place) (place_at now row) → OthersStay row now mid
     → (other : RowName) → adopted (place_at left other) (place_at mid other) ≡ adopted (place_at all other) (place_at now other)
@@ -218,11 +218,11 @@ adopted_next all left now mid row place is own others =
     there other apart = ap (λ (places : Bounds). place_at places other) is ∙ found_last other left (row, place)
         ∙ ap (λ (b : Bool). or_last (place_at left other) (cond b (Some place) None)) apart ∙ or_none (place_at left other)
 
--- the last one, as `pop` gives it
+-- the last entry, as `pop` returns it
 pub popped : (all left : Bounds) (last : Option (RowName × Place)) (row : RowName) (place : Place) → all ≡ left ++ option_to_list last → last ≡ Some (row, place) → all ≡ left ++ (row, place) ∷ []
 popped all left last row place ends is = ends ∙ ap (λ (o : Option (RowName × Place)). left ++ option_to_list o) is
 
--- ---- what is counted
+-- ---- what places count
 
 goes_counts : (Step : Place → Place → Type 0) (reservations : List (List ℤ)) (was after : Option Place) → ((old new : Place) → Step old new → Counts old reservations → Counts new reservations)
     → Goes Step was after → CountsJust was reservations → CountsJust after reservations

@@ -1,4 +1,4 @@
--- Where places count the open reservations, what is reserved is read off them.
+-- If places count the open reservations, they show which rows and tables are reserved.
 use Rattle.std.specs.Prelude.{ℕ, ℤ, ◌<◌, Bool, true, false, not, ◌||◌, nat_eq, Option, Some, None, IsSome, is_some, List, [], ◌∷◌, length, bytes_eq}
 use Rattle.std.specs.List.{list_any}
 use Rattle.std.specs.Map.{lookup, keys_of}
@@ -19,7 +19,7 @@ use Rattle.escrow_bounds.proofs.LawLemmas.{split, each_row, other_way}
 
 -- ---- tests of a list
 
--- what passes of a list
+-- if any item passes the test, one of the list does
 any_has : {X : Type 0} (test : X → Bool) (xs : List X) → list_any test xs ≡ true → (x : X) × Has xs x × (test x ≡ true)
 any_has test [] is = absurd (false≢true is)
 any_has {X} test (y ∷ ys) is =
@@ -45,7 +45,7 @@ row_either_way a b = split (same_row a b)
 
 -- ---- a row
 
--- there is one
+-- the list is not empty
 abbrev is_any : List (List ℤ) → Bool
 is_any [] = false
 is_any (changes ∷ reservations) = true
@@ -66,7 +66,7 @@ counting_any None reservations counts = sym (ap is_any counts)
 counting_any (Some place) [] counts = ap (λ (n : ℕ). not (nat_eq n 0)) counts.0
 counting_any (Some place) (changes ∷ reservations) counts = ap not (ap (λ (n : ℕ). nat_eq n 0) counts.0 ∙ eqb-suc-zero (length reservations))
 
--- a place counts a reservation exactly where one of its row is open
+-- a row's place counts a reservation exactly if the row has an open one
 pub counting_is : (places : Bounds) (held : List Reservation) (row : RowName) → CountsAll places held
     → is_counting (place_at places row) ≡ list_any (λ r. same_row r.row row) held
 counting_is places held row counts = counting_any (place_at places row) (of_row row held) (counts row) ∙ sym (any_of_row row held)
@@ -79,19 +79,19 @@ some_counting (Some kept) each = sym (positive kept.count (each kept refl))
     positive zero above = absurd (omega (arith, above))
     positive (suc n) above = ap not (eqb-suc-zero n)
 
--- where every place counts, a row has one exactly where one of its reservations is open
+-- if every place counts a reservation, a row has a place exactly if it has an open reservation
 pub placed_is : (places : Bounds) (held : List Reservation) (row : RowName) → AllCount places → CountsAll places held
     → is_some (place_at places row) ≡ list_any (λ r. same_row r.row row) held
 placed_is places held row all counts = some_counting (place_at places row) (all row) ∙ counting_is places held row counts
 
 -- ---- a table
 
--- the keys of a table are those of its entries
+-- a table has a row among the keys exactly if it has one among the entries
 pub any_key : (table : List ℕ) (places : Bounds) → list_any (λ row. bytes_eq row.table table) (keys_of places) ≡ list_any (λ p. bytes_eq p.0.table table) places
 any_key table [] = refl
 any_key table (p ∷ places) = ap (λ (b : Bool). bytes_eq p.0.table table || b) (any_key table places)
 
--- an entry's key finds some entry, and what is found is an entry that passes
+-- if an entry passes a test, a lookup finds one that passes
 entry_found : (test : RowName → Bool) (places : Bounds) (entry : RowName × Place) → Has places entry → test entry.0 ≡ true → is_some (lookup test places) ≡ true
 entry_found test [] entry has passes = absurd has
 entry_found test (first ∷ places) entry (inl is) passes =
@@ -107,7 +107,7 @@ found_entry test (first ∷ places) is =
     (λ passes _. (first, inl refl, passes))
     (λ _ found. let later = found_entry test places found in (later.0, inr later.1, later.2)) is
 
--- where every place counts, a row of a table has one exactly where one of its reservations is open
+-- if every place counts a reservation, a table has a place exactly if one of its rows has an open reservation
 pub table_placed_is : (places : Bounds) (held : List Reservation) (table : List ℕ) → AllCount places → CountsAll places held
     → list_any (λ p. bytes_eq p.0.table table) places ≡ list_any (λ r. bytes_eq r.row.table table) held
 table_placed_is places held table all counts = both_ways
@@ -125,17 +125,17 @@ table_placed_is places held table all counts = both_ways
     has_any (λ (p : RowName × Place). bytes_eq p.0.table table) places p.0 p.1
     (sym (ap (λ (row : RowName). bytes_eq row.table table) (row_same r.0.row p.0.0 p.2)) ∙ r.2))
 
--- ---- every place counts
+-- ---- every place counts a reservation
 
--- every place of another row counts a reservation
+-- the place of every other row counts a reservation
 abbrev pub OthersCount : RowName → Bounds → Type 0
 OthersCount row places = (other : RowName) (place : Place) → same_row row other ≡ false → place_at places other ≡ Some place → 0 < place.count
 
--- after `reserve` the places of other rows still do
+-- after `reserve`, the places of other rows still count a reservation
 pub reserve_counting : (old new : Bounds) (row : RowName) → AllCount old → OthersStay row old new → OthersCount row new
 reserve_counting old new row all others = λ other place apart at. all other place (sym (others other apart) ∙ at)
 
--- what counts a reservation has a number above 0
+-- a place that counts a reservation has a count above 0
 counting_above : (place : Option Place) (kept : Place) → is_counting place ≡ true → place ≡ Some kept → 0 < kept.count
 counting_above place kept counting at = above kept.count (sym (ap is_counting at) ∙ counting)
   where
@@ -143,7 +143,7 @@ counting_above place kept counting at = above kept.count (sym (ap is_counting at
     above zero is = absurd (false≢true is)
     above (suc n) is = omega arith
 
--- after `add` to a row, whose place alone may have counted nothing, all do
+-- after `add` to a row, every place counts a reservation, even if that row's place counted none before
 pub add_counting : (old new : Bounds) (row : RowName) (changes : List ℤ) (held : List Reservation) → OthersCount row old → CountsAll old held → IsSome (place_at old row)
     → Becomes (TakesIn changes) (place_at old row) (place_at new row) → OthersStay row old new → AllCount new
 add_counting old new row changes held others_count counts there becomes others =
@@ -160,7 +160,7 @@ add_counting old new row changes held others_count counts there becomes others =
         let number = (taken.2.counts [] reservations known).0 in
         subst (λ (p : Place). 0 < p.count) is (omega (arith, number))
 
--- after `release` of a row, whose place alone may have counted nothing, all do
+-- after `release` of a row, every place counts a reservation, even if that row's place counted none before
 pub release_counting : (old new : Bounds) (row : RowName) → OthersCount row old
     → (is_counting (place_at old row) ≡ false → place_at new row ≡ None)
     → (is_counting (place_at old row) ≡ true → new ≡ old)

@@ -1,4 +1,4 @@
--- What is left of places when reservations have ended.
+-- Places after reservations have ended.
 use Rattle.std.specs.Prelude.{ℕ, ℤ, ◌+◌, ◌<◌, ◌≤◌, true, false, Option, Some, None, List, [], ◌∷◌, ◌++◌, length, take, drop}
 use Rattle.std.proofs.Common.{◌≡◌, ◌∙◌, refl, sym, ap, subst, get_or}
 use Rattle.std.proofs.lemmas.Bool.{cond-false}
@@ -21,17 +21,17 @@ use Rattle.escrow_bounds.proofs.LawLemmas.{split, each_row, other_way, of_append
 
 -- ---- amounts
 
--- there are as many as before
+-- the number of amounts stays the same
 pub length-after_all : (end : End) (amounts : List ℤ) (ended : List (List ℤ)) → length (amounts_after_all end amounts ended) ≡ length amounts
 length-after_all end amounts [] = refl
 length-after_all end amounts (changes ∷ ended) = length-after_all end (amounts_after end amounts changes) ended ∙ length-after end amounts changes
 
--- some end, and then others
+-- ending two lists one after the other is ending both together
 pub after_all-append : (end : End) (amounts : List ℤ) (first second : List (List ℤ)) → amounts_after_all end amounts (first ++ second) ≡ amounts_after_all end (amounts_after_all end amounts first) second
 after_all-append end amounts [] second = refl
 after_all-append end amounts (changes ∷ first) second = after_all-append end (amounts_after end amounts changes) first second
 
--- those of a row, and then what one more reservation does
+-- the first reservations have ended, and then one more ends
 pub after_one : (row : RowName) (amounts : List ℤ) (ended : List Reservation) (i : ℕ) (r : Reservation) → i < length ended → r ≡ get_or ended i r
     → amounts_after_all end.Commit (amounts_after_all end.Commit amounts (of_row row (take i ended))) (of_row row (r ∷ [])) ≡ amounts_after_all end.Commit amounts (of_row row (take (i + 1) ended))
 after_one row amounts ended i r within is =
@@ -42,15 +42,15 @@ after_one row amounts ended i r within is =
     ∙ after_all-append end.Commit amounts (of_row row (take i ended)) (of_row row (r ∷ []))
     )
 
--- of the row: its changes are added
+-- if it is of the row, its changes are added
 pub own_moved : (row : RowName) (amounts : List ℤ) (r : Reservation) → true ≡ same_row row r.row → all_moved amounts (deltas r.changes) ≡ amounts_after_all end.Commit amounts (of_row row (r ∷ []))
 own_moved row amounts r same = rw (← same) refl
 
--- of another: nothing is
+-- if it is of another row, nothing is added
 pub other_stays : (row : RowName) (amounts : List ℤ) (r : Reservation) → false ≡ same_row row r.row → amounts ≡ amounts_after_all end.Commit amounts (of_row row (r ∷ []))
 other_stays row amounts r apart = rw (← apart) refl
 
--- all have ended
+-- after the last one, all have ended
 pub after_last : (row : RowName) (amounts : List ℤ) (ended : List Reservation) (i : ℕ) → length ended ≤ i
     → amounts_after_all end.Commit amounts (of_row row (take i ended)) ≡ amounts_after_all end.Commit amounts (of_row row ended)
 after_last row amounts ended i past = ap (λ (done : List Reservation). amounts_after_all end.Commit amounts (of_row row done)) (take_all i ended past)
@@ -75,14 +75,14 @@ ended_more end first second old mid new those these = λ row place at.
       },
     )
 
--- ---- one end
+-- ---- one reservation ends
 
 there_is : (place : Option Place) (changes : List ℤ) (reservations : List (List ℤ)) → CountsJust place (changes ∷ reservations)
     → (kept : Place) × (place ≡ Some kept) × Counts kept (changes ∷ reservations)
 there_is None changes reservations counts = absurd (cc)
 there_is (Some kept) changes reservations counts = (kept, refl, counts)
 
--- the first of the reservations is counted by the place of its row
+-- the place of its row counts the first reservation
 pub counted_first : (places : Bounds) (r : Reservation) (rest : List Reservation) (changes : List ℤ) → changes ≡ deltas r.changes → CountsAll places (r ∷ rest)
     → (place : Place) × (before after : List (List ℤ)) × (place_at places r.row ≡ Some place) × Counts place (before ++ changes ∷ after)
 counted_first places r rest changes is counts =
@@ -91,7 +91,7 @@ counted_first places r rest changes is counts =
     let place = there_is (place_at places r.row) changes others own in
     (place.0, [], others, place.1, place.2)
 
--- places when a reservation is removed and its place is released
+-- the places before and after a reservation is removed and its place is released
 pub record IsRemoved (end : End) (r : Reservation) (old mid new : Bounds) : Type 0 where
   pub gives : Becomes (GivesBack end (deltas r.changes)) (place_at old r.row) (place_at mid r.row)
   pub removed : OthersStay r.row old mid
@@ -139,13 +139,13 @@ removed_ended end r old mid new rest is counts =
     each_row (λ (row : RowName). (place : Place) → place_at new row ≡ Some place → (before : Place) × (place_at old row ≡ Some before) × HasEnded end (of_row row (r ∷ [])) before place) r.row
     (removed_own end r old mid new rest is counts) (removed_other end r old mid new is)
 
--- ---- one end after another
+-- ---- reservations end one after another
 
--- what is listed in place of a reservation's changes
+-- the changes of a reservation, read from the list that shows them
 pub shown_is : (amounts : List ℤ) (n : ℕ) (shown changes : List (Option ℤ)) → n ≡ length changes → shown ≡ changes → take (length shown) amounts ≡ deltas shown → take n amounts ≡ deltas changes
 shown_is amounts n shown changes many same is = ap (λ (k : ℕ). take k amounts) (many ∙ ap length (sym same)) ∙ is ∙ ap deltas same
 
--- the next is the first of those that are left
+-- the next reservation is the first of the remaining ones
 pub next_counted : (places : Bounds) (ended rest : List Reservation) (i : ℕ) (r : Reservation) → i < length ended → r ≡ get_or ended i r → CountsAll places (drop i ended ++ rest)
     → CountsAll places (r ∷ drop (i + 1) ended ++ rest)
 next_counted places ended rest i r within is counts =
@@ -158,7 +158,7 @@ ended_next end old mid new ended i r within is those this =
     let more : take (i + 1) ended ≡ take i ended ++ r ∷ [] = take_more ended i r within ∙ ap (λ (q : Reservation). take i ended ++ q ∷ []) (sym is) in
     subst (λ (done : List Reservation). AreEnded end done old new) (sym more) (ended_more end (take i ended) (r ∷ []) old mid new those this)
 
--- none is left
+-- after the last one, none remains
 pub counted_last : (places : Bounds) (ended rest : List Reservation) (i : ℕ) → length ended ≤ i → CountsAll places (drop i ended ++ rest) → CountsAll places rest
 counted_last places ended rest i past counts = subst (λ (left : List Reservation). CountsAll places (left ++ rest)) (drop_all i ended past) counts
 

@@ -1,4 +1,4 @@
--- An addition while it is filled.
+-- An addition while open reservations are counted in it.
 use Rattle.std.specs.Prelude.{ℤ, Bool, true, false, not, Option, Some, None, IsSome, is_some, List, [], ◌∷◌, ◌++◌, length, map, take, bytes_eq}
 use Rattle.std.specs.Borrow.{Bor}
 use Rattle.std.proofs.Common.{◌≡◌, ◌∙◌, ℕ, zero, suc, ◌+◌, ◌<◌, ◌≤◌, cond, refl, sym, ap, subst, get_or, arith, inl, inr}
@@ -30,7 +30,7 @@ of_table_one row r some all false implies is =
     is ∙ sym (cond-false (same_row row r.row) (deltas r.changes ∷ of_row row all) (of_row row all)
     (split (same_row row r.row) (λ same. absurd (false≢true (implies same))) (λ apart. apart)))
 
--- a row of the table has all its reservations among those of the table
+-- the table's reservations include all those of its rows
 own_of_table : (table : List ℕ) (row : RowName) (held : List Reservation) → bytes_eq row.table table ≡ true → of_row row (of_table table held) ≡ of_row row held
 own_of_table table row [] within = refl
 own_of_table table row (r ∷ held) within =
@@ -47,12 +47,12 @@ of_table_more table [] r = refl
 of_table_more table (first ∷ held) r =
     more_one first (bytes_eq first.row.table table) (of_table table (held ++ r ∷ [])) (of_table table held) (of_table table (r ∷ [])) (of_table_more table held r)
 
--- one that is of the table is among its reservations
+-- appending a reservation of the table appends it to the table's reservations
 of_table_own : (table : List ℕ) (held : List Reservation) (r : Reservation) → bytes_eq r.row.table table ≡ true → of_table table (held ++ r ∷ []) ≡ of_table table held ++ r ∷ []
 of_table_own table held r within =
     of_table_more table held r ∙ ap (λ (passes : Bool). of_table table held ++ cond passes (r ∷ []) []) within
 
--- there are no more of them than of all
+-- a row has at most as many reservations of the table as there are reservations
 few_one : (row : RowName) (r : Reservation) (some : List Reservation) (n : ℕ) (passes is_own : Bool) → length (of_row row some) ≤ n
     → length (cond passes (cond is_own (deltas r.changes ∷ of_row row some) (of_row row some)) (of_row row some)) ≤ suc n
 few_one row r some n true true few = omega (arith, few)
@@ -71,13 +71,13 @@ few_of_table table row (r ∷ held) =
     let passes = bytes_eq r.row.table table in
     subst (λ (zs : List (List ℤ)). length zs ≤ suc (length held)) (sym (either_list row r some passes)) (few_one row r some (length held) passes (same_row row r.row) (few_of_table table row held))
 
--- ---- one more is counted
+-- ---- one more reservation is counted
 
--- what is filled has no place of another table, and has the amounts that it was given
+-- each filled place is of the table, and has the amounts of the place that it copies
 abbrev pub AreCopied : List ℕ → List Check → Bounds → Bounds → Type 0
 AreCopied table checks places filled = (row : RowName) (place : Place) → place_at filled row ≡ Some place → IsCopied table checks places row place
 
--- after `reserve` the row has a place
+-- after `reserve`, the row has a place
 pub reserved_there : (old mid : Bounds) (row : RowName) (amounts : List ℤ) (checks : List Check)
     → (IsSome (place_at old row) → mid ≡ old) → (place_at old row ≡ None → (place : Place) × (place_at mid row ≡ Some place) × IsNew amounts checks place) → IsSome (place_at mid row)
 reserved_there old mid row amounts checks found made = at (place_at old row) refl
@@ -86,7 +86,7 @@ reserved_there old mid row amounts checks found made = at (place_at old row) ref
     at None is = ap is_some (made is).1
     at (Some kept) is = let there : IsSome (place_at old row) = ap is_some is in subst (λ (places : Bounds). IsSome (place_at places row)) (sym (found there)) there
 
--- and there is room in it for one more
+-- the row's place has room for one more reservation
 pub reserved_room : (old mid : Bounds) (row : RowName) (amounts : List ℤ) (checks : List Check)
     → (IsSome (place_at old row) → mid ≡ old) → (place_at old row ≡ None → (place : Place) × (place_at mid row ≡ Some place) × IsNew amounts checks place)
     → ((place : Place) → place_at old row ≡ Some place → place.count < MAX_OPEN) → (place : Place) → place_at mid row ≡ Some place → place.count < MAX_OPEN
@@ -145,7 +145,7 @@ added_copied table checks places mid new row changes there becomes others each =
           checks_are = ap (λ (p : Place). checks_of p.checks) (sym same) ∙ taken.2.checks ∙ known.checks_are;
         }
 
--- a reservation of the table is counted in the place of its row, which was made if there was none
+-- the row's place, made if there was none, counts one more reservation of the table
 pub filled_more : (table : List ℕ) (checks : List Check) (held : List Reservation) (places old mid new : Bounds) (r : Reservation) (copied : Place) (amounts changes : List ℤ)
     → bytes_eq r.row.table table ≡ true → place_at places r.row ≡ Some copied → amounts ≡ copied.amounts → changes ≡ deltas r.changes
     → (IsSome (place_at old r.row) → mid ≡ old) → (place_at old r.row ≡ None → (place : Place) × (place_at mid r.row ≡ Some place) × IsNew amounts checks place) → OthersStay r.row old mid
@@ -161,9 +161,9 @@ filled_more table checks held places old mid new r copied amounts changes within
       each = added_copied table checks places mid new r.row changes there becomes stay (reserved_copied table checks places old mid r.row copied amounts within has is found made others filled.each);
     }
 
--- ---- one after another
+-- ---- the reservations, one after another
 
--- a reference in a list, and what it leads to
+-- an item of a list of references, and the value that it refers to
 pub shown_at : (rs : List (Bor Reservation)) (i : ℕ) (r : Bor Reservation) → i < length rs → r ≡ get_or rs i r
     → (i < length (map (λ (q : Bor Reservation). q.now) rs)) × (r.now ≡ get_or (map (λ (q : Bor Reservation). q.now) rs) i r.now)
 shown_at [] i r below is = absurd (omega (arith, below))
@@ -186,7 +186,7 @@ pub open_there : (places : Bounds) (held : List Reservation) (i : ℕ) (r : Rese
 open_there places held i r below is counting counts =
     placed_is places held r.row counting counts ∙ has_any (λ (q : Reservation). same_row q.row r.row) held r (has_at held i r below is) (same_row_itself r.row)
 
--- there is room for one more reservation while not all are counted
+-- while not all reservations are counted, a place has room for one more
 pub filled_room : (table : List ℕ) (checks : List Check) (held : List Reservation) (i : ℕ) (places filled : Bounds) (row : RowName) → i < length held → length held ≤ MAX_OPEN
     → AreFilled table checks (take i held) places filled → (place : Place) → place_at filled row ≡ Some place → place.count < MAX_OPEN
 filled_room table checks held i places filled row below many are place at =
@@ -207,7 +207,7 @@ filled_next table checks held i places old new r below is step are =
     let more : take (i + 1) held ≡ take i held ++ r ∷ [] = take_more held i r below ∙ ap (λ (q : Reservation). take i held ++ q ∷ []) (sym is) in
     subst (λ (some : List Reservation). AreFilled table checks some places new) (sym more) (step (take i held) are)
 
--- ---- all are counted
+-- ---- all reservations are counted
 
 prepared_own : (table : List ℕ) (checks : List Check) (held : List Reservation) (places filled : Bounds) (row : RowName) (was now : Option Place)
     → place_at places row ≡ was → place_at filled row ≡ now → CountsJust was (of_row row held) → CountsJust now (of_row row held)
@@ -226,7 +226,7 @@ prepared_own table checks held places filled row (Some kept) (Some place) has is
     let same : known.copied ≡ kept = cc (known.found, has) in
     (place, refl, record { amounts = known.amounts ∙ ap (λ (p : Place). p.amounts) same; checks_are = known.checks_are; counts = after })
 
--- what was filled with all open reservations is an addition
+-- filled with all open reservations, the places are an addition
 pub prepared : (table : List ℕ) (checks : List Check) (held : List Reservation) (i : ℕ) (places filled : Bounds) → length held ≤ i → CountsAll places held → AllCount places
     → AreFilled table checks (take i held) places filled → ArePrepared table checks held places filled
 prepared table checks held i places filled past counts counting some =

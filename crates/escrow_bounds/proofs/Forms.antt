@@ -1,4 +1,4 @@
--- The forms of a place, when one more reservation is counted, or one less.
+-- The forms of a place when one reservation more or less is counted.
 use Rattle.std.proofs.Common.{◌≡◌, ℕ, zero, suc, ◌+◌, ℤ, ◌<◌, ◌≤◌, true, false, Option, Some, None, List, [], ◌∷◌, ◌++◌, length, get_or, take, drop, map, refl, sym, ap, ap₂, ◌∙◌, subst, arith, add-one, drop-cons}
 use Rattle.std.specs.List.{AllByRecursion}
 use Rattle.std.specs.Prelude.{is_some, slice_get}
@@ -19,13 +19,13 @@ use Rattle.escrow_bounds.proofs.Steps.{AllStepped}
 
 -- ---- one form
 
--- the same check, with one more reservation counted, or one of them no more
+-- the check stays, and one reservation more or less is counted
 abbrev pub Recount : Counting → List ℤ → Tracked → Tracked → Type 0
 Recount kind changes old new =
     (new.check ≡ old.check)
     × ((before after : List (List ℤ)) → IsSpread old.check.coeffs (counted_before kind before changes after) old.spread → IsSpread old.check.coeffs (counted_after kind before changes after) new.spread)
 
--- what all forms have, the one at a place has
+-- if all forms have their sums, so has the form at a place
 pub sums_at : (forms : List Tracked) (reservations : List (List ℤ)) (place : ℕ) (form : Tracked) → place < length forms → form ≡ get_or forms place form → HaveSums forms reservations
     → IsSpread form.check.coeffs reservations form.spread
 sums_at forms reservations place form below at sums =
@@ -78,7 +78,7 @@ covered_at (first ∷ forms) amounts (suc place) form below at all = covered_at 
 
 -- ---- the verdict, form by form
 
--- the first of the checks from a place on that is broken is the one there, or is behind it
+-- the first broken check from a place on is the check there, or a later one
 pub broken_here : (forms : List Tracked) (place : ℕ) (form : Tracked) (amounts changes : List ℤ) (reservations : List (List ℤ)) (found : Option Violation)
     → place < length forms → form ≡ get_or forms place form → found ≡ broken_by form.check amounts changes reservations → is_some found ≡ true
     → found ≡ broken (checks_of (drop place forms)) amounts changes reservations
@@ -95,7 +95,7 @@ broken_past forms place form amounts changes reservations None below at is none 
 
 -- ---- the values of forms at amounts
 
--- of each check its form's value
+-- the value of each check's form
 abbrev pub values_at : List ℤ → List Check → List ℤ
 values_at amounts checks = map (λ (check : Check). form_of check.coeffs amounts) checks
 
@@ -107,7 +107,7 @@ value_at forms amounts values place form value below at read are =
     read ∙ ap (λ (vs : List ℤ). get_or vs place value) (are ∙ map-map value_of (λ (f : Tracked). f.check) forms)
     ∙ get_or-map (λ (f : Tracked). value_of f.check) forms place form value below ∙ ap (λ (f : Tracked). value_of f.check) (sym at)
 
--- where all are read they are those of the checks
+-- once all values are read, they are those of the checks
 pub values_all : (forms : List Tracked) (amounts values : List ℤ) (place : ℕ) → length values ≡ length forms → length forms ≤ place
     → take place values ≡ map (λ (form : Tracked). form_of form.check.coeffs amounts) (take place forms) → values ≡ values_at amounts (checks_of forms)
 values_all forms amounts values place each past are =

@@ -1,4 +1,4 @@
--- What is kept of a row, when one more reservation is counted, or one less.
+-- What is kept of a row when one reservation more or less is counted.
 use Rattle.std.proofs.Common.{◌≡◌, ℕ, zero, suc, ◌+◌, ℤ, pos, ◌<◌, Vec, List, [], ◌∷◌, ◌++◌, length, get_or, refl, sym, ap, ◌∙◌, subst, arith, length-append}
 use Rattle.std.specs.List.{AllByRecursion}
 use Rattle.std.specs.Prelude.{Some, slice_get, replicate}
@@ -23,19 +23,19 @@ use Rattle.escrow_bounds.specs.declared.tracked.Counting.TheVariants as counting
 use Rattle.escrow_bounds.proofs.Moving.{length-all_moved}
 use Rattle.escrow_bounds.proofs.Forms.{sums_at, check_at, covered_at}
 
--- ---- what was lent
+-- ---- items lent to a call
 
--- what holds of items that were lent and of what they became holds of the items before and after
+-- what holds between lent items and their new values holds between the items before and after the call
 pub lent : {X Z : Type 0} (R : List X → List X → Type 0) (held : Vec X Z) (shown new : List X) → shown ≡ held.items → length new ≡ held.len → R shown new → R held.items (with_items held new).items
 lent {X} R held shown new is many holds = subst (λ (xs : List X). R held.items xs) (sym (with_items_is held new many)) (subst (λ (xs : List X). R xs new) is holds)
 
 -- ---- counting
 
--- one more stands among others
+-- one more reservation makes the list one longer
 pub length-put : (before after : List (List ℤ)) (changes : List ℤ) → length (before ++ changes ∷ after) ≡ length (before ++ after) + 1
 length-put before after changes = omega (arith, length-append before (changes ∷ after), length-append before after)
 
--- what is counted of a place that has room for changes, or counts them
+-- what a place counts if it has room for the changes, or counts them already
 pub recountable : (kind : Counting) (changes : List ℤ) (place : Place) → IsPlace place → CanRecount kind changes place
     → (before : List (List ℤ)) × (after : List (List ℤ)) × Counts place (counted_before kind before changes after) × HasRoom kind (before ++ after)
 recountable counting.In changes place is room = ([], is.reservations, is.counts, omega (arith, is.counts.0, room))
@@ -50,11 +50,11 @@ recounted kind changes old new amounts number checks columns = record {
   counts = λ before after known. (number before changes after known.0, checks.1 before after known.1, columns.1 before after known.2);
 }
 
--- it is counted no more
+-- a reservation that is no longer counted is given back, as at a ROLLBACK
 pub gives_back : (changes : List ℤ) (old new : Place) → IsRecounted counting.Out changes old new → GivesBack ends.Rollback changes old new
 gives_back changes old new given = record { amounts = given.amounts; checks = given.checks; counts = given.counts }
 
--- and then its changes are moved into the amounts
+-- if its changes are also added to the amounts, it is given back as at a COMMIT
 pub gives_committed : (changes : List ℤ) (old mid new : Place) → IsRecounted counting.Out changes old mid → new ≡ record mid { amounts = all_moved mid.amounts changes } → GivesBack ends.Commit changes old new
 gives_committed changes old mid new given is = subst (GivesBack ends.Commit changes old) (sym is) (record {
   amounts = ap (λ (amounts : List ℤ). all_moved amounts changes) given.amounts;
@@ -68,7 +68,7 @@ covered_same : (checks : List Check) (old new : List ℤ) → length new ≡ len
 covered_same [] old new same all = tt
 covered_same (check ∷ checks) old new same all = (omega (arith, same, all.0), covered_same checks old new same all.1)
 
--- a place that has as many amounts as before, and the checks, is a place
+-- a place is still one if the number of its amounts stays, and its checks and columns stay
 pub place_kept : (old new : Place) (reservations : List (List ℤ)) → IsPlace old → length new.amounts ≡ length old.amounts → checks_of new.checks ≡ checks_of old.checks → checks_of new.columns ≡ checks_of old.columns
     → Counts new reservations → IsPlace new
 place_kept old new reservations place amounts checks columns counts = record {
@@ -98,7 +98,7 @@ pub columns_fit : (place : Place) → IsPlace place → length place.columns ≡
 columns_fit place is =
     sym (length-map place.columns (λ (form : Tracked). form.check)) ∙ ap length is.columns ∙ length-column_checks (length place.amounts) (length place.amounts)
 
--- what each place of a list has, and one more
+-- what holds for each item of a list, and for one more
 pushed : {A : Type 0} (xs : List A) (x : A) (i n : ℕ) (f : ℕ → A) → length xs ≡ n → x ≡ f n → ((k : ℕ) → k < n → slice_get xs k ≡ Some (f k)) → i < suc n → slice_get (xs ++ x ∷ []) i ≡ Some (f i)
 pushed [] x zero n f len is each below = let none : n ≡ 0 = omega (arith, len) in ap Some (is ∙ ap f none)
 pushed [] x (suc i) n f len is each below = absurd (omega (arith, len, below))
@@ -116,7 +116,7 @@ unit_covered columns place amounts many =
 
 -- ---- the extremes of a form
 
--- the extremes of the form that is read are those of the check at that place
+-- the extremes of the form that is read are those of the check there
 pub worst_is : (kept : Place) (check : ℕ) (read form : Tracked) (amounts : List ℤ) (reservations : List (List ℤ)) (low high : ℤ) → IsPlace kept
     → read ≡ get_or kept.checks check read → amounts ≡ kept.amounts → slice_get kept.checks check ≡ Some form → Counts kept reservations
     → ((rs : List (List ℤ)) → IsCovered read.check.coeffs amounts → IsSpread read.check.coeffs rs read.spread → low ≡ least read.check.coeffs amounts rs)

@@ -1,4 +1,4 @@
--- Each place counts just the open reservations of its row, whatever calls are made.
+-- Whatever calls are made, each place counts exactly the open reservations of its row.
 use Rattle.std.specs.Prelude.{ℕ, ℤ, pos, ◌+ℤ◌, Bool, true, false, not, nat_eq, Option, Some, None, IsSome, option_map, List, [], ◌∷◌, ◌++◌, length, map}
 use Rattle.std.specs.Int.{int_min, int_max}
 use Rattle.std.specs.List.{AllByRecursion}
@@ -75,7 +75,7 @@ pub split : {X : Type 0} (b : Bool) → (b ≡ true → X) → (b ≡ false → 
 split true holds fails = holds refl
 split false holds fails = fails refl
 
--- what holds of a row, and of each other, holds of all
+-- what holds for a row and for every other row holds for all rows
 pub each_row : (P : RowName → Type 0) (row : RowName) → P row → ((other : RowName) → same_row row other ≡ false → P other) → (other : RowName) → P other
 each_row P row own rest other = split (same_row row other) (λ is. subst P (row_same row other is) own) (rest other)
 
@@ -91,7 +91,7 @@ pub of_append : (row : RowName) (before after : List Reservation) → of_row row
 of_append row [] after = refl
 of_append row (r ∷ before) after = append_one (same_row row r.row) (deltas r.changes) (of_row row before) (of_row row after) (of_row row (before ++ after)) (of_append row before after)
 
--- the reservations of its own row are one more, and those of another row are the same
+-- one more reservation is one more of its own row, and none of another
 pub own_more : (r : Reservation) (before after : List Reservation) → of_row r.row (before ++ r ∷ after) ≡ of_row r.row before ++ deltas r.changes ∷ of_row r.row after
 own_more r before after =
     of_append r.row before (r ∷ after)
@@ -103,7 +103,7 @@ other_same row r before after apart =
     ∙ ap (λ (zs : List (List ℤ)). of_row row before ++ zs) (cond-false (same_row row r.row) (deltas r.changes ∷ of_row row after) (of_row row after) apart)
     ∙ sym (of_append row before after)
 
--- the places of other rows count what they counted
+-- the places of other rows count the same as before
 others_count : (old new : Bounds) (row other : RowName) (was is : List Reservation) → CountsAll old was → OthersStay row old new → same_row row other ≡ false → of_row other is ≡ of_row other was
     → CountsJust (place_at new other) (of_row other is)
 others_count old new row other was is counts others apart same =
@@ -168,7 +168,7 @@ remove_counts end old new r before after counts becomes others =
     (subst (λ (zs : List (List ℤ)). CountsJust (place_at new r.row) zs) (sym (of_append r.row before after)) own)
     (λ other apart. others_count old new r.row other (before ++ r ∷ after) (before ++ after) counts others apart (sym (other_same other r before after (other_way r.row other apart))))
 
--- a place that counts none of them has none
+-- if the place of a row counts none, the row has no reservations
 none_left : (place : Option Place) (reservations : List (List ℤ)) → CountsJust place reservations → is_counting place ≡ false → reservations ≡ []
 none_left None reservations counts idle = counts
 none_left (Some place) [] counts idle = refl

@@ -1,4 +1,4 @@
--- Reservations counted in another order: the sums and the number are the same.
+-- Counting reservations in another order gives the same sums and the same number.
 use Rattle.std.specs.Prelude.{ℤ, pos, ◌+ℤ◌, Bool, true, false, not, Option, Some, None, List, [], ◌∷◌, ◌++◌, length, filter}
 use Rattle.std.specs.Int.{int_min, int_max}
 use Rattle.std.proofs.Common.{◌≡◌, ◌∙◌, cond, suc, refl, sym, ap, subst, arith}
@@ -17,7 +17,7 @@ use Rattle.escrow_bounds.specs.Place.{Place}
 use Rattle.escrow_bounds.specs.Bounds.{Bounds, place_at}
 use Rattle.escrow_bounds.proofs.LawLemmas.{of_append}
 
--- two lists of changes are counted alike
+-- two lists of changes have the same sums and the same number
 record Alike (xs ys : List (List ℤ)) : Type 0 where
   number : length ys ≡ length xs
   fall : (coeffs : List ℤ) → falls coeffs ys ≡ falls coeffs xs
@@ -54,14 +54,14 @@ alike_swapped x y zs = record {
   bounds = λ coeffs known. (known.1.0, (known.0, known.1.1));
 }
 
--- the first may stand further behind
+-- the first item may move further back
 alike_put : (x : List ℤ) (before after : List (List ℤ)) → Alike (x ∷ before ++ after) (before ++ x ∷ after)
 alike_put x [] after = alike_itself (x ∷ after)
 alike_put x (y ∷ before) after =
     alike_through (x ∷ y ∷ before ++ after) (y ∷ x ∷ before ++ after) (y ∷ (before ++ x ∷ after)) (alike_swapped x y (before ++ after))
     (alike_first y (x ∷ before ++ after) (before ++ x ∷ after) (alike_put x before after))
 
--- one more, in front of the first part or of the second
+-- one more item, in front of the first part or of the second
 front : (is_own : Bool) (x : List ℤ) (all some rest : List (List ℤ)) → Alike all (some ++ rest) → Alike (cond is_own (x ∷ all) all) (cond is_own (x ∷ some) some ++ rest)
 front true x all some rest is = alike_first x all (some ++ rest) is
 front false x all some rest is = is
@@ -75,7 +75,7 @@ parted_one : (row : RowName) (r : Reservation) (all some rest : List Reservation
 parted_one row r all some rest true is = front (same_row row r.row) (deltas r.changes) (of_row row all) (of_row row some) (of_row row rest) is
 parted_one row r all some rest false is = behind (same_row row r.row) (deltas r.changes) (of_row row all) (of_row row some) (of_row row rest) is
 
--- those that pass a test and then the others are counted like all
+-- the items that pass a test, followed by the others, count the same as the list
 parted : (test : Reservation → Bool) (row : RowName) (held : List Reservation)
     → Alike (of_row row held) (of_row row (filter test held) ++ of_row row (filter (λ r. not (test r)) held))
 parted test row [] = alike_itself []
@@ -93,7 +93,7 @@ counts_alike : (place : Option Place) (xs ys : List (List ℤ)) → Alike xs ys 
 counts_alike None xs ys is counts = nil_from_length ys (is.number ∙ ap length counts)
 counts_alike (Some place) xs ys is counts = (counts.0 ∙ sym is.number, sums_alike xs ys place.checks is counts.1, sums_alike xs ys place.columns is counts.2)
 
--- those that pass a test may be counted before the others
+-- the reservations that pass a test may be counted before the others
 pub parts_count : (test : Reservation → Bool) (places : Bounds) (held : List Reservation) → CountsAll places held
     → CountsAll places (filter test held ++ filter (λ r. not (test r)) held)
 parts_count test places held counts = λ row.

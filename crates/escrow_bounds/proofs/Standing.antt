@@ -1,4 +1,4 @@
--- Where the place of a row stands among all, and what is done there.
+-- The index of a row's place, and a write at it.
 use Rattle.std.specs.Prelude.{◌≡◌, ℕ, zero, suc, ◌<◌, false, Option, Some, None, option_map, IfSome, List, [], ◌∷◌, ◌++◌, length, position, slice_get}
 use Rattle.std.specs.List.{position_or_len}
 use Rattle.std.specs.Map.{keys_of}
@@ -27,21 +27,27 @@ get_end : (places : Bounds) (p : RowName × Place) → slice_get (places ++ p �
 get_end [] p = refl
 get_end (q ∷ places) p = get_end places p
 
-there_is : (places : Bounds) (i : ℕ) → i < length places → (p : RowName × Place) × (slice_get places i ≡ Some p)
+there_is : {A : Type 0} (xs : List A) (i : ℕ) → i < length xs → (x : A) × (slice_get xs i ≡ Some x)
 there_is [] i below = absurd (omega arith)
-there_is (p ∷ places) zero below = (p, refl)
-there_is (p ∷ places) (suc i) below = there_is places i (omega arith)
+there_is (x ∷ xs) zero below = (x, refl)
+there_is (x ∷ xs) (suc i) below = there_is xs i (omega arith)
 
--- the place that is found stands there
+-- the entry that is found by a row's name has that name
+pub named_there : {V : Type 0} (entries : List (RowName × V)) (name : RowName) (i : ℕ) → position (same_row name) (keys_of entries) ≡ Some i
+    → option_map (λ (p : RowName × V). p.0) (slice_get entries i) ≡ Some name
+named_there {V} entries name i is =
+    let key_of : RowName × V → RowName = λ p. p.0 in
+    let found = Found-position (same_row name) entries i is in
+    let entry = there_is entries i found.within in
+    let key : option_map key_of (slice_get entries i) ≡ Some entry.0.0 = ap (option_map key_of) entry.1 in
+    key ∙ ap Some (sym (row_same name entry.0.0 (lookup_key_passes (same_row name) entries entry.0.0 (found.key ∙ slice_get-map key_of entries i ∙ key))))
+
+-- the index that is found is that of the row's place
 pub found_at : (places : Bounds) (row : RowName) (found : Option ℕ) → found ≡ position (same_row row) (keys_of places) → IfSome found (λ i. IsAt places row i)
 found_at places row None is = tt
-found_at places row (Some i) is =
-    let found = Found-position (same_row row) places i (sym is) in
-    let entry = there_is places i found.within in
-    let key : option_map first (slice_get places i) ≡ Some (first entry.0) = ap (option_map first) entry.1 in
-    key ∙ ap Some (sym (row_same row (first entry.0) (lookup_key_passes (same_row row) places (first entry.0) (found.key ∙ slice_get-map first places i ∙ key))))
+found_at places row (Some i) is = named_there places row i (sym is)
 
--- a place that is made stands last
+-- a new place is the last one
 pub made_at : (old new : Bounds) (row : RowName) (place : Place) (i : ℕ) → place_at old row ≡ None → new ≡ insert_entry same_row old row place → i ≡ position_or_len (same_row row) (keys_of old) → IsAt new row i
 made_at old new row place i none is at =
     let absent = absent_from_lookup (same_row row) old none in
@@ -51,7 +57,7 @@ made_at old new row place i none is at =
     ap (option_map first) end
 
 module _ {S : Type 0} (m : IndexMap RowName Place S) (i : ℕ) (key : RowName) (was : Place) (unique : IsUnique same_row m) (at : slice_get m.entries i ≡ Some (key, was)) where
-  -- it is the one entry of its row
+  -- it is the only entry of its row
   pub own_at : IsAt m.entries key i
   own_at = ap (option_map first) at
 
@@ -64,7 +70,7 @@ module _ {S : Type 0} (m : IndexMap RowName Place S) (i : ℕ) (key : RowName) (
   pub own_same : (row : RowName) (place : Place) → IsAt m.entries row i → place_at m.entries row ≡ Some place → place ≡ was
   own_same row place is before = some_same (sym before ∙ own_place row is)
 
-  -- what is written there is the row's, which stands there still
+  -- a write there changes the row's place, which keeps its index
   module _ (new : Place) (row : RowName) (is : IsAt m.entries row i) where
     pub still_at : IsAt (with_value_at m i new).entries row i
     still_at = sym (slice_get-map first (with_value_at m i new).entries i) ∙ ap (λ (rows : List RowName). slice_get rows i) (keys-with_value_at m i new) ∙ slice_get-map first m.entries i ∙ is

@@ -1,4 +1,4 @@
--- What comes after a savepoint, and what is left where a journal goes back to it.
+-- What comes after a savepoint, and what remains after a return to it.
 use Rattle.std.specs.Prelude.{◌≡◌, ℕ, ◌+◌, ◌≤◌, List, length, take, drop, position, Option, Some, None, option_map, unwrap_or}
 use Rattle.std.proofs.Common.{sym, ap, ap₂, ◌∙◌, get_or}
 use Rattle.std.proofs.lemmas.List.Quantifiers.{position-Some}
@@ -13,7 +13,7 @@ use Rattle.escrow_journal.proofs.Filters.{place_inside}
 use Rattle.escrow_journal.proofs.Named.{has_name, found_is, none_is, through_is}
 use Rattle.escrow_journal.proofs.Ordered.{first_from, after_is, not_after_is}
 
--- where the name has no place
+-- no savepoint has the name
 pub none_left : (name : List ℕ) (journal : Journal) → IsJournal journal → position (has_name name) journal.savepoints ≡ None → IsLeft name journal None
 none_left name journal valid at =
     let none = none_is journal.session name journal.savepoints valid.savepoints_own at in
@@ -23,7 +23,7 @@ none_left name journal valid at =
       within = tt;
     }
 
--- where it has one
+-- a savepoint has the name
 module _ (name : List ℕ) (journal : Journal) (place : ℕ) (p : Savepoint) (valid : IsJournal journal) (at : position (has_name name) journal.savepoints ≡ Some place)
     (is : p ≡ get_or journal.savepoints place p) where
   found : savepoint_of journal.session name journal.savepoints ≡ Some p

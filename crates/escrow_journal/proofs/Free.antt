@@ -1,4 +1,4 @@
--- Where nothing refuses a session a reservation, and what may refuse it one.
+-- When a session may have one more reservation, and what may refuse it.
 use Rattle.std.specs.Prelude.{◌≡◌, ℕ, ◌<◌, ◌≤◌, Bool, true, false, nat_le, nat_lt, None, IfSome, [], ◌∷◌, length}
 use Rattle.std.proofs.Common.{refl, arith}
 use Rattle.std.proofs.lemmas.Bool.{leb-false, ltb-false}
@@ -11,7 +11,7 @@ use Rattle.escrow_journal.specs.declared.journal.TheConstants.Journal.{MAX_RESER
 use Rattle.escrow_journal.specs.Open.{Open, grant_refusal}
 use Rattle.escrow_journal.specs.Reservations.{own}
 
--- the session may have one more reservation, and an id is left for it
+-- the session has room for one more reservation, and an id is left for it
 pub record IsFree (session : ℕ) (o : Open) : Type 0 where
   pub room : length (own session o.reservations) < MAX_RESERVATIONS
   pub more_ids : o.next_id ≤ MAX_ID
@@ -42,7 +42,7 @@ two_among P true b r t first second = first
 two_among P false true r t first second = second
 two_among P false false r t first second = tt
 
--- what holds of both reasons holds of the one that there is
+-- what holds for both reasons holds for the one that applies
 pub grant_among : (P : Refusal → Type 0) (session : ℕ) (o : Open) → P refusal.TooManyReservations → P refusal.NoMoreIds → IfSome (grant_refusal session o) P
 grant_among P session o many ids =
     two_among P (nat_le MAX_RESERVATIONS (length (own session o.reservations))) (nat_lt MAX_ID o.next_id) refusal.TooManyReservations refusal.NoMoreIds many ids

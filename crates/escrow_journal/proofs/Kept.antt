@@ -15,18 +15,18 @@ use Rattle.escrow_journal.specs.declared.journal.TheConstants.Journal.{MAX_RESER
 use Rattle.escrow_journal.proofs.Filters.{find_same, fewer_others}
 use Rattle.escrow_journal.proofs.Named.{has_name, named_is, without_is}
 
--- what holds of all items, and of one more
+-- what holds for all items and for one more
 pub all_push : {X : Type 0} (P : X → Type 0) (xs : List X) (y : X) → AllByRecursion P xs → P y → AllByRecursion P (xs ++ y ∷ [])
 all_push P [] y all last = (last, tt)
 all_push P (x ∷ xs) y all last = (all.0, all_push P xs y all.1 last)
 
--- what holds of all items holds of the first ones
+-- what holds for all items holds for the first ones
 all_take : {X : Type 0} (P : X → Type 0) (n : ℕ) (xs : List X) → AllByRecursion P xs → AllByRecursion P (take n xs)
 all_take P zero xs all = tt
 all_take P (suc n) [] all = tt
 all_take P (suc n) (x ∷ xs) all = (all.0, all_take P n xs all.1)
 
--- the first ones of an ascending list are ascending
+-- the first items of an ascending list are ascending
 ascending_take : (n : ℕ) (rs : List Reservation) → IsAscending reservation_before rs → IsAscending reservation_before (take n rs)
 ascending_take zero rs rising = tt
 ascending_take (suc n) [] rising = tt
@@ -44,7 +44,7 @@ push_kept r log valid room own above = record {
   few_savepoints = valid.few_savepoints;
 }
 
--- as many of other names as the savepoints of other names that are counted
+-- the number of savepoints with other names
 beside_is : (name : List ℕ) (log : Journal) (n : ℕ) → IsJournal log → n ≡ length (filter (λ p. not (has_name name p)) log.savepoints)
     → length (without_savepoint log.session name log.savepoints) ≡ n
 beside_is name log n valid count = ap length (without_is log.session name log.savepoints valid.savepoints_own) ∙ sym count
@@ -62,7 +62,7 @@ room_beside name log n valid count room full =
     let most = leb-true MAX_SAVEPOINTS (length (without_savepoint log.session name log.savepoints)) full in
     omega arith
 
--- where a savepoint of the name stands there is room for it
+-- if a savepoint has the name, there is room for a new one of that name
 pub named_found : (name : List ℕ) (log : Journal) → IsJournal log → IsSome (savepoint_of log.session name log.savepoints) → IsSome (find (has_name name) log.savepoints)
 named_found name log valid here =
     let same = find_same (is_named log.session name) (has_name name) log.savepoints (named_is log.session name log.savepoints valid.savepoints_own) in
@@ -75,7 +75,7 @@ room_again name log n valid count here =
     let few = valid.few_savepoints in
     omega arith
 
--- one more savepoint, in the place of one of its name
+-- one more savepoint, which replaces one of the same name
 module _ (name : List ℕ) (id : ℕ) (log : Journal) (valid : IsJournal log) where
   abbrev pub new : Savepoint
   new = record { session = log.session; name = name; id = id }

@@ -21,36 +21,36 @@ use Rattle.escrow_journal.proofs.Ordered.{first_from, after_is, not_after_is}
 
 -- ---- lists
 
--- where no item passes a filter is empty
+-- if no item passes, the filter keeps none
 filter_empty : {X : Type 0} (p : X → Bool) (xs : List X) → AllByRecursion (λ x. p x ≡ false) xs → filter p xs ≡ []
 filter_empty p [] none = refl
 filter_empty p (x ∷ xs) none = rw none.0 (filter_empty p xs none.1)
 
--- and all stay where the contrary is asked
+-- the opposite test then keeps all
 filter_kept : {X : Type 0} (p : X → Bool) (xs : List X) → AllByRecursion (λ x. p x ≡ false) xs → filter (λ x. not (p x)) xs ≡ xs
 filter_kept p [] none = refl
 filter_kept p (x ∷ xs) none = rw none.0 (ap (λ ys. x ∷ ys) (filter_kept p xs none.1))
 
--- none of those that a filter left out passes
+-- no item that was left out passes
 left_out : {X : Type 0} (p : X → Bool) (xs : List X) → AllByRecursion (λ x. p x ≡ false) (filter (λ x. not (p x)) xs)
 left_out p [] = tt
 left_out p (x ∷ xs) =
     cond_both (not (p x)) (x ∷ filter (λ y. not (p y)) xs) (filter (λ y. not (p y)) xs) (λ ys. AllByRecursion (λ y. p y ≡ false) ys)
     (λ t. (not-true (p x) t, left_out p xs)) (λ _. left_out p xs)
 
--- behind items that don't pass the one that does is found
+-- after items that fail, the first that passes is found
 found_behind : {X : Type 0} (p : X → Bool) (xs : List X) (y : X) → AllByRecursion (λ x. p x ≡ false) xs → p y ≡ true → find p (xs ++ y ∷ []) ≡ Some y
 found_behind p [] y none e = rw e
 found_behind p (x ∷ xs) y none e = rw none.0 (found_behind p xs y none.1 e)
 
--- what a mapped option comes from
+-- the value that a mapped option comes from
 comes_from : {A B : Type 0} (f : A → B) (o : Option A) (y : B) → option_map f o ≡ Some y → (x : A) × (o ≡ Some x) × (f x ≡ y)
 comes_from f None y e = absurd (cc)
 comes_from f (Some x) y e = let same : f x ≡ y = cc in (x, refl, same)
 
--- ---- a savepoint that was just made
+-- ---- a new savepoint
 
--- it is the session's of its name
+-- it is the session's savepoint of this name
 abbrev made : List ℕ → ℕ → Journal → Savepoint
 made name id journal = record { session = journal.session; name = name; id = id }
 
@@ -62,13 +62,13 @@ made_found name id journal =
     found_behind (is_named journal.session name) (without_savepoint journal.session name journal.savepoints) (made name id journal)
     (left_out (is_named journal.session name) journal.savepoints) (made_named name id journal)
 
--- up to it stand those before it
+-- the savepoints up to it are those before it
 through_made : (session : ℕ) (name : List ℕ) (ps rest : List Savepoint) (p : Savepoint) → AllByRecursion (λ q. is_named session name q ≡ false) ps
     → is_named session name p ≡ true → through session name (ps ++ p ∷ rest) ≡ ps ++ p ∷ other_savepoints session rest
 through_made session name [] rest p none e = rw e
 through_made session name (q ∷ ps) rest p none e = rw none.0 (ap (λ qs. q ∷ qs) (through_made session name ps rest p none.1 e))
 
--- ---- going back
+-- ---- a return to a savepoint
 
 pushed_is : (more : List Reservation) (journal : Journal) → all_pushed more journal ≡ record journal { reservations = journal.reservations ++ more }
 pushed_is [] journal = ap (λ rs. record journal { reservations = rs }) (sym (append-nil journal.reservations))
@@ -131,7 +131,7 @@ module _ (journal : Journal) (name other : List ℕ) (id later_id : ℕ) (more :
   abbrev with_later : Journal
   with_later = marked other later_id (with_more journal name id more below since)
 
-  -- it takes the place of none
+  -- it replaces none
   takes_none : without_savepoint journal.session other (others ++ made name id journal ∷ []) ≡ others ++ made name id journal ∷ []
   takes_none =
       let is_other = is_named journal.session other in
@@ -141,7 +141,7 @@ module _ (journal : Journal) (name other : List ℕ) (id later_id : ℕ) (more :
       filter_kept is_other (others ++ made name id journal ∷ [])
       (all_push (λ p. is_other p ≡ false) others (made name id journal) rest (and_right (journal.session == journal.session) (bytes_eq name other) differs))
 
-  -- and goes
+  -- it is removed
   later_goes : through journal.session name with_later.savepoints ≡ (marked name id journal).savepoints
   later_goes =
       let last = made other later_id journal in
@@ -166,9 +166,9 @@ module _ (journal : Journal) (name other : List ℕ) (id later_id : ℕ) (more :
 pub going_back_drops_later_savepoints : GoingBackDropsLaterSavepoints
 going_back_drops_later_savepoints = λ journal name other id later_id more below since apart new. later_dropped journal name other id later_id more below since apart new
 
--- ---- the savepoint to which a journal goes back
+-- ---- the savepoint to which a journal returns
 
--- it is the session's, of the name, and what was dropped came after it
+-- it is the session's savepoint of the name, and the dropped reservations came after it
 gone_back : (journal : Journal) (name : List ℕ) (dropped : List Reservation) → later name journal ≡ Some dropped
     → (p : Savepoint) × (savepoint_of journal.session name journal.savepoints ≡ Some p) × (after p journal.reservations ≡ dropped)
 gone_back journal name dropped e = comes_from (λ (p : Savepoint). after p journal.reservations) (savepoint_of journal.session name journal.savepoints) dropped e
@@ -188,7 +188,7 @@ nothing_is_lost = λ journal name dropped valid e.
     (sym p.2 ∙ after_is p.0 journal.session journal.reservations same valid.reservations_own valid.reservation_order)
     ∙ take-append-drop n journal.reservations
 
--- the savepoints up to it still have it
+-- it is still among the savepoints up to it
 still_step : (b : Bool) (p : Savepoint) (others more : List Savepoint) (test : Savepoint → Bool) (found : Option Savepoint) → test p ≡ b → find test more ≡ found
     → find test (cond b (p ∷ others) (p ∷ more)) ≡ cond b (Some p) found
 still_step true p others more test found e rest = rw e

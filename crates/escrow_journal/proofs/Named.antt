@@ -1,4 +1,4 @@
--- The savepoint of a name, among savepoints of one session.
+-- The savepoint with a name, among the savepoints of one session.
 use Rattle.std.specs.Prelude.{◌≡◌, ℕ, ◌+◌, Bool, true, false, not, ◌&&◌, ◌==◌, slice_get, cond, List, [], ◌∷◌, filter, take, position, Some, None, bytes_eq}
 use Rattle.std.specs.List.{position_or_len, AllByRecursion}
 use Rattle.std.proofs.Common.{suc, refl, sym, ap, ◌∙◌, arith, eq-eqb, get_or}
@@ -13,7 +13,7 @@ use Rattle.escrow_journal.proofs.Filters.{filter_none, filter_others, find_same,
 abbrev pub has_name : List ℕ → Savepoint → Bool
 has_name name p = bytes_eq p.name name
 
--- of a session's own savepoints the name alone says which is meant
+-- among a session's own savepoints, the name alone decides
 pub named_is : (session : ℕ) (name : List ℕ) (ps : List Savepoint) → AllByRecursion (λ p. p.session ≡ session) ps
     → AllByRecursion (λ p. is_named session name p ≡ has_name name p) ps
 named_is session name [] own = tt
@@ -23,7 +23,7 @@ pub without_is : (session : ℕ) (name : List ℕ) (ps : List Savepoint) → All
     → without_savepoint session name ps ≡ filter (λ p. not (has_name name p)) ps
 without_is session name ps own = filter_others (is_named session name) (has_name name) ps (named_is session name ps own)
 
--- the savepoint at the place of the name is the one of that name
+-- the savepoint at the index of the name has that name
 pub found_is : (session : ℕ) (name : List ℕ) (ps : List Savepoint) (place : ℕ) (p : Savepoint) → AllByRecursion (λ q. q.session ≡ session) ps
     → position (has_name name) ps ≡ Some place → p ≡ get_or ps place p → savepoint_of session name ps ≡ Some p
 found_is session name ps place p own at is =
@@ -34,12 +34,12 @@ found_is session name ps place p own at is =
     ∙ slice_get-get_or ps place p inside.1
     ∙ ap (λ (q : Savepoint). Some q) (sym is)
 
--- where the name has no place there is none
+-- if the name has no index, no savepoint has it
 pub none_is : (session : ℕ) (name : List ℕ) (ps : List Savepoint) → AllByRecursion (λ q. q.session ≡ session) ps
     → position (has_name name) ps ≡ None → savepoint_of session name ps ≡ None
 none_is session name ps own at = find_same (is_named session name) (has_name name) ps (named_is session name ps own) ∙ none_inside (has_name name) ps at
 
--- none of a session's own savepoints is another's
+-- no savepoint of the session belongs to another one
 own_tests : (session : ℕ) (ps : List Savepoint) → AllByRecursion (λ p. p.session ≡ session) ps → AllByRecursion (λ p. (p.session == session) ≡ true) ps
 own_tests session [] own = tt
 own_tests session (p ∷ ps) own = (eq-eqb p.session session own.0, own_tests session ps own.1)
@@ -52,7 +52,7 @@ through_step : (b : Bool) (p : Savepoint) (others more ps : List Savepoint) (n :
 through_step true p others more ps n none rest = ap (λ qs. p ∷ qs) none
 through_step false p others more ps n none rest = let e : 1 + n + 1 ≡ suc (n + 1) = omega arith in rw e (ap (λ qs. p ∷ qs) rest)
 
--- the savepoints up to the one of a name are the first ones
+-- the savepoints up to the one with a name are the first ones
 pub through_is : (session : ℕ) (name : List ℕ) (ps : List Savepoint) → AllByRecursion (λ p. p.session ≡ session) ps
     → through session name ps ≡ take (position_or_len (has_name name) ps + 1) ps
 through_is session name [] own = refl

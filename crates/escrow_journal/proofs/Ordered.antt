@@ -15,11 +15,11 @@ use Rattle.escrow_journal.proofs.Filters.{filter_all, filter_none, filter_same, 
 abbrev pub is_from : ℕ → Reservation → Bool
 is_from id r = nat_le id r.id
 
--- the place of the first of them
+-- the index of the first of them
 abbrev pub first_from : ℕ → List Reservation → ℕ
 first_from id rs = position_or_len (is_from id) rs
 
--- what comes behind one of them is one of them
+-- every reservation after one of them is one of them
 all_from : (id : ℕ) (r : Reservation) (rs : List Reservation) → is_from id r ≡ true
     → AllByRecursion (λ later. IsTrue (reservation_before r later)) rs → AllByRecursion (λ later. is_from id later ≡ true) rs
 all_from id r [] here rising = tt
@@ -33,7 +33,7 @@ later_step : (b : Bool) (r : Reservation) (kept rs : List Reservation) (n : ℕ)
 later_step true r kept rs n all rest = ap (λ ys. r ∷ ys) (all refl)
 later_step false r kept rs n all rest = rw one-add rest
 
--- those from an id on are the last ones
+-- the reservations from an id on are the last ones
 pub from_is : (id : ℕ) (rs : List Reservation) → IsAscending reservation_before rs → filter (is_from id) rs ≡ drop (first_from id rs) rs
 from_is id [] rising = refl
 from_is id (r ∷ rs) rising =
@@ -45,14 +45,14 @@ earlier_step : (b : Bool) (r : Reservation) (kept rs : List Reservation) (n : �
 earlier_step true r kept rs n none rest = none refl
 earlier_step false r kept rs n none rest = rw one-add (ap (λ ys. r ∷ ys) rest)
 
--- and the others the first ones
+-- the others are the first ones
 pub below_is : (id : ℕ) (rs : List Reservation) → IsAscending reservation_before rs → filter (λ r. not (is_from id r)) rs ≡ take (first_from id rs) rs
 below_is id [] rising = refl
 below_is id (r ∷ rs) rising =
     earlier_step (is_from id r) r (filter (λ x. not (is_from id x)) rs) rs (first_from id rs)
     (λ here. filter_none (is_from id) rs (all_from id r rs here rising.0)) (below_is id rs rising.1)
 
--- of the reservations of one session, those after a savepoint of it are those from its id on
+-- of one session's reservations, those after its savepoint are those from the savepoint's id on
 is_after_is : (p : Savepoint) (session : ℕ) (rs : List Reservation) → p.session ≡ session → AllByRecursion (λ r. r.session ≡ session) rs
     → AllByRecursion (λ r. is_after p r ≡ is_from p.id r) rs
 is_after_is p session [] same own = tt

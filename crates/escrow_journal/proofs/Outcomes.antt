@@ -1,4 +1,4 @@
--- What a `Result` says where it is no error.
+-- What a `Result` says if it is no error.
 use Rattle.std.specs.Prelude.{◌≡◌, Result, Ok, Err, OnOk, false}
 use Rattle.std.specs.Result.{is_err}
 

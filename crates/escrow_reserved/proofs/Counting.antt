@@ -1,4 +1,4 @@
--- What is open, and the places that count it.
+-- Open reservations, and the places that count them.
 use Rattle.std.specs.Prelude.{◌≡◌, ◌+◌, map, take, ◌<◌, ◌≤◌, ℕ, zero, suc, ℤ, Bool, true, false, not, nat_eq, is_some, option_map, unwrap_or, Option, Some, None, IsSome, List, [], ◌∷◌, ◌++◌, length, ◌==◌}
 use Rattle.std.specs.List.{AllByRecursion, list_any}
 use Rattle.std.proofs.Common.{inl, inr, refl, sym, ap, ap₂, subst, ◌∙◌, arith, cond, get_or, append-nil}
@@ -35,7 +35,7 @@ not_zero : (n : ℕ) → not (nat_eq n 0) ≡ true → 0 < n
 not_zero zero is = absurd (cc)
 not_zero (suc n) is = omega arith
 
--- where just the rows that are reserved have places, each place counts a reservation; and the other way
+-- if exactly the reserved rows have places, each place counts a reservation; and conversely
 pub all_count : (reservations : List Reservation) (places : Bounds) → ArePlaced reservations places → CountsAll places reservations → AllCount places
 all_count reservations places placed counts = λ row place at.
     let here : is_some (place_at places row) ≡ true = ap (λ (p : Option Place). is_some p) at in
@@ -45,22 +45,22 @@ all_count reservations places placed counts = λ row place at.
 pub all_placed : (reservations : List Reservation) (places : Bounds) → AllCount places → CountsAll places reservations → ArePlaced reservations places
 all_placed reservations places counting counts = λ row. placed_is places reservations row counting counts
 
--- a session's reservations, in front of the others
+-- a session's reservations, followed by the others
 pub own_first : (session : ℕ) (reservations : List Reservation) (places : Bounds) → CountsAll places reservations → CountsAll places (own session reservations ++ others session reservations)
 own_first session reservations places counts = parts_count (λ (r : Reservation). r.session == session) places reservations counts
 
--- what came after a savepoint, in front of the rest
+-- the reservations after a savepoint, followed by the rest
 pub after_first : (p : Savepoint) (reservations : List Reservation) (places : Bounds) → CountsAll places reservations → CountsAll places (after p reservations ++ not_after p reservations)
 after_first p reservations places counts = parts_count (is_after p) places reservations counts
 
--- each of both is short
+-- each of the two lists is short
 pub short_own : (session : ℕ) (reservations : List Reservation) → AllByRecursion IsShort reservations → AllByRecursion IsShort (own session reservations)
 short_own session reservations short = all_filter IsShort (λ (r : Reservation). r.session == session) reservations short
 
 pub short_others : (session : ℕ) (reservations : List Reservation) → AllByRecursion IsShort reservations → AllByRecursion IsShort (others session reservations)
 short_others session reservations short = all_filter IsShort (λ (r : Reservation). not (r.session == session)) reservations short
 
--- a place counts no more than there are open reservations
+-- a place counts at most as many as there are open reservations
 length-of_row : (row : RowName) (reservations : List Reservation) → length (of_row row reservations) ≤ length reservations
 length-of_row row [] = omega arith
 length-of_row row (r ∷ reservations) = one (same_row row r.row) (deltas r.changes) (of_row row reservations) reservations (length-of_row row reservations)
@@ -72,7 +72,7 @@ length-of_row row (r ∷ reservations) = one (same_row row r.row) (deltas r.chan
 pub few_counted : (row : RowName) (reservations : List Reservation) (place : Place) → Counts place (of_row row reservations) → place.count ≤ length reservations
 few_counted row reservations place counts = subst (λ (n : ℕ). n ≤ length reservations) (sym counts.0) (length-of_row row reservations)
 
--- a place that is given back where it counts nothing is so where its row isn't reserved
+-- a place that is released if it counts nothing is released if its row is not reserved
 pub released_is : (reservations : List Reservation) (row : RowName) (old new : Bounds) → CountsAll old reservations
     → (is_counting (place_at old row) ≡ false → place_at new row ≡ None) → (is_counting (place_at old row) ≡ true → new ≡ old) → Releases reservations row old new
 released_is reservations row old new counts empty counting = record {
@@ -80,12 +80,12 @@ released_is reservations row old new counts empty counting = record {
   reserved = λ some. counting (counting_is old reservations row counts ∙ some);
 }
 
--- nothing in the table of transactions refuses what nothing refuses
+-- if there is no reason against a reservation, the table of transactions has none
 pub free_of : (session : ℕ) (checks : List Check) (amounts changes : List ℤ) (reservations : List (List ℤ)) (o : Open) → reason_by session checks amounts changes reservations o ≡ None
     → grant_refusal session o ≡ None
 free_of session checks amounts changes reservations o none = (passed (grant_refusal session o) (option_map refusal.Check (broken checks amounts changes reservations) ∷ []) none).first
 
--- one more is counted, the last
+-- one more reservation is counted, at the end
 pub granted_counts : (session : ℕ) (row : RowName) (changes : List (Option ℤ)) (o : Open) (old new : Bounds) → CountsAll old o.reservations → AllByRecursion IsShort o.reservations → length changes ≤ MAX_LEN
     → IsSome (place_at old row) → Becomes (TakesIn (deltas changes)) (place_at old row) (place_at new row) → OthersStay row old new
     → AreCounted (record { txns = open_after_grant session row changes o; places = new })
@@ -96,7 +96,7 @@ granted_counts session row changes o old new counts short few there becomes othe
       short = append_all IsShort o.reservations (r ∷ []) short (few, tt);
     }
 
--- what came after a savepoint, if there is one, and the rest
+-- the reservations after a savepoint, if it exists, followed by the rest
 pub later_first : (session : ℕ) (name : List ℕ) (o : Open) (later : List Reservation) (places : Bounds) → Some later ≡ option_map (λ p. after p o.reservations) (savepoint_of session name o.savepoints)
     → CountsAll places o.reservations → CountsAll places (later ++ (open_after_rollback_to session name o).reservations)
 later_first session name o later places is counts = at (savepoint_of session name o.savepoints) is
@@ -114,7 +114,7 @@ later_short session name o later is short = at (savepoint_of session name o.save
     at None is = absurd (cc)
     at (Some p) is = subst (AllByRecursion IsShort) (sym (some_same is)) (all_filter IsShort (is_after p) o.reservations short)
 
--- and the rest is short
+-- the rest is short
 pub short_cut : (session : ℕ) (name : List ℕ) (o : Open) → AllByRecursion IsShort o.reservations → AllByRecursion IsShort (open_after_rollback_to session name o).reservations
 short_cut session name o short = at (savepoint_of session name o.savepoints)
   where
@@ -122,7 +122,7 @@ short_cut session name o short = at (savepoint_of session name o.savepoints)
     at None = short
     at (Some p) = all_filter IsShort (λ (r : Reservation). not (is_after p r)) o.reservations short
 
--- the amounts of one place more
+-- the amounts of one more place
 pub amounts_more : {A : Type 0} (of : A → List ℤ) (places : Bounds) (reservations : List Reservation) (before : List A) (i : ℕ) (r : Reservation) (amounts : A)
     → i < length reservations → r ≡ get_or reservations i r → option_map (λ (place : Place). place.amounts) (place_at places r.row) ≡ Some (of amounts)
     → AreAmounts places (take i reservations) (map of before) → AreAmounts places (take (i + 1) reservations) (map of (before ++ amounts ∷ []))
@@ -132,7 +132,7 @@ amounts_more of places reservations before i r amounts below at has so_far =
     ∙ ap₂ (λ (zs : List (Option (List ℤ))) (z : Option (List ℤ)). zs ++ z ∷ []) so_far (sym (ap own at) ∙ has)
     ∙ sym (ap (map Some) (map_push of before amounts) ∙ map_push Some (map of before) (of amounts))
 
--- a reservation that is open has a place
+-- an open reservation has a place
 pub open_placed : (places : Bounds) (reservations : List Reservation) (r : Reservation) → CountsAll places reservations → Has reservations r → IsSome (place_at places r.row)
 open_placed places reservations r counts has = counting_some (place_at places r.row) (counting_is places reservations r.row counts ∙ any_has (λ (x : Reservation). same_row x.row r.row) reservations r has (same_row_itself r.row))
   where

@@ -1,4 +1,4 @@
--- The transactions of several sessions end, one after another.
+-- The transactions of several sessions end one after another.
 use Rattle.std.specs.Prelude.{◌≡◌, ℕ, ◌+◌, ◌<◌, List, [], ◌∷◌, ◌++◌, length, take, flat_map, not, ◌==◌}
 use Rattle.std.specs.List.{AllByRecursion}
 use Rattle.std.proofs.Common.{refl, sym, ap, subst, get_or, ◌∙◌}
@@ -15,11 +15,11 @@ use Rattle.escrow_journal.specs.Reservations.{own, others}
 use Rattle.escrow_machine.proofs.Choices.{append_all}
 use Rattle.escrow_reserved.specs.Ends.{AreAllEnded, all_ended}
 
--- a list up to one entry more
+-- a list up to one more entry
 pub up_to : {A : Type 0} (plan : List A) (i : ℕ) (entry : A) → i < length plan → entry ≡ get_or plan i entry → take (i + 1) plan ≡ take i plan ++ entry ∷ []
 up_to plan i entry below is = take_more plan i entry below ∙ ap (λ e. take i plan ++ e ∷ []) (sym is)
 
--- the reservations of one session more
+-- the reservations of one more session
 pub all_more : (plan : List (ℕ × End)) (reservations : List Reservation) (i : ℕ) (entry : ℕ × End) → i < length plan → entry ≡ get_or plan i entry
     → flat_map (λ (e : ℕ × End). own e.0 reservations) (take i plan) ++ own entry.0 reservations ≡ flat_map (λ (e : ℕ × End). own e.0 reservations) (take (i + 1) plan)
 all_more plan reservations i entry below is =
@@ -27,14 +27,14 @@ all_more plan reservations i entry below is =
     ∙ sym (flat_map-append (λ (e : ℕ × End). own e.0 reservations) (take i plan) (entry ∷ []))
     ∙ ap (flat_map (λ (e : ℕ × End). own e.0 reservations)) (sym (up_to plan i entry below is))
 
--- what holds of each session's reservations holds of all of theirs
+-- what holds for each session's reservations holds for those of all
 pub all_own : (P : Reservation → Type 0) (plan : List (ℕ × End)) (reservations : List Reservation)
     → ((session : ℕ) → AllByRecursion P (own session reservations)) → AllByRecursion P (flat_map (λ (e : ℕ × End). own e.0 reservations) plan)
 all_own P [] reservations each = tt
 all_own P (entry ∷ plan) reservations each =
     append_all P (own entry.0 reservations) (flat_map (λ (e : ℕ × End). own e.0 reservations) plan) (each entry.0) (all_own P plan reservations each)
 
--- one transaction more has ended
+-- one more transaction has ended
 ended_push : (plan : List (ℕ × End)) (entry : ℕ × End) (o : Open) → all_ended (plan ++ entry ∷ []) o ≡ open_after_end entry.0 (all_ended plan o)
 ended_push [] entry o = refl
 ended_push (first ∷ plan) entry o = ended_push plan entry (open_after_end first.0 o)
@@ -55,6 +55,6 @@ places_more plan i entry o left old mid new below is so_far are last =
     subst (λ (p : List (ℕ × End)). AreAllEnded p o old new) (sym (up_to plan i entry below is))
     (places_push (take i plan) entry o old mid new are (subst (λ (it : Open). AreEnded entry.1 (own entry.0 it.reservations) mid new) so_far last))
 
--- a session's reservations and those of the others are all
+-- a session's reservations and the others are all
 pub own_and_others : (session : ℕ) (reservations : List Reservation) → length (own session reservations) + length (others session reservations) ≡ length reservations
 own_and_others session reservations = length-filter_both (λ (r : Reservation). r.session == session) (λ (r : Reservation). not (r.session == session)) (λ _. refl) reservations

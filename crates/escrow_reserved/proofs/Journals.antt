@@ -12,14 +12,14 @@ of_table_append : (table : Option (List ℕ)) (xs ys : List Reservation) → of_
 of_table_append None xs ys = refl
 of_table_append (Some name) xs ys = filter-append (λ (r : Reservation). bytes_eq r.row.table name) xs ys
 
--- one more reservation as it is shown, if it is
+-- one more reservation, if it is shown
 pub entries_more : (catalog : List TableDef) (table : Option (List ℕ)) (reservations : List Reservation) (i : ℕ) (r : Reservation) → i < length reservations → r ≡ get_or reservations i r
     → map (entry_of catalog) (of_table table (take (i + 1) reservations)) ≡ map (entry_of catalog) (of_table table (take i reservations)) ++ map (entry_of catalog) (of_table table (r ∷ []))
 entries_more catalog table reservations i r below at =
     rw (take_more reservations i r below, ← at, of_table_append table (take i reservations) (r ∷ []))
     (map-append (entry_of catalog) (of_table table (take i reservations)) (of_table table (r ∷ [])))
 
--- no changes are left once one of the two lists is at its end
+-- no changes remain after one of the two lists has ended
 pub named_end : (columns : List Column) (changes : List (Option ℤ)) → (length columns ≡ 0) ⊎ (length changes ≡ 0) → named_changes columns changes ≡ []
 named_end [] changes end = refl
 named_end (column ∷ columns) [] end = refl

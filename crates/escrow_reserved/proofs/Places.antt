@@ -1,4 +1,4 @@
--- The places of the rows that are reserved, as the state of a database changes.
+-- The places of reserved rows, as the state of a database changes.
 use Rattle.std.specs.Prelude.{◌≡◌, ◌==◌, ◌+ℤ◌, ◌||◌, ℕ, ℤ, neg_ℤ, int_le, Bool, true, false, Option, Some, None, is_some, option_map, Result, Ok, Err, OnErr, IsSome, IsSomeAnd, List, [], ◌∷◌, ◌++◌, length, map, bytes_eq}
 use Rattle.std.specs.List.{AllByRecursion, list_any}
 use Rattle.std.proofs.Common.{inl, inr, refl, sym, ap, ap₂, subst, ◌∙◌, cond, append-nil, append_assoc}
@@ -52,11 +52,11 @@ use Rattle.escrow_machine.proofs.Refusals.{none_there}
 use Rattle.escrow_reserved.specs.Reserved.{ArePlaced, Releases}
 use Rattle.escrow_reserved.proofs.Standing.{standing}
 
--- what holds of a row, and of each other, holds of all
+-- what holds for a row and for every other row holds for all rows
 each_row : (P : RowName → Type 0) (row : RowName) → P row → ((other : RowName) → same_row row other ≡ false → P other) → (other : RowName) → P other
 each_row P row here others other = elim (cases_Bool (same_row row other)) [ inl same ↦ subst P (row_same row other same) here | inr differs ↦ others other differs ]
 
--- places that are the same for each row
+-- the places are the same for each row
 pub same_tables : (catalog : List TableDef) (old new : Bounds) → ((row : RowName) → place_at new row ≡ place_at old row) → AreOfTables catalog old → AreOfTables catalog new
 same_tables catalog old new same of_tables = λ row place at. of_tables row place (sym (same row) ∙ at)
 
@@ -66,59 +66,59 @@ same_amounts rows old new same have = λ row place at. have row place (sym (same
 pub same_placed : (reservations : List Reservation) (old new : Bounds) → ((row : RowName) → place_at new row ≡ place_at old row) → ArePlaced reservations old → ArePlaced reservations new
 same_placed reservations old new same placed = λ row. ap (λ (p : Option Place). is_some p) (same row) ∙ placed row
 
--- A ROW THAT HAS A PLACE
+-- RESERVED ROWS AND PLACES
 
--- is reserved
+-- a row with a place is reserved
 pub placed_reserved : (reservations : List Reservation) (places : Bounds) (row : RowName) (place : Place) → ArePlaced reservations places → place_at places row ≡ Some place
     → list_any (λ r. same_row r.row row) reservations ≡ true
 placed_reserved reservations places row place placed at = sym (placed row) ∙ ap (λ (p : Option Place). is_some p) at
 
--- and one that is reserved has one
+-- a reserved row has a place
 pub reserved_placed : (reservations : List Reservation) (places : Bounds) (row : RowName) → ArePlaced reservations places
     → list_any (λ r. same_row r.row row) reservations ≡ true → IsSome (place_at places row)
 reserved_placed reservations places row placed is = placed row ∙ is
 
--- what is in two options that are the same
+-- the values of equal options are equal
 pub some_same : {A : Type 0} {x y : A} → Some x ≡ Some y → x ≡ y
 some_same is = cc
 
--- what is in an option
+-- the value of an option
 pub from_some : {A C : Type 0} (o : Option A) → IsSome o → ((x : A) → o ≡ Some x → C) → C
 from_some None is then = absurd (cc)
 from_some (Some x) is then = then x refl
 
--- where one item passes a test, one passes each test that it implies
+-- if an item passes a test, an item passes each weaker test
 pub any_weaker : {A : Type 0} (p q : A → Bool) (xs : List A) → ((x : A) → p x ≡ true → q x ≡ true) → list_any p xs ≡ true → list_any q xs ≡ true
 any_weaker p q [] weaker any = any
 any_weaker p q (x ∷ xs) weaker any =
     elim (or_cases (p x) (list_any p xs) any) [ inl here ↦ or_left (q x) (list_any q xs) (weaker x here) | inr later ↦ or_right (q x) (list_any q xs) (any_weaker p q xs weaker later) ]
 
--- one that isn't has none
+-- a row that is not reserved has no place
 pub none_placed : (reservations : List Reservation) (places : Bounds) (row : RowName) → ArePlaced reservations places
     → list_any (λ r. same_row r.row row) reservations ≡ false → place_at places row ≡ None
 none_placed reservations places row placed free = none_there (place_at places row) (placed row ∙ free)
 
--- what holds at all holds where there is an error
+-- a fact holds in particular if there is an error
 pub on_err : {A E : Type 0} (P : Type 0) (result : Result A E) → P → OnErr result P
 on_err P (Ok x) holds = tt
 on_err P (Err e) holds = holds
 
--- a place in front of others is that of its row, and the other rows have the places that they had
+-- the first place is found for its row, and other rows keep their places
 pub put_at : (row : RowName) (place : Place) (places : Bounds) → place_at ((row, place) ∷ places) row ≡ Some place
 put_at row place places = cond-true (same_row row row) (Some place) (place_at places row) (same_row_itself row)
 
 pub put_others : (row : RowName) (place : Place) (places : Bounds) → OthersStay row places ((row, place) ∷ places)
 put_others row place places = λ other differs. cond-false (same_row other row) (Some place) (place_at places other) (other_way row other differs)
 
--- a place that was made for such a row, and given back, leaves each row the place that it had
+-- if a place was made for an unreserved row and released, each row has the same place as before
 pub refused_same : (reservations : List Reservation) (row : RowName) (old mid new : Bounds) → list_any (λ r. same_row r.row row) reservations ≡ false → place_at old row ≡ None
     → OthersStay row old mid → Releases reservations row mid new → OthersStay row mid new → (other : RowName) → place_at new other ≡ place_at old other
 refused_same reservations row old mid new free none made releases gone =
     each_row (λ (other : RowName). place_at new other ≡ place_at old other) row (releases.free free ∙ sym none) (λ other differs. gone other differs ∙ made other differs)
 
--- A STATE THAT STANDS BY WHAT IS OPEN: tables and amounts of reserved rows stay
+-- A STATE WITH PLACES: tables and amounts of reserved rows stay
 
--- what is in an option that has something
+-- the value of an option that has one
 pub some_of : {A C : Type 0} (P : A → Type 0) (o : Option A) → IsSomeAnd o P → ((x : A) → o ≡ Some x → P x → C) → C
 some_of P None h then = absurd h
 some_of P (Some x) h then = then x refl h
@@ -138,18 +138,18 @@ amounts_stay old new places placed stay have = λ row place at.
 
 -- ENDS
 
--- without a commit the amounts stay
+-- without a COMMIT the amounts stay
 rollbacks_stay : (amounts : List ℤ) (ended : List (List ℤ)) → amounts_after_all end.Rollback amounts ended ≡ amounts
 rollbacks_stay amounts [] = refl
 rollbacks_stay amounts (changes ∷ ended) = rollbacks_stay amounts ended
 
--- nor does their number change
+-- the number of amounts stays
 pub length-after_all : (e : End) (amounts : List ℤ) (ended : List (List ℤ)) → length (amounts_after_all e amounts ended) ≡ length amounts
 length-after_all e amounts [] = refl
 length-after_all end.Commit amounts (changes ∷ ended) = length-after_all end.Commit (all_moved amounts changes) ended ∙ length-all_moved amounts changes
 length-after_all end.Rollback amounts (changes ∷ ended) = length-after_all end.Rollback amounts ended
 
--- the places that are left are of their tables
+-- the remaining places are of their tables
 pub ended_tables : (e : End) (ended : List Reservation) (catalog : List TableDef) (old new : Bounds) → AreEnded e ended old new → AreOfTables catalog old → AreOfTables catalog new
 ended_tables e ended catalog old new are of_tables = λ row place at.
     let was = are row place at in
@@ -161,7 +161,7 @@ ended_tables e ended catalog old new are of_tables = λ row place at.
       amounts = ap length has.amounts ∙ length-after_all e before.amounts (of_row row ended) ∙ is.amounts;
     }))
 
--- and have their rows' amounts, which a rollback leaves
+-- they have the amounts of their rows, since a ROLLBACK leaves these
 pub rollbacks_amounts : (ended : List Reservation) (rows : List Row) (old new : Bounds) → AreEnded end.Rollback ended old new → HaveAmounts rows old → HaveAmounts rows new
 rollbacks_amounts ended rows old new are have = λ row place at.
     let was = are row place at in
@@ -169,7 +169,7 @@ rollbacks_amounts ended rows old new are have = λ row place at.
     let has : HasEnded end.Rollback (of_row row ended) before place = was.2 in
     have row before was.1 ∙ ap Some (sym (has.amounts ∙ rollbacks_stay before.amounts (of_row row ended)))
 
--- COMMIT: what is moved into amounts one after another is what is applied to the rows
+-- COMMIT: adding changes one after another is applying them to the rows
 
 amount_test : (z : ℤ) → IsAmount z → is_amount z ≡ true
 amount_test z is = and_from (int_le (neg_ℤ MAX) z) (int_le z MAX) (int_le_from (neg_ℤ MAX) z is.0) (int_le_from z MAX is.1)
@@ -181,7 +181,7 @@ moved_is (a ∷ rest) (c ∷ changes) are =
     ap₂ (λ (z : ℤ) (zs : List ℤ). z ∷ zs) (cond-true (is_amount (a +ℤ c)) (a +ℤ c) a (amount_test (a +ℤ c) are.0)) (moved_is rest changes are.1)
 
 module _ (row : RowName) (amounts : List ℤ) where
-  -- the amounts with those of several reservations added that are of the row
+  -- the amounts after the changes of some reservations to the row
   abbrev with_changes : List Reservation → List ℤ
   with_changes chosen = all_changed amounts (map (changes_at row) chosen)
 
@@ -212,7 +212,7 @@ front_choice : {A : Type 0} (front back : List A) → IsChoice (front ++ back) f
 front_choice [] back = choice_none back
 front_choice (x ∷ front) back = inr (front, front_choice front back, refl)
 
--- the amounts of a row that stands are amounts, whichever of the open reservations are applied
+-- the amounts of an existing row are in range, whichever of the open reservations are applied
 choice_amounts : (s : State) → IsValid s → (row : Row) → Has s.rows row → (chosen : List Reservation) → IsChoice s.reservations chosen
     → AllByRecursion IsAmount (all_changed row.amounts (map (changes_to row) chosen))
 choice_amounts s valid row has chosen choice =
@@ -221,7 +221,7 @@ choice_amounts s valid row has chosen choice =
     checks_keep_amounts table (row_after chosen row).amounts (is_table_found s valid.orderly row.name.table table named)
     (length-all_changed row.amounts (map (changes_to row) chosen) ∙ is_row.amounts) met)
 
--- so what a session's commit makes of the amounts of a row is what its places make of them
+-- a session's COMMIT changes the amounts of a row as it changes those of its place
 pub committed_amounts : (s : State) (session : ℕ) (name : RowName) (amounts : List ℤ) → IsValid s → amounts_named s.rows name ≡ Some amounts
     → amounts_named (applied s.rows (own session s.reservations)) name ≡ Some (amounts_after_all end.Commit amounts (of_row name (own session s.reservations)))
 committed_amounts s session name amounts valid is =
@@ -248,7 +248,7 @@ commits_amounts s session old new valid are have = λ row place at.
 
 -- A GRANT
 
--- a place that is made has the checks of its table
+-- a new place has the checks of its table
 pub made_tables : (catalog : List TableDef) (row : RowName) (table : TableDef) (amounts : List ℤ) (place : Place) (old new : Bounds) → table_named catalog row.table ≡ Some table
     → length amounts ≡ length (reservables table.columns) → place_at new row ≡ Some place → IsNew amounts table.checks place → OthersStay row old new
     → AreOfTables catalog old → AreOfTables catalog new
@@ -261,7 +261,7 @@ made_tables catalog row table amounts place old new named many at new_place othe
     (record { checks = new_place.checks_are; amounts = ap length new_place.amounts_are ∙ many })))
     (λ other differs kept found. of_tables other kept (sym (others other differs) ∙ found))
 
--- and the amounts of its row
+-- it has the amounts of its row
 pub made_amounts : (rows : List Row) (row : RowName) (amounts : List ℤ) (checks : List Check) (place : Place) (old new : Bounds) → amounts_named rows row ≡ Some amounts
     → place_at new row ≡ Some place → IsNew amounts checks place → OthersStay row old new → HaveAmounts rows old → HaveAmounts rows new
 made_amounts rows row amounts checks place old new has at new_place others have =
@@ -269,7 +269,7 @@ made_amounts rows row amounts checks place old new has at new_place others have 
     (λ kept found. has ∙ ap Some (sym new_place.amounts_are ∙ ap (λ (k : Place). k.amounts) (some_same (sym at ∙ found))))
     (λ other differs kept found. have other kept (sym (others other differs) ∙ found))
 
--- a place that takes in a reservation keeps both
+-- a place that counts one more reservation keeps both
 pub taken_tables : (catalog : List TableDef) (row : RowName) (changes : List ℤ) (old new : Bounds) → IsSome (place_at old row) → Becomes (TakesIn changes) (place_at old row) (place_at new row)
     → OthersStay row old new → AreOfTables catalog old → AreOfTables catalog new
 taken_tables catalog row changes old new there becomes others of_tables =
@@ -306,11 +306,11 @@ failed_one true b is = refl
 failed_one false true is = absurd (cc)
 failed_one false false is = refl
 
--- it stands afterwards
+-- it is still there
 pub becomes_some : (before after : Option Place) (changes : List ℤ) → IsSome before → Becomes (TakesIn changes) before after → IsSome after
 becomes_some before after changes there becomes = from_some before there (λ kept was. ap (λ (p : Option Place). is_some p) (becomes kept was).1)
 
--- and its row is one that is reserved
+-- its row is reserved
 pub granted_placed : (session : ℕ) (row : RowName) (changes : List (Option ℤ)) (o : Open) (old new : Bounds)
     → ((other : RowName) → same_row row other ≡ false → is_some (place_at old other) ≡ list_any (λ r. same_row r.row other) o.reservations)
     → IsSome (place_at new row) → OthersStay row old new → ArePlaced (open_after_grant session row changes o).reservations new
@@ -322,7 +322,7 @@ granted_placed session row changes o old new before there others =
     ap (λ (p : Option Place). is_some p) (others other differs) ∙ before other differs
     ∙ sym (list_any-append (λ (x : Reservation). same_row x.row other) o.reservations (r ∷ []) ∙ failed_one (list_any (λ x. same_row x.row other) o.reservations) (same_row row other) differs))
 
--- ALTER TABLE: the places of a table come of the old ones
+-- ALTER TABLE: the places of a table come from the old ones
 
 goes_some : (Step : Place → Place → Type 0) (before after : Option Place) → Goes Step before after → is_some after ≡ is_some before
 goes_some Step None after none = ap (λ (p : Option Place). is_some p) none
@@ -373,7 +373,7 @@ module _ (table : List ℕ) (Step : RowName → Place → Place → Type 0) (old
     gone_amounts rows have = λ row place at.
         came_of row place at (λ _ before was step. have row before was ∙ ap Some (sym (same row before place step))) (λ _ was. have row place was)
 
-    -- and are of their tables, one of which is altered
+    -- the rows belong to their tables, one of which is altered
     pub gone_tables : (catalog : List TableDef) (was made : TableDef) → table_named catalog table ≡ Some was → made ≡ record was { checks = made.checks }
         → ((row : RowName) (before after : Place) → Step row before after → checks_of before.checks ≡ was.checks → checks_of after.checks ≡ made.checks)
         → AreOfTables catalog old → AreOfTables (with_altered made catalog) new

@@ -1,20 +1,18 @@
 -- What is kept of rows that were read.
-use Rattle.std.specs.Prelude.{◌≡◌, ◌⊎◌, ◌<◌, ◌≤◌, ◌+◌, ℕ, zero, suc, ℤ, Bool, true, false, if◌then◌else◌, is_some, option_map, Option, Some, None, IfSome, IfNone, List, [], ◌∷◌, bytes_eq, filter, length, not, position, take, slice_get}
-use Rattle.std.proofs.Common.{cond, get_or, inl, inr, refl, sym, ap, subst, arith, ◌∙◌}
+use Rattle.std.specs.Prelude.{◌≡◌, ◌⊎◌, ◌<◌, ◌≤◌, ◌+◌, ℕ, ℤ, Bool, true, false, if◌then◌else◌, is_some, option_map, Option, Some, None, IfSome, IfNone, List, [], ◌∷◌, bytes_eq, filter, length, not, position, take, slice_get}
+use Rattle.std.proofs.Common.{zero, suc, cond, get_or, inl, inr, refl, sym, ap, subst, arith, ◌∙◌}
 use Rattle.std.proofs.lemmas.Bool.{cases_Bool, cond-false, false_from_ne_true, false≢true, not-false, not-true}
 use Rattle.std.specs.Map.{keys_of, lookup}
 use Rattle.std.proofs.lemmas.Map.Entries.{lookup_from_place}
-use Rattle.std.proofs.lemmas.Map.Made.{lookup_key_passes}
-use Rattle.std.proofs.lemmas.Option.{slice_get-map}
 use Rattle.indexmap.specs.IndexMap.{IndexMap, IsUnchanged, IsUnique, Updates, UpdatesBy, with_value_at}
 use Rattle.indexmap.proofs.CallerLemmas.{updates-with_value_at}
-use Rattle.indexmap.proofs.MapLemmas.{Found-position}
 use Rattle.escrow_num.specs.declared.reservation.Reservation.{Reservation}
 use Rattle.escrow_num.specs.declared.value.RowName.{RowName}
 use Rattle.escrow_num.specs.Equal.{same_row_equiv}
 use Rattle.escrow_num.specs.Order.{same_row}
 use Rattle.escrow_num.proofs.Orders.{row_same, same_row_itself}
 use Rattle.escrow_bounds.proofs.Ending.{after_last, after_one, other_stays}
+use Rattle.escrow_bounds.proofs.Standing.{named_there}
 use Rattle.escrow_num.specs.declared.row.Row.{Row}
 use Rattle.escrow_schema.specs.declared.table.TableDef.{TableDef}
 use Rattle.escrow_reserved.proofs.Places.{some_same}
@@ -27,7 +25,7 @@ gone_or_left : (old new : ReadRows) (name : RowName) (b : Bool) → read_at new 
 gone_or_left old new name true is = inl is
 gone_or_left old new name false is = inr is
 
--- what is left of what was left before
+-- what remains of what remained before
 pub left_then : (old mid new : ReadRows) (name : RowName) → IsLeft old mid name → IsLeft mid new name → IsLeft old new name
 left_then old mid new name first (inl gone) = inl gone
 left_then old mid new name (inl gone) (inr same) = inl (same ∙ gone)
@@ -41,7 +39,7 @@ module _ {S : Type 0} (old new : IndexMap RowName (List ℤ) S) where
   evicted None updates same name = inr (ap (λ (rows : ReadRows). read_at rows name) same)
   evicted (Some p) updates same name = taken_out (same_row p.0) updates name
 
-  -- one is put among those that were left
+  -- a row is added to those that remained
   pub put_in : (first : ReadRows) (row : RowName) (amounts : List ℤ) → ((name : RowName) → IsLeft first old.entries name) → Updates same_row old new row (Some amounts)
       → (name : RowName) → IsLeft first new.entries name ⊎ ((same_row row name ≡ true) × (read_at new.entries name ≡ Some amounts))
   put_in first row amounts left updates name = at (same_row row name) refl (updates.0 name)
@@ -53,28 +51,19 @@ module _ {S : Type 0} (old new : IndexMap RowName (List ℤ) S) where
 
 -- WHERE A ROW STANDS
 
-there_is : (rows : ReadRows) (i : ℕ) → i < length rows → (p : RowName × List ℤ) × (slice_get rows i ≡ Some p)
-there_is [] i below = absurd (omega arith)
-there_is (p ∷ rows) zero below = (p, refl)
-there_is (p ∷ rows) (suc i) below = there_is rows i (omega arith)
-
 abbrev first : RowName × List ℤ → RowName
 first p = p.0
 
 -- the place that is found is the row's
 pub found_at : (rows : ReadRows) (name : RowName) (found : Option ℕ) → found ≡ position (same_row name) (keys_of rows) → IfSome found (λ place. IsKeptAt rows name place)
 found_at rows name None is = tt
-found_at rows name (Some i) is =
-    let found = Found-position (same_row name) rows i (sym is) in
-    let entry = there_is rows i found.within in
-    let key : option_map first (slice_get rows i) ≡ Some (first entry.0) = ap (option_map first) entry.1 in
-    key ∙ ap Some (sym (row_same name (first entry.0) (lookup_key_passes (same_row name) rows (first entry.0) (found.key ∙ slice_get-map first rows i ∙ key))))
+found_at rows name (Some i) is = named_there rows name i (sym is)
 
 -- the row at a place has the name
 pub named_at : (rows : ReadRows) (name key : RowName) (amounts : List ℤ) (place : ℕ) → IsKeptAt rows name place → slice_get rows place ≡ Some (key, amounts) → key ≡ name
 named_at rows name key amounts place at entry = some_same (sym (ap (option_map first) entry) ∙ at)
 
--- its amounts are changed, and no others
+-- the amounts of this row change, and no others do
 module _ {S : Type 0} (rows : IndexMap RowName (List ℤ) S) (place : ℕ) (key : RowName) (was amounts : List ℤ) (unique : IsUnique same_row rows) (entry : slice_get rows.entries place ≡ Some (key, was)) where
   changes : Updates same_row rows (with_value_at rows place amounts) key (Some amounts)
   changes = updates-with_value_at rows place amounts same_row_equiv unique key was entry
@@ -90,7 +79,7 @@ module _ {S : Type 0} (rows : IndexMap RowName (List ℤ) S) (place : ℕ) (key 
 
 -- THE ROWS OF A TABLE GO
 
--- nothing is looked up of what is left out
+-- a lookup finds nothing among rows that were left out
 looked_none : (test : RowName → Bool) (keep : RowName × List ℤ → Bool) (rows : ReadRows) → ((p : RowName × List ℤ) → keep p ≡ true → test p.0 ≡ false) → lookup test (filter keep rows) ≡ None
 looked_none test keep [] out = refl
 looked_none test keep (p ∷ rows) out = at (keep p) (out p) (looked_none test keep rows out)
@@ -99,7 +88,7 @@ looked_none test keep (p ∷ rows) out = at (keep p) (out p) (looked_none test k
     at true fails rest = cond-false (test p.0) (Some p.1) (lookup test (filter keep rows)) (fails refl) ∙ rest
     at false fails rest = rest
 
--- and of what isn't the same is
+-- a row that passes the test is found as before if all rows left out fail it
 looked_same : (test : RowName → Bool) (keep : RowName × List ℤ → Bool) (rows : ReadRows) → ((p : RowName × List ℤ) → keep p ≡ false → test p.0 ≡ false) → lookup test (filter keep rows) ≡ lookup test rows
 looked_same test keep [] kept = refl
 looked_same test keep (p ∷ rows) kept = at (keep p) (kept p) (looked_same test keep rows kept)
@@ -113,11 +102,11 @@ looked_same test keep (p ∷ rows) kept = at (keep p) (kept p) (looked_same test
 abbrev pub of_others : List ℕ → RowName × List ℤ → Bool
 of_others table p = not (bytes_eq p.0.table table)
 
--- a row of a table isn't one of another
+-- rows of different tables are different
 apart_by_table : (table : List ℕ) (name other : RowName) → ¬ (bytes_eq other.table table ≡ bytes_eq name.table table) → same_row name other ≡ false
 apart_by_table table name other differ = false_from_ne_true (same_row name other) (λ same. absurd (differ (sym (ap (λ (n : RowName). bytes_eq n.table table) (row_same name other same)))))
 
--- where those of a table were left out, they are gone, and no other is
+-- if the rows of a table are left out, they are gone, and no others are
 pub table_gone : (table : List ℕ) (old new : ReadRows) → new ≡ filter (of_others table) old → (name : RowName) → bytes_eq name.table table ≡ true → read_at new name ≡ None
 table_gone table old new is name mine =
     ap (λ (rows : ReadRows). read_at rows name) is
@@ -128,7 +117,7 @@ others_stay table old new is name other =
     ap (λ (rows : ReadRows). read_at rows name) is
     ∙ looked_same (same_row name) (of_others table) old (λ p out. apart_by_table table name p.0 (λ e. absurd (false≢true (sym other ∙ sym e ∙ not-false (bytes_eq p.0.table table) out))))
 
--- where the rows of a test went, the others are kept as they were
+-- if the rows that pass a test are gone, the others are unchanged
 pub kept_without : (old new : ReadRows) (gone : RowName → Bool) → ((name : RowName) → gone name ≡ true → read_at new name ≡ None) → ((name : RowName) → gone name ≡ false → read_at new name ≡ read_at old name)
     → (name : RowName) → (read_at new name ≡ None) ⊎ ((read_at new name ≡ read_at old name) × (gone name ≡ false))
 kept_without old new gone none same name = elim (cases_Bool (gone name)) [
@@ -154,7 +143,7 @@ none_past [] i within = λ is. absurd (omega (arith, within))
 none_past (p ∷ rows) zero within = λ is. absurd (cc)
 none_past (p ∷ rows) (suc i) within = none_past rows i (omega (arith, within))
 
--- where one of those was taken out, there is room
+-- if one of the rows was removed, there is room
 pub fewer : (rows : ReadRows) (i new limit : ℕ) (gone : Option (RowName × List ℤ)) → i < length rows → gone ≡ slice_get rows i → new + (if is_some gone then 1 else 0) ≡ length rows
     → length rows ≤ limit → new < limit
 fewer rows i new limit None within is count few = absurd (none_past rows i within is)
@@ -203,13 +192,13 @@ all_committed name reservations i (Some amounts) past = ap Some (after_last name
 
 -- ONE ROW
 
--- what is kept of a row has what is committed
+-- the kept amounts of a row, with what is committed, are those of the committed row
 pub row_committed : (name : RowName) (reservations : List Reservation) (o : Option (List ℤ))
     → option_map (row_with name) (option_map (committed_to name reservations) o) ≡ option_map (committed_by reservations) (option_map (row_with name) o)
 row_committed name reservations None = refl
 row_committed name reservations (Some amounts) = refl
 
--- what is known of the rows that are left stays known
+-- what is known of the remaining rows stays known
 pub known_left : (catalog : List TableDef) (old new : ReadRows) (name : RowName) → IsKnown catalog (row_read old name) → IsLeft old new name → IsKnown catalog (row_read new name)
 known_left catalog old new name known (inl gone) = subst (λ (o : Option (List ℤ)). IsKnown catalog (option_map (row_with name) o)) (sym gone) tt
 known_left catalog old new name known (inr same) = subst (λ (o : Option (List ℤ)). IsKnown catalog (option_map (row_with name) o)) (sym same) known
@@ -218,7 +207,7 @@ pub read_left : (rows : List Row) (old new : ReadRows) (name : RowName) → IsRe
 read_left rows old new name read (inl gone) = subst (λ (o : Option (List ℤ)). IsRead rows (option_map (row_with name) o)) (sym gone) tt
 read_left rows old new name read (inr same) = subst (λ (o : Option (List ℤ)). IsRead rows (option_map (row_with name) o)) (sym same) read
 
--- and so with one more, that was read just now
+-- the same with one more row, which was just read
 module _ (old new : ReadRows) (row : RowName) (amounts : List ℤ)
     (only : (name : RowName) → IsLeft old new name ⊎ ((same_row row name ≡ true) × (read_at new name ≡ Some amounts))) where
   pub known_more : (catalog : List TableDef) → AreKnown catalog old → IsKnown catalog (Some (row_with row amounts)) → AreKnown catalog new

@@ -1,4 +1,4 @@
--- What a SHOW BOUNDS shows of what is kept.
+-- What SHOW BOUNDS shows of what is kept.
 use Rattle.std.specs.Prelude.{◌≡◌, ◌<◌, ◌≤◌, ◌-◌, ℕ, zero, suc, ℤ, [], ◌∷◌, false, length, slice_get, take, Some, List, map}
 use Rattle.std.specs.List.{AllByRecursion, list_any}
 use Rattle.std.proofs.Common.{refl, sym, ap, ap₂, subst, ◌∙◌, arith, get_or}
@@ -29,7 +29,7 @@ use Rattle.escrow_machine.specs.declared.reply.ColumnBounds.{ColumnBounds}
 use Rattle.escrow_machine.proofs.BoundsLemmas.{names_shown, split}
 use Rattle.escrow_machine.proofs.Shapes.{covered}
 
--- what two lists that are the same begin with, and go on with
+-- equal lists have equal first items and equal rests
 first_same : {A : Type 0} {x y : A} {xs ys : List A} → x ∷ xs ≡ y ∷ ys → x ≡ y
 first_same is = cc
 
@@ -41,7 +41,7 @@ all_take P zero xs all = tt
 all_take P (suc n) [] all = tt
 all_take P (suc n) (x ∷ xs) all = (all.0, all_take P n xs all.1)
 
--- the form of a place at the place of a check
+-- the form of a place at the index of a check
 pub record FormAt (forms : List Tracked) (i : ℕ) (check : Check) : Type 0 where
   pub form : Tracked
   pub at : slice_get forms i ≡ Some form
@@ -89,7 +89,7 @@ bounds_same table amounts row held is_table many =
     subst (AllByRecursion (λ (check : Check). IsCovered check.coeffs amounts)) s.declared (all_take (λ (check : Check). IsCovered check.coeffs amounts) (length table.checks - length amounts) table.checks all) in
     sym (ap₂ (λ (columns : List ColumnBounds) (checks : List CheckBounds). reply.Bounds columns checks) (column_same names amounts row held (reservables table.columns) few) (check_same amounts row held (declared_checks table) declared))
 
--- and those of a row that isn't reserved are those over none
+-- a row that is not reserved has no open reservations
 pub free_list : (row : RowName) (held : List Reservation) → list_any (λ r. same_row r.row row) held ≡ false → of_row row held ≡ []
 free_list row [] free = refl
 free_list row (r ∷ held) free =

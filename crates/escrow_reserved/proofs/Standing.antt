@@ -9,7 +9,7 @@ use Rattle.escrow_num.proofs.Orders.{row_same}
 use Rattle.escrow_schema.specs.Rows.{row_named}
 use Rattle.escrow_reserved.specs.Placed.{amounts_named}
 
--- a row stands under a name, and has these amounts
+-- a row with this name exists, and has these amounts
 pub record IsStanding (rows : List Row) (name : RowName) (amounts : List ℤ) : Type 0 where
   pub row : Row
   pub found : row_named rows name ≡ Some row
@@ -28,7 +28,7 @@ standing rows name amounts is = at (row_named rows name) refl is
       has = cc;
     }
 
--- where no amounts are, no row is
+-- if no amounts are found, the row does not exist
 pub no_row : (rows : List Row) (name : RowName) → None ≡ amounts_named rows name → row_named rows name ≡ None
 no_row rows name is = at (row_named rows name) is
   where

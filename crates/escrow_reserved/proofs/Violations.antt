@@ -1,4 +1,4 @@
--- The first check that is broken, as checks are walked.
+-- The first broken check, as checks are walked.
 use Rattle.std.proofs.Common.{◌≡◌, ℕ, ◌+◌, ℤ, ◌<◌, true, false, Option, Some, None, List, length, get_or, drop, refl, add-one, drop-cons}
 use Rattle.std.specs.Prelude.{is_some}
 use Rattle.escrow_num.specs.declared.refusal.Violation.{Violation}

@@ -16,9 +16,13 @@ use Rattle.escrow_reserved.specs.Placed.{amounts_named}
 
 -- WHICH ROWS ARE KEPT
 
--- amounts that were read, each with the name of its row, in any order
+-- a row as it was read: its name, and its amounts
+abbrev pub ReadRow : Type 0
+ReadRow = RowName × List ℤ
+
+-- rows that were read, in any order
 abbrev pub ReadRows : Type 0
-ReadRows = List (RowName × List ℤ)
+ReadRows = List ReadRow
 
 -- there are at most as many as may be kept
 abbrev pub AreFew : ReadRows → Type 0
@@ -30,7 +34,7 @@ read_at rows name = lookup (same_row name) rows
 
 -- the row at a place is that of a name
 abbrev pub IsKeptAt : ReadRows → RowName → ℕ → Type 0
-IsKeptAt rows name place = option_map (λ (p : RowName × List ℤ). p.0) (slice_get rows place) ≡ Some name
+IsKeptAt rows name place = option_map (λ (r : ReadRow). r.0) (slice_get rows place) ≡ Some name
 
 -- a row is kept as it was, or is no longer kept
 abbrev pub IsLeft : ReadRows → ReadRows → RowName → Type 0
@@ -42,14 +46,9 @@ committed_to name reservations amounts = amounts_after_all end.Commit amounts (o
 
 -- ONE ROW
 
--- a row as it was read
-pub record ReadRow : Type 0 where
-  pub name : RowName
-  pub amounts : List ℤ
-
 -- a row of a name, with these amounts
 abbrev pub row_with : RowName → List ℤ → ReadRow
-row_with name amounts = record { name = name; amounts = amounts }
+row_with name amounts = (name, amounts)
 
 -- what is kept of the row of a name
 abbrev pub row_read : ReadRows → RowName → Option ReadRow
@@ -57,15 +56,15 @@ row_read rows name = option_map (row_with name) (read_at rows name)
 
 -- a row has an amount for each RESERVABLE column of its table
 abbrev pub IsKnown : List TableDef → Option ReadRow → Type 0
-IsKnown catalog read = IfSome read (λ r. IsSomeAnd (table_named catalog r.name.table) (λ table. length r.amounts ≡ length (reservables table.columns)))
+IsKnown catalog read = IfSome read (λ r. IsSomeAnd (table_named catalog r.0.table) (λ table. length r.1 ≡ length (reservables table.columns)))
 
 -- the amounts of a row are its committed ones
 abbrev pub IsRead : List Row → Option ReadRow → Type 0
-IsRead rows read = IfSome read (λ r. amounts_named rows r.name ≡ Some r.amounts)
+IsRead rows read = IfSome read (λ r. amounts_named rows r.0 ≡ Some r.1)
 
 -- after reservations are committed, the row's amounts include the changes of those that are of the row
 abbrev pub committed_by : List Reservation → ReadRow → ReadRow
-committed_by reservations r = record r { amounts = committed_to r.name reservations r.amounts }
+committed_by reservations r = (r.0, committed_to r.0 reservations r.1)
 
 -- ALL ROWS
 

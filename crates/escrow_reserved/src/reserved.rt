@@ -2,6 +2,7 @@ ghost use Rattle.std.specs.Prelude.{◌≡◌, ◌++◌, ℕ, ℤ, true, Option,
 ghost use Rattle.std.specs.List.{AllByRecursion};
 ghost use Rattle.escrow_num.specs.declared.reservation.Reservation.{Reservation as Held};
 ghost use Rattle.escrow_num.specs.declared.session.End.TheVariants.{Rollback};
+ghost use Rattle.escrow_num.specs.Session.{IsSession};
 ghost use Rattle.escrow_num.specs.declared.value.RowName.{RowName as Row};
 ghost use Rattle.escrow_checks.specs.declared.check.Check.{Check as Form};
 ghost use Rattle.escrow_bounds.specs.Altered.{TableGoes, IsOver, IsWithout, ArePrepared};
@@ -182,7 +183,7 @@ impl Reserved {
         requires few { length amounts.now ≤ MAX_LEN }
         requires new { place_at self.old.places row ≡ None }
         requires short { length changes ≤ MAX_LEN }
-        requires room { grant_refusal session self.old.txns ≡ None → length self.old.txns.reservations < MAX_OPEN }
+        requires room { IsSession session → grant_refusal session self.old.txns ≡ None → length self.old.txns.reservations < MAX_OPEN }
         ensures id { IfOk result (λ id. id ≡ self.old.txns.next_id) }
         ensures free { OnOk result (reason_by session checks.now amounts.now (deltas changes) (of_row row self.old.txns.reservations) self.old.txns ≡ None) }
         ensures granted { OnOk result (self.new.txns ≡ open_after_grant session row changes self.old.txns) }
@@ -192,6 +193,7 @@ impl Reserved {
         ensures only { IfErr result (λ e. (reason_by session checks.now amounts.now (deltas changes) (of_row row self.old.txns.reservations) self.old.txns ≡ Some e) ⊎ (e ≡ Refusal.Memory)) }
         ensures refused { OnErr result (self.new.txns ≡ self.old.txns) }
         ensures same { OnErr result ((other : Row) → place_at self.new.places other ≡ place_at self.old.places other) }
+        ensures within { IsSession session }
     {
         let added = deltas(changes.as_slice());
         let added = &added[..changes.len()];
@@ -212,8 +214,9 @@ impl Reserved {
         changes: &[Amount],
     ) -> Option<Refusal>
         requires { AllByRecursion (λ check. IsCovered check.coeffs amounts.now) checks.now }
-        ensures { (row : Row) → place_at self.now.places row ≡ None
+        ensures reason { (row : Row) → place_at self.now.places row ≡ None
             → result ≡ reason_by session checks.now amounts.now changes.now (of_row row self.now.txns.reservations) self.now.txns }
+        ensures within { IsSession session }
     {
         if let Some(refusal) = self.txns.grant_refusal(session) {
             return Some(refusal);
@@ -240,7 +243,7 @@ impl Reserved {
         requires placed { IsSome (place_at self.old.places row) }
         requires at { IsAt self.old.places row at }
         requires short { length changes ≤ MAX_LEN }
-        requires room { grant_refusal session self.old.txns ≡ None → length self.old.txns.reservations < MAX_OPEN }
+        requires room { IsSession session → grant_refusal session self.old.txns ≡ None → length self.old.txns.reservations < MAX_OPEN }
         ensures id { IfOk result (λ id. id ≡ self.old.txns.next_id) }
         ensures free { OnOk result ((place : Place) → place_at self.old.places row ≡ Some place → reason_against session place row changes self.old.txns ≡ None) }
         ensures granted { OnOk result (self.new.txns ≡ open_after_grant session row changes self.old.txns) }
@@ -249,6 +252,7 @@ impl Reserved {
         ensures against { (place : Place) → place_at self.old.places row ≡ Some place → IfSome (reason_against session place row changes self.old.txns) (λ e. result ≡ Err e) }
         ensures only { IfErr result (λ e. (place : Place) → place_at self.old.places row ≡ Some place → (reason_against session place row changes self.old.txns ≡ Some e) ⊎ (e ≡ Refusal.Memory)) }
         ensures unchanged { OnErr result (self.new ≡ self.old) }
+        ensures within { IsSession session }
     {
         let added = deltas(changes.as_slice());
         let added = &added[..changes.len()];
@@ -262,8 +266,9 @@ impl Reserved {
     /// memory aside.
     fn refusal(&self, session: Session, at: usize, changes: &[Amount]) -> Option<Refusal>
         requires { (row : Row) × IsAt self.now.places row at }
-        ensures { (row : Row) (place : Place) (asked : List (Option ℤ)) → IsAt self.now.places row at → place_at self.now.places row ≡ Some place → changes.now ≡ deltas asked
+        ensures reason { (row : Row) (place : Place) (asked : List (Option ℤ)) → IsAt self.now.places row at → place_at self.now.places row ≡ Some place → changes.now ≡ deltas asked
             → result ≡ reason_against session place row asked self.now.txns }
+        ensures within { IsSession session }
     {
         if let Some(refusal) = self.txns.grant_refusal(session) {
             return Some(refusal);
@@ -318,8 +323,6 @@ impl Reserved {
         ensures placed { ArePlaced self.old.txns.reservations self.old.places → ArePlaced self.new.txns.reservations self.new.places }
     {
         let journal = self.txns.journal(session);
-        // Gives the proof that there are few enough reservations to be counted.
-        let _ = journal.session();
         let count = journal.all().len() as u32;
         self.bounds.remove_all(journal.all(), end);
         self.txns.take_all(session);
@@ -363,6 +366,7 @@ impl Reserved {
         ensures unchanged { OnErr result (self.new ≡ self.old) }
         ensures refused { IfSome (savepoint_refusal session name self.old.txns) (λ e. result ≡ Err e) }
         ensures only { IfErr result (λ e. (savepoint_refusal session name self.old.txns ≡ Some e) ⊎ (e ≡ Refusal.Memory)) }
+        ensures within { IsSession session }
     {
         self.txns.mark(session, name)
     }

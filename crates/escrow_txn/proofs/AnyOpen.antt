@@ -9,7 +9,7 @@ use Rattle.escrow_journal.specs.Open.{has_open}
 use Rattle.escrow_txn.specs.Joined.{put, by_id, opened, holds_any}
 use Rattle.escrow_txn.proofs.Sessions.{reservations_of, savepoints_of}
 
--- there is an item
+-- the list has an item
 abbrev has_some : {A : Type 0} → List A → Bool
 has_some xs = nat_lt 0 (length xs)
 
@@ -42,6 +42,6 @@ any_holds (journal ∷ journals) =
     ∙ both_joined (has_some journal.reservations) (has_some (reservations_of journals)) (has_some journal.savepoints) (has_some (savepoints_of journals))
     ∙ ap (λ b. holds_any journal || b) (any_holds journals)
 
--- something is open just where one of the journals holds something
+-- something is open exactly if one of the journals holds something
 pub open_by_journals : (journals : List Journal) (next : ℕ) → has_open (opened journals next) ≡ list_any holds_any journals
 open_by_journals journals next = ap (λ b. b || has_some (savepoints_of journals)) (some_by_id (reservations_of journals)) ∙ any_holds journals

@@ -1,4 +1,4 @@
--- Journals that hold nothing.
+-- Empty journals.
 use Rattle.std.specs.Prelude.{◌≡◌, ℕ, ◌+◌, ◌<◌, ◌≤◌, List, [], ◌∷◌, ◌++◌, length, map}
 use Rattle.std.specs.List.{AllByRecursion}
 use Rattle.std.proofs.Common.{refl, ap, ap₂, sym, subst, ◌∙◌, take, drop, set, get_or, arith}
@@ -30,7 +30,7 @@ empty_push n session new logs journal empty next none is =
       each = each_push logs journal empty.each (none ∙ ap empty_journal (sym number));
     })
 
--- a journal as it is when it is emptied
+-- a journal after it is emptied
 abbrev pub emptied : Journal → Journal
 emptied journal = empty_journal journal.session
 
@@ -79,7 +79,7 @@ no_savepoints : (logs : List Journal) → AllByRecursion (λ journal. journal �
 no_savepoints [] none = refl
 no_savepoints (journal ∷ logs) none = ap (λ (l : Journal). l.savepoints ++ savepoints_of logs) none.0 ∙ no_savepoints logs none.1
 
--- they are a table's journals
+-- empty journals are those of a table
 pub empty_journals : (logs : List Journal) → AreEmpty MAX logs → AreJournals logs 1
 empty_journals logs empty = record {
   count = empty.count;
@@ -90,11 +90,11 @@ empty_journals logs empty = record {
   last_id = omega arith;
 }
 
--- in which nothing is open
+-- nothing is open in them
 pub nothing_opened : (logs : List Journal) → AreEmpty MAX logs → opened logs 1 ≡ nothing_open
 nothing_opened logs empty = ap₂ (open_with 1) (ap by_id (no_reservations logs empty.each)) (no_savepoints logs empty.each)
 
--- one step where each item of a list becomes another
+-- one more item of a list is replaced by its image
 pub changed_more : {X : Type 0} (f : X → X) (xs all : List X) (i : ℕ) (x y : X) → i < length xs → y ≡ f (get_or xs i x)
     → take i xs ++ map f (drop i xs) ≡ all → take (i + 1) (set xs i y) ++ map f (drop (i + 1) (set xs i y)) ≡ all
 changed_more f xs all i x y within new so_far =
@@ -103,7 +103,7 @@ changed_more f xs all i x y within new so_far =
     ∙ ap (λ z. take i xs ++ z ∷ map f (drop (i + 1) xs)) new
     ∙ ap (λ zs. take i xs ++ map f zs) (sym (drop_more xs i x within)) ∙ so_far
 
--- and where all have
+-- all items are replaced
 pub changed_all : {X : Type 0} (f : X → X) (xs all : List X) (i : ℕ) → length xs ≤ i → take i xs ++ map f (drop i xs) ≡ all → xs ≡ all
 changed_all f xs all i past so_far =
     sym (append-nil xs) ∙ ap₂ (λ before behind. before ++ map f behind) (sym (take_all i xs past)) (sym (drop_all i xs past)) ∙ so_far

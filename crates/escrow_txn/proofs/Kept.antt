@@ -1,4 +1,4 @@
--- What the calls keep of a journal, and so of the table's journals.
+-- What the calls keep of a journal, and therefore of all journals of the table.
 use Rattle.std.specs.Prelude.{◌≡◌, ℕ, ◌+◌, ◌≤◌, not, nat_lt, List, [], ◌∷◌, Option, Some, None, option_map, unwrap_or, Result, Ok, Err, OnOk, OnErr, IsTrue}
 use Rattle.std.specs.List.{AllByRecursion}
 use Rattle.std.proofs.Common.{refl, sym, ◌∙◌, subst, set, le_refl, arith}
@@ -26,12 +26,12 @@ found_kept next journal below (Some p) = record {
   below = all_filter (λ (r : Reservation). IsTrue (nat_lt r.id next)) (λ r. not (is_after p r)) journal.reservations below;
 }
 
--- a journal cut back
+-- a journal after a return to a savepoint
 pub cut_kept : (next : ℕ) (name : List ℕ) (new journal : Journal) → IsBelow next journal → new ≡ cut_journal name journal → IsKept next new journal
 cut_kept next name new journal below is =
     subst (λ l. IsKept next l journal) (sym is) (found_kept next journal below (savepoint_of journal.session name journal.savepoints))
 
--- a journal with a savepoint more, or as it was
+-- a journal with one more savepoint, or unchanged
 pub mark_kept : (next : ℕ) (name : List ℕ) (result : Result (Unit {0}) Refusal) (new journal : Journal) → IsBelow next journal
     → OnOk result (new ≡ marked name next journal) → OnErr result (new ≡ journal) → IsKept next new journal
 mark_kept next name (Ok x) new journal below saved same =
@@ -39,7 +39,7 @@ mark_kept next name (Ok x) new journal below saved same =
 mark_kept next name (Err e) new journal below saved same =
     subst (λ l. IsKept next l journal) (sym same) (record { session = refl; below = below })
 
--- a journal that is emptied
+-- a journal after it is emptied
 pub empty_kept : (next : ℕ) (new journal : Journal) → new ≡ empty_journal journal.session → IsKept next new journal
 empty_kept next new journal is = subst (λ l. IsKept next l journal) (sym is) (record { session = refl; below = tt })
 
@@ -56,18 +56,18 @@ push_kept next r new journal below id is =
 pub below_at : (logs : List Journal) (next session i : ℕ) (journal : Journal) → AreJournals logs next → IsAt session logs i journal → IsBelow next journal
 below_at logs next session i journal journals at = all_at (IsBelow next) logs i journal at.within at.read journals.below
 
--- and below a reservation with that one
+-- they are below a reservation with the next id
 pub below_next : (next : ℕ) (r : Reservation) (journal : Journal) → IsBelow next journal → r.id ≡ next
     → AllByRecursion (λ earlier. IsTrue (reservation_before earlier r)) journal.reservations
 below_next next r journal below id = subst (λ n. IsBelow n journal) (sym id) below
 
--- the journals with a kept one in its place
+-- all journals, with this one replaced
 pub journals_kept : (logs : List Journal) (next new_next session i : ℕ) (new journal : Journal) → AreJournals logs next → IsAt session logs i journal
     → IsJournal new → IsKept new_next new journal → next ≤ new_next → new_next ≤ MAX_ID + 1 → AreJournals (set logs i new) new_next
 journals_kept logs next new_next session i new journal journals at is_journal kept more last =
     journals_set logs next new_next session i new journals at.is_session at.index is_journal (kept.session ∙ at.number) kept.below more last
 
--- and where the next id stays
+-- the same if the next id stays
 pub journals_stay : (logs : List Journal) (next session i : ℕ) (new journal : Journal) → AreJournals logs next → IsAt session logs i journal
     → IsJournal new → (IsBelow next journal → IsKept next new journal) → AreJournals (set logs i new) next
 journals_stay logs next session i new journal journals at is_journal kept =

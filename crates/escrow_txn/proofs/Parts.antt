@@ -1,4 +1,4 @@
--- Lists of which one part is a session's, and what stands before and behind it is others'.
+-- Lists of which one part belongs to a session, and the parts before and after it to others.
 use Rattle.std.specs.Prelude.{◌≡◌, ℕ, ◌==◌, Bool, true, false, cond, not, nat_lt, Some, List, [], ◌∷◌, ◌++◌, filter, find, bytes_eq, IsTrue}
 use Rattle.std.specs.List.{AllByRecursion}
 use Rattle.std.proofs.Common.{refl, ap, ◌∙◌, arith}
@@ -11,7 +11,7 @@ use Rattle.escrow_journal.proofs.Filters.{filter_all}
 use Rattle.escrow_journal.specs.Reservations.{other_savepoints}
 use Rattle.escrow_journal.specs.Savepoints.{is_named, put_savepoint, through}
 
--- what no item passes leaves none
+-- if no item passes, the filter keeps none
 pub filter_none : {A : Type 0} (p : A → Bool) (xs : List A) → AllByRecursion (λ x. p x ≡ false) xs → filter p xs ≡ []
 filter_none p [] all = refl
 filter_none p (x ∷ xs) all = cond-false (p x) (x ∷ filter p xs) (filter p xs) all.0 ∙ filter_none p xs all.1
@@ -19,22 +19,22 @@ filter_none p (x ∷ xs) all = cond-false (p x) (x ∷ filter p xs) (filter p xs
 filter_parts : {A : Type 0} (p : A → Bool) (xs part ys : List A) → filter p (xs ++ (part ++ ys)) ≡ filter p xs ++ (filter p part ++ filter p ys)
 filter_parts p xs part ys = filter-append p xs (part ++ ys) ∙ ap (λ zs. filter p xs ++ zs) (filter-append p part ys)
 
--- a test that nothing beside the part passes
+-- only items of the part pass
 pub filter_part : {A : Type 0} (p : A → Bool) (xs part ys : List A) → AllByRecursion (λ x. p x ≡ false) xs → AllByRecursion (λ x. p x ≡ false) ys
     → filter p (xs ++ (part ++ ys)) ≡ filter p part
 filter_part p xs part ys before behind =
     rw (filter_parts p xs part ys, filter_none p xs before, filter_none p ys behind) (append-nil (filter p part))
 
--- a test that all beside the part pass
+-- all items outside the part pass
 pub filter_beside : {A : Type 0} (p : A → Bool) (xs part ys : List A) → AllByRecursion (λ x. p x ≡ true) xs → AllByRecursion (λ x. p x ≡ true) ys
     → filter p (xs ++ (part ++ ys)) ≡ xs ++ (filter p part ++ ys)
 filter_beside p xs part ys before behind = rw (filter_parts p xs part ys, filter_all p xs before, filter_all p ys behind) refl
 
--- what holds of all makes a test of them true or false
+-- a property that follows for each item follows for all
 pub all_as : {A : Type 0} (P Q : A → Type 0) (xs : List A) → ((x : A) → P x → Q x) → AllByRecursion P xs → AllByRecursion Q xs
 all_as P Q xs each all = has_all Q xs (λ x h. each x (all_has P xs all x h))
 
--- what is found in the part, where nothing before it passes, nor behind it
+-- a lookup finds an item of the part, if none outside passes
 pub find_part : {A : Type 0} (p : A → Bool) (xs part ys : List A) → AllByRecursion (λ x. p x ≡ false) xs → AllByRecursion (λ x. p x ≡ false) ys
     → find p (xs ++ (part ++ ys)) ≡ find p part
 find_part p [] [] [] before behind = refl
@@ -43,7 +43,7 @@ find_part p [] (x ∷ part) ys before behind = ap (λ o. cond (p x) (Some x) o) 
 find_part p (x ∷ xs) part ys before behind =
     cond-false (p x) (Some x) (find p (xs ++ (part ++ ys))) before.0 ∙ find_part p xs part ys before.1 behind
 
--- a savepoint put behind those of its session, and before those of the sessions above
+-- a savepoint is put after those of its session, and before those of greater sessions
 put_behind : (p : Savepoint) (part ys : List Savepoint) → AllByRecursion (λ q. q.session ≡ p.session) part
     → AllByRecursion (λ q. IsTrue (nat_lt p.session q.session)) ys → put_savepoint p (part ++ ys) ≡ (part ++ p ∷ []) ++ ys
 put_behind p [] [] same above = refl
@@ -61,7 +61,7 @@ put_savepoint_is p (x ∷ xs) part ys below same above =
     (le-ltb p.session x.session (omega (arith, ltb-true x.session p.session below.0)))
     ∙ ap (λ zs. x ∷ zs) (put_savepoint_is p xs part ys below.1 same above)
 
--- the savepoints up to the one of a name, of which none is where the part ends
+-- the savepoints up to a name that none of them has
 through_none : (session : ℕ) (name : List ℕ) (xs : List Savepoint) → AllByRecursion (λ q. (q.session == session) ≡ false) xs → through session name xs ≡ xs
 through_none session name [] others = refl
 through_none session name (x ∷ xs) others =

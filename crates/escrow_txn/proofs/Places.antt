@@ -1,4 +1,4 @@
--- Where a session's journal stands among the journals.
+-- The index of a session's journal among the journals.
 use Rattle.std.specs.Prelude.{◌≡◌, ℕ, ◌+◌, ◌<◌, ◌≤◌, nat_lt, List, [], ◌∷◌, ◌++◌, length, IsTrue}
 use Rattle.std.specs.List.{AllByRecursion, flat_map}
 use Rattle.std.proofs.Common.{zero, suc, ap, ◌∙◌, subst, take, drop, set, get_or, arith}
@@ -10,13 +10,13 @@ use Rattle.escrow_num.proofs.Items.{all_has, has_all, all_at}
 use Rattle.escrow_journal.specs.Journal.{Journal, IsJournal}
 use Rattle.escrow_txn.specs.Joined.{AreNumbered, AreJournals, IsBelow}
 
--- what holds of all items but one, and of what is put in its place, holds of all
+-- what holds for all other items and for a new one holds for all after the replacement
 pub all_set : {A : Type 0} (P : A → Type 0) (xs : List A) (i : ℕ) (x : A) → AllByRecursion P xs → P x → AllByRecursion P (set xs i x)
 all_set P [] i x all here = tt
 all_set P (y ∷ ys) zero x all here = (here, all.1)
 all_set P (y ∷ ys) (suc i) x all here = (all.0, all_set P ys i x all.1 here)
 
--- what holds of all items of two lists holds of those of both
+-- what holds for all items of two lists holds for the joined list
 pub all_append : {A : Type 0} (P : A → Type 0) (xs ys : List A) → AllByRecursion P xs → AllByRecursion P ys → AllByRecursion P (xs ++ ys)
 all_append P [] ys first second = second
 all_append P (x ∷ xs) ys first second = (first.0, all_append P xs ys first.1 second)
@@ -31,7 +31,7 @@ all_drop P zero xs all = all
 all_drop P (suc i) [] all = tt
 all_drop P (suc i) (x ∷ xs) all = all_drop P i xs all.1
 
--- what holds of all that the items hold
+-- what holds for everything that the items hold
 pub all_flat : {A B : Type 0} (P : A → Type 0) (Q : B → Type 0) (f : A → List B) (xs : List A) → ((x : A) → P x → AllByRecursion Q (f x))
     → AllByRecursion P xs → AllByRecursion Q (flat_map f xs)
 all_flat P Q f [] each all = tt
@@ -47,7 +47,7 @@ numbered_at first [] i journal numbered within = absurd (omega arith)
 numbered_at first (x ∷ xs) zero journal numbered within = numbered.0 ∙ omega arith
 numbered_at first (x ∷ xs) (suc i) journal numbered within = numbered_at (1 + first) xs i journal numbered.1 (omega arith) ∙ omega arith
 
--- sessions of the journals before a place
+-- the sessions of the journals before an index
 numbered_before : (first : ℕ) (logs : List Journal) (i : ℕ) → AreNumbered first logs → AllByRecursion (λ journal. IsTrue (nat_lt journal.session (first + i))) (take i logs)
 numbered_before first logs zero numbered = tt
 numbered_before first [] (suc i) numbered = tt
@@ -60,14 +60,14 @@ numbered_from : (first : ℕ) (logs : List Journal) (n : ℕ) → n < first → 
 numbered_from first [] n less numbered = tt
 numbered_from first (x ∷ xs) n less numbered = (lt-ltb n x.session (omega (arith, numbered.0)), numbered_from (1 + first) xs n (omega arith) numbered.1)
 
--- and behind it
+-- the sessions of the journals after an index
 numbered_behind : (first : ℕ) (logs : List Journal) (i n : ℕ) → n < first + i → AreNumbered first logs → AllByRecursion (λ journal. IsTrue (nat_lt n journal.session)) (drop i logs)
 numbered_behind first logs zero n less numbered = numbered_from first logs n (omega arith) numbered
 numbered_behind first [] (suc i) n less numbered = tt
 numbered_behind first (x ∷ xs) (suc i) n less numbered = numbered_behind (1 + first) xs i n (omega arith) numbered.1
 
--- A journal's place: it is the journal of a session at an index, those before it are of sessions below,
--- those behind it of sessions above, and all of them are journals.
+-- A journal's index: it is the journal of a session; those before it are of smaller sessions,
+-- those after it of greater ones, and all of them are journals.
 pub record IsAt (session : ℕ) (logs : List Journal) (i : ℕ) (journal : Journal) : Type 0 where
   pub is_session : IsSession session
   pub index : i + 1 ≡ session
@@ -82,7 +82,7 @@ pub record IsAt (session : ℕ) (logs : List Journal) (i : ℕ) (journal : Journ
   pub before : AllByRecursion IsJournal (take i logs)
   pub behind : AllByRecursion IsJournal (drop (suc i) logs)
 
--- a session's journal is at the index that is one less than its number
+-- a session's journal is at the index that is one less than the session's number
 pub place_is : (logs : List Journal) (next session i : ℕ) (journal : Journal) → AreJournals logs next → IsSession session → i + 1 ≡ session
     → journal ≡ get_or logs i journal → IsAt session logs i journal
 place_is logs next session i journal journals is_session index read =
@@ -112,7 +112,7 @@ all_below : (logs : List Journal) (next new_next : ℕ) → next ≤ new_next �
 all_below [] next new_next more below = tt
 all_below (journal ∷ logs) next new_next more below = (below_more journal next new_next more below.0, all_below logs next new_next more below.1)
 
--- with another journal of the session in its place they are the journals
+-- with another journal of the session at its index, they are still the journals
 pub journals_set : (logs : List Journal) (next new_next session i : ℕ) (journal : Journal) → AreJournals logs next → IsSession session → i + 1 ≡ session
     → IsJournal journal → journal.session ≡ session → IsBelow new_next journal → next ≤ new_next → new_next ≤ MAX_ID + 1 → AreJournals (set logs i journal) new_next
 journals_set logs next new_next session i journal journals is_session index is_journal number below more last = record {

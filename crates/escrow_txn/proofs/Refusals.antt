@@ -1,4 +1,4 @@
--- The refusals of the table and those of a journal.
+-- The refusals of the table and of a journal.
 use Rattle.std.specs.Prelude.{◌≡◌, ◌⊎◌, ℕ, ◌<◌, Bool, true, false, nat_le, List, length, Option, Some, None, Result, Ok, Err, IfErr, IfSome, IsErrAnd, IsErrOf, IsTrue}
 use Rattle.std.proofs.Common.{inl, inr, refl, ap, sym, subst, ◌∙◌, arith}
 use Rattle.std.proofs.lemmas.Bool.{leb-true}
@@ -14,32 +14,32 @@ use Rattle.escrow_txn.proofs.Marks.{other_names_is}
 use Rattle.escrow_txn.proofs.Places.{IsAt}
 use Rattle.escrow_txn.proofs.Sessions.{own_is}
 
--- the one refusal of a call that is refused where a test holds
+-- a call has this refusal if a test holds
 pub refused_if : {T : Type 0} (test : Bool) (r : Refusal) (result : Result T Refusal) → (IsTrue test → result ≡ Err r)
     → IfSome (refuse_if test r) (λ e. result ≡ Err e)
 refused_if true r result refused = refused refl
 refused_if false r result refused = tt
 
--- is the only one beside want of memory
+-- beside the refusal for memory, it is the only one
 pub only_if : {T : Type 0} (test : Bool) (r : Refusal) (result : Result T Refusal) → IfErr result (λ e. (e ≡ r) ⊎ (e ≡ refusal.Memory))
     → (IsErrOf result r → IsTrue test) → IfErr result (λ e. (refuse_if test r ≡ Some e) ⊎ (e ≡ refusal.Memory))
 only_if test r (Ok x) only room = tt
 only_if test r (Err e) (inl is) room = inl (subst (λ b. refuse_if b r ≡ Some e) (sym (room (ap Err is))) (ap Some (sym is)))
 only_if test r (Err e) (inr memory) room = inr memory
 
--- why a session gets no savepoint is why its journal does
+-- a session's savepoint is refused for the reason of its journal
 pub savepoint_refusal_is : (session next : ℕ) (name : List ℕ) (journals : List Journal) (i : ℕ) (log : Journal) → IsAt session journals i log
     → refuse_if (is_full_beside name log) refusal.TooManySavepoints ≡ savepoint_refusal session name (opened journals next)
 savepoint_refusal_is session next name journals i log at =
     ap (λ ps. refuse_if (nat_le MAX_SAVEPOINTS (length ps)) refusal.TooManySavepoints) (sym (other_names_is session name journals i log at))
 
--- where a session may have one more reservation its journal has room
+-- if a session may have one more reservation, its journal has room
 pub has_room : (session next : ℕ) (journals : List Journal) (i : ℕ) (log : Journal) → IsAt session journals i log
     → grant_refusal session (opened journals next) ≡ None → length log.reservations < MAX_RESERVATIONS
 has_room session next journals i log at none =
     subst (λ rs. length rs < MAX_RESERVATIONS) (own_is session journals i log at) (is_free session (opened journals next) none).room
 
--- and a reservation is refused for want of memory alone
+-- a reservation is then refused only for memory
 pub only_memory : {T : Type 0} (log : Journal) (result : Result T Refusal) → length log.reservations < MAX_RESERVATIONS
     → IfErr result (λ e. (e ≡ refusal.TooManyReservations) ⊎ (e ≡ refusal.Memory)) → (IsErrOf result refusal.TooManyReservations → IsTrue (is_full log))
     → IfErr result (λ e. e ≡ refusal.Memory)
@@ -47,7 +47,7 @@ only_memory log (Ok x) room only full = tt
 only_memory log (Err e) room (inl many) full = absurd (let most = leb-true MAX_RESERVATIONS (length log.reservations) (full (ap Err many)) in omega arith)
 only_memory log (Err e) room (inr memory) full = memory
 
--- which is handed on
+-- the caller returns that refusal
 pub memory_on : {T U : Type 0} (call : Result U Refusal) (result : Result T Refusal) (e : Refusal) (why : Option Refusal) → call ≡ Err e
     → IfErr call (λ r. r ≡ refusal.Memory) → IsErrAnd result (λ r. r ≡ e) → IfErr result (λ r. (why ≡ Some r) ⊎ (r ≡ refusal.Memory))
 memory_on (Ok x) result e why was memory is = absurd (cc)

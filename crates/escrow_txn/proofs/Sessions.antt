@@ -1,5 +1,5 @@
--- What a session has of all that is open is what its journal holds, and what the calls make of the
--- journal they make of all that is open.
+-- A session's share of everything that is open is what its journal holds; the calls do the same
+-- to the journal and to everything that is open.
 use Rattle.std.specs.Prelude.{◌≡◌, ℕ, ◌+◌, ℤ, ◌==◌, Bool, true, false, not, nat_lt, bytes_eq, Option, List, [], ◌∷◌, ◌++◌, filter, IsTrue}
 use Rattle.std.specs.List.{AllByRecursion, flat_map}
 use Rattle.std.proofs.Common.{suc, ap, ap₂, sym, ◌∙◌, subst, take, drop, set, arith}
@@ -26,7 +26,7 @@ reservations_of journals = flat_map (λ journal. journal.reservations) journals
 abbrev pub savepoints_of : List Journal → List Savepoint
 savepoints_of journals = flat_map (λ journal. journal.savepoints) journals
 
--- all that is held with some journal in the place is what those before it hold, it, and those behind it
+-- everything held, split at an index: before it, there, and after it
 pub reservations_split : (session : ℕ) (journals : List Journal) (i : ℕ) (journal : Journal) → IsAt session journals i journal → (y : Journal)
     → reservations_of (set journals i y) ≡ reservations_of (take i journals) ++ (y.reservations ++ reservations_of (drop (suc i) journals))
 reservations_split session journals i journal at y =
@@ -37,7 +37,7 @@ pub savepoints_split : (session : ℕ) (journals : List Journal) (i : ℕ) (jour
 savepoints_split session journals i journal at y =
     ap savepoints_of (at.split y) ∙ flat_map-append (λ (l : Journal). l.savepoints) (take i journals) (y ∷ drop (suc i) journals)
 
--- what holds of the number of each journal's session holds of the session of each that they hold
+-- what holds for the session of each journal holds for the session of everything that it holds
 held_sessions : {X : Type 0} (held : Journal → List X) (session_of : X → ℕ) (own : (journal : Journal) → IsJournal journal → AllByRecursion (λ x. session_of x ≡ journal.session) (held journal))
     (P : ℕ → Type 0) (journals : List Journal) → AllByRecursion IsJournal journals → AllByRecursion (λ l. P l.session) journals
     → AllByRecursion (λ x. P (session_of x)) (flat_map held journals)
@@ -61,7 +61,7 @@ below_is_other n session less = ne_eqb n session (λ e. omega (arith, ltb-true n
 above_is_other : (n session : ℕ) → IsTrue (nat_lt session n) → (n == session) ≡ false
 above_is_other n session less = ne_eqb n session (λ e. omega (arith, ltb-true session n less))
 
--- what the journals beside a session's hold is of other sessions
+-- the journals beside a session's own hold only items of other sessions
 pub record AreOthers (session : ℕ) (journals : List Journal) (i : ℕ) : Type 0 where
   pub before : AllByRecursion (λ r. (r.session == session) ≡ false) (reservations_of (take i journals))
   pub behind : AllByRecursion (λ r. (r.session == session) ≡ false) (reservations_of (drop (suc i) journals))
@@ -86,7 +86,7 @@ are_others session journals i journal at =
       savepoints_behind = savepoint_sessions_of Other (drop (suc i) journals) at.behind behind;
     }
 
--- what the journals hold, that of a place by itself
+-- everything held, split at the index of a journal
 pub reservations_now : (session : ℕ) (journals : List Journal) (i : ℕ) (journal : Journal) → IsAt session journals i journal
     → reservations_of journals ≡ reservations_of (take i journals) ++ (journal.reservations ++ reservations_of (drop (suc i) journals))
 reservations_now session journals i journal at = ap reservations_of (sym at.same) ∙ reservations_split session journals i journal at journal
@@ -95,7 +95,7 @@ pub savepoints_now : (session : ℕ) (journals : List Journal) (i : ℕ) (journa
     → savepoints_of journals ≡ savepoints_of (take i journals) ++ (journal.savepoints ++ savepoints_of (drop (suc i) journals))
 savepoints_now session journals i journal at = ap savepoints_of (sym at.same) ∙ savepoints_split session journals i journal at journal
 
--- a test that no other session's reservation passes takes what the journal holds, in its order
+-- if no other session's reservation passes a test, the filter keeps the journal's own, in their order
 pub only_own : (session : ℕ) (journals : List Journal) (i : ℕ) (journal : Journal) → IsAt session journals i journal
     → (p : Reservation → Bool) → ((r : Reservation) → (r.session == session) ≡ false → p r ≡ false)
     → filter p (by_id (reservations_of journals)) ≡ filter p journal.reservations
@@ -107,10 +107,10 @@ only_own session journals i journal at p fails =
     ∙ ap (λ rs. by_id (filter p rs)) (reservations_now session journals i journal at)
     ∙ ap by_id (filter_part p (reservations_of (take i journals)) journal.reservations (reservations_of (drop (suc i) journals))
     (fails_all (reservations_of (take i journals)) rest.before) (fails_all (reservations_of (drop (suc i) journals)) rest.behind))
-    ∙ by_id_rising (filter p journal.reservations) (ascending_filter reservation_before p journal.reservations at.is_log.reservation_order)
+    ∙ by_id_rising (filter p journal.reservations) (ascending_filter reservation_before p journal.reservations at.is_journal.reservation_order)
 
--- a test that all other sessions' reservations pass takes what is held where the journal in the place
--- holds of its own what passes
+-- if all other sessions' reservations pass a test, the filter keeps all of them, and of the journal's own
+-- those that pass
 pub others_kept : (session : ℕ) (journals : List Journal) (i : ℕ) (journal : Journal) → IsAt session journals i journal
     → (p : Reservation → Bool) → ((r : Reservation) → (r.session == session) ≡ false → p r ≡ true)
     → (y : Journal) → y.reservations ≡ filter p journal.reservations → by_id (reservations_of (set journals i y)) ≡ filter p (by_id (reservations_of journals))
@@ -145,9 +145,9 @@ own_is session journals i journal at =
     only_own session journals i journal at (λ r. r.session == session) (λ r other. other)
     ∙ filter_all (λ r. r.session == session) journal.reservations
     (all_as (λ (r : Reservation). r.session ≡ journal.session) (λ r. (r.session == session) ≡ true) journal.reservations
-    (λ r e. eq-eqb r.session session (e ∙ at.number)) at.is_log.reservations_own)
+    (λ r e. eq-eqb r.session session (e ∙ at.number)) at.is_journal.reservations_own)
 
--- and so are its savepoints
+-- a session's savepoints are those of its journal
 pub own_savepoints_is : (session : ℕ) (journals : List Journal) (i : ℕ) (journal : Journal) → IsAt session journals i journal → own_savepoints session (savepoints_of journals) ≡ journal.savepoints
 own_savepoints_is session journals i journal at =
     let rest = are_others session journals i journal at in
@@ -155,9 +155,9 @@ own_savepoints_is session journals i journal at =
     ∙ filter_part (λ q. q.session == session) (savepoints_of (take i journals)) journal.savepoints (savepoints_of (drop (suc i) journals)) rest.savepoints_before rest.savepoints_behind
     ∙ filter_all (λ q. q.session == session) journal.savepoints
     (all_as (λ (q : Savepoint). q.session ≡ journal.session) (λ q. (q.session == session) ≡ true) journal.savepoints
-    (λ q e. eq-eqb q.session session (e ∙ at.number)) at.is_log.savepoints_own)
+    (λ q e. eq-eqb q.session session (e ∙ at.number)) at.is_journal.savepoints_own)
 
--- the savepoint of a name is the journal's
+-- a name finds the savepoint of the journal
 pub savepoint_of_is : (session : ℕ) (name : List ℕ) (journals : List Journal) (i : ℕ) (journal : Journal) → IsAt session journals i journal
     → savepoint_of session name (savepoints_of journals) ≡ savepoint_of session name journal.savepoints
 savepoint_of_is session name journals i journal at =
@@ -172,7 +172,7 @@ savepoint_of_is session name journals i journal at =
 abbrev pub open_with : ℕ → List Reservation → List Savepoint → Open
 open_with next reservations savepoints = record { reservations = reservations; savepoints = savepoints; next_id = next }
 
--- where the journal is emptied the session's transaction is over
+-- if the journal is emptied, the session's transaction ends
 pub ended_is : (session next : ℕ) (journals : List Journal) (i : ℕ) (journal : Journal) → IsAt session journals i journal
     → opened (set journals i (empty_journal journal.session)) next ≡ open_after_end session (opened journals next)
 ended_is session next journals i journal at =
@@ -180,17 +180,17 @@ ended_is session next journals i journal at =
     let reservations : by_id (reservations_of (set journals i (empty_journal journal.session))) ≡ others session (by_id (reservations_of journals)) =
     others_kept session journals i journal at (λ r. not (r.session == session)) (λ r other. not_from_false (r.session == session) other) (empty_journal journal.session)
     (sym (filter_none (λ r. not (r.session == session)) journal.reservations
-    (all_as (λ (r : Reservation). r.session ≡ journal.session) (λ r. not (r.session == session) ≡ false) journal.reservations (λ r. is_own r.session) at.is_log.reservations_own))) in
+    (all_as (λ (r : Reservation). r.session ≡ journal.session) (λ r. not (r.session == session) ≡ false) journal.reservations (λ r. is_own r.session) at.is_journal.reservations_own))) in
     let none : other_savepoints session journal.savepoints ≡ [] =
     filter_none (λ q. not (q.session == session)) journal.savepoints
-    (all_as (λ (q : Savepoint). q.session ≡ journal.session) (λ q. not (q.session == session) ≡ false) journal.savepoints (λ q. is_own q.session) at.is_log.savepoints_own) in
+    (all_as (λ (q : Savepoint). q.session ≡ journal.session) (λ q. not (q.session == session) ≡ false) journal.savepoints (λ q. is_own q.session) at.is_journal.savepoints_own) in
     let savepoints : savepoints_of (set journals i (empty_journal journal.session)) ≡ other_savepoints session (savepoints_of journals) =
     savepoints_split session journals i journal at (empty_journal journal.session)
     ∙ sym (savepoints_kept session journals i journal at (λ q. not (q.session == session)) (λ q other. not_from_false (q.session == session) other)
     ∙ ap (λ ps. savepoints_of (take i journals) ++ (ps ++ savepoints_of (drop (suc i) journals))) none) in
     ap₂ (open_with next) reservations savepoints
 
--- where the journal has one more reservation, with the next id, it is the last of all
+-- a reservation appended to the journal, with the next id, is the last of all
 pub granted_is : (session next : ℕ) (row : RowName) (changes : List (Option ℤ)) (journals : List Journal) (i : ℕ) (journal : Journal) → IsAt session journals i journal
     → AllByRecursion (IsBelow next) journals → IsBelow next journal
     → opened (set journals i (pushed (record { id = next; session = session; row = row; changes = changes }) journal)) (next + 1)

@@ -2,7 +2,7 @@ ghost use Rattle.std.specs.Prelude.{◌≡◌, ◌+◌, IfOk, map};
 ghost use Rattle.std.specs.List.{list_any};
 ghost use Rattle.escrow_num.specs.Session.{IsSession};
 ghost use Rattle.escrow_num.specs.declared.session.TheConstants.Session.{MAX};
-ghost use Rattle.escrow_journal.specs.Journal.{empty_journal};
+ghost use Rattle.escrow_journal.specs.Journal.{IsJournal, empty_journal};
 ghost use Rattle.escrow_txn.specs.Joined.{AreEmpty, holds_any};
 
 use crate::merge::merged;
@@ -79,6 +79,7 @@ impl TxnTable {
         ensures session { result.now.session ≡ session }
         ensures reservations { result.now.reservations ≡ own session self.now.reservations }
         ensures savepoints { result.now.savepoints ≡ own_savepoints session self.now.savepoints }
+        ensures valid { IsJournal result.now }
     {
         &self.journals[place_of_session(session)]
     }
@@ -97,7 +98,8 @@ impl TxnTable {
     /// Returns why a session can't get a reservation, memory aside: it holds as many as it may, or
     /// there are no more ids.
     pub fn grant_refusal(&self, session: Session) -> Option<Refusal>
-        ensures { result ≡ grant_refusal session self.now }
+        ensures refusal { result ≡ grant_refusal session self.now }
+        ensures within { IsSession session }
     {
         if self.journal(session).all().len() >= Journal::MAX_RESERVATIONS {
             return Some(Refusal::TooManyReservations);
@@ -147,6 +149,7 @@ impl TxnTable {
         ensures unchanged { OnErr result (self.new ≡ self.old) }
         ensures refused { IfSome (savepoint_refusal session name self.old) (λ e. result ≡ Err e) }
         ensures only { IfErr result (λ e. (savepoint_refusal session name self.old ≡ Some e) ⊎ (e ≡ Refusal.Memory)) }
+        ensures within { IsSession session }
     {
         let id = self.next_id;
         self.journals[place_of_session(session)].mark(name, id)

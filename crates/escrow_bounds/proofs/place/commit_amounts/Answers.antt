@@ -9,7 +9,7 @@ use Rattle.escrow_bounds.proofs.place.commit_amounts.Goals.{then-is_same, else-i
 pub loop-r-init : goal.loop-r-init
 loop-r-init c = refl
 
--- one reservation adds its changes, if it is of the row
+-- a reservation adds its changes if it is of the row
 one : (c : goal.Joined-is_same) → c.if-is_same.amounts ≡ amounts_after_all end.Commit c.loop-r.amounts (of_row c.args.row.now (c.r-item.result ∷ []))
 one c =
     let row = c.args.row.now in

@@ -9,7 +9,7 @@ use Rattle.escrow_bounds.proofs.Forms.{sums_at, covered_at, value_at, broken_her
 use Rattle.escrow_bounds.proofs.tracked.first_violation.Goals as goal
 use Rattle.escrow_bounds.proofs.tracked.first_violation.Goals.{After-violation_from-violation}
 
--- what is broken of the check at the place
+-- the violation of the check at the place, if there is one
 here : (c : After-violation_from-violation) (amounts : List ℤ) (reservations : List (List ℤ)) → c.args.values.now ≡ map (λ (check : Check). form check.coeffs amounts) (checks_of c.args.forms.now)
     → AllByRecursion (λ (check : Check). IsCovered check.coeffs amounts) (checks_of c.args.forms.now) → HaveSums c.args.forms.now reservations
     → c.violation_from-violation.result ≡ broken_by c.index-forms-i.result.check amounts c.args.changes.now reservations

@@ -5,7 +5,7 @@ use Rattle.escrow_num.specs.declared.reservation.Savepoint.{Savepoint}
 use Rattle.escrow_journal.proofs.Filters.{filter_whole, filter_within, fewer_others}
 use Rattle.escrow_journal.proofs.lists.make_room.Goals as goal
 
--- where it is refused nothing was taken out
+-- if the call is refused, nothing was removed
 pub returns-clause-unchanged : goal.returns-clause-unchanged
 returns-clause-unchanged c =
     let is_other = λ (p : Savepoint). not (bytes_eq p.name c.args.name) in
@@ -14,7 +14,7 @@ returns-clause-unchanged c =
     let whole = filter_whole is_other c.args.savepoints.now.items (omega arith) in
     on_err_weaker c.reserve.result (λ _. c.reserve.ensures.items ∙ c.drop_named.ensures.items ∙ whole) c.reserve.ensures.err
 
--- where there was one it was taken out
+-- if there was one, it was removed
 pub returns-clause-again : goal.returns-clause-again
 returns-clause-again c = λ found.
     let fewer = fewer_others (λ (p : Savepoint). bytes_eq p.name c.args.name) c.args.savepoints.now.items found in

@@ -7,7 +7,7 @@ use Rattle.escrow_reserved.proofs.Violations.{broken_here, broken_past}
 use Rattle.escrow_reserved.proofs.violation.first_violation.Goals as goal
 use Rattle.escrow_reserved.proofs.violation.first_violation.Goals.{After-is_some}
 
--- what is found of a check is what the changes break of it
+-- the violation found for a check is the one that the changes cause
 found : (c : After-is_some) → c.violation_from-violation.result ≡ broken_by c.check-item.result c.args.amounts.now c.args.changes.now []
 found c =
     let amounts = c.args.amounts.now in

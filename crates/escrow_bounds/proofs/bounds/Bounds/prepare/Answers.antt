@@ -7,7 +7,7 @@ use Rattle.escrow_bounds.specs.Bounds.{Bounds}
 use Rattle.escrow_bounds.proofs.Filling.{shown_at, length-shown, open_there, filled_room, filled_next, prepared}
 use Rattle.escrow_bounds.proofs.bounds.Bounds.prepare.Goals as goal
 
--- what the references lead to
+-- the reservations that the references refer to
 abbrev shown : List (Bor Reservation) → List Reservation
 shown reservations = map (λ r. r.now) reservations
 

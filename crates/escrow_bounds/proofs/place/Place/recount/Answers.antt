@@ -10,7 +10,7 @@ use Rattle.escrow_bounds.proofs.Kept.{lent, recountable, recounted, place_recoun
 use Rattle.escrow_bounds.proofs.place.Place.recount.Goals as goal
 use Rattle.escrow_bounds.proofs.place.Place.recount.Goals.{After-number-self-inside, After-self}
 
--- what is counted, with the changes and with their list
+-- the reservations that the place counts beside the changes, and the room for these
 counted : (c : After-self) → (before : List (List ℤ)) × (after : List (List ℤ)) × Counts (place_of c.self.inside) (counted_before c.args.counting before c.of-changes.result after) × HasRoom c.args.counting (before ++ after)
 counted c =
     let can = subst (λ (kept : Place). CanRecount c.args.counting c.args.changes.now kept) (sym c.self.view_is) c.requires in
@@ -31,7 +31,7 @@ number-self-inside-requires c =
     let known = counted (goal.at.number-self-inside-requires c).After-self in
     (known.0, c.of-changes.result, known.1, known.2.0, known.3)
 
--- what the fields keep then
+-- the place after its fields are written
 abbrev kept : (c : After-number-self-inside) → Place
 kept c = record {
   amounts = (place_of c.self.inside).amounts;

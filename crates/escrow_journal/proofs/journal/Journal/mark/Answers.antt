@@ -37,7 +37,7 @@ returns-then-is_err-clause-again c = λ here.
     let stands = subst (λ (log : Journal). IsSome (savepoint_of log.session name log.savepoints)) (sym c.self.view_is) here in
     sym c.if-is_err.ensures.negation ∙ c.make_room.ensures.again (named_found name (journal_of c.self.inside) c.self.invariant stands)
 
--- the journal's own list, with the savepoint put last
+-- the journal's own list, with the new savepoint at the end
 made : (c : goal.After-push_reserved) → record (journal_of c.self.inside) { savepoints = c.push_reserved.new.self.items } ≡ marked c.args.name c.args.id (journal_of c.self.inside)
 made c =
     let name = c.args.name in

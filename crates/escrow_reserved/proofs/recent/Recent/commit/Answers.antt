@@ -9,7 +9,7 @@ use Rattle.escrow_reserved.specs.Read.{committed_to, read_at}
 use Rattle.escrow_reserved.proofs.Reading.{all_committed, next_committed, none_committed, one_committed}
 use Rattle.escrow_reserved.proofs.recent.Recent.commit.Goals as goal
 
--- what the references lead to
+-- the reservations that the references refer to
 abbrev shown : List (Bor Reservation) → List Reservation
 shown reservations = map (λ r. r.now) reservations
 

@@ -13,7 +13,7 @@ use Rattle.escrow_reserved.proofs.recent.Recent.commit_one.Goals.{After-commit}
 pub invariant_of-self : goal.invariant_of-self
 invariant_of-self c = subst (λ (n : ℕ). n ≤ MAX_ROWS) (sym (index_map_len-with_value_at c.self.inside.rows c.in-Some.place c.commit.new.self)) c.self.invariant
 
--- the row at the place is that of the reservation
+-- the row at the index is that of the reservation
 its_row : (c : After-commit) → c.pair_mut-amounts.result.0.now ≡ c.args.r.now.row
 its_row c =
     let entry = c.pair_mut-amounts in

@@ -7,7 +7,7 @@ use Rattle.escrow_reserved.proofs.recent.Recent.forget_table.Given as given
 use Rattle.escrow_reserved.proofs.recent.Recent.forget_table.Goals as goal
 use Rattle.escrow_reserved.proofs.recent.Recent.forget_table.Goals.{After-retain}
 
--- those of other tables are left
+-- the rows of other tables stay
 left : (c : After-retain) → c.retain.new.self.entries ≡ filter (of_others c.args.table) c.self.inside.rows.entries
 left c = filter-RetainsPairs _ (of_others c.args.table) _ (λ k v b w g call. search rules) _ _ c.retain.ensures.filtered
 

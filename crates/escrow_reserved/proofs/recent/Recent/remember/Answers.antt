@@ -8,14 +8,14 @@ returns-in_err-amounts-clause-only c = λ other. inl (inr refl)
 pub returns-in_err-name-clause-only : goal.returns-in_err-name-clause-only
 returns-in_err-name-clause-only c = λ other. inl (inr refl)
 
--- the row didn't fit
+-- the row was not kept
 pub invariant_of-self : goal.invariant_of-self
 invariant_of-self c = rw c.in_err-place.ensures.err c.self-2.invariant
 
 pub returns-in_err-place-clause-only : goal.returns-in_err-place-clause-only
 returns-in_err-place-clause-only c = λ other. inl (rw (c.in_err-place.ensures.err, c.self-2.view_is) (c.make_room.ensures.only other))
 
--- it is kept
+-- the row is kept
 pub invariant_of-self-2 : goal.invariant_of-self-2
 invariant_of-self-2 c = one_more c.in_ok-place.field-0-1 _ _ _ (rw (← c.self-2.view_is) at c.make_room.ensures.room) c.in_ok-place.ensures.len
 

@@ -10,7 +10,7 @@ use Rattle.escrow_reserved.specs.Reserved.{AreAmounts}
 use Rattle.escrow_reserved.proofs.Counting.{amounts_more}
 use Rattle.escrow_reserved.proofs.reserved.Reserved.amounts_of.Goals as goal
 
--- what the references lead to
+-- the reservations that the references refer to
 abbrev shown : List (Bor Reservation) → List Reservation
 shown reservations = map (λ r. r.now) reservations
 

@@ -2,7 +2,7 @@ use Rattle.std.specs.Prelude.{◌≡◌, map}
 use Rattle.std.specs.List.{AllByRecursion}
 use Rattle.std.proofs.Common.{ap, sym, subst, ◌∙◌}
 use Rattle.escrow_machine.specs.Walked.{IsShort}
-use Rattle.escrow_machine.proofs.Choices.{all_map}
+use Rattle.escrow_schema.proofs.Listed.{all_unmap}
 use Rattle.escrow_reserved.proofs.Counting.{all_count}
 use Rattle.escrow_reserved.proofs.reserved.Reserved.prepare.Goals as goal
 
@@ -15,7 +15,7 @@ pub prepare-requires-clause-short : goal.prepare-requires-clause-short
 prepare-requires-clause-short c =
     let items = c.deref.result.now in
     let is : map (λ r. r.now) items ≡ c.self.inside.txns.reservations = ap (map (λ r. r.now)) c.deref.ensures.value ∙ c.in_ok-reservations.ensures in
-    all_map IsShort (λ r. r.now) items (subst (AllByRecursion IsShort) (sym is) c.self.invariant.short)
+    all_unmap IsShort (λ r. r.now) items (subst (AllByRecursion IsShort) (sym is) c.self.invariant.short)
 
 pub prepare-requires-clause-covered : goal.prepare-requires-clause-covered
 prepare-requires-clause-covered c = rw (← c.self.view_is) at c.requires.covered

@@ -12,10 +12,8 @@ at c = place_is c.self.inside.journals.items c.self.inside.next_id c.args.sessio
 
 pub invariant_of-self : goal.invariant_of-self
 invariant_of-self c =
-    let next = c.self.inside.next_id in
-    let journal = c.index_mut.result.now in
-    journals_stay c.self.inside.journals.items next c.args.session c.place_of_session.result c.cut.new.self journal c.self.invariant (at c) c.cut.ensures.valid
-    (λ below. cut_kept next c.args.name c.cut.new.self journal below c.cut.ensures.cut)
+    journals_stay c.self.inside.journals.items c.self.inside.next_id c.args.session c.place_of_session.result c.cut.new.self c.index_mut.result.now c.self.invariant (at c) c.cut.ensures.valid
+    (λ below. cut_kept c.self.inside.next_id c.args.name c.cut.new.self c.index_mut.result.now below c.cut.ensures.cut)
 
 pub returns-clause-count : goal.returns-clause-count
 returns-clause-count c =

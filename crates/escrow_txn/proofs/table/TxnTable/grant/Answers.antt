@@ -25,7 +25,7 @@ invariant_of-self-2 c =
     let r : Reservation = record { id = next; session = c.args.session; row = c.args.row; changes = c.args.changes } in
     let at = place_is logs next c.args.session c.place_of_session.result journal c.self.invariant c.place_of_session.ensures.within c.place_of_session.ensures.place c.index_mut.ensures.value in
     let below = below_at logs next c.args.session c.place_of_session.result journal c.self.invariant at in
-    let none : grant_refusal c.args.session (opened logs next) ≡ None = ap (λ (o : Open). grant_refusal c.args.session o) c.self.view_is ∙ sym c.in_default.ensures in
+    let none : grant_refusal c.args.session (opened logs next) ≡ None = ap (λ (o : Open). grant_refusal c.args.session o) c.self.view_is ∙ sym c.in_default.ensures.refusal in
     let left = (is_free c.args.session (opened logs next) none).more_ids in
     journals_kept logs next (next + 1) c.args.session c.place_of_session.result new journal c.self.invariant at c.in_ok-push.ensures.valid
     (push_kept next r new journal below refl c.in_ok-push.ensures.pushed) (omega arith) (omega arith)
@@ -47,6 +47,6 @@ returns-in_err-push-clause-only c =
     let next = c.self.inside.next_id in
     let journal = c.index_mut.result.now in
     let at = place_is logs next c.args.session c.place_of_session.result journal c.self.invariant c.place_of_session.ensures.within c.place_of_session.ensures.place c.index_mut.ensures.value in
-    let none : grant_refusal c.args.session (opened logs next) ≡ None = ap (λ (o : Open). grant_refusal c.args.session o) c.self.view_is ∙ sym c.in_default.ensures in
+    let none : grant_refusal c.args.session (opened logs next) ≡ None = ap (λ (o : Open). grant_refusal c.args.session o) c.self.view_is ∙ sym c.in_default.ensures.refusal in
     let memory = only_memory journal c.push.result (has_room c.args.session next logs c.place_of_session.result journal at none) c.push.ensures.only c.push.ensures.room in
     memory_on c.push.result c.from_residual.result _ _ c.in_err-push.was memory c.from_residual.ensures.1

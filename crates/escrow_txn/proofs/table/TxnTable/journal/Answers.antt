@@ -11,6 +11,9 @@ at c = place_is c.self.inside.journals.items c.self.inside.next_id c.args.sessio
 pub returns-clause-session : goal.returns-clause-session
 returns-clause-session c = (at c).number
 
+pub returns-clause-valid : goal.returns-clause-valid
+returns-clause-valid c = (at c).is_journal
+
 pub returns-clause-reservations : goal.returns-clause-reservations
 returns-clause-reservations c =
     sym (own_is c.args.session c.self.inside.journals.items c.place_of_session.result c.index.result.now (at c))

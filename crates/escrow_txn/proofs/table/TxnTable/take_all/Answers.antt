@@ -13,10 +13,9 @@ at c = place_is c.self.inside.journals.items c.self.inside.next_id c.args.sessio
 
 pub invariant_of-self : goal.invariant_of-self
 invariant_of-self c =
-    let next = c.self.inside.next_id in
-    let journal = c.index_mut.result.now in
-    journals_stay c.self.inside.journals.items next c.args.session c.place_of_session.result c.take_all.new.self journal c.self.invariant (at c) c.take_all.ensures.valid
-    (λ below. empty_kept next c.take_all.new.self journal c.take_all.ensures.none)
+    let kept = empty_kept c.self.inside.next_id c.take_all.new.self c.index_mut.result.now c.take_all.ensures.none in
+    journals_stay c.self.inside.journals.items c.self.inside.next_id c.args.session c.place_of_session.result c.take_all.new.self c.index_mut.result.now c.self.invariant (at c)
+    c.take_all.ensures.valid (λ below. kept)
 
 pub returns-clause-all : goal.returns-clause-all
 returns-clause-all c =
