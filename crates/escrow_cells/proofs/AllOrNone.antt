@@ -1,4 +1,4 @@
--- A transaction from its beginning to its end, over what connections show.
+-- A transaction from begin to end, in terms of what the connections show.
 use Rattle.std.proofs.Common.{◌≡◌, ℕ, ◌≤◌, Bool, List, [], ◌∷◌, ◌++◌, take, length, get_or, ◌<◌, ◌+◌, true, false, IsTrue, Result, Ok, Err, OnOk, IfErr, is_ok, inl, inr, refl, sym, ap, subst, ◌∙◌, arith}
 use Rattle.std.proofs.lemmas.List.{length-append, take_more}
 use Rattle.std.proofs.lemmas.Bool.{both_ways, cases_lt, false≢true}
@@ -38,7 +38,7 @@ pending_then a b c one two = record {
       record { was_open = λ h. first.was_open (last.was_open h); committed = λ h. last.committed h ∙ first.committed (last.was_open h) };
 }
 
--- the store was open before a call that came first, or that only kept what was committed
+-- the store was open before a call that came first, or that only kept the committed state
 first_open : (a b : State) (m n : ℕ) → 0 < m + n → IsPending a b → (0 < m → IsTrue a.is_open) → (0 < n → IsTrue b.is_open) → HasCleanDisk b → IsTrue a.is_open
 first_open a b m n some pending first second clean = elim (cases_lt 0 m) [
   | inl before ↦ first before
@@ -46,7 +46,7 @@ first_open a b m n some pending first second clean = elim (cases_lt 0 m) [
 ]
 
 module _ (A B C : Database → Database → Type 0) (joined : (x y z : Database) → A x y → B y z → C x z) (a b c : State) (steps m n : ℕ) (few : steps ≤ m + n) where
-  -- one call after another that is done
+  -- a second call after a call that succeeded
   pub acts_then : (is_done : Bool) → Acts a b true m A → Acts b c is_done n B → Acts a c is_done steps C
   acts_then is_done one two =
       let was = λ (clean : HasCleanDisk c). let h : HasCleanDisk b = omega (arith, two.pending.survives.clean) in h in
@@ -60,7 +60,7 @@ module _ (A B C : Database → Database → Type 0) (joined : (x y z : Database)
         pending = pending_then a b c one.pending two.pending;
       }
 
-  -- one call more in a transaction
+  -- one more call in a transaction
   pub goes_then : GoesOn m A a b → Acts b c true n B → GoesOn steps C a c
   goes_then before one =
       let was = λ (clean : HasCleanDisk c). let h : HasCleanDisk b = omega (arith, one.pending.survives.clean) in h in
@@ -71,14 +71,13 @@ module _ (A B C : Database → Database → Type 0) (joined : (x y z : Database)
         made = λ clean. joined _ _ _ (before.made (was clean)) (one.done refl clean (before.inside (was clean))).1;
       }
 
--- a call is the first in a transaction that had just begun
+-- the first call in a transaction that has just begun
 pub goes_first : {S : Type 0} (g : Ghosts S) (old start : Held S) (last : State) (steps : ℕ) (Makes : Database → Database → Type 0) → start ≡ record old { in_transaction = true } → Acts (state g start) last true steps Makes
     → GoesOn steps Makes (state g old) last
 goes_first g old start last steps Makes is acts =
     goes_then ◌≡◌ Makes Makes (λ x y z same makes. subst (λ (db : Database). Makes db z) (sym same) makes) (state g old) _ last steps 0 steps (omega arith) (begun g old ◌≡◌ (λ _. refl)) (rw is at acts)
 
--- what a step tells of the store that is the first in a transaction which had just begun: it found it open, and whether
--- it found a cell
+-- the result of a step that is the first in a new transaction: the store was open, and the step found a cell or none
 pub found_first : {S : Type 0} (g : Ghosts S) (old start : Held S) (last : State) (first : Step) (found : Bool) → start ≡ record old { in_transaction = true } → ActsBy (state g start) last true (first ∷ [])
     → (HasCleanDisk last → IsTrue (state g start).in_transaction → IsStore (state g start).now → found ≡ finds first (cells (state g start).now)) → HasCleanDisk last
     → IsTrue (state g old).is_open × (IsStore (state g old).now → finds first (cells (state g old).now) ≡ found)
@@ -101,12 +100,12 @@ finding first rest old last goes found = record {
   made = λ clean. record { does = goes.made clean; found = found clean };
 }
 
--- more steps are done after those before them
+-- more steps run after the earlier ones
 pub goes_on : (done more : List Step) (old mid new : State) → GoesOn (length done) (Does done) old mid → ActsBy mid new true more → GoesOn (length (done ++ more)) (Does (done ++ more)) old new
 goes_on done more old mid new before one =
     goes_then (Does done) (Does more) _ (λ x y z. does_more done more x y z) old mid new _ (length done) (length more) (omega (arith, length-append done more)) before one
 
--- no step is done
+-- no step runs
 pub acts_none : (s : State) → ActsBy s s true []
 acts_none s = record {
   done = λ _ clean inside. (inside, does_none s.now);
@@ -117,7 +116,7 @@ acts_none s = record {
   };
 }
 
--- the step at a place is done after those before it
+-- the step at a place runs after the earlier ones
 pub acts_on : (steps : List Step) (at : ℕ) (some : Step) (old mid new : State) → at < length steps → ActsBy old mid true (take at steps) → ActsBy mid new true (get_or steps at some ∷ [])
     → ActsBy old new true (take (at + 1) steps)
 acts_on steps at some old mid new within before one =
@@ -126,12 +125,12 @@ acts_on steps at some old mid new within before one =
     subst (λ these. ActsBy old new true these) (sym (take_more steps at some within))
     (acts_then (Does first) (Does next) _ (λ x y z. does_more first next x y z) old mid new (length (first ++ next)) (length first) 1 (omega (arith, length-append first next)) true before one)
 
--- where one is not done, nothing is said of what they make
+-- if a step fails, nothing is claimed about the result
 pub acts_failed : (old mid new : State) (steps : ℕ) (Makes : Database → Database → Type 0) → IsPending old mid → IsPending mid new → Acts old new false steps Makes
 acts_failed old mid new steps Makes before one = record { done = λ e. absurd (false≢true e); was_open = λ e. absurd (false≢true e); pending = pending_then old mid new before one }
 
 module _ (old last new : State) (settled : IsTrue old.is_open → old.now ≡ old.committed) (Makes : Database → Database → Type 0) where
-  -- an error drops the transaction, which rolls back
+  -- an error drops the transaction, which rolls it back
   pub undone : (mid : State) → IsPending old mid → IsPending mid last → (HasCleanDisk new → IsRolledBack last new) → Survives last new (λ _. ⊥) → Transacts old new false Makes
   undone mid one two back quiet =
       let pending = pending_then old mid last one two in
@@ -156,12 +155,13 @@ module _ (old last new : State) (settled : IsTrue old.is_open → old.now ≡ ol
     first_clean : HasCleanDisk new → HasCleanDisk old
     first_clean clean = omega (arith, held.pending.survives.clean, quiet.clean)
 
-    -- where it fails, it rolls back
+    -- if COMMIT fails, it rolls back
     fails : (e : Error) → HasCleanDisk new → FailsToCommit last new e → IsRolledBack last new
     fails e clean (inl h) = h.3
     fails e clean (inr h) = absurd (both_ways last.in_transaction h.1 (held.inside (was_clean clean)))
 
-    -- a crash inside leaves what it left before, or what the transaction made, whose steps found the store open
+    -- a crash inside leaves either the earlier state or what the transaction made; in the second case, its steps found
+    -- the store open
     crash : Survives old new (λ trees. IsTrue old.is_open × (db : Database) × Makes old.now db × (trees ≡ db.trees))
     crash =
         survives_then old last new _ _ _ (λ _ db none. absurd none)
@@ -188,7 +188,7 @@ module _ (old last new : State) (settled : IsTrue old.is_open → old.now ≡ ol
       survives = crash;
     }
 
--- nothing was written, since there was nothing to write
+-- nothing was written, because there was nothing to write
 module _ (old new : State) where
   pub wrote_nothing : (IsTrue old.is_open → old.now ≡ old.committed) → ((trees : Trees) → IsTrue new.is_open → new.may_leave trees → trees ≡ new.committed.trees)
       → Survives old new (λ _. ⊥) → (HasCleanDisk new → IsUnchanged old new) → Transacts old new true (Does [])

@@ -1,4 +1,4 @@
--- A SELECT has no RETURNING, whatever the schema is, so a query of it writes nothing.
+-- A SELECT has no RETURNING under any schema, so a query of it writes nothing.
 use Rattle.std.proofs.Common.{◌≡◌, ℕ, true, false, cond, List, None, Ok, Err, refl, subst}
 use Rattle.sqlite_schema.specs.declared.schema.Schema.{Schema}
 use Rattle.sqlite_schema.specs.declared.command.Command.{Command}
@@ -10,7 +10,7 @@ use Rattle.sqlite_resolve.specs.Lowering.{Checked, and_then}
 use Rattle.sqlite.specs.Listing.{understood, reads_listing, if_select, is_select, listing_schema}
 use Rattle.escrow_cells.specs.Query.{IsReading}
 
--- the grammar reads a statement that has no RETURNING
+-- the grammar reads a statement without RETURNING
 abbrev pub IsBareRead : Checked Parsed → Type 0
 IsBareRead (Ok p) = (schema : Schema) (base : ℕ) → returning schema base p.statement ≡ Ok None
 IsBareRead (Err e) = ⊥

@@ -1,4 +1,4 @@
--- What the columns of CELL hold, and what writing it again makes of it.
+-- What the columns of CELL hold, and what writing a held value again gives.
 use Rattle.std.proofs.Common.{◌≡◌, Bool, true, false, cond, [], ◌∷◌, drop, refl, subst}
 use Rattle.std.specs.List.{AllByRecursion}
 use Rattle.std.proofs.lemmas.Bool.{and_parts}
@@ -20,7 +20,7 @@ either : (b : Bool) (v : Value) → cond b v v ≡ v
 either true v = refl
 either false v = refl
 
--- what an INTEGER column of a STRICT table holds is written as it is
+-- a value that an INTEGER column of a STRICT table holds is written unchanged
 pub cast_held : (v : Value) → has_kind Integer v ≡ true → cast Integer v ≡ v
 unfolding unary
 cast_held Null h = either _ Null
@@ -29,7 +29,7 @@ cast_held (Real x) h = absurd (let e = h in cc)
 cast_held (Text t) h = absurd (let e = h in cc)
 cast_held (Blob b) h = absurd (let e = h in cc)
 
--- a row of CELL is written back as it is
+-- a row of CELL is written back unchanged
 abbrev pub IsWritten : Row → Type 0
 IsWritten r = (cast Integer (column r 1) ≡ column r 1) × (cast Integer (column r 3) ≡ column r 3)
 

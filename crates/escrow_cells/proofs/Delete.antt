@@ -1,4 +1,4 @@
--- What the three DELETEs take out of CELL and of TAB.
+-- What the three DELETEs remove from CELL and TAB.
 use Rattle.std.proofs.Common.{◌≡◌, ℕ, ℤ, Bool, true, false, not, ◌&&◌, List, [], ◌∷◌, map, filter, codes, slice_get, Some, Ok, IsPermutation, refl, sym, ap, ◌∙◌}
 use Rattle.std.specs.Prelude.{nat_lt}
 use Rattle.std.specs.List.{list_any}
@@ -61,7 +61,7 @@ tab_delete : IsStatement tab_text (Delete 1 (record { lets = []; body = plain_qu
 unfolding understood everything
 tab_delete = record { is = λ _ _ _. refl; plain = λ _ _ _. (refl, refl) }
 
--- ---- the rows that are left
+-- ---- the remaining rows
 
 abbrev gone_by : List Row → Database → Table → Database → Type 0
 gone_by rows old table new = Edits old new (edit_of old.trees table (ids_of rows) Given 0 [])
@@ -69,7 +69,7 @@ gone_by rows old table new = Edits old new (edit_of old.trees table (ids_of rows
 abbrev AreFound : List Term → Row → List Row → List Row → Type 0
 AreFound tests params rows found = IsPermutation (map (λ r. rowid r ∷ []) (filter (passes tests params) rows)) found
 
--- a DELETE takes out the rows that pass its tests
+-- a DELETE removes the rows that pass its tests
 module _ (sql : List ℕ) (params : Row) (old new : State) (store : IsStore old.now) (at : ℕ) (table : Table) (tests : List Term)
     (got : slice_get old.now.schema.tables at ≡ Some table) where
   deleted : IsStatement sql (Delete at (record { lets = []; body = plain_query table.tree tests rowids })) → (n : ℕ) → Executes sql params old new (Ok n)
@@ -83,7 +83,7 @@ rows_left : (old new : Database) (table : Table) (tests : List Term) (params : R
 rows_left old new table tests params rows numbered found gone =
     gone.applies.rows ∙ left_is (passes tests params) (λ r. rowid r ∷ []) (old.trees table.tree) rows (λ r. refl) numbered found
 
--- a tree of which rows that pass were taken out, as the words of a step tell it
+-- a tree from which the passing rows were removed, in the terms of a step
 shown_left : (f : Row → Row) (p q : Row → Bool) → ((r : Row) → p r ≡ q (f r)) → (rows left : List Row) → left ≡ filter (λ r. not (p r)) rows → IsPermutation (filter (λ x. not (q x)) (map f rows)) (map f left)
 shown_left f p q told rows left is =
     IsPermutation-same _ _ (filter-map (λ x. not (q x)) f rows ∙ ap (map f) (filter_same _ (λ r. not (p r)) rows (all_of (λ r. not (q (f r)) ≡ not (p r)) (λ r. ap not (sym (told r))) rows) ∙ sym is))
@@ -98,7 +98,7 @@ last : (a : Bool) → (a && true) ≡ a
 last true = refl
 last false = refl
 
--- a cell is of the row of a key where it passes
+-- a cell passes exactly if it belongs to the row of the key
 of_key_is : (table : ℤ) (key : Datum) (r : Row) → passes of_key (Int table ∷ kept key ∷ []) r ≡ is_of (Int table) (kept key) (cell_of r)
 of_key_is table key r = ap (λ b. same (column r 1) (Int table) && b) (last (same (column r 2) (kept key)))
 
@@ -108,7 +108,7 @@ deletes_row table key old new n ran store =
     let gone = deleted row_text params old new store 2 cell of_key (ap (λ (s : Schema). slice_get s.tables 2) store.tables.is) row_delete n ran in
     cells_deleted old.now new.now store of_key params (is_of (Int table) (kept key)) (of_key_is table key) gone.0 gone.1 gone.2
 
--- and tells whether there was one
+-- the count reports whether the row existed
 pub row_found : (table : ℤ) (key : Datum) (old new : State) (n : ℕ) → Executes row_text (Int table ∷ kept key ∷ []) old new (Ok n)
     → IsStore old.now → nat_lt 0 n ≡ list_any (is_of (Int table) (kept key)) (cells old.now)
 row_found table key old new n ran store =

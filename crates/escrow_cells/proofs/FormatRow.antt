@@ -1,4 +1,4 @@
--- The row of META that says the format.
+-- The row of META that names the format.
 use Rattle.std.proofs.Common.{◌≡◌, ℕ, Bool, true, false, cond, List, [], ◌∷◌, codes, Ok, IsPermutation, refl, ap, subst, ◌∙◌}
 use Rattle.std.proofs.lemmas.Bool.{and_parts}
 use Rattle.sqlite_value.specs.declared.value.Value.{Value}

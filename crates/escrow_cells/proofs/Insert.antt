@@ -44,7 +44,7 @@ four_insert = codes "INSERT INTO CELL VALUES (?1, ?2, ?3, ?4), (?5, ?6, ?7, ?8),
 abbrev pub tab_insert : List ℕ
 tab_insert = codes "INSERT INTO TAB VALUES (?1, ?2, ?3)"
 
--- what is given of a cell, from a parameter on
+-- the values given for a cell, from a parameter on
 abbrev terms_from : ℕ → List Term
 terms_from at = lit Null ∷ col 0 at ∷ col 0 (at + 1) ∷ col 0 (at + 2) ∷ col 0 (at + 3) ∷ []
 
@@ -78,7 +78,7 @@ tab_statement = record { is = λ _ _ _. refl; plain = λ _ _ _. (refl, refl) }
 
 -- ---- the row that is added
 
--- the row that an INSERT makes of the values that it is given
+-- the row that an INSERT makes from the values it is given
 abbrev pub made : Trees → Table → Row → Row
 made db table values = with_rowid Chosen (db table.tree) (cast_row table values)
 
@@ -98,26 +98,26 @@ made_tab db id name text = rw (cast_held (Int id) refl)
 
 -- ---- cells that are added
 
--- what an INSERT is given of a cell
+-- the values that an INSERT is given for a cell
 abbrev pub given_of : NewCell → Row
 given_of c = Int c.table ∷ kept c.key ∷ Int c.place ∷ kept c.value ∷ []
 
 abbrev rows_of : List NewCell → List Row
 rows_of news = map (λ c. Null ∷ given_of c) news
 
--- the rows that are made of cells have these
+-- the rows made from cells have these values
 made_cells : (rows : List Row) (news : List NewCell) → map cell_of (numbered Chosen rows (map (λ s. cast_row cell (drop 0 s)) (rows_of news))) ≡ map given_of news
 made_cells rows [] = refl
 made_cells rows (c ∷ news) =
     let row = with_rowid Chosen rows (cast_row cell (Null ∷ given_of c)) in
     ap₂ ◌∷◌ (made_cell rows c.table c.place (kept c.key) (kept c.value)) (made_cells (put_row row rows) news)
 
--- the steps that put cells leave these beside the others
+-- the steps that add cells leave them beside the other cells
 beside_others : (news : List NewCell) (c : Contents) → IsPermutation (fold done c (map step_of news)).cells (map given_of news ++ c.cells)
 beside_others [] c = IsPermutation-refl c.cells
 beside_others (new ∷ news) c = IsPermutation-trans _ _ _ (beside_others news (done c (step_of new))) (IsPermutation-middle (map given_of news) (given_of new) c.cells)
 
--- and so does an INSERT of them
+-- an INSERT of these cells does the same
 inserted : (old new : Database) (news : List NewCell) → Edits old new (edit_of old.trees cell [] Chosen 0 (rows_of news)) → IsPermutation (fold done (contents old) (map step_of news)).cells (cells new)
 inserted old new news e =
     let rows = old.trees cell.tree in
@@ -126,7 +126,7 @@ inserted old new news e =
     let shown : map cell_of (mades ++ rows) ≡ map given_of news ++ cells old = map-append cell_of mades rows ∙ ap (λ l. l ++ cells old) (made_cells rows news) in
     IsPermutation-trans _ _ _ (beside_others news (contents old)) (subst (λ l. IsPermutation l (cells new)) shown (IsPermutation-map cell_of _ _ put))
 
--- TAB is as it was
+-- TAB is unchanged
 tabs_stay : (news : List NewCell) (c : Contents) → fold done c (map step_of news) ≡ record { cells = (fold done c (map step_of news)).cells; tabs = c.tabs }
 tabs_stay [] c = refl
 tabs_stay (new ∷ news) c = tabs_stay news (done c (step_of new))

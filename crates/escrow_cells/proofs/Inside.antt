@@ -35,12 +35,12 @@ use Rattle.escrow_cells.specs.Store.{HasTables}
 use Rattle.escrow_cells.specs.Tables.{beside}
 use Rattle.escrow_cells.specs.Inside.{Acts, Wrote}
 
--- a parameter is bound as it is kept
+-- a parameter is bound as it is stored
 pub bound_kept : (d : Datum) → bound_value (kept d) ≡ kept d
 bound_kept (datum.Number n) = refl
 bound_kept (datum.Text t) = refl
 
--- what a statement makes that was executed inside a transaction, under parameters that are equal to those it has
+-- what a statement does inside a transaction, if its parameters are equal to those it speaks of
 pub acts : {sql : List ℕ} {params given : Row} {old new : State} {is_done : Bool} {steps : ℕ} {Makes : Database → Database → Type 0} → ((n : ℕ) → Executes sql params old new (Ok n) → Makes old.now new.now)
     → Wrote sql given old new is_done → given ≡ params → Acts old new is_done steps Makes
 acts {sql = sql} {old = old} {new = new} makes it same = record {
@@ -49,14 +49,14 @@ acts {sql = sql} {old = old} {new = new} makes it same = record {
   pending = it.pending;
 }
 
--- what the number of rows tells that a statement changed which was executed inside a transaction, under parameters that
--- are equal to those it has
+-- what the number of changed rows says about a statement inside a transaction, if its parameters are equal to those it
+-- speaks of
 pub tells : (sql : List ℕ) (params given : Row) (old new : State) {E : Type 0} (Told : ℕ → Type 0) → ((n : ℕ) → Executes sql params old new (Ok n) → Told n) → (r : Result ℕ E)
     → IfOk r (λ n. Executes sql given old new (Ok n)) → given ≡ params → IfOk r Told
 tells sql params given old new Told told (Ok n) ran same = told n (subst (λ (ps : Row). Executes sql ps old new (Ok n)) same ran)
 tells sql params given old new Told told (Err e) ran same = tt
 
--- a text is that of a statement that does a command, whatever objects stand after the three tables
+-- a text is that of a statement for a command, whatever objects the schema lists after the three tables
 pub record IsStatement (text : List ℕ) (command : Command) : Type 0 where
   pub is : (more : List Table) (indexes : List Index) (views : List View) → command_of (understood (beside more indexes views) text) ≡ command
   pub plain : (more : List Table) (indexes : List Index) (views : List View) → IsPlain (understood (beside more indexes views) text)
@@ -68,7 +68,7 @@ wrote_by it params old new has n ran = runs_as _ params old new (beside has.more
 
 -- ---- one edit
 
--- A database was changed by one edit, and no foreign key acted.
+-- One edit changed the database, and no foreign key acted.
 pub record Edits (old new : Database) (edit : Edit) : Type 0 where
   pub schema : new.schema ≡ old.schema
   pub sound : IsDatabase new
@@ -79,14 +79,14 @@ no_work : (schema : Schema) (keys : Keys) (depth tree : ℕ) (olds news : List R
 no_work schema keys depth tree olds news [] none = refl
 no_work schema keys depth tree olds news (t ∷ tables) none = rw (none.0, no_work schema keys depth tree olds news tables none.1) refl
 
--- where no table has a foreign key, a write is its one edit
+-- if no table has a foreign key, a write is just its one edit
 pub no_works : (schema : Schema) (keys : Keys) (depth tree : ℕ) (olds news : List Row) → AllByRecursion (λ (t : Table). t.references ≡ []) schema.tables → works schema keys depth tree olds news ≡ []
 no_works schema keys depth tree olds news none = no_work schema keys depth tree olds news schema.tables none
 
 pub applied : (schema : Schema) (keys : Keys) (db next : Trees) (edit : Edit) → AllByRecursion (λ (t : Table). t.references ≡ []) schema.tables → Edited schema keys db edit (Ok next) → Applies schema keys db edit next
 applied schema keys db next edit none h = one_step schema keys db next edit (no_works schema keys 0 edit.table.tree (taken_by db edit) edit.news none) h
 
--- a part that gave a value did not stop on the way
+-- a part that returned a value did not stop early
 pub went : {B E R : Type 0} {b : B} {Stops : E → Type 0} → ((stop : E) × Stops stop × (Ok b ≡ Err stop)) ⊎ R → R
 went (inl stopped) = absurd (let e = stopped.2 in cc)
 went (inr on) = on
@@ -94,14 +94,14 @@ went (inr on) = on
 pub same_value : {B E : Type 0} {a b : B} → ◌≡◌ {A = Result B E} (Ok a) (Ok b) → a ≡ b
 same_value e = cc
 
--- what a statement on the rows of a table leaves is what it wrote, under the same schema
+-- the result of a statement on a table's rows is what it wrote, under the same schema
 pub concluded : (task : Task) (command : Command) (s : State) (db : Trees) (tally : Tally) (after : Database) → OnRows task (mode_of s) None command db (Ok (tally, after))
     → (w : Written) × WritesRows task db command (Ok w) × (after ≡ record { schema = task.schema; trees = w.trees })
 concluded task command s db tally after h =
     let all = went h in
     (all.0, all.1, ap (λ (p : Tally × Database). p.1) (same_value (went (went all.2).2).2))
 
--- and it counts the rows that were written
+-- the statement counts the rows that it wrote
 counted : (task : Task) (command : Command) (s : State) (db : Trees) (tally : Tally) (after : Database) (h : OnRows task (mode_of s) None command db (Ok (tally, after)))
     → tally.rows ≡ Some (length (went h).0.rows)
 counted task command s db tally after h = ap (λ (p : Tally × Database). p.0.rows) (same_value (went (went (went h).2).2).2)
@@ -114,7 +114,7 @@ module _ (task : Task) (plain : task.table.is_counted ≡ false) where
   chosen : (last : ℤ) → rowids_for task.table last ≡ Chosen
   chosen last = ap (λ b. cond b (Above last) Chosen) plain
 
-  -- the rows are put in, and nothing else is written
+  -- the rows are inserted, and nothing else is written
   inserted : (from : Source) (db : Trees) (w : Written) → Inserts task from db (Ok w)
       → (rows : List Row) × Sourced task.limit (record { schema = task.schema; trees = db }) (stamped task.table task.params) from (Ok rows) × Edited task.schema task.keys db (edit_of db task.table [] Chosen 0 rows) (Ok w.trees)
   inserted from db w h =
@@ -148,7 +148,7 @@ module _ (old new : State) (table : Table) (at : ℕ) (got : slice_get old.now.s
       let written = went queried.2 in
       (queried.0, queried.1, edits _ all.0 written.0 w.sound written.1 (ap (λ (it : Written). it.trees) (same_value written.2)) all.2)
 
-  -- as many rows are counted as the query found
+  -- the statement counts as many rows as its query found
   pub updates_counted : (q : Program) (w : HasWritten old new None (Update at q) text params count) → count ≡ length (updates q w).0
   unfolding went updates concluded
   updates_counted q w =

@@ -1,4 +1,4 @@
--- What an edit of one of the tables leaves of a store.
+-- What a store is after an edit of one of its tables.
 use Rattle.std.proofs.Common.{◌≡◌, ◌≢◌, List, [], ◌∷◌, map, IsPermutation, sym, ap, ◌∙◌, subst, arith}
 use Rattle.std.specs.List.{AllByRecursion}
 use Rattle.sqlite_value.specs.Order.{Row, column}
@@ -15,7 +15,7 @@ use Rattle.escrow_cells.specs.Step.{HoldsContents}
 use Rattle.escrow_cells.proofs.Inside.{Edits}
 use Rattle.escrow_cells.proofs.Makes.{numbered_edited}
 
--- a row of CELL and one of TAB, as the store's words read them
+-- a row of CELL and a row of TAB, in the store's terms
 abbrev pub cell_of : Row → Row
 cell_of r = column r 1 ∷ column r 2 ∷ column r 3 ∷ column r 4 ∷ []
 
@@ -23,7 +23,7 @@ abbrev pub tab_of : Row → Row
 tab_of r = rowid r ∷ column r 2 ∷ column r 3 ∷ []
 
 module _ (old new : Database) (edit : Edit) (store : IsStore old) (made : Edits old new edit) where
-  -- the trees of the other tables are as they were
+  -- the trees of the other tables are unchanged
   abbrev IsSpared : Table → Type 0
   IsSpared t = t.tree ≢ edit.table.tree → new.trees t.tree ≡ old.trees t.tree
 

@@ -1,4 +1,4 @@
--- What an edit makes of the rows of one tree.
+-- What an edit does to the rows of one tree.
 use Rattle.std.proofs.Common.{◌≡◌, ℤ, Bool, true, false, not, ◌||◌, cond, List, [], ◌∷◌, ◌++◌, map, filter, Ordering, Less, Equal, Greater, IsTrue, IsPermutation, refl, sym, ap, ◌∙◌, subst, inl, inr}
 use Rattle.std.specs.List.{AllByRecursion, list_any}
 use Rattle.std.specs.Ordering.{is_eq, match_ordering, ordering_reverse}
@@ -19,7 +19,7 @@ use Rattle.sqlite_rules.proofs.ProbeLemmas.{has_mapped, mapped_has}
 use Rattle.sqlite_rules.proofs.TableLemmas.{int_is}
 use Rattle.escrow_cells.specs.Store.{NumbersDiffer}
 
--- ---- rowids that come once
+-- ---- distinct rowids
 
 abbrev tied : Row → Row → Bool
 tied a b = is_eq (value_cmp (rowid a) (rowid b))
@@ -38,7 +38,7 @@ reversed_eq Greater = refl
 tied_turn : (a b : Row) → tied a b ≡ tied b a
 tied_turn a b = ap is_eq (value_cmp_total.antisymm (rowid a) (rowid b)) ∙ reversed_eq (value_cmp (rowid b) (rowid a))
 
--- of rows that are apart, two that have one rowid are one row
+-- among rows with distinct rowids, two with the same rowid are one row
 one_row : (rows : List Row) (a b : Row) → AreApart rows → Has rows a → Has rows b → tied a b ≡ true → a ≡ b
 one_row [] a b up h k tie = absurd h
 one_row (r ∷ rows) a b up (inl h) (inl k) tie = h ∙ sym k
@@ -63,7 +63,7 @@ numbered_left : (ids : List ℤ) (rows : List Row) → NumbersDiffer rows → Nu
 numbered_left [] rows n = n
 numbered_left (id ∷ ids) rows n = numbered_left ids (without_rowid id rows) (numbered_filtered _ rows n)
 
--- ---- rows that are put in
+-- ---- inserted rows
 
 put_one : (new : Row) (rows : List Row) → is_taken rows new ≡ false → IsPermutation (new ∷ rows) (put_row new rows)
 put_one new [] free = IsPermutation-refl _
@@ -74,7 +74,7 @@ put_one new (r ∷ rows) free = go (value_cmp (rowid r) (rowid new)) (or_parts _
     go Equal other later = absurd (let e = other in cc)
     go Greater other later = IsPermutation-refl _
 
--- fresh rows are put beside the rows that stand
+-- fresh rows are inserted beside the existing rows
 pub put_beside : (news rows : List Row) → are_fresh rows news ≡ true → IsPermutation (news ++ rows) (put_all rows news)
 put_beside [] rows fresh = IsPermutation-refl rows
 put_beside (n ∷ news) rows fresh =
@@ -101,7 +101,7 @@ numbered_put_all (new ∷ news) rows whole fresh n =
 pub numbered_edited : (db : Trees) (edit : Edit) → have_rowids edit.news ≡ true → are_fresh (left_by db edit) edit.news ≡ true → NumbersDiffer (db edit.table.tree) → NumbersDiffer (edited db edit)
 numbered_edited db edit whole fresh n = numbered_put_all edit.news (left_by db edit) whole fresh (numbered_left edit.gone (db edit.table.tree) n)
 
--- ---- rows that are taken out
+-- ---- removed rows
 
 abbrev is_listed : List ℤ → Row → Bool
 is_listed ids r = list_any (λ id. has_rowid id r) ids
@@ -147,6 +147,6 @@ module _ (p : Row → Bool) (f : Row → Row) (rows found : List Row) (keeps : (
     | inr fails ↦ elim (cases_Bool (is_listed (ids_of found) r)) [ inl is ↦ absurd (both_ways _ fails (unlisted r h is)) | inr is ↦ rw (fails, is) refl ]
   ]
 
-  -- without their rowids, what is left is the rows that do not pass it
+  -- the remaining rows, without their rowids, are those that do not pass it
   pub left_is : without_all rows (ids_of found) ≡ filter (λ r. not (p r)) rows
   left_is = left_unlisted (ids_of found) rows ∙ filter_same _ (λ r. not (p r)) rows (all_from (λ r. not (is_listed (ids_of found) r) ≡ not (p r)) rows same_tests)

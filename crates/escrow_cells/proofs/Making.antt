@@ -1,4 +1,4 @@
--- What the three CREATEs make, and the row of META.
+-- What the three CREATEs and the row of META make.
 use Rattle.std.proofs.Common.{◌≡◌, ℕ, Bool, true, false, List, [], None, Ok, refl, sym, ap, subst, ◌∙◌, arith}
 use Rattle.std.specs.List.{AllByRecursion}
 use Rattle.sqlite_trees.proofs.ListLemmas.{all-append, all_both}
@@ -22,7 +22,7 @@ use Rattle.escrow_cells.proofs.FormatRow.{format_insert, inserts_format}
 use Rattle.escrow_cells.proofs.Inside.{acts, went, same_value}
 use Rattle.escrow_cells.proofs.Texts.{meta_is, tab_is, cell_is}
 
--- the text is that of a CREATE of this table, under this schema
+-- the text is that of a CREATE of this table under this schema
 record IsCreate (schema : Schema) (text : List ℕ) (table : Table) : Type 0 where
   command : command_of (understood schema text) ≡ CreateTable
   whole : statement_of text (understood schema text) ≡ text
@@ -59,7 +59,7 @@ module _ (schema : Schema) (text : List ℕ) (table : Table) (is : IsCreate sche
       let empty : first.0.trees (next_tree schema) ≡ [] = subst (λ s. first.0.trees (next_tree s) ≡ []) has made.empty in
       rw now (record { schema_is = after; bare = all-append (λ (t : Table). first.0.trees t.tree ≡ []) schema.tables _ kept (empty, tt) })
 
--- one after another they make the tables, and their row is put
+-- together they make the tables and insert META's row
 pub made_tables : (a b c d e : State) (is_done : Bool) → Wrote meta_text [] a b true → Wrote tab_text [] b c true → Wrote cell_text [] c d true → Wrote format_insert [] d e is_done → Acts a e is_done 1 MakesStore
 made_tables a b c d e is_done metas tabs cells row =
     let one = acts_then (Extends no_schema with_meta) (Extends with_meta with_tab) (Extends no_schema with_tab) (λ _ _ _ first next bare. next (first bare)) a b c 1 1 1 (omega arith) true

@@ -14,7 +14,7 @@ use Rattle.sqlite.specs.Effect.{Database, Answers}
 use Rattle.escrow_cells.proofs.ReadTexts.{selection}
 use Rattle.escrow_cells.proofs.Selects.{selected}
 
--- terms of the rows of a tree that pass tests
+-- a query for terms of the rows of a tree that pass tests
 abbrev pub plain_query : ℕ → List Term → List Term → Query
 plain_query tree tests terms = selection tree tests terms []
 
@@ -25,7 +25,7 @@ passes tests params r = list_all (holds (params ∷ r ∷ [])) tests
 stands_alone : (db : Trees) (tree : ℕ) → overlay db [] tree ≡ db tree
 stands_alone db tree = elim (nat_le (2 ^ 31) tree) as (λ b. unwrap_or (cond b (slice_get [] (tree - 2 ^ 31)) None) (db tree) ≡ db tree) [ true ↦ refl | false ↦ refl ]
 
--- an answer is the terms of the rows that pass, in some order
+-- an answer has the terms of the passing rows, in some order
 pub matched : (db : Database) (params : Row) (tree : ℕ) (tests terms : List Term) (rows : List Row) → Answers db (record { lets = []; body = plain_query tree tests terms }) params rows
     → IsPermutation (map (λ r. eval_all terms (params ∷ r ∷ [])) (filter (passes tests params) (db.trees tree))) rows
 matched db params tree tests terms rows h =
@@ -35,7 +35,7 @@ matched db params tree tests terms rows h =
 
 -- ---- whether some row passes
 
--- some of a list pass where one does
+-- the filtered list is non-empty exactly if some item passes
 some_pass : {X : Type 0} (p : X → Bool) (xs : List X) → nat_lt 0 (length (filter p xs)) ≡ list_any p xs
 some_pass p [] = refl
 some_pass p (x ∷ xs) =
@@ -48,7 +48,7 @@ any_shown : {X Y : Type 0} (f : X → Y) (p : X → Bool) (q : Y → Bool) → (
 any_shown f p q same [] = refl
 any_shown f p q same (x ∷ xs) = ap₂ ◌||◌ (same x) (any_shown f p q same xs)
 
--- some are answered where one row passes, which is told by what is shown of it
+-- the answer is non-empty exactly if some row passes; what is shown of a row decides that
 pub any_matched : (tests : List Term) (params : Row) (g f : Row → Row) (q : Row → Bool) → ((r : Row) → passes tests params r ≡ q (f r)) → (rows found : List Row)
     → IsPermutation (map g (filter (passes tests params) rows)) found → nat_lt 0 (length found) ≡ list_any q (map f rows)
 any_matched tests params g f q same rows found permuted =

@@ -1,4 +1,4 @@
--- What UPDATE makes of META.
+-- What UPDATE does to META.
 use Rattle.std.proofs.Common.{◌≡◌, ℕ, true, not, ◌&&◌, List, [], ◌∷◌, ◌++◌, map, filter, drop, codes, slice_get, Some, Ok, IsPermutation, refl, ap, ap₂, ◌∙◌, subst}
 use Rattle.std.specs.Ordering.{is_eq}
 use Rattle.sqlite_value.specs.declared.value.Value.{Value}
@@ -41,7 +41,7 @@ format_name = Text (codes "format")
 abbrev format_tests : List Term
 format_tests = op2 (Compare Eq Binary) (col 1 1) (lit format_name) ∷ []
 
--- the rowid, and then the row with the known format
+-- the rowid, followed by the row with the known format
 abbrev format_terms : List Term
 format_terms = col 1 0 ∷ col 1 0 ∷ col 1 1 ∷ lit (Int FORMAT) ∷ []
 
@@ -49,7 +49,7 @@ format_statement : IsStatement format_update (Update 0 (record { lets = []; body
 unfolding understood everything
 format_statement = record { is = λ _ _ _. refl; plain = λ _ _ _. (refl, refl) }
 
--- rows of which one row is told are one row
+-- if only one row is shown, there is only one row
 one_row : (rows : List Row) (told : Row) → map meta_of rows ≡ told ∷ [] → (r : Row) × (rows ≡ r ∷ []) × (meta_of r ≡ told)
 one_row [] told e = absurd (cc)
 one_row (r ∷ []) told e = (r, refl, cc)
@@ -69,7 +69,7 @@ itself = ap (λ o. is_true (from_truth (Some (is_eq o)))) (value_cmp-Text (codes
 is_found : (r : Row) → column r 1 ≡ format_name → passes format_tests [] r ≡ true
 is_found r name = ap (λ v. same v format_name && true) name ∙ ap (λ b. b && true) itself
 
--- and says the known format afterwards
+-- afterwards, the row names the known format
 says_known : (r : Row) → column r 1 ≡ format_name → meta_of (set_row r) ≡ format_name ∷ Int FORMAT ∷ []
 says_known r name = rw name (ap (λ v. format_name ∷ v ∷ []) (cast_held (Int FORMAT) refl))
 
@@ -94,7 +94,7 @@ module _ (rows found : List Row) (r : Row) (one : rows ≡ r ∷ []) (name : col
   set_rows fresh =
       one_permutation (set_row r) (put_all left news) (subst (λ rows. IsPermutation rows (put_all left news)) (ap₂ ◌++◌ news_are none_left) (put_beside news left fresh))
 
--- UPDATE puts the known format in the place of another
+-- UPDATE replaces another format by the known one
 pub updates_format : (old new : State) (n : ℕ) → Executes format_update [] old new (Ok n) → Migrates old.now new.now
 updates_format old new n ran number store is =
     let t = store.tables in

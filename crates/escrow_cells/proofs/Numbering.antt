@@ -1,4 +1,4 @@
--- Rows are numbered where their numbers, in order, are whole and rise.
+-- Rows are numbered if their numbers, in order, are whole and increase.
 use Rattle.std.proofs.Common.{◌≡◌, ◌↔◌, ℕ, ℤ, Bool, true, false, Option, Some, None, List, [], ◌∷◌, map, Ordering, Less, Equal, Greater, is_lt, is_gt, is_eq, Result, IfOk, IsTrue, refl, sym, ap, subst, ◌∙◌}
 use Rattle.std.specs.Bool.{⊤}
 use Rattle.std.specs.List.{AllByRecursion}
@@ -60,7 +60,7 @@ rising last = record { last = last; rise = true }
 abbrev fallen_at : Option ℤ → Numbers
 fallen_at last = record { last = last; rise = false }
 
--- what has not risen never does
+-- a list that has once failed to increase never increases again
 fallen_after : (last : Option ℤ) (rows : List Row) → ((at : Option ℤ) → (with_numbers (fallen_at at) rows).rise ≡ false) → (v : Value) → (with_numbers (with_number (fallen_at last) v) rows).rise ≡ false
 fallen_after last rows rest Null = rest last
 fallen_after last rows rest (Int n) = rest (Some n)
@@ -103,12 +103,12 @@ module _ (last : Option ℤ) (r : Row) (rows : List Row) (rest : (n : ℤ) → (
   value_above (Text t) is h = absurd (never_rises last rows h)
   value_above (Blob b) is h = absurd (never_rises last rows h)
 
--- numbers that rise are of rows that are numbered
+-- if the numbers increase, the rows are numbered
 are_above : (last : Option ℤ) (rows : List Row) → (with_numbers (rising last) rows).rise ≡ true → AreAbove last rows
 are_above last [] h = record { numbered = record { whole = tt; apart = tt }; above = tt }
 are_above last (r ∷ rows) h = value_above last r rows (λ n e. are_above (Some n) rows e) (rowid r) refl h
 
--- and the numbers of rows that are numbered rise, where none is above a later one
+-- the numbers of numbered rows increase, if none is above a later one
 numbers_rise : (last : Option ℤ) (rows : List Row) → NumbersDiffer rows → IsAscending (λ a b. is_gt (value_cmp (rowid a) (rowid b)) ≡ false) rows → AllByRecursion (λ r. Above last (rowid r)) rows
     → (with_numbers (rising last) rows).rise ≡ true
 numbers_rise last [] numbered up above = refl
@@ -145,7 +145,7 @@ numbers_tell rows answer ids rise is = (λ h. there (sym is ∙ h), λ numbered.
         let up = ascending_from_sorted (on rowid value_cmp) (on_total rowid value_cmp_total) answer ids.in_order in
         numbers_rise None answer (numbered_permuted (map id_of rows) answer ids.same_ids (ids_numbered rows numbered)) up (above_none answer)
 
--- the same of the answer to a query
+-- the same for the answer to a query
 pub rise_tells : {E : Type 0} (text : List ℕ) {tree : ℕ} (old new : State) (r : Result Bool E) → ((rows : List Row) → Shown text [] old new rows → HasTables old.now.schema → AreIds (old.now.trees tree) rows)
     → IfOk r (λ rise. (rows : List Row) × Shown text [] old new rows × (rise ≡ (with_numbers (rising None) rows).rise)) → IfOk r (λ are. HasTables old.now.schema → (IsTrue are ↔ NumbersDiffer (old.now.trees tree)))
 rise_tells text {tree = tree} old new r shown = IfOk-weaker r _ _ (λ rise h has. numbers_tell (old.now.trees tree) h.0 (shown h.0 h.1 has) rise h.2)

@@ -1,4 +1,4 @@
--- What each SELECT means, whatever objects stand after the three tables.
+-- What each SELECT means, whatever objects the schema lists after the three tables.
 use Rattle.std.proofs.Common.{◌≡◌, ℕ, pos, negsuc, List, [], ◌∷◌, false, codes, None, refl}
 use Rattle.sqlite_value.specs.declared.value.Value.TheVariants.{Int}
 use Rattle.sqlite_value.specs.declared.keys.Collation.TheVariants.{Binary}
@@ -54,7 +54,7 @@ tab_ids_text = codes "SELECT rowid FROM TAB ORDER BY rowid"
 abbrev pub cell_ids_text : List ℕ
 cell_ids_text = codes "SELECT rowid FROM CELL ORDER BY rowid"
 
--- the rows of one tree that pass the tests, in an order
+-- a query for the rows of one tree that pass the tests, in an order
 abbrev pub selection : ℕ → List Term → List Term → List (Term × Key) → Query
 selection tree tests shown order = record {
   from = inner tree end;
@@ -105,7 +105,7 @@ owners_query = selection cell_tree [] (col 1 1 ∷ []) []
 abbrev pub ids_query : ℕ → Query
 ids_query tree = selection tree [] (col 1 0 ∷ []) (by_column 0 ∷ [])
 
--- a text is that of a SELECT, whatever objects stand after the three tables: it lists no schema, and has no
+-- a text is that of a SELECT, whatever objects the schema lists after the three tables; it lists no schema, and has no
 -- RETURNING
 pub record IsSelect (text : List ℕ) (query : Query) (names : List (List ℕ)) : Type 0 where
   pub command : (more : List Table) (indexes : List Index) (views : List View) → command_of (understood (beside more indexes views) text) ≡ selects query names
@@ -113,7 +113,7 @@ pub record IsSelect (text : List ℕ) (query : Query) (names : List (List ℕ)) 
   pub unlisted : (more : List Table) (indexes : List Index) (views : List View) → reads_listing (beside more indexes views) text ≡ false
   pub bare : IsBareRead (first text)
 
--- so it writes nothing
+-- such a text writes nothing
 pub reads : {text : List ℕ} {query : Query} {names : List (List ℕ)} → IsSelect text query names → IsReading text
 reads it = is_reading _ it.bare
 

@@ -46,7 +46,7 @@ filter_all : {X : Type 0} (xs : List X) → filter (λ _. true) xs ≡ xs
 filter_all [] = refl
 filter_all (x ∷ xs) = ap (λ l. x ∷ l) (filter_all xs)
 
--- an answer's rows, taken from CELL, are its cells that pass a test, each by what a row shows of it
+-- an answer's rows are CELL's cells that pass a test, each by what a row shows of it
 permuted : (rows taken : List Row) (passes test : Row → Bool) (pick : Row → Row) → ((r : Row) → passes r ≡ test (cell_of r))
     → IsPermutation (filter passes rows) taken → IsPermutation (map pick (filter test (map cell_of rows))) (map (λ r. pick (cell_of r)) taken)
 permuted rows taken passes test pick same perm =
@@ -142,7 +142,7 @@ three_tests true true c = and_true c
 three_tests true false c = refl
 three_tests false b c = refl
 
--- as many rows are answered as there are cells at a place of the row of a key
+-- the answer has as many rows as a key's row has cells at the place
 pub place_counted : (table key place : Value) (params : Row) (old new : State) (rows : List Row) → Shown place_text params old new rows → params ≡ table ∷ key ∷ place ∷ [] → IsStore old.now
     → length rows ≡ length (filter (is_at table key place) (cells old.now))
 place_counted table key place params old new rows h given store =
@@ -178,11 +178,11 @@ ids_shown tree it old new of_tree rows h has =
       in_order = subst (IsSorted (on rowid value_cmp)) (sym a.shows) (IsSorted-map (on rowid value_cmp) (λ r. rowid r ∷ []) a.taken by_number);
     }
 
--- as many keys are answered as there are cells at the place
+-- the answer has as many keys as there are cells at the place
 pub keys_count : (table place : Value) (all rows : List Row) → AreKeys table place all rows → length rows ≡ length (filter (λ c. is_in table c && same (column c 2) place) all)
 keys_count table place all rows h = length_permutation _ rows h.same_keys ∙ simp length-map
 
--- what is known of each answer, of one that was read whole. The parameters are equal to those that it speaks of.
+-- what is known of each answer holds of one that was read completely; its parameters are equal to those it speaks of
 pub all_answers : {X E : Type 0} (items : X → List Row) (sql : List ℕ) {ps qs : Row} (old new : State) {Premise : Type 0} {Answers : List Row → Type 0} (r : Result X E)
     → ((rows : List Row) → Shown sql qs old new rows → Premise → Answers rows) → IfOk r (λ x. Shown sql ps old new (items x)) → ps ≡ qs → IfOk r (λ x. Premise → Answers (items x))
 all_answers items sql old new (Ok x) answers h e = answers (items x) (subst (λ params. Shown sql params old new (items x)) e h)

@@ -1,4 +1,4 @@
--- The first items of a list, and the schema whose tables they are.
+-- The first items of a list, and the schema that these tables form.
 use Rattle.std.proofs.Common.{◌≡◌, ◌↔◌, ◌≤◌, ◌<◌, List, [], ◌∷◌, length, get_or, sym, ap, ◌∙◌, arith}
 use Rattle.sqlite_schema.specs.declared.schema.Schema.{Schema}
 use Rattle.sqlite_schema.specs.declared.schema.Table.{Table}
@@ -12,7 +12,7 @@ only_item (y ∷ []) x low high at = ap (λ z. z ∷ []) (sym at)
 only_item (y ∷ z ∷ xs) x low high at = absurd (omega (arith, high))
 
 module _ (schema : Schema) (first second third : Table) where
-  -- the tables of a schema that begins with three
+  -- the tables of a schema whose first tables are the three
   pub three_tables : (tables : List Table) → tables ≡ schema.tables → 3 ≤ length tables → first ≡ get_or tables 0 first → second ≡ get_or tables 1 second → third ≡ get_or tables 2 third
       → (first ≡ meta) × (second ≡ tab) × (third ≡ cell) ↔ HasTables schema
   three_tables [] are low one two three = absurd (omega (arith, low))

@@ -1,4 +1,4 @@
--- A query that only reads leaves the store as it was, whether it answers or fails.
+-- A query that only reads leaves the store unchanged, whether it answers or fails.
 use Rattle.std.proofs.Common.{◌≡◌, ◌⊎◌, inl, inr, ℕ, false, List, [], Result, Ok, Err, refl, IsTrue, sym, subst, ◌∙◌, arith}
 use Rattle.sqlite_value.specs.Order.{Row}
 use Rattle.sqlite_trees.specs.declared.store.Store.{Ghosts}
@@ -16,7 +16,7 @@ use Rattle.sqlite.proofs.Callers.{unchanged_then}
 use Rattle.escrow_cells.specs.Query.{IsReading}
 use Rattle.escrow_cells.specs.Read.{LeavesIdle}
 
--- as it was, or rolled back to what was committed
+-- unchanged, or rolled back to the committed state
 abbrev pub IsKept : State → State → Type 0
 IsKept old new = IsUnchanged old new ⊎ IsRolledBack old new
 
@@ -49,7 +49,7 @@ pub moved_kept : (old new : State) (e : Error) → Fails old new ⊥ e ⊎ IsUnc
 moved_kept old new e (inl failed) = inr failed.3
 moved_kept old new e (inr same) = inl same
 
--- an answer after a call that changed nothing is an answer from before it
+-- an answer after a call that changed nothing was also the answer before it
 pub shown_from : (sql : List ℕ) (params : Row) (first old new : State) (rows : List Row) → IsReading sql → IsUnchanged first old → Shown sql params old new rows → Shown sql params first new rows
 unfolding Shown
 shown_from sql params first old new rows only same h =
@@ -71,7 +71,7 @@ begun_reading g sql params old new only (inr h) = absurd (never (understood old.
     never (Ok c) is some = let none = only _ c is in let e = rw none at some in cc
     never (Err e) is some = some
 
--- a call that keeps the store, outside a transaction, leaves it as it was
+-- a call that keeps the store, outside a transaction, leaves it unchanged
 pub idle_from : {S : Type 0} (g : Ghosts S) (old new : Held S) → (IsTrue (state g old).is_open → (state g old).now ≡ (state g old).committed) → new.in_transaction ≡ false
     → Survives (state g old) (state g new) (λ _. ⊥) → (HasCleanDisk (state g new) → IsKept (state g old) (state g new)) → LeavesIdle g old new
 idle_from g old new settled outside survives kept = record {

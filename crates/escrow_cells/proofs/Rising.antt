@@ -1,4 +1,4 @@
--- A sorted list, and what stands before what in it.
+-- A sorted list, and the order of its items.
 use Rattle.std.proofs.Common.{◌≡◌, suc, false, List, [], ◌∷◌, refl, ap, ◌∙◌, arith, add-one, Ordering, Less, Equal, Greater, is_lt, is_gt, IsSorted}
 use Rattle.std.specs.List.{AllByRecursion}
 use Rattle.std.specs.Cmp.{IsTotalOrder}
@@ -23,7 +23,7 @@ module _ {X : Type 0} (cmp : X → X → Ordering) (total : IsTotalOrder cmp) wh
       let first : AtMost x y = ap is_gt (total.antisymm x y) ∙ turned _ (sorted 0 x (omega arith) (omega arith)) in
       (first, all_weaker _ (AtMost x) (λ z. upto total x y z first) ys up.0)
 
-  -- of a sorted list, no item is above a later one
+  -- no item of a sorted list is above a later one
   pub ascending_from_sorted : (xs : List X) → IsSorted cmp xs → IsAscending AtMost xs
   ascending_from_sorted [] sorted = tt
   ascending_from_sorted (x ∷ xs) sorted =

@@ -1,4 +1,4 @@
--- What a SELECT of one tree answers: the rows that pass its tests, sorted, each by some of its columns.
+-- What a SELECT of one tree answers: the rows that pass its tests, sorted, with some of their columns.
 use Rattle.std.proofs.Common.{◌≡◌, ℕ, Bool, true, false, cond, List, [], ◌∷◌, ◌++◌, map, flat_map, filter, Ordering, Less, Equal, Greater, is_lt, refl, sym, ap, subst, ◌∙◌, IsPermutation, IsSorted}
 use Rattle.std.specs.List.{list_all}
 use Rattle.std.specs.Ordering.{ordering_then}

@@ -1,4 +1,4 @@
--- Which places stand in a span, to SQLite.
+-- SQLite's test of whether a place is in a span.
 use Rattle.std.proofs.Common.{◌≡◌, ◌<◌, ◌≤◌, ◌<ℤ◌, ℕ, pos, Bool, true, false, Ordering, Less, Equal, Greater, Some, sym, ap, ◌∙◌, inl, inr, arith}
 use Rattle.std.specs.Ordering.{MatchOrdering}
 use Rattle.std.specs.Cmp.{int_cmp_is}
@@ -13,7 +13,7 @@ use Rattle.sqlite_sql.specs.declared.ops.CompareOp.TheVariants.{Ge, Le}
 use Rattle.sqlite_sql.specs.Ops.{binary, is_true, from_truth, test}
 use Rattle.escrow_cells.specs.Span.{is_from, is_up_to}
 
--- a comparison of two places as SQL tells it
+-- a comparison of two places in SQL
 abbrev told : CompareOp → Ordering → Bool
 told op o = is_true (from_truth (Some (test op o)))
 

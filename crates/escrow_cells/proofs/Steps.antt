@@ -1,4 +1,4 @@
--- Steps compose, although cells and tables are known up to their order.
+-- Steps compose, although cells and tables are known only up to order.
 use Rattle.std.proofs.Common.{◌≡◌, ℤ, true, List, [], ◌∷◌, ◌++◌, fold, refl, sym, ◌∙◌, subst}
 use Rattle.std.specs.List.Sorted.{IsPermutation}
 use Rattle.std.proofs.lemmas.List.Sorted.{IsPermutation-refl, IsPermutation-trans, IsPermutation-cons, IsPermutation-map}
@@ -16,7 +16,7 @@ record AreAlike (c d : Contents) : Type 0 where
   cells : IsPermutation c.cells d.cells
   tabs : IsPermutation c.tabs d.tabs
 
--- a step does the same whatever the order
+-- the order does not matter to a step
 done_alike : (c d : Contents) (s : Step) → AreAlike c d → AreAlike (done c s) (done d s)
 done_alike c d (step.InsertCell table key place value) h = record { cells = IsPermutation-cons _ _ _ h.cells; tabs = h.tabs }
 done_alike c d (step.SetCell table key place value) h = record { cells = IsPermutation-map _ _ _ h.cells; tabs = h.tabs }
@@ -47,7 +47,7 @@ does_more steps more old mid new before after h =
     } in
     subst (λ c. HoldsContents c old new) (sym (fold-append done (contents old) steps more)) whole
 
--- a step that goes by no key is done whatever there is
+-- a step that looks for no key always finds what it needs
 pub finds_rest : (s : Step) (all : List Row) → ((table : ℤ) (key : Datum) (place : ℤ) (value : Datum) → s ≡ step.SetCell table key place value → ⊥) → ((table : ℤ) (key : Datum) → s ≡ step.DeleteRow table key → ⊥)
     → finds s all ≡ true
 finds_rest (step.InsertCell table key place value) all set deleted = refl

@@ -1,4 +1,4 @@
--- A query under way whose rows are taken one at a time.
+-- A running query whose rows are taken one at a time.
 use Rattle.std.proofs.Common.{◌≡◌, inl, inr, false, ℕ, List, [], ◌∷◌, ◌++◌, None, Some, Result, Ok, Err, OnOk, IsTrue, arith, sym, subst, ◌∙◌, append_assoc, append-nil}
 use Rattle.sqlite_value.specs.Order.{Row}
 use Rattle.sqlite_trees.specs.declared.store.Store.{Ghosts}
@@ -25,7 +25,7 @@ kept_then a b c same (inl h) = inl (unchanged_then a b c same h)
 kept_then a b c same (inr h) = inr (rolled_back_then a b c same h)
 
 module _ {S K : Type 0} (g : Ghosts S) (HasTaken : K → K → List Row → Type 0) (sql : List ℕ) (params : Row) (first : Held S) (fresh : K) where
-  -- the rows that the query gave so far are those that the sink has taken
+  -- the sink has taken the rows that the query has returned so far
   pub record IsTaking (now : Held S) (sink : K) : Type 0 where
     pub survives : Survives (state g first) (state g now) (λ _. ⊥)
     pub mode : first.in_transaction ≡ false → now.in_transaction ≡ false
@@ -72,11 +72,11 @@ module _ {S K : Type 0} (g : Ghosts S) (HasTaken : K → K → List Row → Type
         → (HasCleanDisk (state g next) → IsKept (state g now) (state g next)) → first.in_transaction ≡ false → LeavesIdle g first next
     taking_leaves_idle settled mode kept outside = idle_from g first next settled (mode (so_far.mode outside)) survives_both (λ clean. kept_then _ (state g now) _ (so_far.unchanged (early clean)) (kept clean))
 
-  -- the sink fails, or the rows have no end
+  -- the sink fails, or the query returns rows without end
   pub stopped_leaves_idle : (now : Held S) (sink : K) → Taking now sink → (IsTrue (state g first).is_open → (state g first).now ≡ (state g first).committed) → first.in_transaction ≡ false → LeavesIdle g first now
   stopped_leaves_idle now sink so_far settled outside = idle_from g first now settled (so_far.mode outside) so_far.survives (λ clean. inl (so_far.unchanged clean))
 
--- What is known of each answer is known of the rows that were taken. The parameters are equal to those that it speaks of.
+-- What is known of each answer holds of the rows that were taken. Its parameters are equal to those it speaks of.
 pub taken_answers : {X E K : Type 0} (HasTaken : K → K → List Row → Type 0) (sql : List ℕ) {ps qs : Row} (old new : State) (fresh last : K) {Premise : Type 0} {Answers : List Row → Type 0} (r : Result X E)
     → ((rows : List Row) → Shown sql qs old new rows → Premise → Answers rows) → OnOk r (Takes HasTaken (Shown sql ps old new) fresh last) → ps ≡ qs → OnOk r (Premise → Takes HasTaken Answers fresh last)
 taken_answers HasTaken sql old new fresh last (Ok x) answers h e = λ given begun before taken.

@@ -1,4 +1,4 @@
--- At one place of the row of a key there is one cell at most.
+-- The row of a key has at most one cell at a place.
 use Rattle.std.proofs.Common.{◌≡◌, ◌≤◌, ℤ, true, false, ◌&&◌, List, [], ◌∷◌, length, filter, Some, refl, sym, ap, ◌∙◌, subst₂, inl, inr, arith}
 use Rattle.std.specs.Ordering.{is_eq, is_ne}
 use Rattle.std.specs.declared.cmp.Ordering.{Ordering}
@@ -32,7 +32,7 @@ untied Less apart = refl
 untied Equal apart = absurd (cc)
 untied Greater apart = refl
 
--- numbers that aren't tied are different to SQLite
+-- SQLite finds different numbers different
 ints_differ : (m n : ℤ) → is_eq (value_cmp (Int m) (Int n)) ≡ false → differ (Int m) (Int n) ≡ true
 unfolding binary
 ints_differ m n apart = ap (λ b. is_true (from_truth (Some b))) (untied (value_cmp (Int m) (Int n)) apart)
@@ -41,7 +41,7 @@ differs : (a b : Row) → is_int (rowid a) ≡ true → is_int (rowid b) ≡ tru
 differs a b whole_a whole_b apart =
     subst₂ (λ (x y : Value). is_eq (value_cmp x y) ≡ false → differ x y ≡ true) (sym (int_is (rowid a) whole_a)) (sym (int_is (rowid b) whole_b)) (ints_differ (id_in (rowid a)) (id_in (rowid b))) apart
 
--- a cell is at a place where it agrees with a row that has just its table, its key and its place
+-- a cell is at a place if it agrees with a row that has only its table, key and place
 module _ (table key place : Value) where
   abbrev probe : Row
   probe = Null ∷ table ∷ key ∷ place ∷ []
@@ -57,7 +57,7 @@ module _ (table key place : Value) where
       let first = and_parts one two last.0 in
       and_from one (two && (three && true)) first.0 (and_from two (three && true) first.1 (and_from three true last.1 refl))
 
-  -- two rows of CELL that are both at it agree, so they can't both be there
+  -- two rows of CELL at this place agree, so they cannot both exist
   never_two : (db : Database) → IsStore db → (a b : Row) → Has (db.trees cell_tree) a → Has (db.trees cell_tree) b → is_at table key place (cell_of a) ≡ true → is_at table key place (cell_of b) ≡ true
       → differ (rowid a) (rowid b) ≡ true → ⊥
   never_two db store a b has_a has_b at_a at_b apart =
@@ -67,7 +67,7 @@ module _ (table key place : Value) where
       let listed : Has db.schema.tables cell = rw store.tables.is (inr (inr (inl refl))) in
       both_ways _ (keys_are_unique db.schema db.trees cell 0 key_places b store.sound listed refl has_b) clash
 
-  -- of the rows that are at it, numbered apart, there is one at most
+  -- at most one of the distinctly numbered rows is at this place
   one_of : (db : Database) → IsStore db → (found : List Row) → NumbersDiffer found → ((r : Row) → Has found r → Has (db.trees cell_tree) r × (is_at table key place (cell_of r) ≡ true)) → length found ≤ 1
   one_of db store [] numbered is = omega arith
   one_of db store (a ∷ []) numbered is = omega arith

@@ -1,4 +1,4 @@
--- What UPDATE makes of CELL.
+-- What UPDATE does to CELL.
 use Rattle.std.proofs.Common.{◌≡◌, ℕ, ℤ, Bool, true, false, not, ◌&&◌, cond, List, [], ◌∷◌, ◌++◌, map, filter, drop, codes, slice_get, Ok, IsPermutation, refl, sym, ap, ap₂, ◌∙◌, subst, subst₂}
 use Rattle.std.specs.Prelude.{nat_lt}
 use Rattle.std.specs.List.{AllByRecursion, list_any}
@@ -39,7 +39,7 @@ set_text = codes "UPDATE CELL SET V = ?4 WHERE TAB = ?1 AND K = ?2 AND C = ?3"
 abbrev at_tests : List Term
 at_tests = is_given 1 0 ∷ is_given 2 1 ∷ is_given 3 2 ∷ []
 
--- the rowid, and then the row with the new value
+-- the rowid, followed by the row with the new value
 abbrev set_terms : List Term
 set_terms = col 1 0 ∷ col 1 0 ∷ col 1 1 ∷ col 1 2 ∷ col 1 3 ∷ col 0 3 ∷ []
 
@@ -53,7 +53,7 @@ map_on : {X Y : Type 0} (f g : X → Y) (xs : List X) → AllByRecursion (λ x. 
 map_on f g [] h = refl
 map_on f g (x ∷ xs) h = ap₂ ◌∷◌ h.0 (map_on f g xs h.1)
 
--- the rows that pass and those that do not, each mapped in its own way
+-- the rows that pass and those that do not, each part mapped by its own function
 mapped_parts : {X Y : Type 0} (p : X → Bool) (f g h : X → Y) (xs : List X) → AllByRecursion (λ x. h x ≡ f x) (filter p xs) → AllByRecursion (λ x. h x ≡ g x) (filter (λ x. not (p x)) xs)
     → IsPermutation (map h xs) (map f (filter p xs) ++ map g (filter (λ x. not (p x)) xs))
 mapped_parts p f g h xs passed failed =
@@ -113,7 +113,7 @@ module _ (table key place value : Value) where
     left_are : left ≡ others
     left_are = left_is (passes at_tests params) found_by rows found (λ r. refl) numbered_rows same_rows
 
-    -- the cells after it are those before it, with the new value where it was asked for
+    -- the cells after UPDATE are the old ones, with the new value at the requested place
     set_rows : are_fresh left news ≡ true → IsPermutation (map (with_value table key place value) (map cell_of rows)) (map cell_of (put_all left news))
     set_rows fresh =
         let all = IsPermutation-trans _ _ _ (IsPermutation-append_left left _ _ news_are) (put_beside news left fresh) in
@@ -122,7 +122,7 @@ module _ (table key place value : Value) where
         map-append cell_of (map set_row taken) left ∙ ap₂ ◌++◌ (map-map cell_of set_row taken) (ap (map cell_of) left_are) in
         rw (map-map (with_value table key place value) cell_of rows) (IsPermutation-trans _ _ _ told (subst (λ l. IsPermutation l (map cell_of (put_all left news))) parts shown))
 
--- UPDATE puts another value in the cell
+-- UPDATE writes the new value to the cell
 pub sets : (table : ℤ) (key : Datum) (place : ℤ) (value : Datum) (old new : State) (n : ℕ) → Executes set_text (Int table ∷ kept key ∷ Int place ∷ kept value ∷ []) old new (Ok n)
     → Does (step.SetCell table key place value ∷ []) old.now new.now
 sets table key place value old new n ran store =
@@ -134,7 +134,7 @@ sets table key place value old new n ran store =
     let cells_are = set_rows (Int table) (kept key) (Int place) (kept value) (old.now.trees 4) u.0 store.cells_numbered (all_written old.now store) found u.2.applies.fresh in
     holds_cells old.now new.now _ store u.2 refl _ (rw u.2.applies.rows cells_are)
 
--- and tells whether there is one
+-- the count reports whether the cell exists
 pub set_found : (table : ℤ) (key : Datum) (place : ℤ) (value : Datum) (old new : State) (n : ℕ) → Executes set_text (Int table ∷ kept key ∷ Int place ∷ kept value ∷ []) old new (Ok n)
     → IsStore old.now → nat_lt 0 n ≡ list_any (is_at (Int table) (kept key) (Int place)) (cells old.now)
 set_found table key place value old new n ran store =

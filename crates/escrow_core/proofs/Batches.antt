@@ -1,4 +1,4 @@
--- A batch of events: how it goes on, and how it ends.
+-- A batch of events: how it grows, and how it ends.
 use Rattle.std.specs.Prelude.{◌≡◌, ℕ, ◌+◌, ◌<◌, Bool, true, false, if◌then◌else◌, Option, None, option_map, unwrap_or, List, [], ◌∷◌, ◌++◌, length}
 use Rattle.std.specs.List.{AllByRecursion}
 use Rattle.std.proofs.Common.{refl, sym, ap, ap₂, subst, ◌∙◌}
@@ -28,7 +28,7 @@ use Rattle.escrow_core.proofs.HeldReplies.{as_many_answers, as_many_events, plac
 unfoldable pub nothing_served : (sure : Type 0) (s : State) (before : List Reply) → AreServed sure s [] before before s
 nothing_served sure s before = record { answers = []; as_many = refl; is_replies = sym (append-nil before); ran = λ _. refl }
 
--- one event more
+-- one more event
 unfoldable pub served_more : (sure later : Type 0) (s : State) (events : List Event) (before replies : List Reply) (mid : State) (happened : Event) (answer : Reply) (new : State)
     → AreServed sure s events before replies mid → (later → sure) → (later → IsServed mid happened answer new)
     → AreServed later s (events ++ happened ∷ []) before (replies ++ answer ∷ []) new
@@ -39,7 +39,7 @@ served_more sure later s events before replies mid happened answer new so_far su
   ran = λ h. run_more s events so_far.answers mid happened answer new (so_far.ran (surely h)) (step h);
 }
 
--- a run, and then another
+-- a run followed by another run
 pub runs_on : (s : State) (events more : List Event) (answers told : List Reply) (mid new : State) → IsRun s events answers mid → IsRun mid more told new
     → IsRun s (events ++ more) (answers ++ told) new
 runs_on s [] more [] told mid new run rest = subst (λ (t : State). IsRun t more told new) run rest
@@ -47,7 +47,7 @@ runs_on s [] more (a ∷ answers) told mid new run rest = absurd run
 runs_on s (e ∷ events) more [] told mid new run rest = absurd run
 runs_on s (e ∷ events) more (a ∷ answers) told mid new run rest = (run.0, run.1, runs_on run.0 events more answers told mid new run.2 rest)
 
--- nothing waits
+-- no event waits
 unfoldable pub nothing_waits : (sure : Type 0) (s : State) (events : List Event) (before replies : List Reply) (now : State)
     → AreServed sure s events before replies now → IsBatch sure s events before replies none_held now
 nothing_waits sure s events before replies now so_far = record {
@@ -64,9 +64,9 @@ nothing_waits sure s events before replies now so_far = record {
   apart = tt;
 }
 
--- ONE EVENT JOINS A BATCH
+-- ONE EVENT IS ADDED TO A BATCH
 
--- what is true of the sessions of the plan is true of those whose COMMITs are held back
+-- what holds for the sessions of the plan holds for the sessions whose COMMITs are held back
 holding_if : (P : ℕ → Type 0) (b : Bool) (session : ℕ) (plan : List (ℕ × End)) (sessions : List ℕ)
     → (AllByRecursion (λ entry. P entry.0) plan → AllByRecursion P sessions)
     → AllByRecursion (λ entry. P entry.0) (if b then plan ++ (session, end.Commit) ∷ [] else plan) → AllByRecursion P (if b then session ∷ sessions else sessions)
@@ -78,7 +78,7 @@ pub holding_all : (P : ℕ → Type 0) (ws : List Waiting) → AllByRecursion (�
 holding_all P [] all = tt
 holding_all P (w ∷ earlier) all = holding_if P w.is_held w.session (plan_of earlier) (holding earlier) (holding_all P earlier) all
 
--- one more entry is of another session
+-- one more entry belongs to another session
 apart_more : (session : ℕ) (plan : List (ℕ × End)) → AreApart plan → AllByRecursion (λ entry. ¬ (entry.0 ≡ session)) plan → AreApart (plan ++ (session, end.Commit) ∷ [])
 apart_more session [] apart others = (tt, tt)
 apart_more session (entry ∷ plan) apart others =
@@ -89,14 +89,14 @@ pub apart_if : (b : Bool) (held : HeldBack) (session place : ℕ) → AreApart h
 apart_if true held session place apart others = apart_more session held.plan apart others
 apart_if false held session place apart others = apart
 
--- what is held back
+-- the COMMITs that are held back
 pub held_if : (b : Bool) (session start n place : ℕ) (plan : List (ℕ × End)) (places : List ℕ) (held : HeldBack) → held ≡ record { plan = plan; places = places } → place ≡ start + n
     → (if b then with_held held session place else held)
     ≡ record { plan = if b then plan ++ (session, end.Commit) ∷ [] else plan; places = if b then places ++ (start + n) ∷ [] else places }
 held_if true session start n place plan places held is at = rw (is, at) refl
 held_if false session start n place plan places held is at = is
 
--- the reply, where each COMMIT is done
+-- the reply if each COMMIT succeeds
 done_if : (b : Bool) (answer : Reply) → unwrap_or (option_map (λ (failure : Failure). reply.Refused (refusal_for failure)) (if b then None else None)) answer ≡ answer
 done_if true answer = refl
 done_if false answer = refl
@@ -104,12 +104,12 @@ done_if false answer = refl
 pub done_answer : (w : Waiting) → answer_by all_done w ≡ w.answer
 done_answer w = done_if w.is_held w.answer
 
--- where the first statement was asked
+-- the state in which the first waiting statement was requested
 pub begins_more : (w : Waiting) (ws : List Waiting) (mid now : State) → IsHeldRun mid ws now → IsAscending savepoint_before now.savepoints → BeginsInOrder mid ws → BeginsInOrder mid (w ∷ ws)
 begins_more w [] mid now held order begins = subst (λ (t : State). IsAscending savepoint_before t.savepoints) held order
 begins_more w (earlier ∷ ws) mid now held order begins = begins
 
--- as many replies
+-- the number of replies
 pub as_many_replies : (told replies : List Reply) (ws : List Waiting) → replies ≡ told ++ answers_by all_done ws → length replies ≡ length told + length ws
 as_many_replies told replies ws is = ap length is ∙ length-append told (answers_by all_done ws) ∙ ap (λ n. length told + n) (as_many_answers all_done ws)
 
@@ -144,13 +144,13 @@ batch_joins sure later s events before replies held now happened answer held_lat
 
 -- THE END OF A BATCH
 
--- the places are those of replies
+-- each place is that of a reply
 pub batch_places : (sure : Type 0) (s : State) (events : List Event) (before replies : List Reply) (held : HeldBack) (now : State)
     → IsBatch sure s events before replies held now → AllByRecursion (λ place. place < length replies) held.places
 batch_places sure s events before replies held now batch =
     rw (batch.is_held, as_many_replies batch.told replies batch.waiting batch.is_replies) (places_below (length batch.told) batch.waiting)
 
--- what waits is a run, whatever becomes of the COMMITs
+-- the waiting events are a run, whether the COMMITs succeed or fail
 pub waits_as_run : (by : Outcome) (ws : List Waiting) (mid now : State) → IsHeldRun mid ws now → BeginsInOrder mid ws
     → IsRun mid (events_of ws) (answers_by by ws) (ended_by by ws now)
 waits_as_run by [] mid now held begins = held

@@ -1,4 +1,4 @@
--- COMMIT: the store is asked where its session holds a reservation, and else its transaction just ends.
+-- COMMIT: the store is asked if the session holds a reservation; otherwise the transaction just ends.
 use Rattle.std.specs.Prelude.{◌≡◌, ℕ, ℤ, true, false, nat_lt, ◌==◌, Option, Some, None, option_map, List, [], ◌∷◌, length}
 use Rattle.std.proofs.Common.{refl, sym, ap, ap₂, subst, ◌∙◌, arith}
 use Rattle.std.proofs.lemmas.Bool.Decides.{nat_tests}
@@ -41,40 +41,40 @@ use Rattle.escrow_reserved.proofs.Places.{committed_amounts, ended_tables, rollb
 use Rattle.escrow_core.proofs.Serving.{apart_keeps, served_apart}
 use Rattle.escrow_machine.proofs.ValidEnds.{rollback_orderly, rollback_valid}
 
--- a list that isn't empty has items, and one that is has none
+-- a nonempty list has items, and an empty list has none
 pub holds_some : (all mine : List Reservation) → all ≡ mine → false ≡ (length all == 0) → nat_lt 0 (length mine) ≡ true
 holds_some all mine same e = rw (← same) (grind (arith, nat_tests))
 
 pub holds_none : (all mine : List Reservation) → all ≡ mine → true ≡ (length all == 0) → mine ≡ []
 holds_none all mine same e = sym same ∙ nil_from_length all (grind (arith, nat_tests))
 
--- the reply to a COMMIT that is done: how many reservations its session held
+-- the reply to a COMMIT that succeeds: the number of the session's reservations
 abbrev done : ℕ → Open → Reply
 done session o = reply.Committed (length (own session o.reservations))
 
--- COMMIT is refused nothing early
+-- COMMIT has no early refusal
 pub passes : (s : State) (session : ℕ) → PassesEarly s session statement.Commit
 unfolding transition_of
 passes s session = refl
 
--- where its session holds none, no row changes
+-- if the session holds none, no row changes
 changes_none : (s : State) (session : ℕ) → own session s.reservations ≡ [] → after_commit s session ≡ after_rollback s session
 changes_none s session none =
     let same : applied s.rows (own session s.reservations) ≡ s.rows = subst (λ (mine : List Reservation). applied s.rows mine ≡ s.rows) (sym none) (applied_none s.rows) in
     ap (λ (rows : List Row). record (after_rollback s session) { rows = rows }) same
 
--- what was read of a row, when reservations are committed
+-- what was read of a row, after reservations are committed
 pub known_after : (catalog : List TableDef) (reservations : List Reservation) (recent : Option ReadRow) → IsKnown catalog recent → IsKnown catalog (option_map (committed_by reservations) recent)
 known_after catalog reservations None known = tt
 known_after catalog reservations (Some r) known =
-    some_weaker (λ (t : TableDef). length r.amounts ≡ length (reservables t.columns)) (λ (t : TableDef). length (committed_by reservations r).amounts ≡ length (reservables t.columns)) (table_named catalog r.name.table)
-    (λ t many. length-after_all end.Commit r.amounts (of_row r.name reservations) ∙ many) known
+    some_weaker (λ (t : TableDef). length r.1 ≡ length (reservables t.columns)) (λ (t : TableDef). length (committed_by reservations r).1 ≡ length (reservables t.columns)) (table_named catalog r.0.table)
+    (λ t many. length-after_all end.Commit r.1 (of_row r.0 reservations) ∙ many) known
 
 pub read_after : (s : State) (session : ℕ) (recent : Option ReadRow) → IsValid s → IsRead s.rows recent → IsRead (applied s.rows (own session s.reservations)) (option_map (committed_by (own session s.reservations)) recent)
 read_after s session None valid read = tt
-read_after s session (Some r) valid read = committed_amounts s session r.name r.amounts valid read
+read_after s session (Some r) valid read = committed_amounts s session r.0 r.1 valid read
 
--- what a database holds where reservations are dropped, and the store is left
+-- what a database holds after reservations are dropped and the store is untouched
 pub dropped_holds : {S : Type 0} (g : Ghosts S) (t : Tables S) (o left : Open) (dropped : List Reservation) (old : Bounds) (after : Reserved) (recent : ReadRows) → Holds g (database_of t o) old recent
     → after.txns ≡ left → AreEnded end.Rollback dropped old after.places → (ArePlaced o.reservations old → ArePlaced after.txns.reservations after.places)
     → IsOrderly t.catalog left.reservations left.savepoints left.next_id → (IsValid (database_of t o).state → IsValid (database_of t left).state) → Holds g (database_of t after.txns) after.places recent
@@ -107,7 +107,7 @@ module _ {S : Type 0} (g : Ghosts S) (session : ℕ) (t : Tables S) (o : Open) w
       let s : State = (database_of t o).state in
       dropped_holds g t o (open_after_end session o) (own session o.reservations) old after recent holds is are placed (rollback_orderly s session holds.keeps.kept.orderly) (rollback_valid s session)
 
--- the amounts that the places have of the rows of reservations are those of the rows
+-- for the rows of reservations, the places have the amounts of the rows
 given_one : (rows : List Row) (places : Bounds) (row : RowName) (amounts : List ℤ) → HaveAmounts rows places → (o : Option Place) → place_at places row ≡ o
     → option_map (λ (place : Place). place.amounts) o ≡ Some amounts → amounts_named rows row ≡ Some amounts
 given_one rows places row amounts have None at is = absurd (cc)
@@ -121,7 +121,7 @@ given rows places (r ∷ reservations) (amounts ∷ before) have are =
     let rest : AreAmounts places reservations before = cc in
     ap₂ (λ (o : Option (List ℤ)) (os : List (Option (List ℤ))). o ∷ os) (given_one rows places r.row amounts have (place_at places r.row) refl first) (given rows places reservations before have rest)
 
--- and they are as many
+-- there is one list of amounts for each reservation
 pub as_many : (places : Bounds) (reservations : List Reservation) (before : List (List ℤ)) → AreAmounts places reservations before → length before ≡ length reservations
 as_many places reservations before are =
     sym (length-map before Some) ∙ sym (ap length are) ∙ length-map reservations (λ (r : Reservation). option_map (λ (place : Place). place.amounts) (place_at places r.row))

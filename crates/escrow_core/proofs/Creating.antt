@@ -1,4 +1,4 @@
--- CREATE TABLE: refused for what the catalog holds, or the table is put in one write.
+-- CREATE TABLE: the catalog refuses it, or one write adds the table.
 use Rattle.std.specs.Prelude.{◌≡◌, ◌<◌, ◌≤◌, ℕ, bytes_eq, is_some, Some, None, List, [], ◌∷◌, length}
 use Rattle.std.proofs.Common.{inl, inr, refl, sym, ap, ◌∙◌}
 use Rattle.std.proofs.lemmas.Bool.{cases_Bool, le-leb, lt-leb}
@@ -25,7 +25,7 @@ use Rattle.escrow_machine.proofs.Refusals.{passed, failed, none_there}
 use Rattle.escrow_core.proofs.Serving.{Any, MayWrite, accepted_step, late_applies, none_applies}
 use Rattle.escrow_machine.proofs.ValidCreate.{create_orderly, create_valid}
 
--- a table's name is new where no early refusal applies
+-- if no early refusal applies, the table's name is new
 new_text : (s : State) (session : ℕ) (text : CreateText) → PassesEarly s session (statement.Create text) → table_named s.catalog text.table ≡ None
 unfolding transition_of
 new_text s session text early =
@@ -37,21 +37,21 @@ pub new_table : (s : State) (session : ℕ) (text : CreateText) (table : TableDe
     → table_named s.catalog table.name ≡ None
 new_table s session text table early made = ap (table_named s.catalog) (name_of_table text table made) ∙ new_text s session text early
 
--- there are as many tables as there may be
+-- the database already has the greatest number of tables
 pub full_refused : (s : State) (session : ℕ) (text : CreateText) (table : TableDef) → PassesEarly s session (statement.Create text) → definition_of text ≡ Some table
     → MAX_TABLES ≤ length s.catalog → IsRefusal s session (statement.Create text) refusal.TooManyTables
 unfolding transition_of
 full_refused s session text table early made full =
     late_applies s session (statement.Create text) refusal.TooManyTables early (rw (made, le-leb MAX_TABLES (length s.catalog) full) refl)
 
--- the step where there is room for the table
+-- the step if there is room for the table
 created_step : (s : State) (session : ℕ) (text : CreateText) (table : TableDef) → PassesEarly s session (statement.Create text) → definition_of text ≡ Some table
     → length s.catalog < MAX_TABLES → step s session (statement.Create text) ≡ (reply.Created text.table, record s { catalog = with_table table s.catalog })
 unfolding transition_of
 created_step s session text table early made room =
     accepted_step s session (statement.Create text) (none_applies s session (statement.Create text) early (rw (made, lt-leb MAX_TABLES (length s.catalog) room) refl)) ∙ rw made refl
 
--- a table that stands is found with a new one beside it
+-- an existing table is found after a new one is added
 still_named : (catalog : List TableDef) (table other : TableDef) (name : List ℕ) → table_named catalog table.name ≡ None → table_named catalog name ≡ Some other
     → table_named (with_table table catalog) name ≡ Some other
 still_named catalog table other name new named =
@@ -60,7 +60,7 @@ still_named catalog table other name new named =
       | inr differs ↦ ap (λ (c : List TableDef). table_named c name) (with_table_put table catalog) ∙ find_put table_before (λ (t : TableDef). bytes_eq t.name name) table catalog differs ∙ named
     ]
 
--- nothing refuses it
+-- the write may be made
 pub may_create : {S : Type 0} (g : Ghosts S) (session : ℕ) (text : CreateText) (d : Database S) (table : TableDef) → PassesEarly d.state session (statement.Create text)
     → definition_of text ≡ Some table → length d.state.catalog < MAX_TABLES
     → MayWrite g session (statement.Create text) d (reply.Created text.table) (record d.state { catalog = with_table table d.state.catalog }) Any

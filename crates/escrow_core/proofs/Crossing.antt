@@ -1,4 +1,4 @@
--- A database may go from thread to thread, if its store may.
+-- A database may move between threads if its store may.
 use denote.RattleType.{RattleType}
 use denote.Param.Send.{IsSend, sendable}
 use Rattle.std.proofs.Crossing.{crosses}

@@ -1,4 +1,4 @@
--- DELETE: how a call that served one meets the machine's step, and what it keeps.
+-- DELETE: how the call corresponds to the machine's step, and what it keeps.
 use Rattle.std.specs.Prelude.{◌≡◌, ℕ, true, false, not, option_map, is_some, IsSome, Option, Some, None, List, [], ◌∷◌}
 use Rattle.std.specs.List.{AllByRecursion, list_any}
 use Rattle.std.proofs.Common.{inl, inr, refl, sym, ap, subst, ◌∙◌}
@@ -30,7 +30,7 @@ use Rattle.escrow_machine.proofs.Refusals.{lacking, standing}
 use Rattle.escrow_core.proofs.Serving.{MayWrite, accepted_step, late_applies, late_first, none_applies, refused_step, tried}
 use Rattle.escrow_machine.proofs.ValidDelete.{delete_valid}
 
--- a row that isn't there
+-- the row does not exist
 lack_late : (s : State) (session : ℕ) (text : RowText) (name : RowName) → name ≡ named_by s.catalog text.table text.row → None ≡ row_named s.rows name
     → first_refusal (transition_of s session (statement.Delete text)).late ≡ Some refusal.NoSuchRow
 unfolding transition_of
@@ -43,7 +43,7 @@ pub delete_lack : (s : State) (session : ℕ) (text : RowText) (name : RowName) 
     → None ≡ row_named s.rows name → IsRefusal s session (statement.Delete text) refusal.NoSuchRow
 delete_lack s session text name is early none = late_applies s session (statement.Delete text) refusal.NoSuchRow early (lack_late s session text name is none)
 
--- where no row has the name, none is taken out
+-- if no row has the name, none is removed
 absent_stays : (name : RowName) (rows : List Row) → row_named rows name ≡ None → without_row name rows ≡ rows
 absent_stays name rows none = filter_all (λ (row : Row). not (same_row row.name name)) rows (each rows (λ row has. has))
   where
@@ -51,7 +51,7 @@ absent_stays name rows none = filter_all (λ (row : Row). not (same_row row.name
     each [] within = tt
     each (x ∷ xs) within = (ap not (find_none (λ (row : Row). same_row row.name name) rows none x (within x (inl refl))), each xs (λ row has. within row (inr has)))
 
--- a row that is reserved stands
+-- a reserved row exists
 pub reserved_stands : (s : State) (name : RowName) → AreSafeRows s.catalog s.rows s.reservations → is_reserved s name ≡ true → IsSome (row_named s.rows name)
 reserved_stands s name safe reserved = go s.reservations safe.reserved_rows reserved
   where
@@ -62,7 +62,7 @@ reserved_stands s name safe reserved = go s.reservations safe.reserved_rows rese
       | inr later ↦ go rs all.1 later
     ]
 
--- a row that is reserved
+-- the row is reserved
 pub delete_reserved : (s : State) (session : ℕ) (text : RowText) (name : RowName) → name ≡ named_by s.catalog text.table text.row → PassesEarly s session (statement.Delete text)
     → IsSome (row_named s.rows name) → is_reserved s name ≡ true → IsRefusal s session (statement.Delete text) refusal.RowReserved
 unfolding transition_of
@@ -79,7 +79,7 @@ delete_step s session text name is early stands free =
     (rw (standing (row_named s.rows (named_by s.catalog text.table text.row)) (subst (λ (n : RowName). IsSome (row_named s.rows n)) is stands), subst (λ (n : RowName). is_reserved s n ≡ false) is free) refl))
     ∙ ap (λ (n : RowName). (reply.Deleted, record s { rows = without_row n s.rows })) (sym is)
 
--- the step of a row that isn't reserved, whether it stands or not
+-- the step for a row that is not reserved, whether it exists or not
 delete_tried : (s : State) (session : ℕ) (text : RowText) (name : RowName) → name ≡ named_by s.catalog text.table text.row → PassesEarly s session (statement.Delete text)
     → is_reserved s name ≡ false → step s session (statement.Delete text) ≡ (tried (row_named s.rows name) refusal.NoSuchRow reply.Deleted, record s { rows = without_row name s.rows })
 delete_tried s session text name is early free = at (row_named s.rows name) refl
@@ -90,7 +90,7 @@ delete_tried s session text name is early free = at (row_named s.rows name) refl
         ∙ ap (λ (rows : List Row). (reply.Refused refusal.NoSuchRow, record s { rows = rows })) (sym (absent_stays name s.rows none))
     at (Some row) found = delete_step s session text name is early (ap (λ (o : Option Row). is_some o) found) free
 
--- where it isn't reserved, it may be taken out
+-- a row that is not reserved may be removed
 pub may_delete : {S : Type 0} (g : Ghosts S) (session : ℕ) (text : RowText) (name : RowName) (d : Database S) → name ≡ named_by d.state.catalog text.table text.row
     → PassesEarly d.state session (statement.Delete text) → is_reserved d.state name ≡ false
     → MayWrite g session (statement.Delete text) d (tried (row_named d.state.rows name) refusal.NoSuchRow reply.Deleted) (record d.state { rows = without_row name d.state.rows }) (λ row. same_row name row ≡ false)

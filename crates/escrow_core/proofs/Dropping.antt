@@ -1,4 +1,4 @@
--- DROP TABLE: refused for what is open or for the catalog, or the table and its rows are taken out in one write.
+-- DROP TABLE: open reservations or the catalog refuse it, or one write removes the table and its rows.
 use Rattle.std.specs.Prelude.{◌≡◌, ℕ, Bool, true, false, not, bytes_eq, is_some, is_none, option_map, Option, Some, None, List}
 use Rattle.std.proofs.Common.{refl, sym, ap, ◌∙◌}
 use Rattle.std.proofs.lemmas.Bool.{false≢true, false_from_ne_true}
@@ -30,7 +30,7 @@ is_there : (named : Option TableDef) → is_some named ≡ true → is_none name
 is_there None e = absurd (cc)
 is_there (Some table) e = refl
 
--- what is left to refuse it for, where nothing is open and the table stands
+-- the refusals that remain if the session has no open transaction and the table exists
 pub left_to_reserved : (s : State) (session : ℕ) (name : List ℕ) (reserved : Bool) → is_open session s ≡ false
     → is_some (table_named s.catalog name) ≡ true → is_table_reserved s name ≡ reserved
     → first_refusal (transition_of s session (statement.Drop name)).early ≡ refuse_if reserved refusal.TableReserved
@@ -38,7 +38,7 @@ unfolding transition_of
 left_to_reserved s session name true closed found is = rw (closed, is_there (table_named s.catalog name) found, is) refl
 left_to_reserved s session name false closed found is = rw (closed, is_there (table_named s.catalog name) found, is) refl
 
--- what is known where no early refusal applies
+-- what is known if no early refusal applies
 pub stands : (s : State) (session : ℕ) (name : List ℕ) → PassesEarly s session (statement.Drop name) → DropStands s name
 unfolding transition_of
 stands s session name early = drop_stands s session name (none_applies s session (statement.Drop name) early refl)
@@ -47,7 +47,7 @@ dropped_step : (s : State) (session : ℕ) (name : List ℕ) → PassesEarly s s
 unfolding transition_of
 dropped_step s session name early = accepted_step s session (statement.Drop name) (none_applies s session (statement.Drop name) early refl)
 
--- no row that is reserved is of a table that isn't
+-- a reserved row does not belong to a table that is not reserved
 not_its_table : (s : State) (name : List ℕ) (row : RowName) → is_table_reserved s name ≡ false → is_reserved s row ≡ true → bytes_eq row.table name ≡ false
 not_its_table s name row free reserved =
     false_from_ne_true (bytes_eq row.table name) (λ same.
@@ -60,7 +60,7 @@ other_table_row rows name row differs =
     find_filter (λ (r : Row). same_row r.name row) (λ (r : Row). not (bytes_eq r.name.table name)) rows
     (λ r same. ap not (ap (λ (n : RowName). bytes_eq n.table name) (row_same r.name row same) ∙ differs))
 
--- nothing refuses it
+-- the write may be made
 pub may_drop : {S : Type 0} (g : Ghosts S) (session : ℕ) (name : List ℕ) (d : Database S) → PassesEarly d.state session (statement.Drop name)
     → MayWrite g session (statement.Drop name) d (reply.Dropped name) (after_drop d.state name) (λ row. bytes_eq row.table name ≡ false)
 may_drop g session name d early =

@@ -12,7 +12,7 @@ use Rattle.escrow_core.specs.Serving.{AreAfterEnd}
 use Rattle.escrow_rows.specs.Answers.{IsUsable}
 use Rattle.escrow_core.proofs.Serving.{still_clean}
 
--- the end of one transaction more leaves what it might have left before, or what one entry more makes
+-- after one more transaction ends, a crash leaves what it could leave before, or the state with one more entry
 pub ends_survive : (a b c : Store) (plan : List (ℕ × End)) (i : ℕ) (entry : ℕ × End) (s mid : State) → i < length plan → entry ≡ get_or plan i entry
     → (HasCleanDisk b → mid ≡ after_ends s (take i plan)) → (IsUsable b → IsUsable a)
     → Survives a b (λ trees. IsTrue a.is_open × AreAfterEnds plan s trees)

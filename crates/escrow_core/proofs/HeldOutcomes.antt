@@ -1,4 +1,4 @@
--- What became of the COMMITs of a plan, entry by entry and by session.
+-- The outcome of each COMMIT of a plan, entry by entry and by session.
 use Rattle.std.specs.Prelude.{◌≡◌, ℕ, ◌+◌, ◌==◌, true, false, if◌then◌else◌, Option, Some, None, is_none, List, [], ◌∷◌, ◌++◌, length, map, take, drop, replicate, slice_get}
 use Rattle.std.specs.List.{AllByRecursion}
 use Rattle.std.proofs.Common.{zero, suc, refl, sym, ap₂, eq-eqb, add-one, ◌∙◌}
@@ -10,19 +10,19 @@ use Rattle.escrow_machine.specs.Settle.{after_end, after_ends}
 use Rattle.escrow_machine.specs.State.{State}
 use Rattle.escrow_core.specs.Beside.{AreApart, ended}
 
--- what became of the COMMIT of each session of a plan
+-- the outcome of the COMMIT of each session of a plan
 abbrev pub outcome_in : List (ℕ × End) → List (Option Failure) → Outcome
 outcome_in [] outcomes session = None
 outcome_in (entry ∷ plan) [] session = None
 outcome_in (entry ∷ plan) (outcome ∷ outcomes) session = if entry.0 == session then outcome else outcome_in plan outcomes session
 
--- what became of each entry of a plan, by its session
+-- the outcome of each entry of a plan, by its session
 abbrev pub outcomes_by : Outcome → List (ℕ × End) → List (Option Failure)
 outcomes_by outcome plan = map (λ entry. outcome entry.0) plan
 
 -- BY SESSION, AND BACK
 
--- an entry in front says nothing of entries of other sessions
+-- an entry in front does not change the outcomes of other sessions
 pub others_found : (entry : ℕ × End) (outcome : Option Failure) (by : Outcome) (plan : List (ℕ × End)) → AllByRecursion (λ later. ¬ (later.0 ≡ entry.0)) plan
     → map (λ (later : ℕ × End). if entry.0 == later.0 then outcome else by later.0) plan ≡ outcomes_by by plan
 others_found entry outcome by [] apart = refl
@@ -52,12 +52,12 @@ ended_more (front ∷ plan) [] entry outcome s as_many = absurd (cc)
 ended_more (front ∷ plan) (first ∷ outcomes) entry outcome s as_many =
     ended_more plan outcomes entry outcome (if is_none first then after_end s front.0 front.1 else s) (cc)
 
--- where no entry failed
+-- no entry failed
 pub all_ended : (plan : List (ℕ × End)) (s : State) → ended plan (replicate (length plan) None) s ≡ after_ends s plan
 all_ended [] s = refl
 all_ended (entry ∷ plan) s = all_ended plan (after_end s entry.0 entry.1)
 
--- where the first one that failed has a place
+-- the first failed entry has an index
 past_one : (plan : List (ℕ × End)) (place : ℕ) (entry : ℕ × End) (cause : Failure) (more : List (Option Failure)) (s : State) → slice_get plan place ≡ Some entry
     → ended plan (replicate place None ++ Some cause ∷ more) s ≡ ended (drop (suc place) plan) more (after_ends s (take place plan))
 past_one [] place entry cause more s found = absurd (cc)

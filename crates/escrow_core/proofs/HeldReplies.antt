@@ -1,4 +1,4 @@
--- The replies of a batch, before the COMMITs that were held back are written, and once they are.
+-- The replies of a batch, before and after the held COMMITs are written.
 use Rattle.std.specs.Prelude.{◌≡◌, ℕ, ◌+◌, ◌<◌, Bool, true, false, if◌then◌else◌, Option, Some, None, is_none, ◌&&◌, option_map, unwrap_or, List, [], ◌∷◌, ◌++◌, length, drop, replicate, slice_get, slice_set}
 use Rattle.std.specs.List.{AllByRecursion}
 use Rattle.std.proofs.Common.{zero, suc, refl, sym, ap, ap₂, subst, arith, add-one, ◌∙◌}
@@ -17,7 +17,7 @@ use Rattle.escrow_machine.proofs.Choices.{append_all}
 use Rattle.escrow_core.specs.Beside.{refused_at, ended, all_done, plan_of, places_of}
 use Rattle.escrow_core.proofs.HeldOutcomes.{outcomes_by, ended_more}
 
--- replies, the one at a place by what became of its COMMIT
+-- the replies, with the one at a place changed if its COMMIT failed
 abbrev refused_if : ℕ → Option Failure → List Reply → List Reply
 refused_if place outcome replies = unwrap_or (option_map (λ failure. slice_set replies place (reply.Refused (refusal_for failure))) outcome) replies
 
@@ -57,7 +57,7 @@ pub places_below : (start : ℕ) (ws : List Waiting) → AllByRecursion (λ plac
 places_below start [] = tt
 places_below start (w ∷ earlier) = places_if w.is_held start (length earlier) (places_of start earlier) (places_below start earlier)
 
--- as many places as entries of the plan
+-- there is one place for each entry of the plan
 pairs_if : (b : Bool) (session place : ℕ) (plan : List (ℕ × End)) (places : List ℕ) → length places ≡ length plan
     → length (if b then places ++ place ∷ [] else places) ≡ length (if b then plan ++ (session, end.Commit) ∷ [] else plan)
 pairs_if true session place plan places as_many = length-append places (place ∷ []) ∙ ap (λ n. n + 1) as_many ∙ sym (length-append plan ((session, end.Commit) ∷ []))
@@ -69,7 +69,7 @@ pairs start (w ∷ earlier) = pairs_if w.is_held w.session (start + length earli
 
 -- REPLIES
 
--- what stands behind the places stays
+-- replies after the places stay
 behind_if : (place : ℕ) (outcome : Option Failure) (xs ys : List Reply) → place < length xs → refused_if place outcome (xs ++ ys) ≡ refused_if place outcome xs ++ ys
 behind_if place None xs ys below = refl
 behind_if place (Some failure) xs ys below = set-append_left xs ys place (reply.Refused (refusal_for failure)) below
@@ -90,13 +90,13 @@ refused_more [] (first ∷ outcomes) place outcome replies as_many = absurd (cc)
 refused_more (front ∷ places) [] place outcome replies as_many = absurd (cc)
 refused_more (front ∷ places) (first ∷ outcomes) place outcome replies as_many = refused_more places outcomes place outcome (refused_if front first replies) (cc)
 
--- where no COMMIT failed
+-- no COMMIT failed
 pub none_refused : (places : List ℕ) (n : ℕ) (replies : List Reply) → refused_at places (replicate n None) replies ≡ replies
 none_refused [] n replies = refl
 none_refused (place ∷ places) zero replies = refl
 none_refused (place ∷ places) (suc n) replies = none_refused places n replies
 
--- where the first one that failed has a place in the plan
+-- the first failed COMMIT has an index in the plan
 past_one : (places : List ℕ) (n place : ℕ) (cause : Failure) (more : List (Option Failure)) (replies : List Reply) → slice_get places n ≡ Some place
     → refused_at places (replicate n None ++ Some cause ∷ more) replies ≡ refused_at (drop (suc n) places) more (slice_set replies place (reply.Refused (refusal_for cause)))
 past_one [] n place cause more replies found = absurd (cc)
@@ -107,7 +107,7 @@ pub refused_past : (places : List ℕ) (n place : ℕ) (cause : Failure) (more :
     → refused_at places (replicate n None ++ Some cause ∷ more) replies ≡ refused_at (drop (n + 1) places) more (slice_set replies place (reply.Refused (refusal_for cause)))
 refused_past places n place cause more replies found = rw (add-one n) (past_one places n place cause more replies found)
 
--- the last reply, by what became of its COMMIT
+-- the last reply, by the outcome of its COMMIT
 abbrev pub answer_if : Option Failure → Reply → Reply
 answer_if outcome answer = unwrap_or (option_map (λ failure. reply.Refused (refusal_for failure)) outcome) answer
 
@@ -134,7 +134,7 @@ one_more false by session place answer plan places told done later many many_lat
     ∙ ap (λ xs. xs ++ answer ∷ []) before
     ∙ append_assoc told later (answer ∷ [])
 
--- once the COMMITs are written the replies are those by what became of them
+-- after the COMMITs are written, the replies are those of their outcomes
 pub refused_are_answers : (by : Outcome) (told : List Reply) (ws : List Waiting)
     → refused_at (places_of (length told) ws) (outcomes_by by (plan_of ws)) (told ++ answers_by all_done ws) ≡ told ++ answers_by by ws
 refused_are_answers by told [] = refl
@@ -155,7 +155,7 @@ state_more true by session plan s before same =
     ∙ ap (λ t. if is_none (by session) then (step t session statement.Commit).1 else t) same
 state_more false by session plan s before same = same
 
--- and so is the state
+-- the state is that of the outcomes too
 pub ended_is_after : (by : Outcome) (ws : List Waiting) (s : State) → ended (plan_of ws) (outcomes_by by (plan_of ws)) s ≡ ended_by by ws s
 ended_is_after by [] s = refl
 ended_is_after by (w ∷ earlier) s = state_more w.is_held by w.session (plan_of earlier) s (ended_by by earlier s) (ended_is_after by earlier s)

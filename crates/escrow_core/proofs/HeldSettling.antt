@@ -1,4 +1,4 @@
--- The COMMITs of a plan as they are written, from one that fails to the next.
+-- The COMMITs of a plan as they are written, up to one that fails, and on from there.
 use Rattle.std.specs.Prelude.{◌≡◌, ℕ, zero, suc, ◌+◌, ◌-◌, ◌<◌, IsTrue, Option, Some, None, List, [], ◌∷◌, ◌++◌, length, take, drop, replicate, slice_get, slice_set}
 use Rattle.std.proofs.Common.{refl, sym, ap, subst, arith, ◌∙◌}
 use Rattle.std.proofs.lemmas.List.{append_assoc, length-append, length-drop, length-replicate, take-append-le}
@@ -23,7 +23,7 @@ use Rattle.escrow_core.proofs.HeldReplies.{none_refused, refused_past}
 use Rattle.escrow_core.proofs.Parts.{some_take}
 use Rattle.escrow_core.proofs.Serving.{still_clean, survives_itself}
 
--- a rest of a plan is left, with the places of its replies
+-- the part of the plan that remains, with the places of its replies
 pub record SettlesSoFar (sure : Type 0) (plan : List (ℕ × End)) (places : List ℕ) (before : State) (replies : List Reply) (rest : List (ℕ × End)) (left : List ℕ) (now : State) (later : List Reply) : Type 0 where
   pub outcomes : List (Option Failure)
   pub as_many : length outcomes + length rest ≡ length plan
@@ -34,7 +34,7 @@ settling_begins : (sure : Type 0) (plan : List (ℕ × End)) (places : List ℕ)
     → SettlesSoFar sure plan places before replies plan places before replies
 settling_begins sure plan places before replies = record { outcomes = []; as_many = omega arith; is_later = λ more. refl; is_now = λ _ more. refl }
 
--- the entries of a rest up to one that fails
+-- the outcomes of the remaining entries up to one that fails
 abbrev stopped_at : ℕ → Failure → List (Option Failure)
 stopped_at place cause = replicate place None ++ Some cause ∷ []
 
@@ -46,7 +46,7 @@ stopped_more outcomes place cause more =
 length_stopped : (place : ℕ) (cause : Failure) → length (stopped_at place cause) ≡ place + 1
 length_stopped place cause = length-append (replicate place None) (Some cause ∷ []) ∙ ap (λ n. n + 1) (length-replicate place None)
 
--- the one at a place fails
+-- the entry at an index fails
 settling_stops : (sure later : Type 0) (plan : List (ℕ × End)) (places : List ℕ) (before : State) (replies : List Reply) (rest : List (ℕ × End)) (left : List ℕ) (mid : State) (told : List Reply)
     (place at : ℕ) (cause : Failure) (new : State) → SettlesSoFar sure plan places before replies rest left mid told → (later → sure) → length rest ≡ length left → slice_get left place ≡ Some at
     → (later → (entry : ℕ × End) × (slice_get rest place ≡ Some entry) × (new ≡ after_ends mid (take place rest)))
@@ -70,7 +70,7 @@ settling_stops sure later plan places before replies rest left mid told place at
           ∙ ap (ended (drop (place + 1) rest) more) (sym stop.2);
     }
 
--- none of the rest fails
+-- none of the remaining entries fails
 settling_ends : (sure later : Type 0) (plan : List (ℕ × End)) (places : List ℕ) (before : State) (replies : List Reply) (rest : List (ℕ × End)) (left : List ℕ) (mid : State) (told : List Reply) (new : State)
     → SettlesSoFar sure plan places before replies rest left mid told → (later → sure) → (later → new ≡ after_ends mid rest)
     → AreSettled later plan places before replies new told
@@ -91,7 +91,7 @@ done_first [] (suc n) s = refl
 done_first (entry ∷ rest) zero s = refl
 done_first (entry ∷ rest) (suc n) s = done_first rest n (after_end s entry.0 entry.1)
 
--- what some first entries of the rest make
+-- the state after the first entries of the remaining part
 rest_left : (sure : Type 0) (plan : List (ℕ × End)) (places : List ℕ) (before : State) (replies : List Reply) (rest : List (ℕ × End)) (left : List ℕ) (mid : State) (told : List Reply) (more : List (Option Failure))
     (trees : Trees) (so_far : SettlesSoFar sure plan places before replies rest left mid told) → sure → AreAfterEnds rest mid trees → AreAfterOutcomes plan (so_far.outcomes ++ more) before trees
 rest_left sure plan places before replies rest left mid told more trees so_far surely ends =
@@ -107,7 +107,7 @@ rest_left sure plan places before replies rest left mid told more trees so_far s
       subst (λ (t : State). AreHeldOf t trees) same ends.1,
     )
 
--- what was left before is left where more has come of the rest
+-- what a crash could leave before, it can leave after more outcomes are known
 still_left : (plan : List (ℕ × End)) (outcomes more : List (Option Failure)) (s : State) (trees : Trees) → AreAfterOutcomes plan outcomes s trees → AreAfterOutcomes plan (outcomes ++ more) s trees
 still_left plan outcomes more s trees left = (
   left.0,
@@ -133,7 +133,7 @@ left_begins now plan places before replies = record {
 module _ (first now new : Store) (plan : List (ℕ × End)) (places : List ℕ) (before : State) (replies : List Reply) (rest : List (ℕ × End)) (left : List ℕ) (mid : State) (told : List Reply)
     (it : IsLeftSoFar first now plan places before replies rest left mid told) (usable : IsUsable new → IsUsable now)
     (survives : Survives now new (λ trees. IsTrue now.is_open × AreAfterEnds rest mid trees)) where
-  -- whatever has come of the rest
+  -- the same with more outcomes of the remaining part
   leaves_more : (more : List (Option Failure)) → Survives first new (λ trees. IsTrue first.is_open × AreAfterOutcomes plan (it.so_far.outcomes ++ more) before trees)
   leaves_more more =
       survives_then first now new _ _ _

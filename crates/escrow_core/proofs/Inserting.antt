@@ -1,11 +1,11 @@
--- INSERT: what follows for its transition from the row that it makes.
+-- INSERT: what its row says about its transition.
 use Rattle.std.specs.Prelude.{◌≡◌, ◌<◌, ℕ, ℤ, true, false, nat_le, is_some, if◌then◌else◌, option_map, option_and_then, unwrap_or, Option, Some, None, List, [], ◌∷◌, length, bytes_eq}
 use Rattle.std.proofs.Common.{inl, inr, refl, sym, ap, subst, ◌∙◌}
 use Rattle.std.proofs.lemmas.Option.{option_and_then_some}
 use Rattle.sqlite.specs.Held.{state}
 use Rattle.sqlite.specs.State.{HasCleanDisk}
 use Rattle.sqlite_trees.specs.declared.store.Store.{Ghosts}
-use Rattle.std.proofs.lemmas.Bool.{cases_Bool, false≢true, lt-leb}
+use Rattle.std.proofs.lemmas.Bool.{cases_Bool, lt-leb}
 use Rattle.escrow_num.specs.declared.failure.Failure.TheVariants as failure
 use Rattle.escrow_num.specs.declared.refusal.Violation.{Violation}
 use Rattle.escrow_num.specs.declared.refusal.Refusal.{Refusal}
@@ -44,16 +44,16 @@ use Rattle.escrow_core.specs.Serving.{unless_stands}
 use Rattle.escrow_core.proofs.Serving.{Any, MayWrite, accepted_step, fails, late_applies, late_first, none_applies, refused_step}
 use Rattle.escrow_machine.proofs.Transitions.{inserted_valid}
 
--- why a row of a name that no row has isn't put
+-- why a row with a new name is not inserted
 abbrev pub new_refusals : State → InsertText → List (Option Refusal)
 new_refusals s text =
     refuse_if (nat_le MAX_ROWS (length (rows_of s.rows text.table))) refusal.TableFull ∷ option_map refusal.Check (insert_violation s text) ∷ []
 
--- and what of it is decided by the row, its table and how many rows that has
+-- the refusals that depend on the row, its table and the table's number of rows
 abbrev pub refusals_of : TableDef → ℕ → Row → List (Option Refusal)
 refusals_of table count row = refuse_if (nat_le MAX_ROWS count) refusal.TableFull ∷ option_map refusal.Check (broken table.checks row.amounts [] []) ∷ []
 
--- the row that is made is one of the table that is named
+-- the new row belongs to the named table
 pub record IsMade (s : State) (text : InsertText) (row : Row) : Type 0 where
   pub table_name : row.name.table ≡ text.table
   pub has_table : HasTable s.catalog row
@@ -73,7 +73,7 @@ pub is_made : (s : State) (text : InsertText) (row : Row) → new_row s text ≡
 is_made s text row made =
     option_and_then_some (λ (table : TableDef). inserted_row table text) (table_named s.catalog text.table) row made (made_in s text row)
 
--- what is decided of the row, its table and how many rows that has
+-- these refusals are those of the machine
 pub decided : (s : State) (text : InsertText) (row : Row) (table : TableDef) (count : ℕ) → table_named s.catalog text.table ≡ Some table → new_row s text ≡ Some row
     → count ≡ length (rows_of s.rows text.table)
     → first_refusal (new_refusals s text) ≡ first_refusal (refusals_of table count row)
@@ -81,7 +81,7 @@ decided s text row table count named made is =
     let fits : inserted_row table text ≡ Some row = rw named at made in
     rw (named, fits, is) refl
 
--- where the table isn't full only a check can be broken
+-- if the table is not full, only a check can be broken
 pub unfull : (count : ℕ) (o : Option Violation) (r : Option Refusal) → count < MAX_ROWS → r ≡ option_map refusal.Check o
     → r ≡ first_refusal (refuse_if (nat_le MAX_ROWS count) refusal.TableFull ∷ option_map refusal.Check o ∷ [])
 unfull count None r room is = rw (lt-leb MAX_ROWS count room) is
@@ -104,14 +104,14 @@ exists_first o rest stands = rw stands refl
 new_first : (o : Option Row) (rest : List (Option Refusal)) → o ≡ None → first_refusal (refuse_if (is_some o) refusal.RowExists ∷ rest) ≡ first_refusal rest
 new_first o rest new = rw new refl
 
--- a row of a name that stands is refused
+-- a row whose name exists is refused
 pub row_exists : (s : State) (session : ℕ) (text : InsertText) (row : Row) → new_row s text ≡ Some row → PassesEarly s session (statement.Insert text)
     → is_some (row_named s.rows row.name) ≡ true → IsRefusal s session (statement.Insert text) refusal.RowExists
 row_exists s session text row made early stands =
     late_applies s session (statement.Insert text) refusal.RowExists early
     (late_is s session text row made ∙ exists_first (row_named s.rows row.name) (new_refusals s text) stands)
 
--- and a new one for its table's room and its checks alone
+-- a row with a new name is refused only for its table's room and its checks
 new_late : (s : State) (session : ℕ) (text : InsertText) (row : Row) → new_row s text ≡ Some row → row_named s.rows row.name ≡ None
     → first_refusal (transition_of s session (statement.Insert text)).late ≡ first_refusal (new_refusals s text)
 new_late s session text row made new =
@@ -127,7 +127,7 @@ pub new_accepted : (s : State) (session : ℕ) (text : InsertText) (row : Row) �
 new_accepted s session text row made early new none =
     none_applies s session (statement.Insert text) early (new_late s session text row made new ∙ none)
 
--- where neither refuses it, its table has room
+-- if neither refuses it, its table has room
 pub new_room : (s : State) (text : InsertText) → first_refusal (new_refusals s text) ≡ None → length (rows_of s.rows text.table) < MAX_ROWS
 new_room s text none =
     let rows = length (rows_of s.rows text.table) in
@@ -143,16 +143,16 @@ insert_step s session text row made accepted =
     accepted_step s session (statement.Insert text) accepted
     ∙ ap (λ (o : Option Row). (reply.Inserted, record s { rows = unwrap_or (option_map (λ r. with_row r s.rows) o) s.rows })) made
 
--- A ROW THAT IS MADE, where its table's room and its checks were looked at
+-- A ROW TO INSERT, after its table's room and its checks were looked at
 
--- a row, its table, and how many rows that has
+-- the row, its table, and the table's number of rows
 pub record IsAsked {S : Type 0} (g : Ghosts S) (d : Database S) (session : ℕ) (text : InsertText) (row : Row) (table : TableDef) (count : ℕ) : Type 0 where
   pub made : new_row d.state text ≡ Some row
   pub early : PassesEarly d.state session (statement.Insert text)
   pub named : table_named d.state.catalog text.table ≡ Some table
   pub counted : HasCleanDisk (state g d.store) → count ≡ length (rows_of d.state.rows text.table)
 
--- a row that stands is found, with its amounts, among those and a new one
+-- an existing row is found with its amounts after a new row is added
 still_has : (rows : List Row) (row : Row) (name : RowName) (amounts : List ℤ) → row_named rows row.name ≡ None → amounts_named rows name ≡ Some amounts → amounts_named (with_row row rows) name ≡ Some amounts
 still_has rows row name amounts new has =
     elim (cases_Bool (same_row row.name name)) [
@@ -160,23 +160,23 @@ still_has rows row name amounts new has =
       | inr differs ↦ ap (option_map (λ (r : Row). r.amounts)) (ap (λ (rs : List Row). row_named rs name) (with_row_put row rows) ∙ find_put row_before (λ (r : Row). same_row r.name name) row rows differs) ∙ has
     ]
 
--- the rows with it, by whether its name is new
+-- the rows with it, if its name is new
 new_is : (row : Row) (rows : List Row) → row_named rows row.name ≡ None → with_new row rows ≡ with_row row rows
 new_is row rows new = ap (λ (o : Option Row). if is_some o then rows else with_row row rows) new
 
 known_is : (row other : Row) (rows : List Row) → row_named rows row.name ≡ Some other → with_new row rows ≡ rows
 known_is row other rows stands = ap (λ (o : Option Row). if is_some o then rows else with_row row rows) stands
 
--- why a new row isn't put, by whether a row has its name
-pub stands_first : (o : Option Row) (other : Refusal) → true ≡ is_some o → refusal.RowExists ≡ unless_stands o other
-stands_first None other stands = absurd (false≢true (sym stands))
-stands_first (Some row) other stands = refl
+-- why the row is not inserted, if a row has its name
+pub stands_first : (o : Option Row) (other : Refusal) (amounts : List ℤ) → Some amounts ≡ option_map (λ (r : Row). r.amounts) o → refusal.RowExists ≡ unless_stands o other
+stands_first None other amounts has = absurd (cc)
+stands_first (Some row) other amounts has = refl
 
-pub other_then : (o : Option Row) (other : Refusal) → false ≡ is_some o → other ≡ unless_stands o other
+pub other_then : (o : Option Row) (other : Refusal) → None ≡ option_map (λ (r : Row). r.amounts) o → other ≡ unless_stands o other
 other_then None other lacks = refl
-other_then (Some row) other lacks = absurd (false≢true lacks)
+other_then (Some row) other lacks = absurd (cc)
 
--- the reply where no row may have its name
+-- the reply if no row may have its name
 abbrev pub put_reply : Option Row → Reply
 put_reply None = reply.Inserted
 put_reply (Some row) = reply.Refused refusal.RowExists
@@ -188,7 +188,7 @@ module _ {S : Type 0} (g : Ghosts S) (d : Database S) (session : ℕ) (text : In
   judged : (r : Option Refusal) → r ≡ first_refusal (refusals_of table count row) → HasCleanDisk (state g d.store) → first_refusal (new_refusals d.state text) ≡ r
   judged r is u = decided d.state text row table count asked.named asked.made (asked.counted u) ∙ sym is
 
-  -- a row of its name stands, or else it is refused for another reason
+  -- a row with its name exists, or it is refused for another reason
   pub row_refused : (r : Refusal) → Some r ≡ first_refusal (refusals_of table count row) → HasCleanDisk (state g d.store)
       → IsRefusal d.state session (statement.Insert text) (unless_stands (row_named d.state.rows row.name) r)
   row_refused r is u = at (row_named d.state.rows row.name) refl
@@ -197,7 +197,7 @@ module _ {S : Type 0} (g : Ghosts S) (d : Database S) (session : ℕ) (text : In
       at None new = new_refused d.state session text row r asked.made asked.early new (judged (Some r) is u)
       at (Some other) stands = row_exists d.state session text row asked.made asked.early (ap (λ (o : Option Row). is_some o) stands)
 
-  -- where the store has refused it
+  -- the store refused it
   pub store_refused : IsRefusal d.state session (statement.Insert text) (unless_stands (row_named d.state.rows row.name) refusal.Store)
   store_refused = at (row_named d.state.rows row.name) refl
     where
@@ -205,11 +205,11 @@ module _ {S : Type 0} (g : Ghosts S) (d : Database S) (session : ℕ) (text : In
       at None new = fails d.state session (statement.Insert text) failure.Store asked.early refl
       at (Some other) stands = row_exists d.state session text row asked.made asked.early (ap (λ (o : Option Row). is_some o) stands)
 
-  -- its table has room, where neither that nor its checks refuse it
+  -- its table has room if neither the room nor the checks refuse it
   pub room_left : None ≡ first_refusal (refusals_of table count row) → HasCleanDisk (state g d.store) → length (rows_of d.state.rows row.name.table) < MAX_ROWS
   room_left is u = subst (λ n. length (rows_of d.state.rows n) < MAX_ROWS) (sym (is_made d.state text row asked.made).table_name) (new_room d.state text (judged None is u))
 
-  -- the step then, whether a row of its name stands or not
+  -- the step, whether a row with its name exists or not
   put_step : None ≡ first_refusal (refusals_of table count row) → HasCleanDisk (state g d.store)
       → step d.state session (statement.Insert text) ≡ (put_reply (row_named d.state.rows row.name), record d.state { rows = with_new row d.state.rows })
   put_step is u = at (row_named d.state.rows row.name) refl

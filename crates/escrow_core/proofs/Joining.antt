@@ -1,4 +1,4 @@
--- An event joins those that wait: its COMMIT is held back, or it is served beside them.
+-- An event joins the waiting ones: its COMMIT is held back, or it is served beside them.
 use Rattle.std.specs.Prelude.{◌≡◌, ◌<◌, ◌==◌, ℕ, true, false, IfSome, Option, Some, None, length}
 use Rattle.std.specs.List.{list_any}
 use Rattle.std.proofs.Common.{refl}

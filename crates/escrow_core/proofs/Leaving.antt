@@ -35,18 +35,18 @@ use Rattle.escrow_core.proofs.Quiet.{AreKept, held_before, held_kept, kept_then,
 use Rattle.escrow_core.proofs.Served.{stepped}
 use Rattle.escrow_core.proofs.Serving.{still_clean, survives_itself}
 
--- REPLIES AS THEY COUNT
+-- REPLIES THAT COUNT
 
 pub counted_same : (answers more : List Reply) → AreCounted answers (answers ++ more)
 counted_same [] more = tt
 counted_same (a ∷ answers) more = (inl refl, counted_same answers more)
 
--- behind replies that were given
+-- after given replies
 pub counted_behind : (answers counted given : List Reply) → AreCounted counted given → AreCounted (answers ++ counted) (answers ++ given)
 counted_behind [] counted given are = are
 counted_behind (a ∷ answers) counted given are = (inl refl, counted_behind answers counted given are)
 
--- where more was answered
+-- more replies were given
 pub counted_more : (counted given more : List Reply) → AreCounted counted given → AreCounted counted (given ++ more)
 counted_more [] given more are = tt
 counted_more (c ∷ counted) [] more are = absurd are
@@ -60,7 +60,7 @@ counted_push [] (a ∷ given) one answer as_many are last = absurd (cc)
 counted_push (c ∷ counted) [] one answer as_many are last = absurd are
 counted_push (c ∷ counted) (a ∷ given) one answer as_many are last = (are.0, counted_push counted given one answer (cc) are.1 last)
 
--- where more was asked
+-- more was requested
 pub after_some_more : (s : State) (events more : List Event) (given told : List Reply) (trees : Trees) → AreAfterSome s events given trees → AreAfterSome s (events ++ more) (given ++ told) trees
 after_some_more s events more given told trees it = record {
   first = it.first;
@@ -73,7 +73,7 @@ after_some_more s events more given told trees it = record {
   held = it.held;
 }
 
--- after all of them
+-- after all events
 pub after_some_all : (s : State) (events : List Event) (answers : List Reply) (now latest : State) (trees : Trees) → IsRun s events answers now → AreKept now latest → AreHeldOf latest trees
     → AreAfterSome s events answers trees
 after_some_all s events answers now latest trees ran kept held = record {
@@ -87,9 +87,9 @@ after_some_all s events answers now latest trees ran kept held = record {
   held = held_before now latest trees kept held;
 }
 
--- COMMITS OF WHICH ONLY SOME FIRST ONES COUNT
+-- COMMITS OF WHICH ONLY THE FIRST ONES COUNT
 
--- what counts of the COMMIT of each session of a plan: those past the outcomes fail
+-- the outcome that counts for the COMMIT of each session: after the known outcomes, it is a failure
 abbrev outcome_else : List (ℕ × End) → List (Option Failure) → Outcome
 outcome_else [] outcomes session = Some failure.Store
 outcome_else (entry ∷ plan) [] session = Some failure.Store
@@ -100,7 +100,7 @@ none_left [] by s fails = refl
 none_left (entry ∷ plan) by s fails =
     ap (λ (o : Option Failure). ended plan (outcomes_by by plan) (if is_none o then after_end s entry.0 entry.1 else s)) (fails entry.0) ∙ none_left plan by s fails
 
--- by session, and back
+-- by session, and back to the plan
 else_first : (entry : ℕ × End) (outcome : Option Failure) (plan : List (ℕ × End)) (outcomes : List (Option Failure)) → AllByRecursion (λ later. ¬ (later.0 ≡ entry.0)) plan
     → outcomes_by (outcome_else (entry ∷ plan) (outcome ∷ outcomes)) (entry ∷ plan) ≡ outcome ∷ outcomes_by (outcome_else plan outcomes) plan
 else_first entry outcome plan outcomes apart =
@@ -114,7 +114,7 @@ ended_else (entry ∷ plan) (outcome ∷ outcomes) s apart =
     ap (λ os. ended (entry ∷ plan) os s) (else_first entry outcome plan outcomes apart.0)
     ∙ ended_else plan outcomes (if is_none outcome then after_end s entry.0 entry.1 else s) apart.1
 
--- an outcome that is none that counts
+-- an outcome that does not count
 abbrev Fails : Option Failure → Type 0
 Fails outcome = outcome ≡ Some failure.Store
 
@@ -129,11 +129,11 @@ past_fail (entry ∷ plan) [] apart = all_fail (entry ∷ plan) (outcome_else (e
 past_fail (entry ∷ plan) (outcome ∷ outcomes) apart =
     subst (λ os. AllByRecursion Fails (drop (suc (length outcomes)) os)) (sym (else_first entry outcome plan outcomes apart.0)) (past_fail plan outcomes apart.1)
 
--- what counts of each of the first entries is that it was done, or what it became
+-- for each of the first entries, the COMMIT counts as successful, or with its own outcome
 abbrev IsAgreed : Outcome → Outcome → ℕ → Type 0
 IsAgreed by became session = (by session ≡ None) ⊎ (by session ≡ became session)
 
--- an entry in front says nothing of entries of other sessions
+-- an entry in front does not change the outcomes of other sessions
 agreed_later : (entry : ℕ × End) (first second : Option Failure) (by became : Outcome) (plan : List (ℕ × End)) → AllByRecursion (λ later. ¬ (later.0 ≡ entry.0)) plan
     → (k : ℕ) → AllByRecursion (λ later. IsAgreed by became later.0) (take k plan)
     → AllByRecursion (λ later. IsAgreed (λ session. if entry.0 == session then first else by session) (λ session. if entry.0 == session then second else became session) later.0) (take k plan)
@@ -171,7 +171,7 @@ agreed_first (suc n) more (entry ∷ plan) (outcome ∷ outcomes) apart as_many 
 
 -- THE RUN ENDS WITH THE LAST COMMIT THAT COUNTS
 
--- some first statements of those that wait, of which the last stands first
+-- the first statements of the waiting ones; the list holds the last statement first
 record IsCut (by : Outcome) (mid : State) (ws : List Waiting) (k : ℕ) (new : State) : Type 0 where
   first : List Waiting
   rest : List Waiting
@@ -181,7 +181,7 @@ record IsCut (by : Outcome) (mid : State) (ws : List Waiting) (k : ℕ) (new : S
   ran : IsRun mid (events_of first) (answers_by by first) now
   kept : AreKept now new
 
--- a run but for its last event
+-- a run without its last event
 run_less : (s : State) (events : List Event) (answers : List Reply) (happened : Event) (answer : Reply) (new : State) → IsRun s (events ++ happened ∷ []) (answers ++ answer ∷ []) new → length events ≡ length answers
     → (t : State) × IsRun s events answers t × IsServed t happened answer new
 run_less s [] [] happened answer new run as_many = (s, refl, subst (IsServed s happened answer) (sym run.2) run.1)
@@ -190,7 +190,7 @@ run_less s (e ∷ events) [] happened answer new run as_many = absurd (cc)
 run_less s (e ∷ events) (a ∷ answers) happened answer new run as_many =
     let rest = run_less run.0 events answers happened answer new run.2 (cc) in (rest.0, (run.0, run.1, rest.1), rest.2)
 
--- the last one of those that wait is past those that count, and tells of no write
+-- the last waiting statement comes after those that count, and its reply reports no write
 dropped : (b : Bool) (session : ℕ) (asked : Statement) (answer : Reply) (mid now : State) (by : Outcome) (plan : List (ℕ × End)) (k : ℕ)
     → MatchBool b (IsHeldBack session asked answer mid now) (IsServedBeside session asked answer mid now)
     → k < length (if b then plan ++ (session, end.Commit) ∷ [] else plan) → AllByRecursion Fails (drop k (outcomes_by by (if b then plan ++ (session, end.Commit) ∷ [] else plan)))
@@ -225,7 +225,7 @@ cut by mid (w ∷ earlier) latest new k held few fails run = elim (cases_lt k (l
       }
 ]
 
--- its replies are those that were given, but for COMMITs that failed
+-- the replies are the given ones, except for COMMITs that failed
 agreed_one : (answer : Reply) (outcome became : Option Failure) → (outcome ≡ None) ⊎ (outcome ≡ became)
     → (answer_if outcome answer ≡ answer_if became answer) ⊎ IsSome (failure_of (answer_if became answer))
 agreed_one answer outcome None (inl none) = inl (ap (λ (o : Option Failure). answer_if o answer) none)
@@ -270,7 +270,7 @@ plan_append (w ∷ rest) first = plan_if w.is_held w.session (plan_of (rest ++ f
 
 -- THE COMMITS ARE WRITTEN
 
--- a crash meanwhile leaves the tables and rows after some first events of the batch
+-- a crash during the write leaves the tables and rows after the first events of the batch
 batch_left : (sure later : Type 0) (s : State) (events : List Event) (before replies : List Reply) (held : HeldBack) (latest new : State) (written : List Reply) (trees : Trees)
     (batch : IsBatch sure s events before replies held latest) (settled : AreSettled later held.plan held.places latest replies new written) → sure
     → AreAfterOutcomes held.plan settled.outcomes latest trees
@@ -344,9 +344,9 @@ batch_settles first now new s events before replies held latest after written it
           it.left all.left;
     }
 
--- ONE EVENT MORE
+-- ONE MORE EVENT
 
--- the reply that counts is the one that was given, or that one is a failure
+-- the reply that counts is the given one, or the given one is a failure
 counts_as : (s : State) (session : ℕ) (asked : Statement) (answer : Reply) (new : State) (o : Option Failure) → failure_of answer ≡ o
     → MatchOption o (IsStep s session asked answer new) (λ f. IsTrue (may_fail s session asked f) × (new ≡ s)) → ((step s session asked).0 ≡ answer) ⊎ IsSome (failure_of answer)
 counts_as s session asked answer new None is event = inl (sym (ap (λ (p : Reply × State). p.0) event.is_step))
@@ -386,7 +386,7 @@ serves_more first mid new s events before replies latest happened answer after i
       it.left survives;
 }
 
--- nothing waits
+-- no event waits
 pub none_wait : (first now : Store) (s : State) (events : List Event) (before replies : List Reply) (latest : State) → AreServedAll first now s events before replies latest
     → IsLeftBatch first now s events before replies none_held latest
 unfolding nothing_waits
@@ -396,7 +396,7 @@ none_wait first now s events before replies latest it = record {
   left = it.left;
 }
 
--- where nothing is written, a crash leaves no more of a batch
+-- if nothing is written, a crash leaves no more of a batch
 module _ (first now new : Store) (s : State) (events : List Event) (before replies : List Reply) (held : HeldBack) (latest : State) (it : IsLeftBatch first now s events before replies held latest)
     (usable : IsUsable new → IsUsable now) (survives : Survives now new (λ trees. IsTrue now.is_open × AreHeldOf latest trees)) where
   unwritten : Survives first new (λ trees. IsTrue first.is_open × AreAfterSome s it.batch.served it.batch.first.answers trees)
@@ -410,7 +410,7 @@ module _ (first now new : Store) (s : State) (events : List Event) (before repli
       ))
       it.left survives
 
-  -- one more event joins those that wait
+  -- one more event joins the waiting ones
   pub one_joins : (happened : Event) (answer : Reply) (held_later : HeldBack) (after : State) → Joins (HasCleanDisk new) happened (length replies) held latest answer held_later after
       → IsLeftBatch first new s (events ++ happened ∷ []) before (replies ++ answer ∷ []) held_later after
   unfolding batch_joins
@@ -420,7 +420,7 @@ module _ (first now new : Store) (s : State) (events : List Event) (before repli
     left = unwritten;
   }
 
-  -- or none does
+  -- no event joins
   pub still_waits : IsLeftBatch first new s events before replies held latest
   still_waits =
       let batch = it.batch in
@@ -449,7 +449,7 @@ nothing_left now s before =
     none_wait now now s [] before before s
     (record { served = nothing_served (HasCleanDisk now) s before; usable = λ usable. usable; left = survives_itself now _ })
 
--- what was answered is what stands behind the replies that there were
+-- the answers of this call are the replies after the earlier ones
 pub left_behind : (first now : Store) (s : State) (events : List Event) (before replies : List Reply) (latest : State) → AreServedAll first now s events before replies latest
     → Survives first now (λ trees. IsTrue first.is_open × AreAfterSome s events (drop (length before) replies) trees)
 left_behind first now s events before replies latest it =

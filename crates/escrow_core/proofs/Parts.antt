@@ -33,7 +33,7 @@ use Rattle.escrow_core.proofs.Together.{neither}
 
 -- PLACES OF A PLAN
 
--- a part of a plan, from a place on
+-- a part of a plan, from an index on
 pub record IsPart {A : Type 0} (plan : List A) (i : ℕ) (part : List A) : Type 0 where
   pub n : ℕ
   pub is : part ≡ take n (drop i plan)
@@ -42,7 +42,7 @@ pub record IsPart {A : Type 0} (plan : List A) (i : ℕ) (part : List A) : Type 
 part_len : {A : Type 0} (plan : List A) (i : ℕ) (part : List A) (p : IsPart plan i part) → length part ≡ p.n
 part_len plan i part p = ap length p.is ∙ length-take-le p.n (drop i plan) p.few
 
--- one that is taken of what is left
+-- a part that is taken from the remaining entries
 pub part_of : {A : Type 0} (plan : List A) (i n : ℕ) → n ≤ length (take (length plan - i) (drop i plan)) → IsPart plan i (take n (take (length plan - i) (drop i plan)))
 part_of plan i n few =
     let all : take (length plan - i) (drop i plan) ≡ drop i plan = take_all (length plan - i) (drop i plan) (omega (arith, length-drop i plan)) in
@@ -55,7 +55,7 @@ part_of plan i n few =
 pub part_within : {A : Type 0} (plan : List A) (i : ℕ) (part : List A) → IsPart plan i part → i ≤ length plan → i + length part ≤ length plan
 part_within plan i part p within = omega (arith, part_len plan i part p, p.few, length-drop i plan, within)
 
--- the first entries of a part, behind those before it
+-- the first entries of a part, after the entries before it
 part_take : {A : Type 0} (plan : List A) (i : ℕ) (part : List A) (m : ℕ) (p : IsPart plan i part) → m ≤ length part → take (i + m) plan ≡ take i plan ++ take m part
 part_take plan i part m p few =
     take-add i m plan
@@ -64,14 +64,14 @@ part_take plan i part m p few =
 pub part_all : {A : Type 0} (plan : List A) (i : ℕ) (part : List A) → IsPart plan i part → take (i + length part) plan ≡ take i plan ++ part
 part_all plan i part p = part_take plan i part (length part) p (omega arith) ∙ ap (λ xs. take i plan ++ xs) (take_all (length part) part (omega arith))
 
--- any number of first entries of a part
+-- some first entries of a part
 pub some_take : {A : Type 0} (part : List A) (m : ℕ) → (k : ℕ) × (k ≤ length part) × (take k part ≡ take m part)
 some_take [] zero = (0, omega arith, refl)
 some_take [] (suc m) = (0, omega arith, refl)
 some_take (x ∷ part) zero = (0, omega arith, refl)
 some_take (x ∷ part) (suc m) = let rest = some_take part m in (suc rest.0, omega (arith, rest.1), ap (λ xs. x ∷ xs) rest.2)
 
--- one COMMIT more, of a session that none of them is of
+-- one more COMMIT, of a session that has none in the plan
 commits_push : (plan : List (ℕ × End)) (entry : ℕ × End) → AreCommits plan → entry.1 ≡ end.Commit → list_any (λ (e : ℕ × End). e.0 == entry.0) plan ≡ false → AreCommits (plan ++ entry ∷ [])
 commits_push [] entry commits is none = (is, refl, tt)
 commits_push (first ∷ plan) entry commits is none =
@@ -87,14 +87,14 @@ pub commits_more : (plan : List (ℕ × End)) (i : ℕ) (entry : ℕ × End) →
 commits_more plan i entry below at is none commits =
     subst AreCommits (sym (take_more plan i entry below ∙ ap (λ (e : ℕ × End). take i plan ++ e ∷ []) (sym at))) (commits_push (take i plan) entry commits is none)
 
--- the first of COMMITs is one
+-- the first entry of a plan of COMMITs is a COMMIT
 pub first_commits : (plan : List (ℕ × End)) (entry : ℕ × End) → 0 < length plan → entry ≡ get_or plan 0 entry → AreCommits plan → entry.1 ≡ end.Commit
 first_commits [] entry some at commits = absurd (omega (arith, some))
 first_commits (first ∷ plan) entry some at commits = ap (λ (e : ℕ × End). e.1) at ∙ commits.0
 
 -- STATES
 
--- the reservations that are left after one entry more
+-- the remaining reservations after one more entry
 left_push : (plan : List (ℕ × End)) (entry : ℕ × End) (reservations : List Reservation) → left_after (plan ++ entry ∷ []) reservations ≡ others entry.0 (left_after plan reservations)
 left_push [] entry reservations = refl
 left_push (first ∷ plan) entry reservations = left_push plan entry (others first.0 reservations)
@@ -109,7 +109,7 @@ ends_append : (s : State) (first second : List (ℕ × End)) → after_ends s (f
 ends_append s [] second = refl
 ends_append s (entry ∷ first) second = ends_append (after_end s entry.0 entry.1) first second
 
--- the state after some first entries of a part
+-- the state after the first entries of a part
 within_part : (plan : List (ℕ × End)) (i m : ℕ) (part : List (ℕ × End)) (s mid : State) → IsPart plan i part → m ≤ length part → mid ≡ after_ends s (take i plan)
     → after_ends mid (take m part) ≡ after_ends s (take (i + m) plan)
 within_part plan i m part s mid p few before =
@@ -117,7 +117,7 @@ within_part plan i m part s mid p few before =
     ∙ sym (ends_append s (take i plan) (take m part))
     ∙ ap (after_ends s) (sym (part_take plan i part m p few))
 
--- and after all of them
+-- the state after all entries of a part
 pub part_done : (plan : List (ℕ × End)) (i : ℕ) (part : List (ℕ × End)) (s mid new : State) → IsPart plan i part → mid ≡ after_ends s (take i plan)
     → new ≡ after_ends mid part → new ≡ after_ends s (take (i + length part) plan)
 part_done plan i part s mid new p before done =
@@ -136,7 +136,7 @@ get_taken (x ∷ xs) zero k below = absurd (omega (arith, below))
 get_taken (x ∷ xs) (suc n) zero below = refl
 get_taken (x ∷ xs) (suc n) (suc k) below = get_taken xs n k (omega (arith, below))
 
--- a plan stops where a part of it stops
+-- the plan stops where its part stops
 pub part_stops : (plan : List (ℕ × End)) (i : ℕ) (part : List (ℕ × End)) (cause : Failure) (stop : Stop) (s mid new : State) → IsPart plan i part → mid ≡ after_ends s (take i plan)
     → stop.place < length part → IsStop part mid stop new → IsStop plan s (record { place = i + stop.place; cause = cause }) new
 part_stops plan i part cause stop s mid new p before within it = record {
@@ -151,7 +151,7 @@ part_stops plan i part cause stop s mid new p before within it = record {
   holds = it.holds;
 }
 
--- what a crash leaves within a part is what some first entries of the plan make
+-- within a part, a crash leaves the state after some first entries of the plan
 pub part_survives : (a b c : Store) (plan : List (ℕ × End)) (i : ℕ) (part : List (ℕ × End)) (s mid : State) → IsPart plan i part
     → (HasCleanDisk b → mid ≡ after_ends s (take i plan)) → (IsUsable b → IsUsable a)
     → Survives a b (λ trees. IsTrue a.is_open × AreAfterEnds plan s trees)
@@ -170,17 +170,17 @@ part_survives a b c plan i part s mid p before usable one two =
     ((usable (mid_clean, k.0)).1, (i + few.0, subst (λ (t : State). AreHeldOf t trees) same left.1)))
     one two
 
--- all of a plan is some first entries of it
+-- all entries are some first entries of the plan
 pub after_all : (plan : List (ℕ × End)) (s : State) (trees : Trees) → AreHeldOf (after_ends s plan) trees → AreAfterEnds plan s trees
 after_all plan s trees held =
     (length plan, subst (λ (t : State). AreHeldOf t trees) (sym (settled_is_the_run s (take (length plan) plan) ∙ ap (after_ends s) (take_all (length plan) plan (omega arith)))) held)
 
--- what holds where a call is done, holds there for what it implies
+-- what a successful call implies
 on_ok : {A E : Type 0} {P Q : Type 0} (r : Result A E) → (P → Q) → OnOk r P → OnOk r Q
 on_ok (Ok x) then holds = then holds
 on_ok (Err e) then holds = tt
 
--- a plan is settled after a write of all of it that was refused, where the store is open still
+-- a plan is settled after a write of the whole plan was refused, if the store is still open
 pub settles_after : {S : Type 0} (g : Ghosts S) (plan : List (ℕ × End)) (old mid new : Database S) (r : Result Settled Stop) → mid.state ≡ old.state → (HasCleanDisk (state g mid.store) → IsTrue (state g mid.store).is_open)
     → (IsUsable (state g mid.store) → IsUsable (state g old.store))
     → Survives (state g old.store) (state g mid.store) (λ trees. IsTrue (state g old.store).is_open × AreHeldOf (after_ends old.state plan) trees)
@@ -202,7 +202,7 @@ settles_after g plan old mid new r same opened usable survives it = record {
 
 -- COUNTS
 
--- how many reservations of a transaction that ends so are applied, and how many are dropped
+-- how many reservations an end applies, and how many it drops
 abbrev applied_of : End → ℕ → ℕ
 applied_of end.Commit n = n
 applied_of end.Rollback n = 0
@@ -211,7 +211,7 @@ abbrev dropped_of : End → ℕ → ℕ
 dropped_of end.Commit n = 0
 dropped_of end.Rollback n = n
 
--- and of a plan's transactions, one after another
+-- the numbers for the transactions of a plan, one after another
 abbrev pub commits_of : List (ℕ × End) → List Reservation → ℕ
 commits_of [] reservations = 0
 commits_of (entry ∷ plan) reservations = applied_of entry.1 (length (own entry.0 reservations)) + commits_of plan (others entry.0 reservations)
@@ -220,7 +220,7 @@ abbrev pub releases_of : List (ℕ × End) → List Reservation → ℕ
 releases_of [] reservations = 0
 releases_of (entry ∷ plan) reservations = dropped_of entry.1 (length (own entry.0 reservations)) + releases_of plan (others entry.0 reservations)
 
--- counts with these added
+-- the counts with these added
 abbrev pub more_by : List (ℕ × End) → List Reservation → Settled → Settled
 more_by plan reservations done = record { committed = done.committed + commits_of plan reservations; released = done.released + releases_of plan reservations }
 
@@ -231,7 +231,7 @@ more_first (a, end.Commit) plan reservations done =
 more_first (a, end.Rollback) plan reservations done =
     ap₂ (λ (x y : ℕ). let both : Settled = record { committed = x; released = y } in both) (omega arith) (omega arith)
 
--- what stands at a place
+-- the entry at an index
 head_at : {A : Type 0} (plan : List A) (i : ℕ) (entry : A) (rest : List A) → drop i plan ≡ entry ∷ rest
     → (i < length plan) × (entry ≡ get_or plan i entry) × (drop (i + 1) plan ≡ rest)
 head_at plan i entry rest is =
@@ -240,7 +240,7 @@ head_at plan i entry rest is =
     let both : get_or plan i entry ∷ drop (i + 1) plan ≡ entry ∷ rest = sym (drop_more plan i entry below) ∙ is in
     (below, cc, cc)
 
--- part of the plan is counted
+-- a part of the plan is counted
 counts_by : (plan : List (ℕ × End)) (all : List Reservation) (part later : List (ℕ × End)) (i : ℕ) (reservations : List Reservation) (done : Settled) → drop i plan ≡ part ++ later
     → CountsSoFar plan all (drop i plan) reservations done → CountsSoFar plan all later (left_after part reservations) (more_by part reservations done)
 counts_by plan all [] later i reservations done is so_far =
@@ -269,7 +269,7 @@ counts_are plan reservations done counts =
     let all = counts_end plan reservations (length plan) (left_after plan reservations) _ (omega arith) (whole plan reservations) in
     (omega (arith, counts.committed, all.committed), omega (arith, counts.released, all.released))
 
--- COMMITs drop none, and apply what isn't left
+-- COMMITs drop no reservation, and apply those that do not remain
 commits_drop : (plan : List (ℕ × End)) (reservations : List Reservation) → AreCommits plan → releases_of plan reservations ≡ 0
 commits_drop [] reservations commits = refl
 commits_drop (entry ∷ plan) reservations commits =
@@ -288,7 +288,7 @@ commits_counts plan reservations left count commits is_left is =
       released = omega (arith, all.released, none);
     }
 
--- a part more is counted
+-- one more part is counted
 pub part_counts : (plan : List (ℕ × End)) (all : List Reservation) (i : ℕ) (part : List (ℕ × End)) (reservations left : List Reservation) (done more new : Settled) → IsPart plan i part
     → AreCounts part reservations more → left ≡ left_after part reservations → new.committed ≡ done.committed + more.committed → new.released ≡ done.released + more.released
     → CountsSoFar plan all (drop i plan) reservations done → CountsSoFar plan all (drop (i + length part) plan) left new
@@ -305,7 +305,7 @@ part_counts plan all i part reservations left done more new p counts is_left com
       few = omega (arith, committed, released, are.0, are.1, next.few);
     })
 
--- there is room to count it
+-- the counts stay within the limit of open reservations
 pub part_fits : (s : State) (plan rest : List (ℕ × End)) (reservations : List Reservation) (done : Settled) → HasOrder s → CountsSoFar plan s.reservations rest reservations done
     → done.committed + done.released ≤ MAX_OPEN
 part_fits s plan rest reservations done orderly so_far = omega (arith, so_far.few, few_reservations s orderly)

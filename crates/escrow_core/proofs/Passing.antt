@@ -1,4 +1,4 @@
--- A statement that passes the COMMITs of other sessions, where it isn't refused.
+-- A statement that commutes with the COMMITs of other sessions, if it is not refused.
 use Rattle.std.specs.Prelude.{◌≡◌, ◌==◌, ℤ, ℕ, Bool, true, false, not, ◌&&◌, ◌||◌, option_map, unwrap_or, MatchOption, IsTrue, Option, Some, None, Result, Ok, Err, List, [], ◌∷◌, map}
 use Rattle.std.specs.List.{AllByRecursion, list_any, list_all}
 use Rattle.std.proofs.Common.{refl, sym, ap, subst, eq-eqb, ◌∙◌}
@@ -29,19 +29,19 @@ use Rattle.escrow_machine.proofs.Accepted.{UpdatePlan, update_plan}
 use Rattle.escrow_machine.proofs.LawsSteps.{step_has}
 use Rattle.escrow_core.specs.Beside.{is_passing}
 
--- of the first assignment, or of a later one
+-- the first assignment, or a later one
 one_of : (named literal later replaced : Bool) → (not literal || later) ≡ true → (later ≡ true → replaced ≡ false) → ((named && literal) && replaced) ≡ false
 one_of true true later replaced some rest = rest some
 one_of true false later replaced some rest = refl
 one_of false literal later replaced some rest = refl
 
--- assignments of which one is a change replace no plain values
+-- if one assignment is a change, the assignments replace no plain values
 replaces_none : (table : TableDef) (assigns : List Assign) → list_any (λ assign. not (is_literal assign.value)) assigns ≡ true → list_all (is_replacement table) assigns ≡ false
 replaces_none table [] some = absurd (cc)
 replaces_none table (assign ∷ assigns) some =
     one_of (has_column (plains table.columns 0 table.key) assign.column) (is_literal assign.value) _ (list_all (is_replacement table) assigns) some (replaces_none table assigns)
 
--- so their plan, if they have one, is to reserve changes
+-- if these assignments have a plan, it is a reservation
 abbrev IsPassing : UpdateText → Type 0
 IsPassing text = is_passing (statement.Update text) ≡ true
 
@@ -62,7 +62,7 @@ never_plain table text key vs some =
     no_values (are_changes table.columns text.assigns) (are_replacements table text.assigns) (key_named table text.row) (changes_of table.columns text.assigns) (new_values table text.assigns) key vs
     (both_false (are_distinct (map (λ assign. assign.column) text.assigns)) (list_all (is_replacement table) text.assigns) (replaces_none table text.assigns some))
 
--- so what is not refused of it is a grant
+-- if the statement is not refused, it is granted
 grant_of_plan : (s : State) (text : UpdateText) (p : UpdatePlan s text) (asked : Plan) → IsPassing text → p.plan ≡ asked → is_grant (update_reply s asked) ≡ true
 grant_of_plan s text p (plan.Reserve key changes) some is = refl
 grant_of_plan s text p (plan.Plain key vs) some is = absurd (never_plain p.table text key vs some (p.planned ∙ ap Ok is))
@@ -98,7 +98,7 @@ may_pass s session (statement.Savepoint name) passing none not_refused = refl
 may_pass s session (statement.Update text) passing none not_refused = update_grants s session text passing not_refused
 may_pass s session _ passing none not_refused = absurd (cc)
 
--- it is served beside the COMMITs
+-- it is served beside the held COMMITs
 pub served_beside : (s : State) (session : ℕ) (asked : Statement) (answer : Reply) (new : State) → is_passing asked ≡ true → (asked ≡ statement.Commit → holds s session ≡ false)
     → is_refused answer ≡ false → StepOrRefusal s session asked answer new → IsServedBeside session asked answer s new
 served_beside s session asked answer new passing none not_refused event =
@@ -107,7 +107,7 @@ served_beside s session asked answer new passing none not_refused event =
     let told : answer ≡ (step s session asked).0 = ap (λ (p : Reply × State). p.0) is in
     record { may_pass = may_pass s session asked passing none (subst (λ (a : Reply). is_refused a ≡ false) told not_refused); is_step = is }
 
--- the sessions of a plan that doesn't name a session
+-- the plan does not name this session
 named_by_none : (b rest : Bool) → (b || rest) ≡ false → (b ≡ false) × (rest ≡ false)
 named_by_none true rest none = absurd (cc)
 named_by_none false rest none = (refl, none)

@@ -1,4 +1,4 @@
--- UPDATE: what follows for its transition from the plan, or from why there is none.
+-- UPDATE: what its plan, or the lack of one, says about its transition.
 use Rattle.std.specs.Prelude.{◌≡◌, ◌⊎◌, ℕ, ℤ, Option, Some, None, Result, Ok, Err, IfErr, IsErrOf, IsOk, IsSomeAnd, List, length}
 use Rattle.std.specs.Result.{result_ok}
 use Rattle.std.proofs.Common.{inl, inr, refl, sym, ap, subst, ◌∙◌}
@@ -35,14 +35,14 @@ planned_in s text asked is then =
     option_and_then_some (λ (table : TableDef). result_ok (planned table text)) (table_named s.catalog text.table) asked is
     (λ table named found. then table named (ok_there (planned table text) asked found))
 
--- what is planned may have a change for each RESERVABLE column
+-- a plan has one change for each RESERVABLE column
 pub whole_plan : (s : State) (text : UpdateText) (key : Value) (changes : List (Option ℤ)) → plan_of s text ≡ Some (plan.Reserve key changes)
     → IsSomeAnd (table_named s.catalog text.table) (λ table. length changes ≡ length (reservables table.columns))
 whole_plan s text key changes is =
     planned_in s text (plan.Reserve key changes) is (λ table named at.
     some_from (λ (t : TableDef). length changes ≡ length (reservables t.columns)) (table_named s.catalog text.table) table named (plans_of_whole_row table text key changes at))
 
--- where there is a plan its refusals are those of the statement
+-- if there is a plan, its refusals are those of the statement
 late_alone : (s : State) (session : ℕ) (text : UpdateText) (asked : Plan) (table : TableDef) → table_named s.catalog text.table ≡ Some table → planned table text ≡ Ok asked
     → first_refusal (refusals (transition_of s session (statement.Update text))) ≡ first_refusal (update_refusals s session text.table asked)
 unfolding transition_of
@@ -60,7 +60,7 @@ pub plan_accepted : (s : State) (session : ℕ) (text : UpdateText) (asked : Pla
     → first_refusal (update_refusals s session text.table asked) ≡ None → IsAccepted s session (statement.Update text)
 plan_accepted s session text asked is none = left_to_plan s session text asked is ∙ none
 
--- and none of them is early
+-- none of them is early
 early_none : (s : State) (session : ℕ) (text : UpdateText) (asked : Plan) (table : TableDef) → table_named s.catalog text.table ≡ Some table → planned table text ≡ Ok asked
     → PassesEarly s session (statement.Update text)
 unfolding transition_of
@@ -69,7 +69,7 @@ early_none s session text asked table named at = rw (named, at) refl
 pub planned_early : (s : State) (session : ℕ) (text : UpdateText) (asked : Plan) → plan_of s text ≡ Some asked → PassesEarly s session (statement.Update text)
 planned_early s session text asked is = planned_in s text asked is (early_none s session text asked)
 
--- a refusal to plan is one of the statement
+-- if the plan is refused, so is the statement
 early_refuses : (s : State) (session : ℕ) (text : UpdateText) (table : TableDef) (r : Refusal) → table_named s.catalog text.table ≡ Some table → planned table text ≡ Err r
     → IsRefusal s session (statement.Update text) r
 unfolding transition_of

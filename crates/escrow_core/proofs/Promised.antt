@@ -1,4 +1,4 @@
--- What is served whatever memory there is and whatever the store does.
+-- Statements that are served even without memory, and whatever the store does.
 use Rattle.std.specs.Prelude.{◌≡◌, ℕ, true, false, not, is_none, option_map, unwrap_or, MatchOption, IsTrue, Option, Some, None, List, [], ◌∷◌, ◌++◌}
 use Rattle.std.proofs.Common.{inl, inr, refl, sym, ap, ap₂, ◌∙◌, true≢false}
 use Rattle.std.proofs.lemmas.Bool.{and_parts, not-true, or_cases}
@@ -20,47 +20,47 @@ use Rattle.escrow_machine.specs.Step.{step, fails_for, may_fail, IsStep}
 use Rattle.escrow_machine.specs.Transition.{transition_of}
 use Rattle.escrow_machine.proofs.LawsPromised.{plain_refused}
 use Rattle.escrow_machine.proofs.LawsSteps.{step_has}
-use Rattle.escrow_machine.proofs.Refusals.{first_among, first_in_front}
-use Rattle.escrow_machine.proofs.TransitionWords.{NeedsMore}
+use Rattle.escrow_machine.proofs.Refusals.{first_in_front}
+use Rattle.escrow_machine.proofs.TransitionRefusals.{late_needs_more}
 use Rattle.escrow_machine.proofs.Transitions.{is_transition}
 
--- where no early refusal applies, the first that applies is a late one
+-- if no early refusal applies, the first that applies is a late one
 late_first : (early late : List (Option Refusal)) (r : Refusal) → is_none (first_refusal early) ≡ true → first_refusal (early ++ late) ≡ Some r → first_refusal late ≡ Some r
 late_first [] late r none first = first
 late_first (None ∷ early) late r none first = late_first early late r none first
 late_first (Some other ∷ early) late r none first = absurd (cc)
 
--- so the machine's reply isn't a refusal without need
+-- the machine's reply is then no plain refusal
 none_plain : (s : State) (session : ℕ) (asked : Statement) → is_none (first_refusal (transition_of s session asked).early) ≡ true
     → ¬ (is_plain_refusal asked (step s session asked).0 ≡ true)
 none_plain s session asked none =
     let transition = transition_of s session asked in
     step_has (λ (p : Reply × State). ¬ (is_plain_refusal asked p.0 ≡ true)) s session asked
     (λ r first e.
-    let more : NeedsMore asked r = first_among (NeedsMore asked) transition.late (is_transition s session asked).late r (late_first transition.early transition.late r none first) in
+    let more = late_needs_more s session asked r (late_first transition.early transition.late r none first) in
     absurd (cc))
     (λ _ e. let refused = plain_refused asked transition.reply e in (is_transition s session asked).answers refused.0 refused.1)
 
--- what is refused without need is refused early
+-- a plain refusal is an early one
 early_at : (s : State) (session : ℕ) (asked : Statement) (o : Option Refusal) → first_refusal (transition_of s session asked).early ≡ o
     → is_plain_refusal asked (step s session asked).0 ≡ true → (r : Refusal) × (first_refusal (transition_of s session asked).early ≡ Some r)
 early_at s session asked None is plain = absurd (none_plain s session asked (ap (λ (o : Option Refusal). is_none o) is) plain)
 early_at s session asked (Some r) is plain = (r, is)
 
--- and that refusal is the step
+-- an early refusal is the reply of the step
 early_step : (s : State) (session : ℕ) (asked : Statement) (r : Refusal) → first_refusal (transition_of s session asked).early ≡ Some r → (reply.Refused r, s) ≡ step s session asked
 early_step s session asked r first =
     let transition = transition_of s session asked in
     sym (ap (λ (o : Option Refusal). unwrap_or (option_map (λ (q : Refusal). (reply.Refused q, s)) o) (transition.reply, transition.next)) (first_in_front transition.early transition.late r first))
 
--- what needs neither memory nor the store fails for neither
+-- a statement that needs neither memory nor the store fails for neither
 takes_nothing : (s : State) (session : ℕ) (asked : Statement) (f : Failure) → needs_nothing s session asked ≡ true → fails_for s session asked f ≡ false
 takes_nothing s session asked failure.Memory none =
     not-true (fails_for s session asked failure.Memory) (and_parts (not (fails_for s session asked failure.Memory)) (not (asks_store s session asked)) none).0
 takes_nothing s session asked failure.Store none =
     not-true (asks_store s session asked) (and_parts (not (fails_for s session asked failure.Memory)) (not (asks_store s session asked)) none).1
 
--- nor does it go by rows
+-- such a statement reads no rows
 reads_nothing : (s : State) (session : ℕ) (asked : Statement) → needs_nothing s session asked ≡ true → reads_rows s session asked ≡ false
 reads_nothing s session (statement.Update text) none = absurd (cc)
 reads_nothing s session asked none = takes_nothing s session asked failure.Store none
@@ -75,7 +75,7 @@ kept : (s : State) (session : ℕ) (asked : Statement) (answer : Reply) (new : S
 kept s session asked answer new None none event = event
 kept s session asked answer new (Some f) none event = absurd (never_fails s session asked f none event.0)
 
--- what is promised is answered by the step, and leaves the store
+-- a promised statement has the reply of the step, and leaves the store untouched
 pub promised : {S : Type 0} (g : Ghosts S) (session : ℕ) (asked : Statement) (old : Database S) (answer : Reply) (new : Database S) → Serves g session asked old answer new
     → IsTrue (is_promised old.state session asked) → (new.store ≡ old.store) × IsStep old.state session asked answer new.state
 promised {S} g session asked old answer new serves promise =

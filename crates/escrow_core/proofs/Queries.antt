@@ -1,4 +1,4 @@
--- SELECT, SHOW TABLE, SHOW JOURNAL and SHOW BOUNDS: how a call that served one meets the machine's step.
+-- SELECT, SHOW TABLE, SHOW JOURNAL and SHOW BOUNDS: how the call corresponds to the machine's step.
 use Rattle.std.specs.Prelude.{◌≡◌, ℕ, ℤ, true, false, Option, Some, None, unwrap_or, option_map, option_to_list, List, [], filter}
 use Rattle.std.proofs.Common.{inl, inr, refl, sym, ap, ap₂, subst, ◌∙◌, true≢false}
 use Rattle.escrow_num.specs.declared.refusal.Refusal.TheVariants as refusal
@@ -31,19 +31,19 @@ use Rattle.escrow_reserved.proofs.Standing.{no_row, standing}
 use Rattle.escrow_core.proofs.Serving.{late_applies, none_applies}
 use Rattle.escrow_core.proofs.Served.{rule_serves, accepted_serves, memory_serves}
 
--- SELECT that isn't refused early: none applies
+-- a SELECT without an early refusal is accepted
 pub select_answers : (s : State) (session : ℕ) (text : SelectText) (answer : Reply) → PassesEarly s session (statement.Select text) → answer ≡ select_reply s text
     → StepOrRefusal s session (statement.Select text) answer s
 unfolding transition_of
 select_answers s session text answer early is =
     subst (λ (r : Reply). StepOrRefusal s session (statement.Select text) r s) (sym is) (accepted_serves s session (statement.Select text) (none_applies s session (statement.Select text) early refl))
 
--- the rows of a name are the one that is found by it
+-- at most one row has a name: the one that a lookup finds
 pub selects_one : (rows : List Row) (name : RowName) (found : Option Row) → IsAscending row_before rows → found ≡ row_named rows name
     → option_to_list found ≡ filter (λ row. same_row row.name name) rows
 selects_one rows name found order is = ap option_to_list is ∙ sym (rows_named rows name order)
 
--- SHOW BOUNDS that isn't refused early: only a row that isn't there is refused late
+-- a SHOW BOUNDS without an early refusal is refused only if the row does not exist
 pub bounds_lack : (s : State) (session : ℕ) (text : RowText) → PassesEarly s session (statement.ShowBounds text)
     → None ≡ amounts_named s.rows (named_by s.catalog text.table text.row) → IsRefusal s session (statement.ShowBounds text) refusal.NoSuchRow
 unfolding transition_of
@@ -51,7 +51,7 @@ bounds_lack s session text early none =
     let name = named_by s.catalog text.table text.row in
     late_applies s session (statement.ShowBounds text) refusal.NoSuchRow early (lacking (row_named s.rows name) refusal.NoSuchRow [] (no_row s.rows name none))
 
--- what is shown of the row that is found
+-- what is shown of the row
 bounds_found : (s : State) (text : RowText) (table : TableDef) (row : Row) → table_named s.catalog text.table ≡ Some table
     → row_named s.rows (named_by s.catalog text.table text.row) ≡ Some row → bounds_reply s text ≡ bounds_in s.reservations table row.name row.amounts
 bounds_found s text table row named found = rw (found, named) refl
@@ -67,7 +67,7 @@ bounds_answers s session text table amounts early named has =
     subst (λ (r : Reply). StepOrRefusal s session (statement.ShowBounds text) r s) (is ∙ ap₂ (bounds_in s.reservations table) row.named row.has)
     (accepted_serves s session (statement.ShowBounds text) accepted)
 
--- SHOW JOURNAL of a table that is there, or of all, and of one that isn't
+-- SHOW JOURNAL of all tables, of an existing one, and of one that does not exist
 journal_accepted : (s : State) (session : ℕ) (table : Option (List ℕ)) → is_known s table ≡ true → IsAccepted s session (statement.ShowJournal table)
 unfolding transition_of
 journal_accepted s session None known = refl
@@ -88,7 +88,7 @@ unfolding transition_of
 journal_refuses s session None unknown = absurd (true≢false unknown)
 journal_refuses s session (Some name) unknown = inl (rw (none_there (table_named s.catalog name) unknown) refl)
 
--- SHOW TABLE of a table that isn't there, and of one that is
+-- SHOW TABLE of a table that does not exist, and of one that does
 pub show_refuses : (s : State) (session : ℕ) (name : List ℕ) → table_named s.catalog name ≡ None
     → StepOrRefusal s session (statement.ShowTable name) (reply.Refused refusal.NoSuchTable) s
 unfolding transition_of

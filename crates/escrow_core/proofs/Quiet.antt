@@ -1,4 +1,4 @@
--- What tells of no write leaves the tables and rows.
+-- A reply that reports no write leaves the tables and rows unchanged.
 use Rattle.std.specs.Prelude.{◌≡◌, ℕ, Bool, true, false, not, ◌||◌, nat_lt, ◌⊎◌, Option, Some, None, option_map, unwrap_or, MatchOption, MatchBool, IsTrue, List, [], ◌∷◌, length}
 use Rattle.std.proofs.Common.{inl, inr, refl, sym, ap, subst, subst₂, arith, ◌∙◌}
 use Rattle.std.proofs.lemmas.Bool.Decides.{nat_tests}
@@ -36,7 +36,7 @@ AreKept old new = (new.catalog ≡ old.catalog) × (new.rows ≡ old.rows)
 pub kept_then : (a b c : State) → AreKept a b → AreKept b c → AreKept a c
 kept_then a b c one two = (two.0 ∙ one.0, two.1 ∙ one.1)
 
--- what holds those of one holds those of the other
+-- trees that hold the tables and rows of one hold those of the other
 pub held_before : (old new : State) (trees : Trees) → AreKept old new → AreHeldOf new trees → AreHeldOf old trees
 held_before old new trees kept held = subst₂ (λ catalog rows. AreHeld catalog rows trees) kept.0 kept.1 held
 
@@ -82,7 +82,7 @@ quiet_by s session asked answer new (Some f) quiet event = (ap (λ (t : State). 
 pub quiet_served : (s : State) (session : ℕ) (asked : Statement) (answer : Reply) (new : State) → tells_write answer ≡ false → StepOrRefusal s session asked answer new → AreKept s new
 quiet_served s session asked answer new quiet event = quiet_by s session asked answer new (failure_of answer) quiet event
 
--- WHAT PASSES COMMITS THAT ARE HELD BACK
+-- STATEMENTS THAT COMMUTE WITH HELD COMMITS
 
 either : (a b : Bool) → (a || b) ≡ true → (a ≡ true) ⊎ (b ≡ true)
 either true b is = inl refl
@@ -119,7 +119,7 @@ quiet_passing : (b : Bool) (s : State) (session : ℕ) (asked : Statement) → i
 quiet_passing true s session asked is passing none = quiet_refusal (step s session asked).0 is
 quiet_passing false s session asked is passing none = quiet_pass s session asked (may_pass s session asked passing none is)
 
--- so a crash leaves what it might have left before, or the tables and rows that there were
+-- a crash leaves what it could leave before, or the same tables and rows
 pub pass_survives : (a b : Store) (s : State) (session : ℕ) (asked : Statement) → is_passing asked ≡ true → (asked ≡ statement.Commit → holds s session ≡ false)
     → Survives a b (λ trees. IsTrue a.is_open × AreAfter s session asked trees) → Survives a b (λ trees. IsTrue a.is_open × AreHeldOf s trees)
 pass_survives a b s session asked passing none =
@@ -136,7 +136,7 @@ pub held_kept : (mid : State) (ws : List Waiting) (now : State) → IsHeldRun mi
 held_kept mid [] now held = (ap (λ (t : State). t.catalog) held, ap (λ (t : State). t.rows) held)
 held_kept mid (w ∷ earlier) now held = kept_then mid held.0 now (held_kept mid earlier held.0 held.1) (kept_beside w.is_held w.session w.asked w.answer held.0 now held.3)
 
--- and their reply tells of no write
+-- the replies to these statements report no write
 pub quiet_beside : (session : ℕ) (asked : Statement) (answer : Reply) (mid now : State) → IsServedBeside session asked answer mid now → tells_write answer ≡ false
 quiet_beside session asked answer mid now beside =
     subst (λ (a : Reply). tells_write a ≡ false) (sym (ap (λ (p : Reply × State). p.0) beside.is_step)) (quiet_pass mid session asked beside.may_pass)

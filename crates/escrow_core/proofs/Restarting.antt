@@ -1,4 +1,4 @@
--- A restart: what the database keeps where nothing is open any more.
+-- A restart: what the database keeps if nothing is open any more.
 use Rattle.sqlite_trees.specs.declared.store.Store.{Ghosts}
 use Rattle.std.specs.Prelude.{[], refl}
 use Rattle.escrow_bounds.specs.Bounds.{Bounds}

@@ -1,4 +1,4 @@
--- How a call that served a statement meets the machine's step.
+-- How a call that serves a statement corresponds to the machine's step.
 use Rattle.std.specs.Prelude.{◌≡◌, ◌⊎◌, ℕ, true, is_none, option_map, unwrap_or, MatchOption, IsTrue, IfSome, Option, Some, None, Result, Err, List, [], ◌∷◌, length}
 use Rattle.std.proofs.Common.{inl, inr, refl, sym, ap, ◌∙◌, subst}
 use Rattle.std.proofs.lemmas.Bool.{and_from}
@@ -23,31 +23,31 @@ use Rattle.escrow_machine.specs.State.{State, open_in, with_open}
 use Rattle.escrow_machine.specs.Step.{refusals, step, fails_for, may_fail, IsStep, StepOrRefusal}
 use Rattle.escrow_machine.specs.Transition.{transition_of, update_reply, after_update, after_commit, after_rollback, after_savepoint, after_rollback_to}
 use Rattle.escrow_machine.specs.Asked.{plan_of}
-use Rattle.escrow_machine.proofs.Refusals.{none_in_front, first_among}
-use Rattle.escrow_machine.proofs.TransitionWords.{IsJudged}
+use Rattle.escrow_machine.proofs.Refusals.{none_in_front}
+use Rattle.escrow_machine.proofs.TransitionRefusals.{refusal_is_no_failure}
 use Rattle.escrow_machine.proofs.Transitions.{is_transition}
 
--- a reply that is no failure is the step's
+-- a reply that is no failure is that of the step
 pub stepped : (s : State) (session : ℕ) (asked : Statement) (answer : Reply) (new : State) → failure_of answer ≡ None
     → (answer, new) ≡ step s session asked → StepOrRefusal s session asked answer new
 stepped s session asked answer new succeeds is =
     subst (λ (o : Option Failure). MatchOption o (IsStep s session asked answer new) (λ f. IsTrue (may_fail s session asked f) × (new ≡ s)))
     (sym succeeds) (record { is_step = is })
 
--- a refusal, with the state equal: the first that applies
+-- the first refusal that applies, with the state unchanged
 pub rule_serves : (s : State) (session : ℕ) (asked : Statement) (r : Refusal) → first_refusal (refusals (transition_of s session asked)) ≡ Some r
     → StepOrRefusal s session asked (reply.Refused r) s
 rule_serves s session asked r first =
     let transition = transition_of s session asked in
-    stepped s session asked (reply.Refused r) s (first_among IsJudged (refusals transition) (is_transition s session asked).judged r first)
+    stepped s session asked (reply.Refused r) s (refusal_is_no_failure s session asked r first)
     (sym (ap (λ (o : Option Refusal). unwrap_or (option_map (λ (q : Refusal). (reply.Refused q, s)) o) (transition.reply, transition.next)) first))
 
--- a failure that the statement may meet
+-- a failure that the statement may have
 told_serves : (s : State) (session : ℕ) (asked : Statement) (f : Failure) → IsTrue (may_fail s session asked f) → StepOrRefusal s session asked (reply.Refused (refusal_for f)) s
 told_serves s session asked failure.Memory may = (may, refl)
 told_serves s session asked failure.Store may = (may, refl)
 
--- or a failure
+-- a refusal of the machine, or a failure
 pub refused_serves : (s : State) (session : ℕ) (asked : Statement) (r : Refusal) → IsRefusal s session asked r
     → StepOrRefusal s session asked (reply.Refused r) s
 refused_serves s session asked r (inl by_rule) = rule_serves s session asked r by_rule
@@ -55,7 +55,7 @@ refused_serves s session asked r (inr failing) =
     let may = failing.2 in
     subst (λ (q : Refusal). StepOrRefusal s session asked (reply.Refused q) s) (sym failing.1) (told_serves s session asked failing.0 may)
 
--- the reply and the next state where no refusal applies
+-- if no refusal applies, the transition's reply and next state
 pub accepted_serves : (s : State) (session : ℕ) (asked : Statement) → IsAccepted s session asked
     → StepOrRefusal s session asked (transition_of s session asked).reply (transition_of s session asked).next
 accepted_serves s session asked accepted =
@@ -63,7 +63,7 @@ accepted_serves s session asked accepted =
     stepped s session asked transition.reply transition.next (is_transition s session asked).succeeds
     (sym (ap (λ (o : Option Refusal). unwrap_or (option_map (λ (q : Refusal). (reply.Refused q, s)) o) (transition.reply, transition.next)) accepted))
 
--- out of memory where no refusal applies, of a statement that may be so
+-- if no refusal applies, the statement may fail for memory
 pub memory_serves : (s : State) (session : ℕ) (asked : Statement) → IsAccepted s session asked → fails_for s session asked failure.Memory ≡ true
     → StepOrRefusal s session asked (reply.Refused refusal.Memory) s
 memory_serves s session asked accepted wants =
@@ -88,7 +88,7 @@ pub rollback_serves : (s : State) (session : ℕ) → StepOrRefusal s session st
 unfolding transition_of
 rollback_serves s session = accepted_serves s session statement.Rollback refl
 
--- SAVEPOINT: made where there is no reason against it, else refused for the reason, or out of memory
+-- SAVEPOINT: accepted if there is no reason against it; otherwise refused for the reason, or for memory
 pub savepoint_accepted : (s : State) (session : ℕ) (name : List ℕ) → savepoint_refusal session name (open_in s) ≡ None → IsAccepted s session (statement.Savepoint name)
 unfolding transition_of
 savepoint_accepted s session name room = ap (λ (o : Option Refusal). first_refusal (o ∷ [])) room
@@ -122,12 +122,12 @@ pub savepoint_refuses : (s : State) (session : ℕ) (name : List ℕ) (r : Refus
     → (savepoint_refusal session name (open_in s) ≡ Some r) ⊎ (r ≡ refusal.Memory) → StepOrRefusal s session (statement.Savepoint name) (reply.Refused r) s
 savepoint_refuses s session name r first only = refused_by s session name r (savepoint_refusal session name (open_in s)) refl first only
 
--- what is refused for the reason that there is, if there is one, is refused for that reason
+-- a call that is refused is refused for the reason there is
 pub same_reason : {X : Type 0} (o : Option Refusal) (result : Result X Refusal) (r : Refusal) → IfSome o (λ e. result ≡ Err e) → result ≡ Err r → IfSome o (λ e. e ≡ r)
 same_reason None result r refused err = tt
 same_reason (Some e) result r refused err = let same : Err e ≡ Err r = sym refused ∙ err in cc
 
--- ROLLBACK TO, by how many reservations came after the savepoint, if there is one
+-- ROLLBACK TO, by how many reservations came after the savepoint, if it exists
 back_at : (s : State) (session : ℕ) (name : List ℕ) (o : Option Savepoint) (count : ℕ) → savepoint_of session name s.savepoints ≡ o
     → option_map (λ p. length (after p s.reservations)) o ≡ Some count → IsAccepted s session (statement.RollbackTo name)
 unfolding transition_of

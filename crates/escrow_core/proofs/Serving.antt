@@ -1,4 +1,4 @@
--- How a call that serves a statement is put together.
+-- The parts of a call that serves a statement.
 use Rattle.std.specs.Prelude.{◌≡◌, ◌⊎◌, ℕ, ℤ, List, [], ◌∷◌, length, MatchOption, Bool, true, false, Option, Some, None, IsSomeAnd, Result, Ok, Err, option_map, unwrap_or, is_none, is_some, IsTrue}
 use Rattle.std.specs.Result.{IsErrAnd}
 use Rattle.std.proofs.Common.{inl, inr, refl, sym, ap, ap₂, subst, le_refl, arith, ◌∙◌}
@@ -47,20 +47,20 @@ use Rattle.escrow_machine.proofs.Shapes.{HasOrder}
 use Rattle.escrow_reserved.proofs.Places.{amounts_stay, tables_stay}
 use Rattle.escrow_core.proofs.Served.{refused_serves, stepped}
 
--- where no refusal applies the step is the transition's
+-- if no refusal applies, the step is the transition
 pub accepted_step : (s : State) (session : ℕ) (asked : Statement) → IsAccepted s session asked
     → step s session asked ≡ ((transition_of s session asked).reply, (transition_of s session asked).next)
 accepted_step s session asked accepted =
     let transition = transition_of s session asked in
     ap (λ (o : Option Refusal). unwrap_or (option_map (λ (q : Refusal). (reply.Refused q, s)) o) (transition.reply, transition.next)) accepted
 
--- where one applies the step is that refusal, and the state stays
+-- if a refusal applies, the step is that refusal, and the state stays
 pub refused_step : (s : State) (session : ℕ) (asked : Statement) (r : Refusal) → first_refusal (refusals (transition_of s session asked)) ≡ Some r → step s session asked ≡ (reply.Refused r, s)
 refused_step s session asked r first =
     let transition = transition_of s session asked in
     ap (λ (o : Option Refusal). unwrap_or (option_map (λ (q : Refusal). (reply.Refused q, s)) o) (transition.reply, transition.next)) first
 
--- the reply where a row has to stand: the refusal where it doesn't
+-- the reply if a row must exist: the refusal if it does not
 abbrev pub tried : Option Row → Refusal → Reply → Reply
 tried None r done = reply.Refused r
 tried (Some row) r done = done
@@ -69,17 +69,17 @@ pub tried_some : (o : Option Row) (r : Refusal) (done : Reply) → true ≡ is_s
 tried_some None r done stands = absurd (false≢true (sym stands))
 tried_some (Some row) r done stands = refl
 
--- a statement that passes its early refusals may fail for what it takes
+-- a statement without an early refusal may fail for what it needs
 pub fails : (s : State) (session : ℕ) (asked : Statement) (f : Failure) → PassesEarly s session asked → fails_for s session asked f ≡ true → IsRefusal s session asked (refusal_for f)
 fails s session asked f early takes = inr (f, refl, rw (early, takes) refl)
 
--- a refusal that is told of is one of the statement, or tells of a failure
+-- a reported refusal is one of the statement, or reports a failure
 pub told_or_failed : (s : State) (session : ℕ) (asked : Statement) (clean : Type 0) (r expected : Refusal) → PassesEarly s session asked → ((f : Failure) → fails_for s session asked f ≡ true)
     → (IsFailure r ⊎ (clean → r ≡ expected)) → (clean → IsRefusal s session asked expected) → clean → IsRefusal s session asked r
 told_or_failed s session asked clean r expected early takes (inl failed) is now = subst (IsRefusal s session asked) (sym failed.1) (fails s session asked failed.0 early (takes failed.0))
 told_or_failed s session asked clean r expected early takes (inr told) is now = subst (IsRefusal s session asked) (sym (told now)) (is now)
 
--- a late refusal applies where no early one does, and where neither does none applies
+-- if no early refusal applies, the first late one does, or none applies
 pub late_first : (s : State) (session : ℕ) (asked : Statement) (r : Refusal) → PassesEarly s session asked → first_refusal (transition_of s session asked).late ≡ Some r
     → first_refusal (refusals (transition_of s session asked)) ≡ Some r
 late_first s session asked r early first =
@@ -96,11 +96,11 @@ none_applies s session asked early none =
     let transition = transition_of s session asked in
     first_behind transition.early transition.late early ∙ none
 
--- no early refusal applies to an equal state
+-- no early refusal applies in an equal state
 pub still_passes : (old new : State) (session : ℕ) (asked : Statement) → new ≡ old → PassesEarly old session asked → PassesEarly new session asked
 still_passes old new session asked same early = subst (λ (s : State). PassesEarly s session asked) (sym same) early
 
--- an early refusal is the one that is answered
+-- an early refusal is the reply
 early_answered : (s : State) (session : ℕ) (asked : Statement) (r other : Refusal) → IsRefusal s session asked r → first_refusal (transition_of s session asked).early ≡ Some other → r ≡ other
 early_answered s session asked r other (inl first) early =
     let transition = transition_of s session asked in
@@ -113,7 +113,7 @@ early_answered s session asked r other (inr failing) early =
     let none : is_none (Some other) ≡ true = subst (λ (o : Option Refusal). is_none o ≡ true) early parts.0 in
     absurd (false≢true none)
 
--- what leaves by a `?` answers the refusal that it is
+-- a call that ends by `?` returns the refusal
 pub left_by : (result : Result Reply Refusal) (r : Refusal) → IsErrAnd result (λ e. e ≡ r) → answer_of result ≡ reply.Refused r
 left_by (Ok answer) r is = absurd is
 left_by (Err e) r is = ap reply.Refused is
@@ -129,11 +129,11 @@ no_write r e = false≢true e
 pub survives_itself : (s : Store) (P : Trees → Type 0) → Survives s s P
 survives_itself s P = record { clean = le_refl _; shield = λ h. h; counts = le_refl _; limit = refl; closes = λ _ h. inl h; crash = λ _ db h. inl h }
 
--- a disk that has returned what was written had done so before
+-- a disk that returns what was written did so before
 pub still_clean : (a b : Store) (P : Trees → Type 0) → Survives a b P → HasCleanDisk b → HasCleanDisk a
 still_clean a b P survives clean = omega (arith, survives.clean, clean)
 
--- what a database keeps where its store was read
+-- what a database keeps after its store was read
 pub read_keeps : {S : Type 0} (g : Ghosts S) (t new : Tables S) (o : Open) (places : Bounds) → Keeps g (database_of t o) places → Reads g t new → Keeps g (database_of new o) places
 read_keeps g t new o places keeps reads = record {
   kept = record {
@@ -145,7 +145,7 @@ read_keeps g t new o places keeps reads = record {
   amounts = λ clean. rw reads.rows (keeps.amounts (still_clean _ _ _ reads.survives clean));
 }
 
--- and what it holds where one more row was read, and is kept or not
+-- what it holds after one more row was read, which is kept or not
 pub remembered_holds : {S : Type 0} (g : Ghosts S) (t new : Tables S) (o : Open) (places : Bounds) (old recent : ReadRows) (row : RowName) (amounts : List ℤ) → Holds g (database_of t o) places old → Reads g t new
     → ((name : RowName) → IsLeft old recent name ⊎ ((same_row row name ≡ true) × (read_at recent name ≡ Some amounts)))
     → IsKnown t.catalog (Some (row_with row amounts)) → (HasCleanDisk (state g new.store) → IsRead t.rows (Some (row_with row amounts))) → Holds g (database_of new o) places recent
@@ -155,12 +155,12 @@ remembered_holds g t new o places old recent row amounts holds reads only known 
   read = λ clean name. rw reads.rows (read_more old recent row amounts only t.rows (holds.read (still_clean _ _ _ reads.survives clean)) (read clean) name);
 }
 
--- a write that failed leaves the state
+-- a failed write leaves the state unchanged
 pub unwritten_same : {S : Type 0} (g : Ghosts S) (t new : Tables S) (o : Open) (catalog : List TableDef) (rows : List Row) → Writes g t new false catalog rows → (database_of new o).state ≡ (database_of t o).state
 unwritten_same g t new o catalog rows writes =
     ap₂ (λ (c : List TableDef) (rs : List Row). record (database_of t o).state { catalog = c; rows = rs }) (writes.kept_catalog refl) (writes.kept_rows refl)
 
--- and what it keeps
+-- a failed write leaves what the database keeps
 unwritten_keeps : {S : Type 0} (g : Ghosts S) (t new : Tables S) (o : Open) (places : Bounds) (catalog : List TableDef) (rows : List Row) → Keeps g (database_of t o) places → Writes g t new false catalog rows
     → Keeps g (database_of new o) places
 unwritten_keeps g t new o places catalog rows keeps writes = record {
@@ -173,7 +173,7 @@ unwritten_keeps g t new o places catalog rows keeps writes = record {
   amounts = λ clean. rw (writes.kept_rows refl) (keeps.amounts (still_clean _ _ _ writes.survives clean));
 }
 
--- what it holds where a write wasn't done, and rows that were read may have been forgotten
+-- after a failed write, the database holds the same, though rows that were read may be forgotten
 pub unwritten_holds : {S : Type 0} (g : Ghosts S) (t new : Tables S) (o : Open) (places : Bounds) (catalog : List TableDef) (rows : List Row) (old recent : ReadRows) → Holds g (database_of t o) places old
     → Writes g t new false catalog rows → ((name : RowName) → IsLeft old recent name) → Holds g (database_of new o) places recent
 unwritten_holds g t new o places catalog rows old recent holds writes left = record {
@@ -182,11 +182,11 @@ unwritten_holds g t new o places catalog rows old recent holds writes left = rec
   read = λ clean name. rw (writes.kept_rows refl) (read_left t.rows old recent name (holds.read (still_clean _ _ _ writes.survives clean) name) (left name));
 }
 
--- nothing was looked at
+-- nothing was read
 pub reads_itself : {S : Type 0} (g : Ghosts S) (d : Database S) → OnlyReads g d d
 reads_itself g d = record { same = refl; usable = λ usable. usable; survives = survives_itself (state g d.store) (λ _. ⊥) }
 
--- what a database keeps where the store is left
+-- what a database keeps if the store is untouched
 pub apart_keeps : {S : Type 0} (g : Ghosts S) (d : Database S) (next : State) → IsKept g d → IsOrderly next.catalog next.reservations next.savepoints next.next_id
     → (IsValid d.state → IsValid next) → IsKept g (record { store = d.store; state = next })
 apart_keeps g d next kept orderly valid = record {
@@ -194,12 +194,12 @@ apart_keeps g d next kept orderly valid = record {
   safe_rows = λ u. (valid (record { orderly = kept.orderly; safe_rows = kept.safe_rows u })).safe_rows;
 }
 
--- what asks the store goes by rows
+-- a statement that asks the store reads rows
 asking_reads : (s : State) (session : ℕ) (asked : Statement) → asks_store s session asked ≡ true → reads_rows s session asked ≡ true
 asking_reads s session (statement.Update text) asks = refl
 asking_reads s session asked asks = asks
 
--- what asks nothing of the store isn't refused by it
+-- a statement that does not ask the store is not refused by it
 not_by_store : (s : State) (session : ℕ) (asked : Statement) (answer : Reply) (new : State) → StepOrRefusal s session asked answer new → asks_store s session asked ≡ false
     → ¬ (failure_of answer ≡ Some failure.Store)
 not_by_store s session asked answer new event none is =
@@ -207,7 +207,7 @@ not_by_store s session asked answer new event none is =
     absurd (false≢true (sym none ∙ (and_parts (is_none (first_refusal (transition_of s session asked).early)) (fails_for s session asked failure.Store) failed.0).1))
 
 module _ {S : Type 0} (g : Ghosts S) (session : ℕ) (asked : Statement) where
-  -- refused before the store is asked: all stays
+  -- refused before the store is asked: everything stays
   pub refused : (d : Database S) (r : Refusal) → IsRefusal d.state session asked r → Serves g session asked d (reply.Refused r) d
   refused d r is = record {
     event = λ _. refused_serves d.state session asked r is;
@@ -226,7 +226,7 @@ module _ {S : Type 0} (g : Ghosts S) (session : ℕ) (asked : Statement) where
       let transition = transition_of d.state session asked in
       refused d r (inl (first_in_front transition.early transition.late r first))
 
-  -- a statement that asks the store, and is refused nothing early, is served by what else there is to say
+  -- a statement that asks the store and has no early refusal, from the remaining properties
   pub served : (old new : Database S) (answer : Reply) → asks_store old.state session asked ≡ true → PassesEarly old.state session asked
       → (HasCleanDisk (state g new.store) → StepOrRefusal old.state session asked answer new.state)
       → (IsTrue (is_refused answer) → new.state ≡ old.state)
@@ -245,18 +245,18 @@ module _ {S : Type 0} (g : Ghosts S) (session : ℕ) (asked : Statement) where
     durable = durable;
   }
 
-  -- answered without a write, from what was looked at before
+  -- a reply without a write, from what was read before
   pub answered : (d : Database S) (answer : Reply) → asks_store d.state session asked ≡ true → PassesEarly d.state session asked → tells_write answer ≡ false
       → (HasCleanDisk (state g d.store) → StepOrRefusal d.state session asked answer d.state) → Serves g session asked d answer d
   answered d answer asks early quiet event =
       served d d answer asks early event (λ _. refl) (λ usable. usable) (survives_itself (state g d.store) _) (λ e. absurd (false≢true (sym quiet ∙ e)))
 
-  -- refused for what was looked at
+  -- refused for what was read
   pub late_refused : (d : Database S) (r : Refusal) → asks_store d.state session asked ≡ true → PassesEarly d.state session asked
       → (HasCleanDisk (state g d.store) → IsRefusal d.state session asked r) → Serves g session asked d (reply.Refused r) d
   late_refused d r asks early is = answered d (reply.Refused r) asks early refl (λ u. refused_serves d.state session asked r (is u))
 
-  -- what is served after a look at the store is served from before it
+  -- a statement served after a read is served from before the read
   pub after_look : (old mid new : Database S) (answer : Reply) → OnlyReads g old mid
       → asks_store old.state session asked ≡ true → PassesEarly old.state session asked → Serves g session asked mid answer new → Serves g session asked old answer new
   after_look old mid new answer only_reads asks early serves =
@@ -270,7 +270,7 @@ module _ {S : Type 0} (g : Ghosts S) (session : ℕ) (asked : Statement) where
       (λ clean. subst (λ (s : State). StepOrRefusal s session asked answer new.state) only_reads.same (serves.event clean))
       (λ is. serves.refused is ∙ only_reads.same) (λ usable. only_reads.usable (serves.usable usable)) crashes serves.durable
 
-  -- a statement is served that leaves the store, and tells of no write
+  -- a statement that leaves the store untouched and reports no write
   pub served_apart : (old new : Database S) (answer : Reply) → tells_write answer ≡ false → new.store ≡ old.store → StepOrRefusal old.state session asked answer new.state
       → Serves g session asked old answer new
   served_apart old new answer quiet same event =
@@ -289,7 +289,7 @@ module _ {S : Type 0} (g : Ghosts S) (session : ℕ) (asked : Statement) where
         durable = λ e. absurd (false≢true (sym quiet ∙ e));
       }
 
-  -- a statement goes by what is kept of rows: it leaves the store, and isn't refused by it
+  -- a statement that uses kept rows leaves the store untouched, and the store does not refuse it
   pub served_beside : (old new : Database S) (answer : Reply) → tells_write answer ≡ false → new.store ≡ old.store → PassesEarly old.state session asked
       → reads_rows old.state session asked ≡ true → ¬ (failure_of answer ≡ Some failure.Store)
       → (HasCleanDisk (state g old.store) → StepOrRefusal old.state session asked answer new.state) → (IsTrue (is_refused answer) → new.state ≡ old.state)
@@ -308,7 +308,7 @@ module _ {S : Type 0} (g : Ghosts S) (session : ℕ) (asked : Statement) where
         durable = λ e. absurd (false≢true (sym quiet ∙ e));
       }
 
-  -- answered for what was looked at, without a write
+  -- a reply from what was read, without a write
   pub look_answered : (old new : Database S) (answer : Reply) → OnlyReads g old new → asks_store old.state session asked ≡ true → PassesEarly old.state session asked
       → tells_write answer ≡ false → (HasCleanDisk (state g new.store) → StepOrRefusal old.state session asked answer old.state) → Serves g session asked old answer new
   look_answered old new answer only_reads asks early quiet event =
@@ -319,13 +319,13 @@ module _ {S : Type 0} (g : Ghosts S) (session : ℕ) (asked : Statement) where
       (survives_weaker (state g old.store) (state g new.store) (λ _. ⊥) _ (λ _ trees none. absurd none) only_reads.survives)
       (λ e. absurd (false≢true (sym quiet ∙ e)))
 
-  -- a look that failed, or after which the statement is refused
+  -- a failed read, or a refusal after it
   pub look_refused : (old new : Database S) (r : Refusal) → OnlyReads g old new → asks_store old.state session asked ≡ true → PassesEarly old.state session asked
       → (HasCleanDisk (state g new.store) → IsRefusal old.state session asked r) → Serves g session asked old (reply.Refused r) new
   look_refused old new r only_reads asks early is =
       look_answered old new (reply.Refused r) only_reads asks early refl (λ clean. refused_serves old.state session asked r (is clean))
 
-  -- a crash leaves what the step makes, where a write leaves it
+  -- a crash leaves what the step makes, if the write leaves it
   crashed : (t new : Tables S) (o : Open) (answer : Reply) (next : State) (is_done : Bool) → Writes g t new is_done next.catalog next.rows
       → (HasCleanDisk (state g t.store) → step (database_of t o).state session asked ≡ (answer, next))
       → Survives (state g t.store) (state g new.store) (λ trees. IsTrue (state g t.store).is_open × AreAfter (database_of t o).state session asked trees)
@@ -336,7 +336,7 @@ module _ {S : Type 0} (g : Ghosts S) (session : ℕ) (asked : Statement) where
       (k.0, subst (λ (p : Reply × State). AreHeldOf p.1 trees) (sym after) k.1))
       writes.survives
 
-  -- a write was done, and the reply is the step's
+  -- the write succeeded, and the reply is the step's
   pub wrote : (t new : Tables S) (o after : Open) (given answer : Reply) (next : State)
       → asks_store (database_of t o).state session asked ≡ true → PassesEarly (database_of t o).state session asked → is_refused given ≡ false
       → (HasCleanDisk (state g new.store) → answer ≡ given)
@@ -355,7 +355,7 @@ module _ {S : Type 0} (g : Ghosts S) (session : ℕ) (asked : Statement) where
       subst (λ c. AreHeld c new.rows trees) (sym (writes.done_catalog refl))
       (subst (λ rs. AreHeld next.catalog rs trees) (sym (writes.done_rows refl clean)) (writes.durable refl clean trees may)))
 
-  -- a write wasn't done, and the statement is refused for what it told, or what was looked at then
+  -- the write failed, and the statement is refused for what it reported, or for what was read then
   pub write_refused : (t mid : Tables S) (o : Open) (new : Database S) (r : Refusal) (answer : Reply) (next : State)
       → asks_store (database_of t o).state session asked ≡ true → PassesEarly (database_of t o).state session asked
       → Writes g t mid false next.catalog next.rows → OnlyReads g (database_of mid o) new
@@ -371,7 +371,7 @@ module _ {S : Type 0} (g : Ghosts S) (session : ℕ) (asked : Statement) where
       (survives_then (state g t.store) (state g mid.store) (state g new.store) _ (λ _. ⊥) _ (λ _ trees left. left) (λ _ trees none. absurd none) (crashed t mid o answer next false writes steps) reads.survives)
       (λ e. absurd (no_write r e))
 
-  -- a write failed
+  -- a failed write
   pub write_failed : (t new : Tables S) (o : Open) (f : Failure) (answer : Reply) (next : State)
       → asks_store (database_of t o).state session asked ≡ true → PassesEarly (database_of t o).state session asked → fails_for (database_of t o).state session asked f ≡ true
       → Writes g t new false next.catalog next.rows
@@ -380,7 +380,7 @@ module _ {S : Type 0} (g : Ghosts S) (session : ℕ) (asked : Statement) where
   write_failed t new o f answer next asks early takes writes steps =
       write_refused t new o (database_of new o) (refusal_for f) answer next asks early writes (reads_itself g (database_of new o)) steps (λ _. fails (database_of t o).state session asked f early takes)
 
-  -- what a database keeps after a write that was done
+  -- what a database keeps after a successful write
   pub wrote_keeps : (t new : Tables S) (o after : Open) (next : State) → IsKept g (database_of t o)
       → Writes g t new true next.catalog next.rows
       → next ≡ record (database_of new after).state { catalog = next.catalog; rows = next.rows }
@@ -399,12 +399,12 @@ module _ {S : Type 0} (g : Ghosts S) (session : ℕ) (asked : Statement) where
             subst (λ (T : Type 0). T) (ap (λ (s : State). AreSafeRows new.catalog new.rows s.reservations) is) at_new;
       }
 
-  -- `?` handed a refusal on
+  -- `?` returned a refusal
   pub handed_on : (old new : Database S) (result : Result Reply Refusal) (r : Refusal) → IsErrAnd result (λ e. e ≡ r) → Serves g session asked old (reply.Refused r) new
       → Serves g session asked old (answer_of result) new
   handed_on old new result r is serves = subst (λ (answer : Reply). Serves g session asked old answer new) (sym (left_by result r is)) serves
 
-  -- and the statement was refused before the store was asked
+  -- the statement was refused before the store was asked
   pub refusal_serves : (d : Database S) (result : Result Reply Refusal) (r : Refusal) → IsErrAnd result (λ e. e ≡ r) → IsRefusal d.state session asked r → Serves g session asked d (answer_of result) d
   refusal_serves d result r is_error is = handed_on d d result r is_error (refused d r is)
 
@@ -412,12 +412,12 @@ module _ {S : Type 0} (g : Ghosts S) (session : ℕ) (asked : Statement) where
       → Serves g session asked d (answer_of result) d
   early_serves d result r is_error first = handed_on d d result r is_error (early_refused d r (sym first))
 
-  -- a look that failed
+  -- a failed read
   pub look_failed : (old new : Database S) (f : Failure) → OnlyReads g old new → asks_store old.state session asked ≡ true → PassesEarly old.state session asked
       → fails_for old.state session asked f ≡ true → Serves g session asked old (reply.Refused (refusal_for f)) new
   look_failed old new f only_reads asks early takes = look_refused old new (refusal_for f) only_reads asks early (λ _. fails old.state session asked f early takes)
 
--- the store was looked at for a statement that asks it, and that nothing refuses early
+-- the store was read for a statement that asks it and has no early refusal
 pub record HasLooked {S : Type 0} (g : Ghosts S) (session : ℕ) (asked : Statement) (old mid : Database S) : Type 0 where
   pub only_reads : OnlyReads g old mid
   pub asks : asks_store old.state session asked ≡ true
@@ -435,8 +435,8 @@ module _ {S : Type 0} (g : Ghosts S) (session : ℕ) (asked : Statement) (old mi
 abbrev pub Any : RowName → Type 0
 Any row = Unit {0}
 
--- a statement may write: its step makes this answer and this state, in which the same is open. The rows that stay, among
--- which are those that are reserved, have their tables and their amounts. What the write tells may refuse it.
+-- a statement may write: its step has this reply and this state, with the same things open. The rows that stay,
+-- the reserved ones among them, have their tables and amounts. A report of the write may refuse the statement.
 pub record MayWrite {S : Type 0} (g : Ghosts S) (session : ℕ) (asked : Statement) (d : Database S) (answer : Reply) (next : State) (Stays : RowName → Type 0) : Type 0 where
   pub asks : asks_store d.state session asked ≡ true
   pub early : PassesEarly d.state session asked
@@ -451,11 +451,11 @@ pub record MayWrite {S : Type 0} (g : Ghosts S) (session : ℕ) (asked : Stateme
 
 module _ {S : Type 0} {Stays : RowName → Type 0} (g : Ghosts S) (session : ℕ) (asked : Statement) (t new : Tables S) (o : Open) (answer : Reply) (next : State)
     (may : MayWrite g session asked (database_of t o) answer next Stays) where
-  -- its write was done, and so the answer is one that is given
+  -- the write succeeded, so the reply is the given one
   pub write_serves : (given : Reply) → is_refused given ≡ false → (HasCleanDisk (state g new.store) → answer ≡ given) → Writes g t new true next.catalog next.rows → Serves g session asked (database_of t o) given (database_of new o)
   write_serves given accepted told writes = wrote g session asked t new o o given answer next may.asks may.early accepted told writes may.steps may.same_open
 
-  -- it wasn't done, and it is refused for what the write told, or what was looked at then
+  -- the write failed, and the statement is refused for what it reported, or for what was read then
   pub refusal_told : (after : Database S) (r : Refusal) → Writes g t new false next.catalog next.rows → OnlyReads g (database_of new o) after → (HasCleanDisk (state g after.store) → IsRefusal (database_of t o).state session asked r)
       → Serves g session asked (database_of t o) (reply.Refused r) after
   refusal_told after r writes reads is = write_refused g session asked t new o after r answer next may.asks may.early writes reads may.steps is
@@ -474,7 +474,7 @@ module _ {S : Type 0} {Stays : RowName → Type 0} (g : Ghosts S) (session : ℕ
             (amounts_stay s next places keeps.placed (λ row amounts reserved. may.amounts_stay was row amounts (may.reserved_stay row reserved)) (keeps.amounts was));
       }
 
-  -- what is held, where the rows that were read, and are kept, are some of those that stay
+  -- what the database holds, if the kept rows are some of those that stay
   known_stays : (recent : ReadRows) (name : RowName) → Stays name → IsKnown t.catalog (row_read recent name) → IsKnown next.catalog (row_read recent name)
   known_stays recent name stays = at (read_at recent name)
     where
@@ -510,7 +510,7 @@ module _ {S : Type 0} {Stays : RowName → Type 0} (g : Ghosts S) (session : ℕ
       still_read was name (inl gone) = subst (λ (o : Option (List ℤ)). IsRead next.rows (option_map (row_with name) o)) (sym gone) tt
       still_read was name (inr same) = subst (λ (o : Option (List ℤ)). IsRead next.rows (option_map (row_with name) o)) (sym same.0) (read_stays old name same.1 was (holds.read was name))
 
-  -- it failed, and `?` handed the failure on
+  -- the write failed, and `?` returned the failure
   pub failure_serves : (result : Result Reply Refusal) (f : Failure) → IsErrAnd result (λ e. e ≡ refusal_for f) → Writes g t new false next.catalog next.rows
       → Serves g session asked (database_of t o) (answer_of result) (database_of new o)
   failure_serves result f is writes =

@@ -17,7 +17,7 @@ use Rattle.escrow_machine.specs.State.{State}
 use Rattle.escrow_schema.specs.Rows.{row_named, row_before}
 use Rattle.escrow_core.proofs.Queries.{selects_one}
 
--- columns and rows of the table are what a SELECT shows
+-- a SELECT shows the columns and rows of the table
 pub shows : (s : State) (text : SelectText) (columns : List Heading) (rows : List (List Value)) → IsSomeAnd (table_named s.catalog text.table) (λ table. columns ≡ map heading_of table.columns)
     → IsSomeAnd (table_named s.catalog text.table) (λ table. rows ≡ map (values_of table) (filter (is_shown s.catalog text.table text.row) s.rows)) → reply.Rows columns rows ≡ select_reply s text
 shows s text columns rows named told = at (table_named s.catalog text.table) refl named told
@@ -27,7 +27,7 @@ shows s text columns rows named told = at (table_named s.catalog text.table) ref
     at None e names h = absurd h
     at (Some table) e names h = rw e (ap₂ (λ (cs : List Heading) (shown : List (List Value)). reply.Rows cs shown) names h)
 
--- the values of the row of a name are those of the rows of that name
+-- the values of the row with a name are those of all rows with that name
 pub one_shown : (o : Option TableDef) (rows : List Row) (name : RowName) (found : Option (List Value)) → IsAscending row_before rows
     → IsSomeAnd o (λ table. found ≡ option_map (values_of table) (row_named rows name)) → IsSomeAnd o (λ table. option_to_list found ≡ map (values_of table) (filter (λ row. same_row row.name name) rows))
 one_shown None rows name found order told = told

@@ -56,22 +56,22 @@ use Rattle.escrow_core.proofs.Serving.{fails, no_write, served, still_clean, wro
 
 -- LISTS OF RESERVATIONS
 
--- of two tests that fail together each fails
+-- if the disjunction of two tests fails, each of them fails
 pub neither : (a b : Bool) → (a || b) ≡ false → (a ≡ false) × (b ≡ false)
 neither true b is = absurd (cc)
 neither false b is = (refl, is)
 
--- a session's own stay when another's go
+-- the end of one session's transaction leaves the reservations of another
 own_stays : (a b : ℕ) (reservations : List Reservation) → (b == a) ≡ false → own b (others a reservations) ≡ own b reservations
 own_stays a b reservations differ =
     filter_within (λ (r : Reservation). r.session == b) (λ (r : Reservation). not (r.session == a)) reservations
     (λ r t. ap not (ap (λ (n : ℕ). n == a) (eqb-true r.session b t) ∙ differ))
 
--- the reservations of sessions, each as they are before any transaction ends
+-- the reservations of the sessions of a plan, as they are before any transaction ends
 abbrev pub all_of : List (ℕ × End) → List Reservation → List Reservation
 all_of plan reservations = flat_map (λ (entry : ℕ × End). own entry.0 reservations) plan
 
--- so they are when one of another session has ended
+-- they are the same after the end of another session's transaction
 all_stay : (a : ℕ) (plan : List (ℕ × End)) (reservations : List Reservation) → list_any (λ (entry : ℕ × End). entry.0 == a) plan ≡ false
     → all_of plan (others a reservations) ≡ all_of plan reservations
 all_stay a [] reservations none = refl
@@ -79,7 +79,7 @@ all_stay a (entry ∷ plan) reservations none =
     let both = neither (entry.0 == a) (list_any (λ (e : ℕ × End). e.0 == a) plan) none in
     ap₂ (λ (xs ys : List Reservation). xs ++ ys) (own_stays a entry.0 reservations both.0) (all_stay a plan reservations both.1)
 
--- what is added one after another
+-- changes added in two parts
 all_changed_append : (amounts : List ℤ) (first second : List (List ℤ)) → all_changed amounts (first ++ second) ≡ all_changed (all_changed amounts first) second
 all_changed_append amounts [] second = refl
 all_changed_append amounts (changes ∷ first) second = all_changed_append (changed amounts changes) first second
@@ -91,22 +91,22 @@ applied_append (row ∷ rows) first second =
     (ap (all_changed row.amounts) (map-append (changes_to row) first second) ∙ all_changed_append row.amounts (map (changes_to row) first) (map (changes_to row) second))
     (applied_append rows first second)
 
--- and so of a row that was read
+-- the same for a row that was read
 read_append : (first second : List Reservation) (recent : Option ReadRow)
     → option_map (committed_by (first ++ second)) recent ≡ option_map (committed_by second) (option_map (committed_by first) recent)
 read_append first second None = refl
 read_append first second (Some r) =
-    ap (λ (amounts : List ℤ). Some (record r { amounts = amounts }))
-    (ap (amounts_after_all end.Commit r.amounts) (of_append r.name first second) ∙ after_all-append end.Commit r.amounts (of_row r.name first) (of_row r.name second))
+    ap (λ (amounts : List ℤ). Some (row_with r.0 amounts))
+    (ap (amounts_after_all end.Commit r.1) (of_append r.0 first second) ∙ after_all-append end.Commit r.1 (of_row r.0 first) (of_row r.0 second))
 
--- the reservations that are left
+-- the remaining reservations
 pub all_left : (plan : List (ℕ × End)) (o : Open) → (all_ended plan o).reservations ≡ left_after plan o.reservations
 all_left [] o = refl
 all_left (entry ∷ plan) o = all_left plan (open_after_end entry.0 o)
 
 -- THE STATE AFTER SEVERAL COMMITS
 
--- all changes are applied at once, and all transactions have ended
+-- all changes applied at once, and all transactions ended
 abbrev pub together : List (ℕ × End) → State → State
 together plan s = record (with_open s (all_ended plan (open_in s))) { rows = applied s.rows (all_of plan s.reservations) }
 
@@ -114,11 +114,11 @@ committed_is : (s : State) (a : ℕ) → after_end s a end.Commit ≡ after_comm
 unfolding transition_of
 committed_is s a = refl
 
--- what is after a plan whose first entry is a COMMIT, is after the rest of it, from there
+-- the state after a plan that begins with a COMMIT is that after the rest, from the state after it
 first_then : (P : State → Type 0) (s : State) (a : ℕ) (e : End) (plan : List (ℕ × End)) → e ≡ end.Commit → P (after_ends (after_commit s a) plan) → P (after_ends s ((a, e) ∷ plan))
 first_then P s a e plan is holds = subst (λ (x : End). P (after_ends (after_end s a x) plan)) (sym is) (subst (λ (t : State). P (after_ends t plan)) (sym (committed_is s a)) holds)
 
--- all that is applied first of one session, and then of the others
+-- first the changes of one session, then those of the others
 first_applied : (a : ℕ) (plan : List (ℕ × End)) (rows : List Row) (reservations : List Reservation) → list_any (λ (entry : ℕ × End). entry.0 == a) plan ≡ false
     → applied (applied rows (own a reservations)) (all_of plan (others a reservations)) ≡ applied rows (own a reservations ++ all_of plan reservations)
 first_applied a plan rows reservations none =
@@ -131,7 +131,7 @@ together_is (entry ∷ plan) s commits =
     (together_is plan (after_commit s entry.0) commits.2
     ∙ ap (λ (rows : List Row). record (with_open s (all_ended plan (open_after_end entry.0 (open_in s)))) { rows = rows }) (first_applied entry.0 plan s.rows s.reservations commits.1))
 
--- it is valid
+-- the state is valid
 pub together_valid : (plan : List (ℕ × End)) (s : State) → AreCommits plan → IsValid s → IsValid (after_ends s plan)
 together_valid [] s commits valid = valid
 together_valid (entry ∷ plan) s commits valid =
@@ -160,7 +160,7 @@ together_tables [] o catalog old new same of_tables = subst (AreOfTables catalog
 together_tables (entry ∷ plan) o catalog old new are of_tables =
     together_tables plan (open_after_end entry.0 o) catalog are.0 new are.2 (ended_tables entry.1 (own entry.0 o.reservations) catalog old are.0 are.1 of_tables)
 
--- and so has what was read of a row
+-- a row that was read has its amounts
 together_read : (plan : List (ℕ × End)) (s : State) (recent : Option ReadRow) → AreCommits plan → IsValid s → IsRead s.rows recent
     → IsRead (after_ends s plan).rows (option_map (committed_by (all_of plan s.reservations)) recent)
 together_read [] s None commits valid read = read
@@ -183,7 +183,7 @@ module _ {S : Type 0} (g : Ghosts S) (plan : List (ℕ × End)) (commits : AreCo
   abbrev all : List Reservation
   all = all_of plan o.reservations
 
-  -- whatever comes of it, a crash leaves what it might have left before, or all
+  -- whether it succeeds or not, a crash leaves what it could leave before, or all changes
   pub together_survives : (is_done : _) → Writes g t new is_done t.catalog (applied t.rows all)
       → Survives (state g t.store) (state g new.store) (λ trees. IsTrue (state g t.store).is_open × AreHeldOf (after_ends s plan) trees)
   together_survives is_done writes =
@@ -191,7 +191,7 @@ module _ {S : Type 0} (g : Ghosts S) (plan : List (ℕ × End)) (commits : AreCo
       (λ clean trees k. (k.0, subst (λ (next : State). AreHeldOf next trees) (sym (together_is plan s commits)) k.1)) writes.survives
 
   module _ (writes : Writes g t new true t.catalog (applied t.rows all)) where
-    -- the changes are written, and the transactions are over
+    -- the changes are written, and the transactions have ended
     pub together_done : HasCleanDisk (state g new.store) → (database_of new (all_ended plan o)).state ≡ after_ends s plan
     together_done clean =
         ap₂ (λ (catalog : List TableDef) (rows : List Row). record (with_open s (all_ended plan o)) { catalog = catalog; rows = rows }) (writes.done_catalog refl) (writes.done_rows refl clean)
@@ -219,7 +219,7 @@ module _ {S : Type 0} (g : Ghosts S) (plan : List (ℕ × End)) (commits : AreCo
               (together_amounts plan s old places commits valid are (keeps.amounts was));
         }
 
-    -- and what was read of rows has what is committed
+    -- kept rows have the committed amounts
     pub together_holds : (old places : Bounds) (recent after : ReadRows) → Holds g (database_of t o) old recent → AreAllEnded plan o old places → ArePlaced (all_ended plan o).reservations places
         → ((name : RowName) → read_at after name ≡ option_map (committed_to name all) (read_at recent name)) → Holds g (database_of new (all_ended plan o)) places after
     together_holds old places recent after holds are placed committed =
@@ -243,7 +243,7 @@ module _ {S : Type 0} (g : Ghosts S) (session : ℕ) (old new : Database S) (hol
   abbrev alone : List (ℕ × End)
   alone = (session, end.Commit) ∷ []
 
-  -- so many there were
+  -- the number of the session's reservations
   one_count : (count : ℕ) → count + length new.state.reservations ≡ length old.state.reservations → new.state.reservations ≡ left_after alone old.state.reservations
       → count ≡ length (own session old.state.reservations)
   one_count count is left = omega (arith, is, ap length left, own_and_others session old.state.reservations)
@@ -270,7 +270,7 @@ module _ {S : Type 0} (g : Ghosts S) (session : ℕ) (old new : Database S) (hol
         subst₂ (λ (n : ℕ) (t : State). StepOrRefusal old.state session statement.Commit (reply.Committed n) t) (sym is) (sym (committed_is old.state session) ∙ sym (done clean)) (commit_serves old.state session))
         (λ e. absurd (false≢true e)) usable survives (λ _. durable)
 
-    -- or fails
+    -- its COMMIT fails
     pub one_failed : (r : Result ℕ Failure) → OnErr r (new.state ≡ old.state) → IfErr r (λ f. Serves g session statement.Commit old (reply.Refused (refusal_for f)) new)
     one_failed (Ok count) same = tt
     one_failed (Err f) same =

@@ -1,4 +1,4 @@
--- UPDATE: what its call makes of a database, by its plan.
+-- UPDATE: the database after its call, by its plan.
 use Rattle.std.specs.Prelude.{◌≡◌, ◌⊎◌, ◌<◌, ◌≤◌, ◌+◌, ℕ, ℤ, Bool, true, false, not, nat_le, nat_lt, is_none, is_some, if◌then◌else◌, option_map, unwrap_or, Option, Some, None, IsSome, IsSomeAnd, List, [], ◌∷◌, ◌++◌, length, map}
 use Rattle.std.specs.List.{AllByRecursion}
 use Rattle.std.proofs.Common.{inl, inr, refl, sym, ap, ap₂, subst, ◌∙◌, arith, length-append}
@@ -74,7 +74,7 @@ use Rattle.escrow_reserved.proofs.Standing.{no_row, standing}
 
 -- REFUSALS
 
--- plain values are refused in a transaction, and where the row doesn't stand
+-- plain values are refused inside a transaction, and if the row does not exist
 pub plain_open : (s : State) (session : ℕ) (text : UpdateText) (key : Value) (values : List (Option Value)) → plan_of s text ≡ Some (plan.Plain key values)
     → is_open session s ≡ true → IsRefusal s session (statement.Update text) refusal.TransactionOpen
 plain_open s session text key values is open_now = plan_refused s session text (plan.Plain key values) refusal.TransactionOpen is (rw open_now refl)
@@ -106,7 +106,7 @@ update_step s session text asked is accepted =
     accepted_step s session (statement.Update text) accepted
     ∙ ap (λ (p : Option Plan). (unwrap_or (option_map (update_reply s) p) reply.Updated, unwrap_or (option_map (after_update s session text.table) p) s)) is
 
--- plain values ask the store, and may fail for whatever it and memory refuse
+-- plain values ask the store, and may fail for the store or for memory
 pub plain_asks : (s : State) (session : ℕ) (text : UpdateText) (key : Value) (values : List (Option Value)) → plan_of s text ≡ Some (plan.Plain key values)
     → asks_store s session (statement.Update text) ≡ true
 plain_asks s session text key values is = rw is refl
@@ -126,7 +126,7 @@ plain_amounts name row values rows =
     at None = refl
     at (Some r) = values_both (λ (x : Row). Some x.amounts ≡ Some r.amounts) name values r (λ _. refl) refl
 
--- where no row has the name, none is replaced
+-- if no row has the name, none is replaced
 absent_same : (name : RowName) (values : List (Option Value)) (rows : List Row) → row_named rows name ≡ None → with_plain name values rows ≡ rows
 absent_same name values rows none = go rows (find_none (λ (row : Row). same_row row.name name) rows none)
   where
@@ -137,15 +137,15 @@ absent_same name values rows none = go rows (find_none (λ (row : Row). same_row
     go [] others = refl
     go (x ∷ xs) others = ap₂ (λ (y : Row) (ys : List Row). y ∷ ys) (stays x (others x (inl refl))) (go xs (λ row has. others row (inr has)))
 
--- PLAIN VALUES, where the session's transaction was looked at
+-- PLAIN VALUES, after the session's transaction was looked at
 
--- plain values of a row may be replaced, if it stands
+-- the plain values of a row may be replaced, if it exists
 pub record MayReplace {S : Type 0} (g : Ghosts S) (d : Database S) (session : ℕ) (text : UpdateText) (key : Value) (values : List (Option Value)) : Type 0 where
   pub planned : plan_of d.state text ≡ Some (plan.Plain key values)
   pub closed : is_open session d.state ≡ false
 
 module _ {S : Type 0} (g : Ghosts S) (d : Database S) (session : ℕ) (text : UpdateText) (key : Value) (values : List (Option Value)) (may : MayReplace g d session text key values) where
-  -- the step, whether the row stands or not
+  -- the step, whether the row exists or not
   plain_step : step d.state session (statement.Update text)
       ≡ (tried (row_named d.state.rows (row_name text.table key)) refusal.NoSuchRow reply.Updated, record d.state { rows = with_plain (row_name text.table key) values d.state.rows })
   plain_step = at (row_named d.state.rows (row_name text.table key)) refl
@@ -184,17 +184,17 @@ module _ {S : Type 0} (g : Ghosts S) (d : Database S) (session : ℕ) (text : Up
     amounts_stay = λ _ row amounts _ has. plain_amounts (row_name text.table key) row values d.state.rows ∙ has;
   }
 
-  -- the rows then are of their tables
+  -- the rows then have the shapes of their tables
   pub replaced_fit : IsKept g d → HasCleanDisk (state g d.store) → AllByRecursion (HasTable d.state.catalog) (with_plain (row_name text.table key) values d.state.rows)
   replaced_fit kept u = (may_write.valid u (record { orderly = kept.orderly; safe_rows = kept.safe_rows u })).safe_rows.tables
 
 -- A RESERVATION, by the place of its row
 
--- the name of a key's row, in the table that is named
+-- the name of the row with a key, in the named table
 named_so : (table : List ℕ) (name : RowName) → name.table ≡ table → row_name table name.key ≡ name
 named_so table name same = ap (λ (t : List ℕ). row_name t name.key) (sym same)
 
--- where a session has room for it and an id is left, what is in order stays so
+-- if the session has room for it and an id is left, the order of the state stays
 reserved_orderly : (s : State) (session : ℕ) (text : UpdateText) (key : Value) (changes : List (Option ℤ)) → HasOrder s → IsSession session
     → plan_of s text ≡ Some (plan.Reserve key changes) → length (own session s.reservations) < MAX_RESERVATIONS → s.next_id ≤ MAX_ID
     → IsOrderly s.catalog (s.reservations ++ reservation_from s session (row_name text.table key) changes ∷ []) s.savepoints (s.next_id + 1)
@@ -203,7 +203,7 @@ reserved_orderly s session text key changes orderly of_session is room more_ids 
     granted_orderly s table (reservation_from s session (row_name text.table key) changes) orderly named of_session refl more_ids
     (plans_of_whole_row table text key changes at) room)
 
--- so the open reservations are fewer than there can be
+-- there are fewer open reservations than the limit
 pub room_for_one : (s : State) (session : ℕ) (text : UpdateText) (key : Value) (changes : List (Option ℤ)) → HasOrder s → IsSession session
     → plan_of s text ≡ Some (plan.Reserve key changes) → grant_refusal session (open_in s) ≡ None → length s.reservations < MAX_OPEN
 room_for_one s session text key changes orderly of_session is none =
@@ -213,7 +213,7 @@ room_for_one s session text key changes orderly of_session is none =
     let few : length (s.reservations ++ r ∷ []) ≤ MAX_OPEN = few_reservations next (reserved_orderly s session text key changes orderly of_session is free.room free.more_ids) in
     omega (arith, length-append s.reservations (r ∷ []), few)
 
--- a plan's changes are at most as many as a check has coefficients
+-- a plan has at most as many changes as a check may have coefficients
 pub short_plan : (s : State) (text : UpdateText) (key : Value) (changes : List (Option ℤ)) → HasOrder s → plan_of s text ≡ Some (plan.Reserve key changes) → length changes ≤ MAX_LEN
 short_plan s text key changes orderly is =
     planned_in s text (plan.Reserve key changes) is (λ table named at.
@@ -230,7 +230,7 @@ no_failure false true o r is = subst (λ (q : Refusal). failure_of_refusal q ≡
 no_failure false false (Some violation) r is = subst (λ (q : Refusal). failure_of_refusal q ≡ None) (some_same is) refl
 no_failure false false None r is = absurd (cc)
 
--- the first reason against it is that by its row's amounts and the checks of its table
+-- the first reason against it is that by its row's amounts and its table's checks
 reason_is : (s : State) (session : ℕ) (name : RowName) (table : TableDef) (amounts : List ℤ) (changes : List (Option ℤ))
     → table_named s.catalog name.table ≡ Some table → IsTable table → length amounts ≡ length (reservables table.columns) → amounts_named s.rows name ≡ Some amounts
     → first_refusal (update_refusals s session name.table (plan.Reserve name.key changes)) ≡ reason_by session table.checks amounts (deltas changes) (of_row name s.reservations) (open_in s)
@@ -243,7 +243,7 @@ reason_is s session name table amounts changes named is_table many has =
     rw (row.found, named) refl ∙ ap₂ (λ (zs : List ℤ) (n : RowName). first_refusal (reason ∷ violation zs n ∷ [])) row.has row.named
     ∙ ap (λ (o : Option Violation). first_refusal (reason ∷ option_map refusal.Check o ∷ [])) same
 
--- a reservation of changes of a row is planned, in the table that the text names
+-- the plan reserves these changes of a row, in the table that the text names
 pub record IsPlanned (s : State) (text : UpdateText) (name : RowName) (changes : List (Option ℤ)) : Type 0 where
   pub table : name.table ≡ text.table
   pub plan : plan_of s text ≡ Some (plan.Reserve name.key changes)
@@ -252,7 +252,7 @@ module _ (s : State) (session : ℕ) (text : UpdateText) (name : RowName) (chang
   passes : PassesEarly s session (statement.Update text)
   passes = planned_early s session text (plan.Reserve name.key changes) planned.plan
 
-  -- the store is asked just where its row isn't reserved
+  -- the store is asked exactly if the row is not reserved
   beside_is : reserves_beside s text ≡ is_reserved s name
   beside_is = rw planned.plan (ap (is_reserved s) (named_so text.table name planned.table))
 
@@ -271,11 +271,11 @@ module _ (s : State) (session : ℕ) (text : UpdateText) (name : RowName) (chang
     by_row : first_refusal (update_refusals s session text.table (plan.Reserve name.key changes)) ≡ reason_by session table.checks amounts (deltas changes) (of_row name s.reservations) (open_in s)
     by_row = refusals_are ∙ reason_is s session name table amounts changes named (is_table_found s orderly name.table table named) many has
 
-    -- refused for it
+    -- it is refused for the reason by its row
     pub row_refuses : (r : Refusal) → reason_by session table.checks amounts (deltas changes) (of_row name s.reservations) (open_in s) ≡ Some r → IsRefusal s session (statement.Update text) r
     row_refuses r first = plan_refused s session text (plan.Reserve name.key changes) r planned.plan (by_row ∙ first)
 
-    -- or granted
+    -- it is granted if there is no such reason
     pub row_accepts : reason_by session table.checks amounts (deltas changes) (of_row name s.reservations) (open_in s) ≡ None → IsAccepted s session (statement.Update text)
     row_accepts none = plan_accepted s session text (plan.Reserve name.key changes) planned.plan (by_row ∙ none)
 
@@ -287,18 +287,18 @@ module _ (s : State) (session : ℕ) (text : UpdateText) (name : RowName) (chang
         by_row table place.amounts orderly named is.amounts has
         ∙ ap (λ (checks : List Check). reason_by session checks place.amounts (deltas changes) (of_row name s.reservations) (open_in s)) (sym is.checks))
 
-    -- refused for it, or for want of memory
+    -- it is refused for the reason by its place, or for memory
     pub place_refuses : (r : Refusal) → (reason_against session place name changes (open_in s) ≡ Some r) ⊎ (r ≡ refusal.Memory) → IsRefusal s session (statement.Update text) r
     place_refuses r why = elim why [
       | inl first ↦ plan_refused s session text (plan.Reserve name.key changes) r planned.plan (by_place ∙ first)
       | inr memory ↦ subst (λ (q : Refusal). IsRefusal s session (statement.Update text) q) (sym memory) (fails_so failure.Memory refl)
     ]
 
-    -- or granted
+    -- it is granted if there is no such reason
     pub place_accepts : reason_against session place name changes (open_in s) ≡ None → IsAccepted s session (statement.Update text)
     place_accepts none = plan_accepted s session text (plan.Reserve name.key changes) planned.plan (by_place ∙ none)
 
-  -- a refusal by its place is no refusal by the store
+  -- a refusal by its place is not one by the store
   pub not_the_store : (place : Place) (r : Refusal) → (reason_against session place name changes (open_in s) ≡ Some r) ⊎ (r ≡ refusal.Memory) → ¬ (failure_of (reply.Refused r) ≡ Some failure.Store)
   not_the_store place r why is = elim why [
     | inl first ↦ (let none : failure_of_refusal r ≡ None =
@@ -307,19 +307,19 @@ module _ (s : State) (session : ℕ) (text : UpdateText) (name : RowName) (chang
     | inr memory ↦ (let wanted : failure_of_refusal r ≡ Some failure.Memory = ap failure_of_refusal memory in absurd (cc))
   ]
 
-  -- the step where it is accepted
+  -- the step of an accepted reservation
   pub grant_step : IsAccepted s session (statement.Update text)
       → StepOrRefusal s session (statement.Update text) (reply.Reserved s.next_id) (with_open s (txn.open_after_grant session name changes (open_in s)))
   grant_step accepted =
       subst (λ (n : RowName). StepOrRefusal s session (statement.Update text) (reply.Reserved s.next_id) (with_open s (txn.open_after_grant session n changes (open_in s)))) (named_so text.table name planned.table)
       (update_serves s session text (plan.Reserve name.key changes) accepted planned.plan)
 
--- what is planned stays planned where the state is the same
+-- the plan stays the same if the state does
 pub still_planned : (old new : State) (text : UpdateText) (name : RowName) (changes : List (Option ℤ)) → new ≡ old → IsPlanned old text name changes → IsPlanned new text name changes
 still_planned old new text name changes same planned = subst (λ (s : State). IsPlanned s text name changes) (sym same) planned
 
 module _ {S : Type 0} (g : Ghosts S) (session : ℕ) (text : UpdateText) (name : RowName) (changes : List (Option ℤ)) where
-  -- by the place of a row that is reserved
+  -- by the place of a reserved row
   module _ (d : Database S) (places : Bounds) (planned : IsPlanned d.state text name changes) (keeps : Keeps g d places) (place : Place) (at : place_at places name ≡ Some place) where
     of_its_table : IsSomeAnd (table_named d.state.catalog name.table) (λ table. IsOfTable table place)
     of_its_table = keeps.of_tables name place at
@@ -342,7 +342,7 @@ module _ {S : Type 0} (g : Ghosts S) (session : ℕ) (text : UpdateText) (name :
         (place_accepts d.state session text name changes planned place keeps.kept.orderly of_its_table (keeps.amounts clean name place at) none))
         (λ is. absurd (false≢true is))
 
-  -- where the amounts of its row were looked at
+  -- after the amounts of its row were read
   module _ (old mid : Database S) (planned : IsPlanned old.state text name changes) (first : is_reserved old.state name ≡ false) (only_reads : OnlyReads g old mid) where
     asks : asks_store old.state session (statement.Update text) ≡ true
     asks = asks_first old.state session text name changes planned first
@@ -358,7 +358,7 @@ module _ {S : Type 0} (g : Ghosts S) (session : ℕ) (text : UpdateText) (name :
     pub first_fails : (f : Failure) → Serves g session (statement.Update text) old (reply.Refused (refusal_for f)) mid
     first_fails f = look_failed g session (statement.Update text) old mid f only_reads asks early (takes f)
 
-    -- for want of the row
+    -- the row does not exist
     pub first_lacks : (HasCleanDisk (state g mid.store) → None ≡ amounts_named old.state.rows name) → Serves g session (statement.Update text) old (reply.Refused refusal.NoSuchRow) mid
     first_lacks read =
         look_refused g session (statement.Update text) old mid refusal.NoSuchRow only_reads asks early
@@ -381,7 +381,7 @@ module _ {S : Type 0} (g : Ghosts S) (session : ℕ) (text : UpdateText) (name :
           (row_refuses mid.state session text name changes planned_now table amounts orderly named many (read clean) r is))
       first_refused r (inr is) = subst (λ (q : Refusal). Serves g session (statement.Update text) old (reply.Refused q) mid) (sym is) (first_fails failure.Memory)
 
-      -- granted: the store stays
+      -- granted: the store stays untouched
       pub first_granted : why ≡ None
           → Serves g session (statement.Update text) old (reply.Reserved mid.state.next_id) (record { store = mid.store; state = with_open mid.state (txn.open_after_grant session name changes (open_in mid.state)) })
       first_granted none =
@@ -396,7 +396,7 @@ module _ {S : Type 0} (g : Ghosts S) (session : ℕ) (text : UpdateText) (name :
 -- WHAT A GRANT KEEPS
 module _ {S : Type 0} (g : Ghosts S) (session : ℕ) (text : UpdateText) (name : RowName) (changes : List (Option ℤ)) (d : Database S) (old new : Bounds)
     (planned : IsPlanned d.state text name changes) (kept : IsKept g d) (of_session : IsSession session) where
-  -- where its row has a place of its table, with its amounts, and all other places are those of the rows that are reserved
+  -- if its row has a place of its table with its amounts, and all other places are those of reserved rows
   pub grant_keeps : (place : Place) → place_at old name ≡ Some place
       → ((other : RowName) → same_row name other ≡ false → is_some (place_at old other) ≡ is_reserved d.state other)
       → AreOfTables d.state.catalog old → (HasCleanDisk (state g d.store) → HaveAmounts d.state.rows old)
@@ -425,7 +425,7 @@ module _ {S : Type 0} (g : Ghosts S) (session : ℕ) (text : UpdateText) (name :
         amounts = λ clean. taken_amounts s.rows name (deltas changes) old new there becomes others (amounts clean);
       }
 
--- where its row has none, and gets one of its table, with its amounts
+-- if its row had no place and gets one of its table with its amounts
 pub first_keeps : {S : Type 0} (g : Ghosts S) (session : ℕ) (text : UpdateText) (name : RowName) (changes : List (Option ℤ)) (d : Database S) (old new : Bounds)
     → IsPlanned d.state text name changes → Keeps g d old → IsSession session → (table : TableDef) (amounts : List ℤ) (place : Place)
     → table_named d.state.catalog name.table ≡ Some table → length amounts ≡ length (reservables table.columns)
@@ -442,7 +442,7 @@ first_keeps g session text name changes d old new planned keeps of_session table
     (λ clean. made_amounts d.state.rows name amounts table.checks place old ((name, place) ∷ old) (read clean) at is_new put (keeps.amounts clean))
     (rw (is_new.checks_are, is_new.amounts_are) none) (rw at becomes) (λ other differs. others other differs ∙ sym (put other differs))
 
--- where each row has the place that it had, what is kept stays
+-- if each row has the same place as before, everything is kept
 pub same_keeps : {S : Type 0} (g : Ghosts S) (d : Database S) (old new : Bounds) → Keeps g d old → ((row : RowName) → place_at new row ≡ place_at old row) → Keeps g d new
 same_keeps g d old new keeps same = record {
   kept = keeps.kept;

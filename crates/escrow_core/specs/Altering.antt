@@ -4,7 +4,7 @@ use Rattle.escrow_num.specs.declared.refusal.Violation.{Violation}
 use Rattle.escrow_num.specs.declared.refusal.Refusal.{Refusal}
 use Rattle.escrow_num.specs.declared.refusal.Refusal.TheVariants as refusal
 use Rattle.escrow_num.specs.declared.reservation.Reservation.{Reservation}
-use Rattle.escrow_num.specs.declared.row.Row.{Row}
+use Rattle.escrow_num.specs.declared.value.RowName.{RowName}
 use Rattle.escrow_num.specs.Refusal.{refuse_if, first_refusal}
 use Rattle.escrow_statement.specs.declared.statement.CheckText.{CheckText}
 use Rattle.escrow_statement.specs.declared.statement.Statement.{Statement}
@@ -61,13 +61,13 @@ pub record AddedJudge : Type 0 where
   pub reservations : List Reservation
   pub addition : Bounds
 
--- the amounts of a row: those of its place, if it has one
-abbrev pub amounts_by : AddedJudge → Row → List ℤ
-amounts_by judge row = unwrap_or (option_map (λ (place : Place). place.amounts) (place_at judge.addition row.name)) row.amounts
+-- the amounts of the row of a name: those of its place, if it has one, or else those that were read
+abbrev pub amounts_by : AddedJudge → RowName → List ℤ → List ℤ
+amounts_by judge name amounts = unwrap_or (option_map (λ (place : Place). place.amounts) (place_at judge.addition name)) amounts
 
 -- what the open reservations of a row, some of them or none, could break of the added checks
-abbrev pub violation_by : AddedJudge → Row → Option Violation
-violation_by judge row = broken (new_ones judge.added) (amounts_by judge row) [] (of_row row.name judge.reservations)
+abbrev pub violation_by : AddedJudge → RowName → List ℤ → Option Violation
+violation_by judge name amounts = broken (new_ones judge.added) (amounts_by judge name amounts) [] (of_row name judge.reservations)
 
 -- the added checks are some of a table's, and an addition was prepared for the reserved rows of the table
 pub record CanJudge (added : AddedChecks) (reserved : Reserved) (addition : Bounds) : Type 0 where

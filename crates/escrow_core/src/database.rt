@@ -106,8 +106,6 @@ impl<S: Alter> Database<S> {
         match Reserved::new(alloc) {
             Ok(reserved) => {
                 let tables = Tables::over(found);
-                // Gives the proof what always holds of the tables.
-                let _ = tables.len();
                 Ok(Database {
                     tables,
                     reserved,
@@ -142,8 +140,7 @@ impl<S: Alter> Database<S> {
         ensures valid { HasCleanDisk (state S.Store self.now.store) → IsValid self.now.state }
         ensures left { IsUsable (state S.Store self.now.store) → (trees : Trees) → (state S.Store self.now.store).may_leave trees → AreHeldOf self.now.state trees }
     {
-        // Gives the proof what a crash leaves.
-        let _ = self.tables.len();
+        prove!(self.tables.is_at_rest());
         self.reserved.txns().next_id()
     }
 

@@ -1,4 +1,4 @@
--- What a store of tables and rows has of each table.
+-- What a store of tables and rows contains for each table.
 use Rattle.std.proofs.Common.{◌≡◌, ℕ, ℤ, pos, inl, inr, true, Option, Some, List, [], ◌∷◌, map, filter, find, flat_map, sym, ap, ◌∙◌, subst, IsPermutation}
 use Rattle.std.specs.Prelude.{IsSomeAnd, bytes_eq, option_map}
 use Rattle.std.specs.List.{AllByRecursion}
@@ -30,20 +30,20 @@ use Rattle.escrow_recover.specs.Stored.{HasHeldValues, IsStoreIn}
 use Rattle.escrow_recover.proofs.Parts.{find_mapped, found_named}
 use Rattle.escrow_recover.proofs.Split.{has_number}
 
--- a store of tables and rows is one of the format that is known, with these tables
+-- a store of tables and rows has the known format and these tables
 pub store_known : {number : ℤ} (tables : List StoredTable) (rows : List Row) (db : Database) → IsStoreIn number tables rows db → IsKnown number db
 store_known tables rows db is = record { store = is.image.store; format_is = is.image.format_is }
 
 pub store_tables : {number : ℤ} (tables : List StoredTable) (rows : List Row) (db : Database) → IsStoreIn number tables rows db → AreTablesIn tables db
 store_tables tables rows db is = record { are_tables = is.are_tables; tabs_are = is.image.tabs_are }
 
--- a table of a store has a number of the tables that TAB's rows are
+-- the table of a stored number is one of the tables that TAB's rows describe
 number_kept : (tables : List StoredTable) (s t : StoredTable) → Has tables t → tab_row t ≡ tab_row s → IsNumberOf tables (sql.Int s.id)
 number_kept tables s t has same =
     let number : sql.Int t.id ≡ sql.Int s.id = ap (λ (r : SqlRow). column r 0) same in
     (t.id, sym number, has_number tables t has)
 
--- each cell of a store is of one of the tables that TAB's rows are
+-- each cell of a store belongs to one of the tables that TAB's rows describe
 pub store_cells : {number : ℤ} (found tables : List StoredTable) (rows : List Row) (db : Database) → AreTablesIn found db → IsStoreIn number tables rows db → AreOfTables found db
 store_cells found tables rows db in_store is =
     let same : IsPermutation (map tab_row tables) (map tab_row found) = IsPermutation-trans _ _ _ is.image.tabs_are (IsPermutation-sym _ _ in_store.tabs_are) in
@@ -62,7 +62,7 @@ store_cells found tables rows db in_store is =
     mapped (u ∷ ts) t (inl e) = inl (ap tab_row e)
     mapped (u ∷ ts) t (inr h) = inr (mapped ts t h)
 
--- each table of a store has its rows
+-- the store has each table's rows
 pub store_rows : {number : ℤ} (tables : List StoredTable) (rows : List Row) (db : Database) (s : StoredTable) → Has tables s → IsStoreIn number tables rows db → AreRowsIn s (rows_of rows s.table.name) db
 store_rows tables rows db s has is =
     let mine = rows_of rows s.table.name in

@@ -1,4 +1,4 @@
--- What a counter of rows has taken, and what it has counted once it has taken all rows of a table.
+-- What a counter of rows has taken, and what it has counted after it has taken all rows of a table.
 use Rattle.std.proofs.Common.{◌≡◌, ◌≢◌, ℕ, ◌+◌, ◌<◌, ◌≤◌, Bool, false, List, [], ◌∷◌, ◌++◌, flat_map, map, filter, length, length-append, refl, sym, ap, ap₂, ◌∙◌, subst, arith, inl, inr, IsTrue}
 use Rattle.std.specs.Prelude.{slice_get}
 use Rattle.std.specs.List.{AllByRecursion}
@@ -34,14 +34,14 @@ use Rattle.escrow_recover.proofs.RowOrder.{answer_is, in_order}
 
 -- ---- one more row
 
--- what a table may have with one more row, it may have without
+-- if a table may have these rows and one more, it may have them without that one
 fewer : (table : TableDef) (read : List KeyedRow) (one : KeyedRow) → MayHave table (read ++ one ∷ []) → MayHave table read
 fewer table read one may = record {
   each = first_part (λ (r : KeyedRow). (row : Row) × IsRowWith table r row) read (one ∷ []) may.each;
   few = let many = may.few in omega (arith, length-append read (one ∷ []));
 }
 
--- a row is taken, or passed where one before it was none
+-- one more row is taken, while all rows before it were sound
 pub taken_row : (first old new : RowCounter) (good : Bool) (read : List KeyedRow) (one : KeyedRow) → HasTaken first old read → IsTrue old.sound
     → (IsTrue good → (old.rows < MAX_ROWS) × (made : Row) × IsRowWith old.table one made × (new ≡ record old { rows = old.rows + 1 }))
     → (good ≡ false → (new ≡ old) × (old.rows < MAX_ROWS → (made : Row) → IsRowWith old.table one made → ⊥))
@@ -74,7 +74,7 @@ passed_row first old read one taken unsound = record {
 
 -- ---- all rows
 
--- sound rows of a table, by their keys and values
+-- sound rows of a table, given by their keys and values
 record AreMade (table : TableDef) (read : List KeyedRow) : Type 0 where
   rows : List Row
   sound : AllByRecursion (IsSoundRow table) rows
@@ -93,7 +93,7 @@ made table many (one ∷ read) whole each =
       same = ap₂ (λ (r : KeyedRow) (rs : List KeyedRow). r ∷ rs) one_is rest.same;
     }
 
--- a sound row is whole: its key can be held, as its values can
+-- a sound row is whole: its key and its values can be held
 whole_row : (table : TableDef) (row : Row) → IsTable table → IsSoundRow table row → IsWhole (length table.columns) (keyed_row table row)
 whole_row table row is_table sound = record {
   many_are = length-values_of table row sound.is_row;
@@ -104,7 +104,7 @@ whole_row table row is_table sound = record {
   held = sound.held;
 }
 
--- sound rows are such as a table may have
+-- a table may have sound rows
 may_have : (table : TableDef) (rows : List Row) → AllByRecursion (IsSoundRow table) rows → length rows ≤ MAX_ROWS → MayHave table (map (keyed_row table) rows)
 may_have table rows sound few = record {
   each = all-map (λ (r : KeyedRow). (row : Row) × IsRowWith table r row) (keyed_row table) rows
@@ -112,7 +112,7 @@ may_have table rows sound few = record {
   few = omega (arith, length-map rows (keyed_row table));
 }
 
--- the cells of a table, in order, of which a counter that begins is given the rows
+-- the cells of a table, in order; a counter starts and is given their rows
 module _ (s : StoredTable) (db : Database) (is_table : IsTable s.table) (answer : List SqlRow) (of : AreOfTable (sql.Int s.id) (cells db) answer) where
   -- sound rows that have all cells of a table are the table's rows
   are_rows : (rows : List Row) → AllByRecursion (IsSoundRow s.table) rows → length rows ≤ MAX_ROWS → answer ≡ flat_map (keyed_cells s.table) rows → AreRowsIn s rows db
@@ -125,7 +125,7 @@ module _ (s : StoredTable) (db : Database) (is_table : IsTable s.table) (answer 
         cells_are = IsPermutation-sym (map (λ c. column c 1 ∷ column c 2 ∷ column c 3 ∷ []) (filter (is_in (sql.Int s.id)) (cells db))) (flat_map (keyed_cells s.table) rows) own.same_cells;
       }
 
-  -- where the cells are those of no whole rows, the table has no rows
+  -- if no whole rows have these cells, the table has no rows
   pub none_read : ((read : List KeyedRow) → AllByRecursion (IsWhole (length s.table.columns)) read → answer ≢ flat_map row_cells read) → (rows : List Row) → AreRowsIn s rows db → ⊥
   none_read none rows are =
       none (map (keyed_row s.table) rows) (all-map (IsWhole (length s.table.columns)) (keyed_row s.table) rows (all_weaker (IsSoundRow s.table) _ (λ row sound. whole_row s.table row is_table sound) rows are.sound))
@@ -154,7 +154,7 @@ module _ (s : StoredTable) (db : Database) (is_table : IsTable s.table) (answer 
           counted.1 ∙ many,
         )
 
-    -- where it may not have them, it has no rows
+    -- if the table may not have them, it has no rows
     pub no_rows_found : last.sound ≡ false → (rows : List Row) → AreRowsIn s rows db → ⊥
     no_rows_found unsound rows are =
         let fit = all_weaker (IsSoundRow s.table) (IsRowOf s.table) (λ row sound. sound.is_row) rows are.sound in

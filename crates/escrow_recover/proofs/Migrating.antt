@@ -1,4 +1,4 @@
--- A store in the format before, which is verified and then brought to the known one.
+-- A store in the previous format that is verified, then migrated to the known format.
 use Rattle.std.proofs.Common.{◌≡◌, Bool, true, List, arith, inl, inr, sym, subst}
 use Rattle.std.specs.Prelude.{IsTrue}
 use Rattle.std.specs.List.{AllByRecursion}
@@ -21,21 +21,21 @@ use Rattle.escrow_recover.specs.Opened.{IsOpened, Stores}
 use Rattle.escrow_recover.specs.Stored.{HasCount, IsFormat1Store, IsStoreOf}
 use Rattle.escrow_recover.proofs.OpenedLemmas.{definitions}
 
--- what verifying told of a database that was looked at: the tables of a store in the format before
+-- what verification found in a database: the tables of a store in the previous format
 abbrev pub Told : Database → State → List CountedTable → Type 0
 Told db mid found = HasCleanDisk mid → IsTrue mid.is_open × (rows : List Row) × IsFormat1Store (stored_of found) rows db × AllByRecursion (HasCount rows) found
 
--- a store was looked at, and then brought to the known format
+-- a store was verified, then migrated to the known format
 module _ (old mid last : State) (found : List CountedTable) (told : Told old.now mid found) (only_reads : OnlyReads old mid)
     (is_done : Bool) (it : Transacts mid last is_done Migrates) where
   was_clean : HasCleanDisk last → HasCleanDisk mid
   was_clean clean = omega (arith, it.survives.clean, clean)
 
-  -- the tables and rows that were held in the format before
+  -- the tables and rows that it held in the previous format
   was_held : (clean : HasCleanDisk mid) → HoldsInFormat1 (catalog_of found) (told clean).1 old.now
   was_held clean = record { tables = stored_of found; catalog_is = definitions found; store = (told clean).2 }
 
-  -- a database that the migration makes is a store of them
+  -- a database that the migration makes is a store of these tables and rows
   made_by : (clean : HasCleanDisk mid) (db : Database) → Migrates mid.now db → IsStoreOf (stored_of found) (told clean).1 db
   made_by clean db migrates =
       let was = told clean in
@@ -43,7 +43,7 @@ module _ (old mid last : State) (found : List CountedTable) (told : Told old.now
       let image = subst (IsImageIn FORMAT_1 (stored_of found) was.1) (sym (only_reads.same (clean, was.0))) store.image in
       record { are_tables = store.are_tables; are_rows = store.are_rows; meet = store.meet; held = store.held; image = migrates FORMAT_1 (stored_of found) was.1 image }
 
-  -- so does what a crash leaves, if it leaves anything new
+  -- so is what a crash leaves, if it leaves anything new
   pub crash : Survives old last (WasMigrated old)
   crash = survives_then old mid last _ _ _ (λ _ db none. absurd none)
       (λ clean trees made.
@@ -60,7 +60,7 @@ module _ (old mid last : State) (found : List CountedTable) (told : Told old.now
   made_now : (done : is_done ≡ true) (clean : HasCleanDisk last) → IsStoreOf (stored_of found) (told (was_clean clean)).1 last.now
   made_now done clean = made_by (was_clean clean) last.now (it.done done clean).1
 
-  -- it is a store that is opened, of the tables and rows that it held in the format before
+  -- the store is opened, with the tables and rows that it held in the previous format
   stores_now : (done : is_done ≡ true) (clean : HasCleanDisk last) → Stores last found (told (was_clean clean)).1
   stores_now done clean = record { is_open = (it.done done clean).0; store = made_now done clean; counts = (told (was_clean clean)).3 }
 
@@ -70,13 +70,13 @@ module _ (old mid last : State) (found : List CountedTable) (told : Told old.now
   pub migrated_from : is_done ≡ true → HasCleanDisk last → IsMigratedFrom old.now last found
   migrated_from done clean = ((told (was_clean clean)).1, stores_now done clean, was_held (was_clean clean))
 
--- what opening a store that was looked at made, if anything
+-- what opening a verified store made, if it made anything
 pub made_then : (old mid last : State) → OnlyReads old mid → Survives mid last (WasMigrated mid) → Survives old last (IsMade old.now)
 made_then old mid last only_reads it = survives_then old mid last _ _ _ (λ _ db none. absurd none)
     (λ clean trees made.
     let usable : IsUsable mid = (omega (arith, it.clean, clean), made.is_open) in
     inr (subst (λ (was : Database). IsMigrated was trees) (only_reads.same usable) made.is_migrated)) only_reads.survives it
 
--- founding made an empty store
+-- founding makes an empty store
 pub founding_makes : (was : Database) (old new : State) → Survives old new (IsFounded was) → Survives old new (IsMade was)
 founding_makes was old new it = survives_weaker old new _ _ (λ _ _ made. inl made) it

@@ -1,4 +1,4 @@
--- What a disk has holds one catalog, and one list of rows, and is then a store.
+-- A disk holds one catalog and one list of rows; it is then a store.
 use Rattle.std.proofs.Common.{◌≡◌, List, [], ◌∷◌, map, sym, ap, ap₂, ◌∙◌, subst, IsPermutation}
 use Rattle.std.specs.List.{flat_map}
 use Rattle.std.specs.List.{AllByRecursion}
@@ -48,7 +48,7 @@ stored catalog rows db held meet values = record {
   image = held.image;
 }
 
--- the format of a store is the known one
+-- a store has the known format
 one_format : (catalog : List TableDef) (rows : List Row) (db : Database) → Holds catalog rows db → ¬ (HasOtherFormat db)
 one_format catalog rows db held other = not_other db FORMAT held.image.format_is other
 

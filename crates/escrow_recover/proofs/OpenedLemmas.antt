@@ -1,4 +1,4 @@
--- What is known of a store that is opened.
+-- What holds of an opened store.
 use Rattle.std.proofs.Common.{◌≡◌, ◌∙◌, List, [], ◌∷◌, map, Result, Err, refl, sym, ap, subst, arith}
 use Rattle.std.specs.Prelude.{IsTrue}
 use Rattle.std.specs.List.{AllByRecursion}
@@ -25,12 +25,12 @@ use Rattle.escrow_recover.specs.Stored.{HasCount, IsStoreOf}
 use Rattle.escrow_recover.specs.declared.unverified.Unverified.{Unverified}
 use Rattle.escrow_recover.specs.declared.unverified.Unverified.TheVariants as unverified
 
--- the definitions of tables, taken in two steps
+-- the definitions of tables, obtained in two steps
 pub definitions : (tables : List CountedTable) → map (λ (s : StoredTable). s.table) (stored_of tables) ≡ catalog_of tables
 definitions [] = refl
 definitions (c ∷ tables) = ap (λ (ts : List TableDef). c.stored.table ∷ ts) (definitions tables)
 
--- a store that was verified is open, also after a call that only reads
+-- a verified store is open, and stays so after a call that only reads
 pub opened_by : (old new : State) (tables : List CountedTable) → OnlyReads old new
     → (HasCleanDisk new → IsTrue new.is_open × (rows : List Row) × IsStoreOf (stored_of tables) rows old.now × AllByRecursion (HasCount rows) tables)
     → HasCleanDisk new → IsOpened new tables
@@ -40,7 +40,7 @@ opened_by old new tables only_reads told clean =
     (found.1, record { is_open = found.0; store = store; counts = found.3 })
 
 module _ (s : State) (tables : List CountedTable) (rows : List Row) (is : Stores s tables rows) where
-  -- a store that is opened holds its tables and rows
+  -- an opened store holds its tables and rows
   pub stores_holds : Holds (catalog_of tables) rows s.now
   stores_holds = record {
     tables = stored_of tables;
@@ -50,7 +50,7 @@ module _ (s : State) (tables : List CountedTable) (rows : List Row) (is : Stores
     image = is.store.image;
   }
 
-  -- its rows are those that are read from its cells
+  -- its rows are those read from its cells
   pub stores_rows : rows_in (stored_of tables) s.now ≡ rows
   stores_rows = rows_are (stored_of tables) rows s.now is.store.are_tables is.store.are_rows is.store.image.cells_are
 
@@ -69,13 +69,13 @@ empty_stores s is = record {
   counts = tt;
 }
 
--- ---- why one isn't opened
+-- ---- why a store is not opened
 
 pub opening_failed : (why : Failure) → IsOpening (refusal_for why)
 opening_failed failure.Memory = tt
 opening_failed failure.Store = tt
 
--- a failure is no finding
+-- a failure is not a finding about the store
 pub not_foreign : (why : Failure) → refusal_for why ≡ refusal.ForeignStore → ⊥
 not_foreign failure.Memory e = absurd (cc)
 not_foreign failure.Store e = absurd (cc)
@@ -90,7 +90,7 @@ opening (unverified.Failed failure.Store) = tt
 opening unverified.ForeignStore = tt
 opening unverified.OtherFormat = tt
 
--- what is refused as no store, or as one of another format, was found to be that
+-- if the refusal says that this is no store, or one of another format, verification found that
 pub is_foreign : (why : Unverified) → refused_as why ≡ refusal.ForeignStore → why ≡ unverified.ForeignStore
 is_foreign (unverified.Failed failure.Memory) e = absurd (cc)
 is_foreign (unverified.Failed failure.Store) e = absurd (cc)
@@ -103,7 +103,7 @@ is_other_format (unverified.Failed failure.Store) e = absurd (cc)
 is_other_format unverified.ForeignStore e = absurd (cc)
 is_other_format unverified.OtherFormat e = refl
 
--- so it is of the answers that have these
+-- the same holds for the results that carry them
 pub was_foreign : {X Y : Type 0} (why : Unverified) (given : Refusal) (r : Result X Refusal) (found : Result Y Unverified) → r ≡ Err refusal.ForeignStore → found ≡ Err why → given ≡ refused_as why
     → r ≡ Err given → found ≡ Err unverified.ForeignStore
 was_foreign why given r found same is from answer =

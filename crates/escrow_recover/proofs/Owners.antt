@@ -1,4 +1,4 @@
--- The tables that cells are of, as they are read.
+-- The tables that own the cells, as the cells are read.
 use Rattle.std.proofs.Common.{◌≡◌, ℤ, true, List, [], ◌∷◌, ◌++◌, refl, subst, IsTrue}
 use Rattle.std.specs.Prelude.{◌↔◌}
 use Rattle.std.specs.Borrow.{Bor}
@@ -18,7 +18,7 @@ use Rattle.escrow_recover.specs.Inside.{AreOfTables, IsNumberOf, is_number_of}
 abbrev pub Names : List StoredTable → SqlRow → Type 0
 Names tables row = IsNumberOf tables (column row 0)
 
--- what is known of rows that were taken
+-- what is known of the rows taken so far
 abbrev pub HasLooked : Owners → Owners → List SqlRow → Type 0
 HasLooked first owners rows = (owners.tables ≡ first.tables) × (IsTrue first.known → (IsTrue owners.known ↔ AllByRecursion (Names first.tables.now) rows))
 
@@ -37,7 +37,7 @@ still_known first owners rows row id is found so_far =
           (λ known. all-append (Names first.tables.now) rows (row ∷ []) (test.0 known) (here, tt), λ all. test.1 (all_before (Names first.tables.now) rows (row ∷ []) all).0),
     )
 
--- all rows are taken: each cell is of one of the tables, or not
+-- all rows are taken: either each cell belongs to one of the tables, or some cell does not
 pub all_known : (db : Database) (tables : Bor (List StoredTable)) (last : Owners) → Takes HasLooked (AreTablesOfCells (cells db)) (record { tables = tables; known = true }) last
     → IsTrue last.known ↔ AreOfTables tables.now db
 all_known db tables last takes =

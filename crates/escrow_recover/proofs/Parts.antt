@@ -1,4 +1,4 @@
--- A store, put together of its tables and the rows of each.
+-- A store, assembled from its tables and the rows of each.
 use Rattle.std.proofs.Common.{◌≡◌, ◌⊎◌, ℕ, ℤ, ◌≤◌, Bool, true, false, not, Option, Some, List, [], ◌∷◌, ◌++◌, map, filter, find, flat_map, length, refl, sym, ap, ap₂, ◌∙◌, subst, inl, inr, arith, IsTrue, IsPermutation, Ordering, Less, Equal, Greater}
 use Rattle.std.specs.Prelude.{IsSomeAnd, bytes_eq, option_map, cond}
 use Rattle.std.specs.List.{AllByRecursion}
@@ -34,7 +34,7 @@ use Rattle.escrow_recover.specs.Inside.{AreOfTables, AreRowsIn, AreTablesIn, Has
 use Rattle.escrow_recover.specs.Stored.{HasCount, HasHeldValues, IsStoreIn, stored_of}
 use Rattle.escrow_recover.proofs.Split.{cells_of_part, cells_split, of_one}
 
--- items whose images ascend
+-- items are ascending if their images are
 ascending_from_map : {A B : Type 0} (before : A → A → Bool) (f : B → A) (xs : List B) → IsAscending before (map f xs) → IsAscending (λ a b. before (f a) (f b)) xs
 ascending_from_map before f [] h = tt
 ascending_from_map before f (x ∷ xs) h = (all_from_map (λ y. IsTrue (before (f x) y)) f xs h.0, ascending_from_map before f xs h.1)
@@ -44,7 +44,7 @@ ascending_append : {A : Type 0} (before : A → A → Bool) (xs ys : List A) →
 ascending_append before [] ys h k across = k
 ascending_append before (x ∷ xs) ys h k across = (all-append (λ y. IsTrue (before x y)) xs ys h.0 across.0, ascending_append before xs ys h.1 k across.1)
 
--- pieces that are the same in some order, at each item, make the same list in some order
+-- if the pieces of each item are equal up to order, so are the whole lists
 pieces_permuted : {A B : Type 0} (f g : A → List B) (xs : List A) → AllByRecursion (λ x. IsPermutation (f x) (g x)) xs → IsPermutation (flat_map f xs) (flat_map g xs)
 pieces_permuted f g [] h = IsPermutation-refl []
 pieces_permuted f g (x ∷ xs) h = IsPermutation-append _ _ _ _ h.0 (pieces_permuted f g xs h.1)
@@ -66,7 +66,7 @@ found_named tables are s has =
     let passes = find_has test tables found.0 found.1 in
     found.1 ∙ ap Some (one_name tables are found.0 s passes.0 has (name_same _ _ passes.1))
 
--- a table that is counted, and its rows
+-- a counted table and its rows
 record Part : Type 0 where
   counted : CountedTable
   rows : List Row
@@ -95,7 +95,7 @@ first_lt Less rest h = refl
 first_lt Equal rest h = absurd (cc)
 first_lt Greater rest h = absurd (cc)
 
--- rows of a table stand before those of a table of a later name
+-- the rows of a table come before those of a table with a later name
 across : (first then : TableDef) (a b : Row) → a.name.table ≡ first.name → b.name.table ≡ then.name → table_before first then ≡ true → row_before a b ≡ true
 across first then a b of_first of_then before =
     first_lt (slice_cmp nat_cmp a.name.table b.name.table) (value_cmp a.name.key b.name.key)
@@ -120,7 +120,7 @@ rows_ascend db (p ∷ parts) are up =
     q.rows (names db q (all_has (IsPart db) parts are.1 q k)))))
     p.rows (names db p are.0))
 
--- the parts of a name: none, or one
+-- the parts with a name: none or one
 abbrev OneNamed : List Part → List ℕ → Type 0
 OneNamed parts name = (filter (λ p. bytes_eq (name_of p) name) parts ≡ []) ⊎ ((p : Part) × Has parts p × (filter (λ p. bytes_eq (name_of p) name) parts ≡ p ∷ []))
 
@@ -145,7 +145,7 @@ one_named (p ∷ parts) apart name =
           | inr f ↦ f
         ]
 
--- the rows of a name are those of the parts of that name
+-- the rows of a name are those of the parts with that name
 rows_named : (db : Database) (parts : List Part) (name : List ℕ) → AllByRecursion (IsPart db) parts → rows_of (all_rows parts) name ≡ all_rows (filter (λ p. bytes_eq (name_of p) name) parts)
 rows_named db parts name are =
     filter_pieces (λ (p : Part). p.rows) (λ (row : Row). bytes_eq row.name.table name) (λ (p : Part). bytes_eq (name_of p) name) parts
@@ -159,7 +159,7 @@ few db parts are apart name =
       | inr one ↦ rw (rows_named db parts name are, one.2, append-nil one.0.rows) (all_has (IsPart db) parts are one.0 one.1).0.few
     ]
 
--- so the rows of a part's name are its own
+-- the rows of a part's name are the part's own
 own_rows : (db : Database) (parts : List Part) → AllByRecursion (IsPart db) parts → IsAscending (λ p q. not (bytes_eq (name_of p) (name_of q))) parts
     → (p : Part) → Has parts p → rows_of (all_rows parts) (name_of p) ≡ p.rows
 own_rows db parts are apart p has =
@@ -174,7 +174,7 @@ own_rows db parts are apart p has =
           | inr none ↦ absurd none
         ]
 
--- what is known of a database's parts
+-- what is known of the parts of a database
 record Whole (number : ℤ) (db : Database) (parts : List Part) : Type 0 where
   known : IsKnown number db
   tables_in : AreTablesIn (all_tables parts) db
@@ -204,7 +204,7 @@ module _ {number : ℤ} (db : Database) (parts : List Part) (whole : Whole numbe
   found : (p : Part) → Has parts p → (row : Row) → row.name.table ≡ name_of p → stored_named (all_tables parts) row.name.table ≡ Some p.counted.stored
   found p has row named = ap (stored_named (all_tables parts)) named ∙ found_named (all_tables parts) are_tables p.counted.stored (has_part parts p has)
 
-  -- a fact of each row, with its part
+  -- a fact about each row, with its part
   each_row : (P : Row → Type 0) → ((p : Part) → Has parts p → (row : Row) → IsSoundRow p.counted.stored.table row → P row) → AllByRecursion P (all_rows parts)
   each_row P each =
       all-flat_map P (λ (p : Part). p.rows) parts (has_all _ parts (λ p has.
@@ -268,7 +268,7 @@ module _ {number : ℤ} (db : Database) (parts : List Part) (whole : Whole numbe
       all-map (HasCount (all_rows parts)) (λ (p : Part). p.counted) parts
       (has_all _ parts (λ p has. (all_has (IsPart db) parts whole.parts_are p has).1 ∙ sym (ap length (own_rows db parts whole.parts_are names_apart p has))))
 
--- tables that are counted, of which each has its rows in a store, are those of the store
+-- counted tables, each with its rows in a store, are the tables of that store
 pub counted_store : {number : ℤ} (db : Database) (tables : List CountedTable) → IsKnown number db → AreTablesIn (stored_of tables) db → IsAscending table_before (map (λ s. s.table) (stored_of tables))
     → AreOfTables (stored_of tables) db → AllByRecursion (HasRows db) tables → (rows : List Row) × IsStoreIn number (stored_of tables) rows db × AllByRecursion (HasCount rows) tables
 counted_store {number} db tables known in_store order of have =

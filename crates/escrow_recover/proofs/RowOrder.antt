@@ -1,4 +1,4 @@
--- Sorted cells of sound rows: their rows are in order of key, and they are the only ones in any order.
+-- If the cells of sound rows are sorted, the rows are in order of key. No other rows have these cells, in any order.
 use Rattle.std.proofs.Common.{◌≡◌, ℕ, pos, ◌<◌, false, List, [], ◌∷◌, ◌++◌, flat_map, length, refl, sym, ap, ◌∙◌, arith, Ordering, Less, Equal, Greater, is_lt, is_gt, IsTrue, IsSorted}
 use Rattle.std.specs.List.{AllByRecursion}
 use Rattle.std.specs.Ordering.{nat_cmp, ordering_then}
@@ -31,7 +31,7 @@ use Rattle.escrow_rows.proofs.KeyedCells.{cell_cmp, cell_cmp_total, stored_cmp}
 use Rattle.escrow_cells.proofs.Rising.{AtMost, ascending_from_sorted}
 use Rattle.escrow_recover.specs.Inside.{AreRowsIn, IsSoundRow}
 
--- a cell by its key, its place and its value
+-- a cell, given by its key, place and value
 abbrev cell_row : Value → ℕ → Value → SqlRow
 cell_row key place v = stored key ∷ sql.Int (pos place) ∷ stored v ∷ []
 
@@ -43,20 +43,20 @@ rises_behind R (x ∷ xs) ys h = rises_behind R xs ys h.1
 abbrev Upto : SqlRow → SqlRow → Type 0
 Upto = AtMost cell_cmp cell_cmp_total
 
--- the second cell of a row is not above the cells behind the row
+-- the second cell of a row is not above the cells after that row
 second_cell : (key : Value) (values : List Value) (behind : List SqlRow) → 1 < length values → Rises Upto (keyed key 1 values ++ behind)
     → (v : Value) × AllByRecursion (Upto (cell_row key 2 v)) behind
 second_cell key [] behind long h = absurd (omega (arith, long))
 second_cell key (v ∷ []) behind long h = absurd (omega (arith, long))
 second_cell key (v ∷ w ∷ more) behind long h = (w, all_behind (Upto (cell_row key 2 w)) (keyed key 3 more) behind h.1.0)
 
--- what holds of a row's cells holds of its first
+-- what holds of each cell of a row holds of its first cell
 first_cell : (P : SqlRow → Type 0) (key : Value) (values : List Value) (behind : List SqlRow) → 1 < length values → AllByRecursion P (keyed key 1 values ++ behind)
     → (v : Value) × P (cell_row key 1 v)
 first_cell P key [] behind long h = absurd (omega (arith, long))
 first_cell P key (v ∷ more) behind long h = (v, h.0)
 
--- a second cell that is not above a first one has the lower key
+-- if a second cell is not above a first cell, its row has the lower key
 lower : (o : Ordering) → is_gt (ordering_then o Greater) ≡ false → o ≡ Less
 lower Less e = refl
 lower Equal e = absurd (cc)
@@ -70,7 +70,7 @@ lower_key a b v w h =
     lower (key_cmp a b) (sym (ap is_gt whole) ∙ h)
 
 module _ (table : TableDef) (is_table : IsTable table) where
-  -- a sound row has two values at least
+  -- a sound row has at least two values
   long_row : (row : Row) → IsSoundRow table row → 1 < length (values_of table row)
   long_row row sound = let rules = rules_of table is_table in let many = length-values_of table row sound.is_row in omega (arith, rules.least, many)
 
@@ -81,7 +81,7 @@ module _ (table : TableDef) (is_table : IsTable table) where
       let first = first_cell (Upto (cell_row key 2 v)) row.name.key (values_of table row) (flat_map (keyed_cells table) rows) (long_row row sound.0) h in
       (lower_key key row.name.key v first.0 first.1, keys_above key v rows sound.1 (all_behind (Upto (cell_row key 2 v)) (keyed_cells table row) (flat_map (keyed_cells table) rows) h))
 
-  -- of one table, a row of a lower key is before the other
+  -- of two rows of one table, the row with the lower key comes first
   before : (row other : Row) → IsSoundRow table row → IsSoundRow table other → key_cmp row.name.key other.name.key ≡ Less → IsTrue (row_before row other)
   before row other sound k less =
       let same : slice_cmp nat_cmp row.name.table other.name.table ≡ Equal =

@@ -1,4 +1,4 @@
--- The cells of a store, split by their tables.
+-- The cells of a store, split by table.
 use Rattle.std.proofs.Common.{◌≡◌, ℕ, ℤ, pos, ◌+◌, Bool, true, false, not, List, [], ◌∷◌, map, filter, flat_map, refl, sym, ap, ◌∙◌, subst, inl, inr, IsTrue, IsPermutation}
 use Rattle.std.specs.List.{AllByRecursion}
 use Rattle.std.specs.Ordering.{int_eq}
@@ -24,18 +24,18 @@ use Rattle.escrow_rows.proofs.KeyedCells.{with_key}
 use Rattle.escrow_rows.proofs.Same.{same_numbers}
 use Rattle.escrow_recover.specs.Inside.{IsNumberOf, AreOfTables, AreRowsIn, is_number_of}
 
--- a cell is of one of the tables
+-- a cell belongs to one of the tables
 abbrev pub IsOfOne : List StoredTable → SqlRow → Type 0
 IsOfOne tables c = (s : StoredTable) × Has tables s × (column c 0 ≡ sql.Int s.id)
 
--- what the test by the table answers of a cell of a table's number
+-- the result of the test by table for a cell with a table's number
 pub in_number : (id n : ℤ) (c : SqlRow) → column c 0 ≡ sql.Int n → is_in (sql.Int id) c ≡ int_eq n id
 in_number id n c h = ap (λ v. same v (sql.Int id)) h ∙ same_numbers n id
 
 number_same : (id n : ℤ) (c : SqlRow) → column c 0 ≡ sql.Int n → is_in (sql.Int id) c ≡ true → n ≡ id
 number_same id n c h k = (Decides-int_eq n id).0 (sym (in_number id n c h) ∙ k)
 
--- the items that pass a test, where each that passes it has passed another
+-- filtering by two tests equals filtering by the first, if each item that passes the first passes the second
 filter_kept : {A : Type 0} (p q : A → Bool) (xs : List A) → AllByRecursion (λ x. p x ≡ true → q x ≡ true) xs → filter p (filter q xs) ≡ filter p xs
 filter_kept p q [] h = refl
 filter_kept p q (x ∷ xs) h =
@@ -45,7 +45,7 @@ filter_kept p q (x ∷ xs) h =
       | inr f ↦ elim (cases_Bool (q x)) [ inl kept ↦ rw (kept, f) more | inr out ↦ rw (out, f) more ]
     ]
 
--- a cell of one table isn't of another
+-- a cell of one table does not belong to another
 not_both : (t s : StoredTable) (c : SqlRow) (n : ℤ) → column c 0 ≡ sql.Int n → not (int_eq t.id s.id) ≡ true → is_in (sql.Int s.id) c ≡ true → not (is_in (sql.Int t.id) c) ≡ true
 not_both t s c n is apart h =
     elim (cases_Bool (is_in (sql.Int t.id) c)) [
@@ -53,7 +53,7 @@ not_both t s c n is apart h =
       | inr f ↦ ap not f
     ]
 
--- the cells that aren't of the first table are of one of the others
+-- a cell that is not of the first table belongs to one of the others
 of_others : (t : StoredTable) (ts : List StoredTable) (cs : List SqlRow) → AllByRecursion (IsOfOne (t ∷ ts)) cs → AllByRecursion (IsOfOne ts) (filter (λ c. not (is_in (sql.Int t.id) c)) cs)
 of_others t ts cs of =
     has_all (IsOfOne ts) (filter (λ c. not (is_in (sql.Int t.id) c)) cs) (λ c k.
@@ -65,7 +65,7 @@ of_others t ts cs of =
     other c s (inl e) is out = absurd (both_ways _ out (in_number t.id s.id c is ∙ (Decides-int_eq s.id t.id).1 (ap (λ (x : StoredTable). x.id) (sym e))))
     other c s (inr has) is out = (s, has, is)
 
--- cells, each of one of the tables, are those of the first table, then those of the next, and so on
+-- cells of the tables are those of the first table, then those of the second, and so on
 pub cells_split : (tables : List StoredTable) (cs : List SqlRow) → IsAscending (λ a b. not (int_eq a.id b.id)) tables → AllByRecursion (IsOfOne tables) cs
     → IsPermutation (flat_map (λ (s : StoredTable). filter (is_in (sql.Int s.id)) cs) tables) cs
 cells_split [] [] apart of = IsPermutation-refl []
@@ -82,7 +82,7 @@ cells_split (t ∷ ts) cs apart of =
     (all_weaker (IsOfOne (t ∷ ts)) _ (λ c one. not_both t s c one.0.id one.2 (all_has (λ (x : StoredTable). IsTrue (not (int_eq t.id x.id))) ts apart.0 s k)) cs of))) in
     IsPermutation-trans _ _ _ (IsPermutation-append_right (filter mine cs) _ _ (subst (λ xs. IsPermutation xs left) kept more)) (IsPermutation-sym _ _ parts)
 
--- the table of a number
+-- the table with a number
 pub numbered : (tables : List StoredTable) (id : ℤ) → is_number_of tables id ≡ true → (s : StoredTable) × Has tables s × (s.id ≡ id)
 numbered [] id h = absurd (cc)
 numbered (t ∷ ts) id h =
@@ -94,13 +94,13 @@ numbered (t ∷ ts) id h =
           (found.0, inr found.1, found.2)
     ]
 
--- a table has its number
+-- each table has its number
 pub has_number : (tables : List StoredTable) (s : StoredTable) → Has tables s → is_number_of tables s.id ≡ true
 has_number [] s has = absurd has
 has_number (t ∷ ts) s (inl e) = rw ((Decides-int_eq t.id s.id).1 (ap (λ (x : StoredTable). x.id) e)) refl
 has_number (t ∷ ts) s (inr has) = elim (cases_Bool (int_eq t.id s.id)) [ inl here ↦ rw here refl | inr not_here ↦ rw not_here (has_number ts s has) ]
 
--- each cell of a store is of one of its tables
+-- each cell of a store belongs to one of its tables
 pub of_one : (tables : List StoredTable) (db : Database) → AreOfTables tables db → AllByRecursion (IsOfOne tables) (cells db)
 of_one tables db of =
     all_weaker (λ c. IsNumberOf tables (column c 0)) (IsOfOne tables)
@@ -113,7 +113,7 @@ Whole c = c ≡ column c 0 ∷ column c 1 ∷ column c 2 ∷ column c 3 ∷ []
 cells_whole : (db : Database) → AllByRecursion Whole (cells db)
 cells_whole db = all-map Whole _ (db.trees _) (all_of _ (λ r. refl) (db.trees _))
 
--- a table's number before a cell that is told by its key, its place and its value
+-- a table's number, put before a cell given by key, place and value
 abbrev under : ℤ → SqlRow → SqlRow
 under id c = sql.Int id ∷ c
 

@@ -1,4 +1,4 @@
--- The tables of a store are told by its rows in TAB.
+-- The rows of TAB determine the tables of a store.
 use Rattle.std.proofs.Common.{◌≡◌, ℕ, ℤ, ◌∷◌, [], List, Some, map, refl, sym, ap, ap₂, ◌∙◌, subst, IsPermutation}
 use Rattle.std.specs.Prelude.{IsTrue, Bool}
 use Rattle.std.specs.Cmp.{IsTotalOrder}
@@ -26,7 +26,7 @@ use Rattle.escrow_readback.proofs.ReadBack.{read_back}
 use Rattle.escrow_rows.specs.Image.{AreTables, tab_row}
 use Rattle.escrow_rows.proofs.Order.{sorted_permutation}
 
--- a canonical text is that of one table
+-- a canonical text belongs to one table
 canonical_once : (a b : TableDef) → IsTable a → IsTable b → canonical a ≡ canonical b → a ≡ b
 canonical_once a b a_table b_table e =
     let read_a = read_back a a_table in
@@ -40,7 +40,7 @@ canonical_once a b a_table b_table e =
 abbrev stored_table : ℤ → TableDef → StoredTable
 stored_table id table = record { id = id; table = table }
 
--- tables are told by their rows in TAB
+-- equal rows of TAB come from equal tables
 told_by_tabs : (ts us : List StoredTable) → AllByRecursion (λ s. IsTable s.table) ts → AllByRecursion (λ s. IsTable s.table) us → map tab_row ts ≡ map tab_row us → ts ≡ us
 told_by_tabs [] [] ts_tables us_tables e = refl
 told_by_tabs [] (b ∷ us) ts_tables us_tables e = absurd (cc)
@@ -70,14 +70,14 @@ tab_before a b = is_lt (by_tab a b)
 abbrev tables_of : List StoredTable → List TableDef
 tables_of tables = map (λ s. s.table) tables
 
--- rows in TAB of tables that are in order of name are so too
+-- if tables are in order of name, their rows of TAB are too
 tabs_ascend : (tables : List StoredTable) → IsAscending table_before (tables_of tables) → IsAscending tab_before (map tab_row tables)
 tabs_ascend [] h = tt
 tabs_ascend (s ∷ tables) h =
     let behind : AllByRecursion (λ (other : StoredTable). IsTrue (table_before s.table other.table)) tables = all_from_map _ (λ (other : StoredTable). other.table) tables h.0 in
     (all-map _ tab_row tables behind, tabs_ascend tables h.1)
 
--- a database has the rows of TAB of one list of tables in order of name
+-- the rows of TAB in a database come from one list of tables in order of name
 pub stored_once : (ts us : List StoredTable) (tabs : List SqlRow) → AreTables ts → IsCatalog (tables_of ts) → IsPermutation (map tab_row ts) tabs
     → AreTables us → IsCatalog (tables_of us) → IsPermutation (map tab_row us) tabs → ts ≡ us
 stored_once ts us tabs ts_are ts_catalog ts_tabs us_are us_catalog us_tabs =

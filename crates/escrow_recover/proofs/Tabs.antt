@@ -1,4 +1,4 @@
--- The rows of TAB that are read, and the tables whose rows they are.
+-- The rows of TAB that were read, and the tables that they describe.
 use Rattle.std.proofs.Common.{◌≡◌, ◌≤◌, ◌<◌, ◌+◌, ℕ, true, Result, Ok, Err, List, [], ◌∷◌, ◌++◌, length, map, take, get_or, refl, sym, ap, ap₂, ◌∙◌, subst, arith, IsPermutation, IsSorted}
 use Rattle.std.specs.List.{AllByRecursion}
 use Rattle.std.specs.Prelude.{IfOk}
@@ -19,7 +19,7 @@ use Rattle.escrow_recover.specs.Tabs.{CanStand, IsTab, are_apart, by_name}
 use Rattle.escrow_recover.proofs.Only.{same_tables}
 use Rattle.escrow_recover.proofs.Together.{Together, apart_from, apart_test, are_tables, catalog_of, in_any_order, together}
 
--- so many rows are those of the tables, each of which can stand
+-- the rows read so far are those of the tables, and each table is valid alone
 pub record AreRead (rows : List SqlRow) (tables : List StoredTable) : Type 0 where
   pub rows_are : map tab_row tables ≡ rows
   pub each : AllByRecursion CanStand tables
@@ -33,24 +33,24 @@ one_more rows tables new i row s within at before can is added = record {
   each = subst (AllByRecursion CanStand) (sym added) (all-append CanStand tables (s ∷ []) before.each (can, tt));
 }
 
--- the rows of tables that can stand together
+-- the rows of tables that can be in a store together
 module _ (rows : List SqlRow) (tables : List StoredTable) (are : AreTables tables) (same : IsPermutation (map tab_row tables) rows) where
-  -- are few
+  -- there are few rows
   pub few_rows : length rows ≤ MAX_TABLES
   few_rows = omega (arith, are.few, length_permutation (map tab_row tables) rows same, length-map tables tab_row)
 
-  -- and each is that of a table
+  -- each row is that of a table
   pub each_tab : AllByRecursion IsTab rows
   each_tab = all-permutation IsTab (map tab_row tables) rows same (all-map IsTab tab_row tables (all_weaker CanStand (λ s. IsTab (tab_row s)) (λ s can. (s, can, refl)) tables (together tables are).each))
 
-  -- so the tables that are read are apart
+  -- the tables read from them are distinct
   pub read_apart : (read : List StoredTable) → AreRead rows read → are_apart read ≡ true
   read_apart read h =
       let defined = all_weaker CanStand (λ (s : StoredTable). IsTable s.table) (λ s k. k.defined) read h.each in
       let of_read = IsPermutation-same (map tab_row read) rows h.rows_are in
       apart_test read (in_any_order tables read (same_tables tables read rows are.defined defined same of_read) (together tables are)).are_apart
 
--- tables that are read, apart and few can stand together
+-- tables that were read, and are few and distinct, can be in a store together
 module _ (rows : List SqlRow) (read : List StoredTable) (h : AreRead rows read) (few : length rows ≤ MAX_TABLES) (apart : are_apart read ≡ true) where
   read_together : Together read
   read_together = record {
@@ -59,7 +59,7 @@ module _ (rows : List SqlRow) (read : List StoredTable) (h : AreRead rows read) 
     few = omega (arith, few, ap (λ (rs : List SqlRow). length rs) h.rows_are, length-map read tab_row);
   }
 
-  -- so they can in any order; sorted, they are a catalog
+  -- the same holds in any order; sorted, the tables are a catalog
   module _ (tables : List StoredTable) (same : IsPermutation read tables) where
     pub tables_are : AreTables tables
     tables_are = are_tables tables (in_any_order read tables same read_together)
@@ -72,12 +72,12 @@ module _ (rows : List SqlRow) (read : List StoredTable) (h : AreRead rows read) 
 
 -- ---- the tables of a store
 
--- the rows of TAB that are shown are those of the tables of the store
+-- the rows of TAB that were read are those of the store's tables
 pub rows_told : (tables : List StoredTable) (shown read : List SqlRow) (db : Database) → shown ≡ read → AreTabs (tabs db) read → AreTablesIn tables db → IsPermutation (map tab_row tables) shown
 rows_told tables shown read db same told are =
     IsPermutation-trans (map tab_row tables) (tabs db) shown are.tabs_are (subst (IsPermutation (tabs db)) (sym same) told.same_tabs)
 
--- tables of the rows that are shown are those of the store
+-- the tables of the rows that were read are those of the store
 pub tables_found : {V E O : Type 0} (items : V → List StoredTable) (r : Result V E) (shown read : List SqlRow) (db : Database) → shown ≡ read → O × (IsStore db → AreTabs (tabs db) read)
     → IfOk r (λ v. AreTables (items v) × IsCatalog (map (λ (s : StoredTable). s.table) (items v))) → IfOk r (λ v. IsPermutation (map tab_row (items v)) shown)
     → IfOk r (λ v. O × (IsStore db → AreTablesIn (items v) db))

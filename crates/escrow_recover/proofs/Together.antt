@@ -1,4 +1,4 @@
--- Tables that can stand in a store together, in any order.
+-- Tables that can be in a store together, in any order.
 use Rattle.std.proofs.Common.{◌≡◌, ◌≤◌, ℕ, ℤ, pos, int_le, Bool, true, false, not, ◌&&◌, List, [], ◌∷◌, length, map, Ordering, Less, Equal, Greater, is_gt, refl, sym, ap₂, ◌∙◌, subst, arith, bytes_eq, IsPermutation, IsSorted}
 use Rattle.std.specs.Prelude.{IsTrue}
 use Rattle.std.specs.List.{AllByRecursion, list_all}
@@ -29,7 +29,7 @@ other_id a b = not (int_eq a.id b.id)
 abbrev other_name : StoredTable → StoredTable → Bool
 other_name a b = not (bytes_eq a.table.name b.table.name)
 
--- ---- tables that are apart
+-- ---- distinct tables
 
 ids_part : (tables : List StoredTable) → IsAscending tables_apart tables → IsAscending other_id tables
 ids_part [] h = tt
@@ -48,7 +48,7 @@ both_parts_apart (s ∷ tables) p q = (
   both_parts_apart tables p.1 q.1,
 )
 
--- what the test of them says
+-- what the test for distinct tables says
 pub apart_from : (tables : List StoredTable) → are_apart tables ≡ true → IsAscending tables_apart tables
 apart_from [] e = tt
 apart_from (s ∷ tables) e =
@@ -67,7 +67,7 @@ apart_test (s ∷ tables) h = and_from (list_all (tables_apart s) tables) (are_a
     from_all p [] h = refl
     from_all p (x ∷ xs) h = and_from (p x) (list_all p xs) h.0 (from_all p xs h.1)
 
--- what is apart is so either way round
+-- the test is symmetric
 turned : (a b : StoredTable) → tables_apart a b ≡ true → tables_apart b a ≡ true
 turned a b h = ap₂ (λ (p q : Bool). not p && not q) (ids_turned b.id a.id) (names_turned b.table.name a.table.name) ∙ h
   where
@@ -79,9 +79,9 @@ turned a b h = ap₂ (λ (p q : Bool). not p && not q) (ids_turned b.id a.id) (n
         same_from_decides {P = x ≡ y} (bytes_eq x y) (bytes_eq y x) (name_same x y, λ e. subst (λ (n : List ℕ). bytes_eq x n ≡ true) e (same_name x))
         (λ e. sym (name_same y x e), λ e. subst (λ (n : List ℕ). bytes_eq n x ≡ true) e (same_name x))
 
--- ---- tables that can stand together
+-- ---- tables that can be in a store together
 
--- each can stand, they are apart, and they are few
+-- each table is valid alone, they are distinct, and they are few
 pub record Together (tables : List StoredTable) : Type 0 where
   pub each : AllByRecursion CanStand tables
   pub are_apart : IsAscending tables_apart tables
@@ -103,7 +103,7 @@ are_tables tables h = record {
   few = h.few;
 }
 
--- so they can in any order
+-- the same holds in any order
 pub in_any_order : (xs ys : List StoredTable) → IsPermutation xs ys → Together xs → Together ys
 in_any_order xs ys same h = record {
   each = all-permutation CanStand xs ys same h.each;
@@ -121,7 +121,7 @@ before_if Less h k = refl
 before_if Equal h k = absurd (k refl)
 before_if Greater h k = absurd (cc)
 
--- a table that isn't after another, and has another name, is before it
+-- if a table is not after another and has another name, it is before it
 before : (s t : StoredTable) → NotAfter s t → IsTrue (other_name s t) → IsTrue (table_before s.table t.table)
 before s t h tables_apart =
     before_if (slice_cmp nat_cmp s.table.name t.table.name) h
@@ -136,7 +136,7 @@ names_rise (s ∷ tables) up tables_apart = (
   names_rise tables up.1 tables_apart.1,
 )
 
--- sorted by name, they are a catalog
+-- sorted by name, the tables are a catalog
 pub catalog_of : (tables : List StoredTable) → Together tables → IsSorted by_name tables → IsCatalog (map (λ (s : StoredTable). s.table) tables)
 catalog_of tables h sorted = record {
   tables = all-map IsTable (λ (s : StoredTable). s.table) tables (are_tables tables h).defined;

@@ -28,21 +28,21 @@ use Rattle.escrow_recover.proofs.Back.{store_cells, store_rows, store_tables}
 use Rattle.escrow_recover.proofs.Only.{only_tables}
 use Rattle.escrow_recover.proofs.Parts.{counted_store}
 
--- what isn't verified since a part of it is none was refused by that part
+-- if verification fails because of one part, that part refused the store
 pub by_part : {X Y : Type 0} (r : Result X Unverified) (call : Result Y PartFault) (why : PartFault) → IsErrAnd r (λ e. e ≡ unverified_by why) → call ≡ Err why → r ≡ Err ForeignStore → call ≡ Err Foreign
 by_part (Ok x) call why is was refused = absurd is
 by_part (Err e) call (Failed failure) is was refused = absurd (cc)
 by_part (Err e) call Foreign is was refused = was
 
--- what is clean was clean
+-- if the disk is clean after reading, it was clean before
 was_clean : (a b : State) → OnlyReads a b → HasCleanDisk b → HasCleanDisk a
 was_clean a b only_reads clean = let more = only_reads.survives.clean in omega arith
 
--- a database whose format was tested is of no other
+-- if the format of a database was tested, the database has no other format
 pub not_another : (number : ℤ) (first format last : State) → (HasCleanDisk format → IsTrue format.is_open × IsKnown number first.now) → OnlyReads format last → IsUsable last → HasFormatBut number first.now → ⊥
 not_another number first format last known only_reads usable = not_other first.now number (known (only_reads.usable usable).0).1.format_is
 
--- tables are found in a store: its format is tested, then TAB is read
+-- the tables of a store are found: its format is tested, then TAB is read
 pub record Finds (number : ℤ) (first format tab : State) (tables : List StoredTable) : Type 0 where
   pub to_format : OnlyReads first format
   pub to_tab : OnlyReads format tab
@@ -58,7 +58,7 @@ module _ (number : ℤ) (first format tab : State) (tables : List StoredTable) (
       let same = finds.to_format.same (finds.to_tab.usable usable) in
       subst (AreTablesIn tables) same ((finds.found usable.0).1 (subst IsStore (sym same) store))
 
-  -- cells of no table are in no store
+  -- no store has cells of an unknown table
   pub strange_cells : (cells : State) → OnlyReads tab cells → IsUsable cells → (HasTables tab.now.schema → AreOfTables tables tab.now → ⊥) → IsNoStoreIn number first.now
   strange_cells cells to_cells usable strange others rows is =
       let before = to_cells.usable usable in
@@ -70,7 +70,7 @@ module _ (number : ℤ) (first format tab : State) (tables : List StoredTable) (
     cells_same : IsUsable cells → cells.now ≡ first.now
     cells_same usable = to_cells.same usable ∙ tab_same (to_cells.usable usable)
 
-    -- nor are rows that no table has
+    -- no store has rows that no table may have
     pub strange_rows : (last : State) → OnlyReads cells last → IsUsable last → (IsStore cells.now → HaveRows cells.now tables → ⊥) → IsNoStoreIn number first.now
     strange_rows last to_last usable strange others rows is =
         let before = to_last.usable usable in
@@ -81,7 +81,7 @@ module _ (number : ℤ) (first format tab : State) (tables : List StoredTable) (
         (subst (λ (db : Database). HaveRows db tables) (sym same)
         (has_all (λ (s : StoredTable). (mine : List Row) × AreRowsIn s mine first.now) tables (λ s has. (rows_of rows s.table.name, store_rows others rows first.now s (has_permutation tables others one s has) is))))
 
-    -- tables that are counted are those of a store
+    -- counted tables are those of a store
     pub verified : (counted : List CountedTable) (last : State) → OnlyReads cells last → IsCatalog (map (λ s. s.table) tables)
         → (HasCleanDisk cells → IsTrue cells.is_open × (HasTables tab.now.schema → AreOfTables tables tab.now))
         → stored_of counted ≡ tables
@@ -103,7 +103,7 @@ module _ (number : ℤ) (first format tab : State) (tables : List StoredTable) (
         (subst (λ (db : Database). AllByRecursion (HasRows db) counted) same (found.1 (subst IsStore (sym same) known.store))) in
         (found.0, whole.0, whole.1, whole.2)
 
--- the tables that are counted are those of a catalog
+-- the counted tables are those of a catalog
 pub verified_tables : (counted : List CountedTable) (tables : List StoredTable) → AreTables tables × IsCatalog (map (λ s. s.table) tables)
     → stored_of counted ≡ tables → IsListed counted
 verified_tables counted tables are is =

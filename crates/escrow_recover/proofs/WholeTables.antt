@@ -14,12 +14,12 @@ use Rattle.escrow_recover.proofs.Only.{only_tables}
 abbrev pub AreEachWhole : List CountedTable → Type 0
 AreEachWhole = AllByRecursion (λ (c : CountedTable). IsWhole c.stored.table)
 
--- tables that are whole one by one are a whole catalog
+-- if each table is whole, the catalog is whole
 pub whole_catalog : (found : List CountedTable) → AreEachWhole found → AreWhole (map (λ (s : StoredTable). s.table) (stored_of found))
 whole_catalog found each =
     subst AreWhole (sym (map-map (λ (s : StoredTable). s.table) (λ (c : CountedTable). c.stored) found)) (all-map IsWhole (λ (c : CountedTable). c.stored.table) found each)
 
--- a store has one list of tables: where these aren't whole, it is no store of whole ones
+-- a store has one list of tables: if these are not whole, it is no store of whole tables
 pub none_whole : (found : List CountedTable) (rows : List Row) (db : Database) → IsStoreIn FORMAT_1 (stored_of found) rows db → (AreEachWhole found → ⊥) → IsNoFormat1Store db
 none_whole found rows db store scaled others more is =
     let one = only_tables others (stored_of found) db (store_tables others more db is.store) (store_tables (stored_of found) rows db store) in

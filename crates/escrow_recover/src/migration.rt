@@ -15,7 +15,7 @@ ghost use Rattle.escrow_recover.specs.declared.unverified.Unverified.TheVariants
 
 use crate::bare::is_bare;
 use crate::format_1::verify_format_1;
-use crate::open::{Opened, StoreFault, make_empty, read_store};
+use crate::open::{Opened, StoreFault, make_empty, read_store, unopened};
 use crate::unverified::Unverified;
 use escrow_num::Refusal;
 use escrow_rows::RowStore;
@@ -103,11 +103,7 @@ fn migrate_whole<S: Alter>(
 {
     match read_any(alloc, RowStore::over(connection)) {
         Ok(opened) => Ok(opened),
-        Err((store, why)) => {
-            let connection = store.into_connection();
-            let cause = Refusal::from(why);
-            Err(StoreFault { connection, cause })
-        }
+        Err((store, why)) => Err(unopened(store, why)),
     }
 }
 

@@ -142,11 +142,21 @@ fn read_whole<S: Alter>(
 {
     match read_store(alloc, RowStore::over(connection)) {
         Ok(opened) => Ok(opened),
-        Err((store, why)) => {
-            let connection = store.into_connection();
-            let cause = Refusal::from(why);
-            Err(StoreFault { connection, cause })
-        }
+        Err((store, why)) => Err(unopened(store, why)),
+    }
+}
+
+/// Returns the connection to a store that isn't verified, with the refusal.
+pub(crate) fn unopened<S: Alter>(store: RowStore<S>, why: Unverified) -> StoreFault<S>
+    ensures connection { result.connection ≡ store }
+    ensures outside { result.connection.in_transaction ≡ false }
+    ensures foreign { result.cause ≡ Refusal.ForeignStore → why ≡ unverified.ForeignStore }
+    ensures version { result.cause ≡ Refusal.UnknownVersion → why ≡ unverified.OtherFormat }
+    ensures only { IsOpening result.cause }
+{
+    StoreFault {
+        connection: store.into_connection(),
+        cause: Refusal::from(why),
     }
 }
 

@@ -1,4 +1,4 @@
--- The cells of rows: which table and which key each of them names.
+-- The cells of rows: the table and the key that each cell names.
 use Rattle.std.proofs.Common.{◌≡◌, ℕ, ℤ, pos, Bool, true, not, List, [], ◌∷◌, ◌++◌, Option, Some, None, filter, flat_map, refl, sym, ap, ap₂, ◌∙◌, subst, inl, inr}
 use Rattle.std.specs.Prelude.{◌+ℤ◌, ◌&&◌, bytes_eq, IsSomeAnd, option_map, unwrap_or}
 use Rattle.std.specs.List.{AllByRecursion}
@@ -28,12 +28,12 @@ use Rattle.escrow_rows.proofs.Same.{same_numbers, same_stored}
 abbrev pub IsCell : ℤ → Value → SqlRow → Type 0
 IsCell id key cell = (column cell 0 ≡ sql.Int id) × (column cell 1 ≡ stored key)
 
--- each cell of values names the table and the key that they are put under
+-- each cell of a row's values names the row's table and key
 pub cells_name : (id : ℤ) (key : Value) (place : ℤ) (values : List Value) → AllByRecursion (IsCell id key) (cells_from id key place values)
 cells_name id key place [] = tt
 cells_name id key place (v ∷ values) = ((refl, refl), cells_name id key (place +ℤ pos 1) values)
 
--- what the test by the table, and that by the table and the key, answer
+-- the results of the test by table and of the test by table and key
 pub is_in_cell : (id other : ℤ) (key : Value) (cell : SqlRow) → IsCell other key cell → is_in (sql.Int id) cell ≡ int_eq other id
 is_in_cell id other key cell h = ap (λ v. same v (sql.Int id)) h.0 ∙ same_numbers other id
 
@@ -44,7 +44,7 @@ is_of_cell id other key mine cell h =
 pub never_apart : (b : Bool) → b ≡ true → not b ≡ true → ⊥
 never_apart b t n = both_ways b (not-true b n) t
 
--- tables of one number are one, and so are tables of one name
+-- two tables with one number are equal, and so are two with one name
 pub one_number : (tables : List StoredTable) → AreTables tables → (t s : StoredTable) → Has tables t → Has tables s → t.id ≡ s.id → t ≡ s
 one_number tables h t s has_t has_s e =
     elim (ascending_one (λ a b. not (int_eq a.id b.id)) tables h.ids_apart t s has_t has_s) [
@@ -62,7 +62,7 @@ one_name tables h t s has_t has_s e =
       | inr (inr apart) ↦ absurd (never_apart (bytes_eq s.table.name t.table.name) (same_names _ _ (sym e)) apart)
     ]
 
--- numbers tell tables apart as names do
+-- numbers distinguish tables as names do
 pub numbers_tell : (tables : List StoredTable) → AreTables tables → (t s : StoredTable) → Has tables t → Has tables s
     → int_eq t.id s.id ≡ bytes_eq t.table.name s.table.name
 numbers_tell tables h t s has_t has_s =
@@ -70,11 +70,11 @@ numbers_tell tables h t s has_t has_s =
     (λ e. one_number tables h t s has_t has_s ((Decides-int_eq t.id s.id).0 e), λ e. (Decides-int_eq t.id s.id).1 (ap (λ (x : StoredTable). x.id) e))
     (λ e. one_name tables h t s has_t has_s (name_same _ _ e), λ e. (bytes_eq-Decides t.table.name s.table.name).1 (ap (λ (x : StoredTable). x.table.name) e))
 
--- a table that stands is one of the tables
+-- a table that exists is one of the tables
 pub stands_has : (tables : List StoredTable) (s : StoredTable) → Stands tables s → Has tables s
 stands_has tables s h = (find_has (λ t. bytes_eq t.table.name s.table.name) tables s h).0
 
--- a row is one of a table that stands, and its cells are that table's
+-- a row belongs to an existing table, and its cells are that table's
 pub record IsRowIn (tables : List StoredTable) (row : Row) (t : StoredTable) : Type 0 where
   pub has : Has tables t
   pub table_name : t.table.name ≡ row.name.table
@@ -82,7 +82,7 @@ pub record IsRowIn (tables : List StoredTable) (row : Row) (t : StoredTable) : T
   pub fits : IsRowOf t.table row
   pub cells : cells_of tables row ≡ cells_in t row
 
--- the table of a row, where it has one
+-- the table of a row, if it has one
 pub row_in : (tables : List StoredTable) (row : Row) → IsOfTables tables row → (t : StoredTable) × IsRowIn tables row t
 row_in tables row = go (stored_named tables row.name.table) refl
   where
@@ -100,7 +100,7 @@ row_in tables row = go (stored_named tables row.name.table) refl
           },
         )
 
--- a row of the name of a table that stands is one of that table, with its cells
+-- a row that names an existing table belongs to that table, with its cells
 pub row_of_stored : (tables : List StoredTable) (s : StoredTable) (row : Row) → Stands tables s → IsOfTables tables row → row.name.table ≡ s.table.name
     → IsRowOf s.table row × (cells_of tables row ≡ cells_in s row)
 row_of_stored tables s row stands of named =
@@ -110,7 +110,7 @@ row_of_stored tables s row stands of named =
       found.1.cells ∙ ap (λ (t : StoredTable). cells_in t row) same,
     )
 
--- whether a row's cells are of a table, or of the row of a key in it
+-- whether a row's cells belong to a table, or to the row of a key in it
 pub is_in_row : (tables : List StoredTable) (s : StoredTable) (row : Row) → AreTables tables → Has tables s → IsOfTables tables row
     → AllByRecursion (λ cell. is_in (sql.Int s.id) cell ≡ bytes_eq row.name.table s.table.name) (cells_of tables row)
 is_in_row tables s row h has of =
@@ -132,7 +132,7 @@ is_of_row tables s key row h has of =
     (all_weaker (IsCell t.id row.name.key) _ (λ cell k. is_of_cell s.id t.id key row.name.key cell k ∙ ap (λ b. b && value_eq row.name.key key) numbers)
     (cells_in t row) (cells_name t.id row.name.key (pos 1) (values_of t.table row)))
 
--- where the items made of each x all pass a test, or none does, the items that pass are those made of the x that pass
+-- if the pieces of each item all pass a test or all fail it, the pieces that pass are those of the items that pass
 pub filter_pieces : {A B : Type 0} (f : A → List B) (p : B → Bool) (q : A → Bool) (xs : List A)
     → AllByRecursion (λ x. AllByRecursion (λ y. p y ≡ q x) (f x)) xs → filter p (flat_map f xs) ≡ flat_map f (filter q xs)
 filter_pieces f p q [] h = refl

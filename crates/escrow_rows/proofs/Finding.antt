@@ -1,4 +1,4 @@
--- Whether a row of an image is there, told by its cells.
+-- The cells show whether an image contains a row.
 use Rattle.std.proofs.Common.{◌≡◌, ℕ, ℤ, zero, suc, pos, ◌+◌, ◌<◌, ◌||◌, Bool, true, false, cond, ◌&&◌, List, [], ◌∷◌, Some, find, flat_map, length, refl, sym, ap, ap₂, ◌∙◌, subst, inl, inr, arith}
 use Rattle.std.specs.Prelude.{◌+ℤ◌, is_some, IsTrue}
 use Rattle.std.specs.List.{AllByRecursion, list_any}
@@ -36,7 +36,7 @@ use Rattle.escrow_rows.proofs.Places.{same_itself}
 
 -- ---- lists
 
--- some piece passes where some item has one that passes
+-- some piece passes if some item has a piece that passes
 any_pieces : {A B : Type 0} (f : A → List B) (p : B → Bool) (q : A → Bool) (xs : List A) → AllByRecursion (λ x. list_any p (f x) ≡ q x) xs → list_any p (flat_map f xs) ≡ list_any q xs
 any_pieces f p q [] h = refl
 any_pieces f p q (x ∷ xs) h = list_any-append p (f x) (flat_map f xs) ∙ ap₂ ◌||◌ h.0 (any_pieces f p q xs h.1)
@@ -45,14 +45,15 @@ any_found : {A : Type 0} (p : A → Bool) (xs : List A) → list_any p xs ≡ is
 any_found p [] = refl
 any_found p (x ∷ xs) = elim (p x) as (λ b. (b || list_any p xs) ≡ is_some (cond b (Some x) (find p xs))) [ true ↦ refl | false ↦ any_found p xs ]
 
--- of items that all pass a test, or all fail it, some pass it and another where some pass the other
+-- if all items pass one test or all fail it, some item passes both exactly if all pass the first and some pass the
+-- second
 any_both : {A : Type 0} (p q : A → Bool) (b : Bool) (xs : List A) → AllByRecursion (λ x. p x ≡ b) xs → list_any (λ x. p x && q x) xs ≡ (b && list_any q xs)
 any_both p q true [] h = refl
 any_both p q false [] h = refl
 any_both p q true (x ∷ xs) h = ap₂ (λ c d. (c && q x) || d) h.0 (any_both p q true xs h.1)
 any_both p q false (x ∷ xs) h = ap₂ (λ c d. (c && q x) || d) h.0 (any_both p q false xs h.1)
 
--- where there are some, some pass a test that all pass
+-- if all items of a non-empty list pass a test or all fail it, some item passes exactly if all do
 any_all : {A : Type 0} (p : A → Bool) (b : Bool) (xs : List A) → AllByRecursion (λ x. p x ≡ b) xs → 0 < length xs → list_any p xs ≡ b
 any_all p b [] h some = absurd (omega (arith, some))
 any_all p true (x ∷ xs) h some = or_left (p x) (list_any p xs) h.0
@@ -68,7 +69,7 @@ length-cells_from : (id : ℤ) (key : Value) (place : ℤ) (values : List Value)
 length-cells_from id key place [] = refl
 length-cells_from id key place (v ∷ values) = let rest = length-cells_from id key (place +ℤ pos 1) values in omega arith
 
--- a row of tables has a cell
+-- each row of the tables has a cell
 some_cells : (tables : List StoredTable) (row : Row) → AreTables tables → IsOfTables tables row → 0 < length (cells_of tables row)
 some_cells tables row are of =
     let found = row_in tables row of in
@@ -77,7 +78,7 @@ some_cells tables row are of =
     let many = ap length found.1.cells ∙ length-cells_from t.id row.name.key (pos 1) (values_of t.table row) in
     omega (arith, many, length-values_of t.table row found.1.fits, key_stands t.table table)
 
--- one of the cells of values stands at each place
+-- one of a row's cells is at each place
 any_place : (id : ℤ) (key : Value) (place : ℤ) (values : List Value) (i : ℕ) → i < length values
     → list_any (λ cell. same (column cell 2) (sql.Int (place +ℤ pos i))) (cells_from id key place values) ≡ true
 any_place id key place [] i within = absurd (omega (arith, within))
@@ -100,7 +101,7 @@ placed_cell tables s key row i stands of mine within =
 
 -- ---- an image
 
--- a test that passes some cells of the row of a key, and no other cell, tells whether the row is there
+-- a test that passes some cells of a key's row, and no other cell, shows whether the row exists
 any_told : (s : StoredTable) (key : Value) (test : SqlRow → Bool)
     → ((tables : List StoredTable) (row : Row) → AreTables tables → Stands tables s → IsOfTables tables row → list_any test (cells_of tables row) ≡ same_row row.name (name_in s key))
     → (db : Database) → Tells s (is_there s key) db (list_any test (cells db))
@@ -126,7 +127,7 @@ at_place s key i within tables row are stands of =
       | inr other ↦ rw other refl
     ]
 
--- so what a DELETE finds, and what an UPDATE finds
+-- what a DELETE finds, and what an UPDATE finds
 pub delete_told : (s : StoredTable) (key : Value) (id : ℤ) (d : Datum) → id ≡ s.id → kept d ≡ stored key → (db : Database) → Tells s (is_there s key) db (finds (step.DeleteRow id d) (cells db))
 delete_told s key id d number is db = rw (number, is) (any_told s key (is_of (sql.Int s.id) (stored key)) (of_key s key) db)
 
@@ -139,11 +140,11 @@ set_told s key (step.DeleteCells table) sets db = absurd sets
 set_told s key (step.InsertTab id name text) sets db = absurd sets
 set_told s key (step.DeleteTab id) sets db = absurd sets
 
--- what is told of a store is told of the answer that it gives
+-- what is known of a store is known of the answer it gives
 pub told_as : (s : StoredTable) (held : List Row → Bool) (db : Database) (found b : Bool) → (IsStore db → found ≡ b) → Tells s held db found → Tells s held db b
 told_as s held db found b is told tables rows are of stands image = sym (is image.store) ∙ told tables rows are of stands image
 
--- the connection in the store is the one that the call saw, and it found none
+-- the connection in the store is the one that the call saw, and the step found no row
 pub none_as : {S : Type 0} (g : Ghosts S) (inside old : Held S) (s : StoredTable) (held : List Row → Bool) (first : Step) → inside ≡ old → ((db : Database) → Tells s held db (finds first (cells db)))
     → IsTrue (state g inside).is_open × (IsStore (state g inside).now → finds first (cells (state g inside).now) ≡ false) → IsTrue (state g old).is_open × Tells s held (state g old).now false
 none_as g inside old s held first same told none =

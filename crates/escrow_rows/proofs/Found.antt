@@ -1,4 +1,4 @@
--- What is found in a list, where only one item passes.
+-- What is found in a list in which only one item passes.
 use Rattle.std.proofs.Common.{◌≡◌, Bool, true, false, cond, ◌&&◌, List, [], ◌∷◌, ◌++◌, filter, flat_map, find, Some, refl, sym, ap, ap₂, ◌∙◌, subst, inl, inr, IsPermutation, slice_get, IsTrue}
 use Rattle.std.specs.List.{AllByRecursion}
 use Rattle.std.specs.Ordering.{is_lt}
@@ -20,7 +20,7 @@ find_first p [] = refl
 find_first p (x ∷ xs) =
     elim (p x) as (λ b. cond b (Some x) (find p xs) ≡ slice_get (cond b (x ∷ filter p xs) (filter p xs)) 0) [ true ↦ refl | false ↦ find_first p xs ]
 
--- the one item that passes is found, in whatever order the items stand
+-- the only item that passes is found, in any order of the items
 pub find_permutation : {A : Type 0} (p : A → Bool) (xs ys : List A) (x : A) → IsPermutation xs ys → filter p xs ≡ x ∷ [] → find p ys ≡ Some x
 find_permutation p xs ys x same only =
     find_first p ys ∙ ap (λ zs. slice_get zs 0) (one_permutation x (filter p ys) (subst (λ zs. IsPermutation zs (filter p ys)) only (IsPermutation-filter p xs ys same)))
@@ -37,7 +37,7 @@ pub flat_map_nothing : {A B : Type 0} (f : A → List B) (xs : List A) → AllBy
 flat_map_nothing f [] h = refl
 flat_map_nothing f (x ∷ xs) h = ap₂ ◌++◌ h.0 (flat_map_nothing f xs h.1)
 
--- what is made of each x, and made back into it
+-- if a function turns the pieces of each item back into the item, it does so for the whole list
 pub flat_map_back : {A B : Type 0} (f : A → List B) (g : B → List A) (xs : List A) → AllByRecursion (λ x. flat_map g (f x) ≡ x ∷ []) xs → flat_map g (flat_map f xs) ≡ xs
 flat_map_back f g [] h = refl
 flat_map_back f g (x ∷ xs) h = flat_map-append g (f x) (flat_map f xs) ∙ ap₂ ◌++◌ h.0 (flat_map_back f g xs h.1)
@@ -48,7 +48,7 @@ other_name a b h e = both_ways _ (before_itself by_row row_total b) (subst (λ (
 not_same : (a b : RowName) → ¬ (a ≡ b) → same_row a b ≡ false
 not_same a b other = elim (cases_Bool (same_row a b)) [ inl t ↦ absurd (other (row_same a b t)) | inr f ↦ f ]
 
--- one of the rows has its name
+-- exactly one of the rows has its name
 pub one_row : (rows : List Row) (row : Row) → IsAscending row_before rows → Has rows row → filter (λ other. same_row other.name row.name) rows ≡ row ∷ []
 one_row [] row h has = absurd has
 one_row (first ∷ rows) row h (inl e) =

@@ -13,7 +13,7 @@ use Rattle.escrow_rows.specs.Reading.{HaveValues, IsWhole, row_cells}
 use Rattle.escrow_rows.proofs.KeyedCells.{keyed-push}
 use Rattle.escrow_rows.proofs.PlacedCells.{length-placed, stored_same}
 
--- what holds of all items holds of those behind others
+-- what holds of all items holds of the later ones
 pub all_behind : {A : Type 0} (P : A → Type 0) (xs ys : List A) → AllByRecursion P (xs ++ ys) → AllByRecursion P ys
 all_behind P [] ys h = h
 all_behind P (x ∷ xs) ys h = all_behind P xs ys h.1
@@ -30,9 +30,9 @@ length-keyed key place vs = length-map (placed place vs) (λ cell. stored key �
 pub have_values : (many : ℕ) (rows : List KeyedRow) → AllByRecursion (IsWhole many) rows → HaveValues many rows
 have_values many rows whole = all_weaker (IsWhole many) (λ row. length row.values ≡ many) (λ row is. is.many_are) rows whole
 
--- ---- values and rows that are told by their cells
+-- ---- values and rows determined by their cells
 
--- values whose cells begin with those of others begin with these
+-- if the cells of values begin with those of other values, the values begin with these
 record IsSplit (key other : Value) (place : ℕ) (values first : List Value) (behind rest : List SqlRow) : Type 0 where
   more : List Value
   values_are : values ≡ first ++ more
@@ -63,7 +63,7 @@ split key other place (v ∷ vs) (w ∷ ws) behind rest long e =
       rest_is = placed_at key (place + length (w ∷ ws)) (place + 1 + length ws) found.more behind rest (omega arith) found.rest_is;
     }
 
--- rows whose cells begin with those of a row as long begin with this row
+-- if the cells of rows begin with those of a row of the same length, the rows begin with this row
 row_first : (many : ℕ) (rows : List KeyedRow) (one : KeyedRow) (rest : List SqlRow) → 0 < many → length one.values ≡ many → HaveValues many rows → flat_map row_cells rows ≡ row_cells one ++ rest
     → (others : List KeyedRow) × (rows ≡ one ∷ others) × (flat_map row_cells others ≡ rest)
 row_first many [] one rest some all have e =
@@ -80,14 +80,14 @@ row_first many (row ∷ rows) one rest some all have e =
       ap (λ (vs : List Value). keyed row.key (1 + length one.values) vs ++ flat_map row_cells rows) (sym none) ∙ found.rest_is,
     )
 
--- fewer cells than a row has are those of no rows
+-- fewer cells than one row has belong to no rows
 none_of : (many : ℕ) (rows : List KeyedRow) (cells : List SqlRow) → HaveValues many rows → length cells < many → flat_map row_cells rows ≡ cells → rows ≡ []
 none_of many [] cells have short e = refl
 none_of many (row ∷ rows) cells have short e =
     let whole : length (row_cells row ++ flat_map row_cells rows) ≡ length cells = ap length e in
     absurd (omega (arith, have.0, short, whole, length-append (row_cells row) (flat_map row_cells rows), length-keyed row.key 1 row.values))
 
--- where rows begin with the cells of a row that lacks some values and with one more, that is its next one
+-- if rows begin with the cells of an incomplete row and one more cell, that cell is the row's next one
 next_of : (many : ℕ) (last : KeyedRow) (later : List KeyedRow) (rest : List SqlRow) (cell : SqlRow) → length last.values < many → AllByRecursion (IsWhole many) later
     → flat_map row_cells later ≡ row_cells last ++ cell ∷ rest → (new : KeyedRow) × Extends last cell new
 next_of many last [] rest cell short whole e =
@@ -124,7 +124,7 @@ extended old new cell more =
     same_key [] same = refl
     same_key (v ∷ values) same = ap (λ (k : Value). keyed k 1 (v ∷ values)) (same (λ e. cc))
 
--- ---- a reader of rows, of which each has so many values
+-- ---- a reader of rows that each have a given number of values
 
 module _ {T : Type 0} (HasTaken : T → T → List KeyedRow → Type 0) (many : ℕ) (first old : T) (last : KeyedRow) (cells : List SqlRow) (so_far : IsGathered HasTaken many first old last cells) where
   some : 0 < many
@@ -146,7 +146,7 @@ module _ {T : Type 0} (HasTaken : T → T → List KeyedRow → Type 0) (many : 
         let found = so_far.only rows (cell ∷ rest) have (e ∙ append_assoc cells (cell ∷ []) rest) in
         (found.0, found.1, found.2 ∙ sym (append_assoc (row_cells last) (cell ∷ []) rest) ∙ ap (λ (cs : List SqlRow). cs ++ rest) (sym (extended last new cell more)))
 
-    -- the row lacks some values still
+    -- the row still lacks some values
     pub cell_more : length new.values ≢ many → IsGathered HasTaken many first old new (cells ++ cell ∷ [])
     cell_more lacks = record {
       done = so_far.done;
@@ -159,7 +159,7 @@ module _ {T : Type 0} (HasTaken : T → T → List KeyedRow → Type 0) (many : 
       only = only_more;
     }
 
-    -- or it is whole, and the taker takes it
+    -- or the row is complete, and the taker takes it
     pub row_more : (now : T) (given none begun : KeyedRow) → length new.values ≡ many → given ≡ new → none ≡ begun → begun.values ≡ [] → CanBeHeld begun.key
         → ((begun : T) (rows : List KeyedRow) → HasTaken begun old rows → HasTaken begun now (rows ++ given ∷ [])) → IsGathered HasTaken many first now none (cells ++ cell ∷ [])
     row_more now given none begun all same as_begun empty key_held takes =
@@ -181,14 +181,14 @@ module _ {T : Type 0} (HasTaken : T → T → List KeyedRow → Type 0) (many : 
               (others.0, found.1 ∙ ap (λ (rs : List KeyedRow). so_far.done ++ rs) others.1 ∙ sym (append_assoc so_far.done (new ∷ []) others.0), others.2 ∙ ap (λ (cs : List SqlRow). cs ++ rest) (sym no_cells));
         }
 
-  -- any other cell begins no rows
+  -- no rows begin with any other cell
   pub no_rows : (cell : SqlRow) → ((new : KeyedRow) → Extends last cell new → ⊥) → BeginNoRows many (cells ++ cell ∷ [])
   no_rows cell other = λ rows rest whole e.
       let found = so_far.only rows (cell ∷ rest) (have_values many rows whole) (e ∙ append_assoc cells (cell ∷ []) rest) in
       let next = next_of many last found.0 rest cell so_far.short (all_behind (IsWhole many) so_far.done found.0 (subst (AllByRecursion (IsWhole many)) found.1 whole)) found.2 in
       other next.0 next.1
 
-  -- the cells are those of no other rows, and of none where the last one lacks some values
+  -- the cells belong to no other rows; if the last row lacks some values, they belong to no rows at all
   pub all_made : (rows : List KeyedRow) → HaveValues many rows → cells ≡ flat_map row_cells rows → (rows ≡ so_far.done) × (last.values ≡ [])
   all_made rows have is =
       let found = so_far.only rows [] have (sym is ∙ sym (append-nil cells)) in

@@ -26,7 +26,7 @@ cells_without tables rows s key are of stands =
     (all_weaker (IsOfTables tables) _ (λ row has. all_weaker _ _ (λ cell e. ap not e) (cells_of tables row) (is_of_row tables s key row are (stands_has tables s stands) has))
     rows of.of_tables)
 
--- the step of DELETE takes out the row that it finds
+-- the step of DELETE removes the row that it finds
 pub deletes : (s : StoredTable) (key : Value) (id : ℤ) (d : Datum) → id ≡ s.id → kept d ≡ stored key → (old new : Database) → DoesFinding (step.DeleteRow id d) [] old new → Deletes s key old new
 deletes s key id d number is old new finding =
     rows_after (step.DeleteRow id d ∷ []) s (is_there s key) (without_row (name_in s key)) old new finding.does

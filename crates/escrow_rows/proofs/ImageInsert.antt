@@ -40,11 +40,11 @@ use Rattle.escrow_rows.proofs.Places.{same_itself}
 use Rattle.escrow_rows.proofs.RowCounts.{tells_stands}
 use Rattle.escrow_rows.proofs.Same.{same_stored}
 
--- no step puts no cell
+-- an empty list of steps adds no cell
 pub puts_none : PutsCells [] []
 puts_none = record { cells_are = λ c. IsPermutation-refl c.cells; tabs_are = λ c. refl }
 
--- one more step puts one more cell
+-- one more step adds one more cell
 pub puts_more : (cells : List SqlRow) (steps : List Step) (id place : ℤ) (key value : Datum) → PutsCells cells steps
     → PutsCells (cells ++ (sql.Int id ∷ kept key ∷ sql.Int place ∷ kept value ∷ []) ∷ []) (steps ++ step.InsertCell id key place value ∷ [])
 puts_more cells steps id place key value h =
@@ -68,7 +68,7 @@ cells_more id key place (w ∷ values) v =
     ap (λ rest. (sql.Int id ∷ stored key ∷ sql.Int place ∷ stored w ∷ []) ∷ rest)
     (subst (λ p. cells_from id key (place +ℤ pos 1) (values ++ v ∷ []) ≡ cells_from id key (place +ℤ pos 1) values ++ (sql.Int id ∷ stored key ∷ sql.Int p ∷ stored v ∷ []) ∷ []) same more)
 
--- one more step puts the cell of the next value
+-- one more step adds the cell of the next value
 pub puts_next : (id : ℤ) (key : Value) (values : List Value) (i : ℕ) (v : Value) (steps : List Step) (place : ℤ) (k d : Datum) → i < length values → v ≡ get_or values i v
     → kept k ≡ stored key → kept d ≡ stored v → place ≡ pos 1 +ℤ pos i → PutsCells (cells_from id key (pos 1) (take i values)) steps
     → PutsCells (cells_from id key (pos 1) (take (i + 1) values)) (steps ++ step.InsertCell id k place d ∷ [])
@@ -79,7 +79,7 @@ puts_next id key values i v steps place k d within at is_key is_value here h =
     let made = puts_more (cells_from id key (pos 1) (take i values)) steps id place k d h in
     rw (next, whole, long, ← is_key, ← is_value, ← here) made
 
--- a row put among the rows, in any order
+-- a row added to the rows, in any order
 with_row_moved : (row : Row) (rows : List Row) → IsPermutation (row ∷ rows) (with_row row rows)
 with_row_moved row [] = IsPermutation-refl (row ∷ [])
 with_row_moved row (other ∷ rest) =
@@ -88,19 +88,19 @@ with_row_moved row (other ∷ rest) =
       | inr f ↦ rw f (IsPermutation-trans _ _ _ (IsPermutation-middle (row ∷ []) other rest) (IsPermutation-cons other _ _ (with_row_moved row rest)))
     ]
 
--- the cells of a row of a table that stands
+-- the cells of a row of an existing table
 cells_of_one : (tables : List StoredTable) (s : StoredTable) (row : Row) → row.name.table ≡ s.table.name → Stands tables s → cells_of tables row ≡ cells_in s row
 cells_of_one tables s row named stands =
     ap (λ n. unwrap_or (option_map (λ t. cells_in t row) (stored_named tables n)) []) named ∙ ap (λ o. unwrap_or (option_map (λ t. cells_in t row) o) []) stands
 
--- the steps that put the cells of a row's values put those of the row
+-- steps that add the cells of a row's values add the row's cells
 pub puts_row : (s : StoredTable) (row : Row) (id : ℤ) (values : List Value) (made steps : List Step) → id ≡ s.id → values ≡ values_of s.table row → steps ≡ made
     → PutsCells (cells_from id row.name.key (pos 1) values) made → PutsCells (cells_in s row) steps
 puts_row s row id values made steps number is same h = rw (same, ← number, ← is) h
 
 -- ---- the row is new
 
--- a cell is put at the first place
+-- a row has a cell at the first place
 first_counts : (id : ℤ) (key : Value) (values : List Value) → 0 < length values → 1 ≤ length (filter (is_at (sql.Int id) (stored key) (sql.Int (pos 1))) (cells_from id key (pos 1) values))
 first_counts id key [] some = absurd (omega (arith, some))
 first_counts id key (v ∷ values) some =
@@ -111,7 +111,7 @@ not_some : (o : Option Row) → false ≡ is_some o → true ≡ is_none o
 not_some None none = refl
 not_some (Some row) none = absurd (cc)
 
--- where the cells of a row were put, no row had its name: two cells of one key and place aren't there
+-- if the cells of a row could be added, no row had its name: two cells of one key and place cannot both exist
 is_new : (s : StoredTable) (row : Row) (steps : List Step) → IsRowOf s.table row → PutsCells (cells_in s row) steps → (old new : Database) → Does steps old new
     → Tells s (λ rows. is_none (row_named rows row.name)) old true
 is_new s row steps fits puts old new does tables rows are of stands image =
@@ -129,7 +129,7 @@ is_new s row steps fits puts old new does tables rows are of stands image =
     let there : false ≡ is_some (row_named rows (name_in s key)) = tells_stands s key old 0 (λ _. none) tables rows are of stands image in
     not_some (row_named rows row.name) (subst (λ (n : RowName). false ≡ is_some (row_named rows n)) named there)
 
--- steps that put the cells of a row put the row among the rows
+-- steps that add the cells of a row add the row
 pub inserts : (s : StoredTable) (row : Row) (steps : List Step) → IsRowOf s.table row
     → PutsCells (cells_in s row) steps → (old new : Database) → Does steps old new → Inserts s row old new
 inserts s row steps fits puts old new does =

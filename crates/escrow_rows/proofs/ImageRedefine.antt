@@ -1,4 +1,4 @@
--- ALTER TABLE: the image with other checks of a table.
+-- ALTER TABLE: the image in which one table has other checks.
 use Rattle.std.proofs.Common.{◌≡◌, ℕ, ℤ, Bool, true, false, cond, not, List, [], ◌∷◌, Option, Some, None, map, flat_map, refl, sym, ap, ◌∙◌, subst, inl, inr, IsPermutation}
 use Rattle.std.specs.Borrow.{Bor}
 use Rattle.std.specs.Prelude.{bytes_eq, option_map, unwrap_or, IsTrue}
@@ -25,7 +25,7 @@ use Rattle.escrow_rows.proofs.Cells.{never_apart, stands_has}
 use Rattle.escrow_rows.proofs.ImageTables.{pieces_same, tabs_left}
 use Rattle.escrow_rows.proofs.Images.{image_after}
 
--- a table as it is among the redefined ones
+-- a table as the redefinition leaves it
 abbrev redefined : List ℕ → List Check → StoredTable → StoredTable
 redefined name checks t = cond (bytes_eq t.table.name name) (with_checks checks t) t
 
@@ -43,7 +43,7 @@ found_one : (b c : Bool) (t : StoredTable) (f : StoredTable → StoredTable) (ne
 found_one true c t f new old same rest = rw same refl
 found_one false c t f new old same rest = rw same rest
 
--- the table of a name is the redefined one
+-- the table with this name is the redefined one
 named_redefined : (name : List ℕ) (checks : List Check) (other : List ℕ) (tables : List StoredTable)
     → stored_named (with_redefined name checks tables) other ≡ option_map (redefined name checks) (stored_named tables other)
 named_redefined name checks other [] = refl
@@ -58,7 +58,7 @@ cells_found : (name : List ℕ) (checks : List Check) (row : Row) (o : Option St
 cells_found name checks row None = refl
 cells_found name checks row (Some t) = cells_either checks t row (bytes_eq t.table.name name)
 
--- rows have the cells that they had
+-- rows keep their cells
 cells_stay : (name : List ℕ) (checks : List Check) (tables : List StoredTable) (rows : List Row) → flat_map (cells_of (with_redefined name checks tables)) rows ≡ flat_map (cells_of tables) rows
 cells_stay name checks tables rows =
     pieces_same (cells_of (with_redefined name checks tables)) (cells_of tables) rows
@@ -78,14 +78,14 @@ others_kept name tables apart =
     filter_all (λ (t : StoredTable). not (bytes_eq t.table.name name)) tables
     (all_weaker (λ (t : StoredTable). bytes_eq t.table.name name ≡ false) (λ (t : StoredTable). not (bytes_eq t.table.name name) ≡ true) (λ t e. ap not e) tables apart)
 
--- a name that differs from one differs from whatever is the same as it
+-- a name that differs from one of two equal names differs from the other
 other_name : (first second name : List ℕ) → first ≡ name → not (bytes_eq first second) ≡ true → bytes_eq second name ≡ false
 other_name first second name is apart = elim (cases_Bool (bytes_eq second name)) [
   | inl same ↦ absurd (never_apart (bytes_eq first second) (ap (λ (n : List ℕ). bytes_eq n second) (is ∙ sym (name_same second name same)) ∙ same_name second) apart)
   | inr other ↦ other
 ]
 
--- the rows of TAB, the one of a name over other checks, are that one and those of the others
+-- the rows of TAB, one of them redefined, are that row and the rows of the other tables
 tabs_redefined : (name : List ℕ) (checks : List Check) (s : StoredTable) (tables : List StoredTable)
     → IsAscending (λ a b. not (bytes_eq a.table.name b.table.name)) tables → stored_named tables name ≡ Some s
     → IsPermutation (map tab_row (with_redefined name checks tables)) (tab_row (with_checks checks s) ∷ map tab_row (without_stored name tables))
@@ -126,7 +126,7 @@ tabs_redefined name checks s (t ∷ tables) apart is = elim (cases_Bool (bytes_e
 
 -- ---- the steps
 
--- the steps of ALTER TABLE take the table's row out and put one over other checks
+-- the steps of ALTER TABLE remove the table's row and add one with other checks
 pub redefines : (s : StoredTable) (altered : TableDef) (id : ℤ) (name text : Bor (List ℕ)) → id ≡ s.id → altered ≡ record s.table { checks = altered.checks } → name.now ≡ altered.name → text.now ≡ canonical altered
     → (old new : Database) → Does (step.DeleteTab id ∷ step.InsertTab id name text ∷ []) old new → Redefines s altered.checks old new
 redefines s altered id name text number alike named written old new does tables rows are of stands =

@@ -1,4 +1,4 @@
--- New values in the cells of a row: the image with them.
+-- New values in the cells of a row: the image that contains them.
 use Rattle.std.proofs.Common.{◌≡◌, ℤ, pos, true, Option, Some, None, List, [], ◌∷◌, ◌++◌, map, fold, flat_map, refl, sym, ap, ap₂, ◌∙◌, subst, inl, inr}
 use Rattle.std.specs.Prelude.{IsSomeAnd, if◌then◌else◌, option_map, unwrap_or}
 use Rattle.std.specs.List.{AllByRecursion}
@@ -31,18 +31,18 @@ use Rattle.escrow_rows.proofs.Images.{Encodes, image_after, rows_after}
 use Rattle.escrow_rows.proofs.News.{plain_replaced, amounts_replaced, length_replaced}
 use Rattle.escrow_rows.proofs.Puts.{puts_apart, replaced_cells}
 
--- where a function leaves each item, it leaves the list
+-- if a function leaves each item unchanged, it leaves the list unchanged
 map_same : {A : Type 0} (f : A → A) (xs : List A) → AllByRecursion (λ x. f x ≡ x) xs → map f xs ≡ xs
 map_same f [] h = refl
 map_same f (x ∷ xs) h = ap₂ ◌∷◌ h.0 (map_same f xs h.1)
 
--- where the pieces of each item change as the item does, so do all pieces
+-- if the pieces of each item change as the item does, the pieces of the whole list do
 pieces_change : {A B : Type 0} (pieces : A → List B) (g : A → A) (f : B → B) (xs : List A)
     → AllByRecursion (λ x. pieces (g x) ≡ map f (pieces x)) xs → flat_map pieces (map g xs) ≡ map f (flat_map pieces xs)
 pieces_change pieces g f [] h = refl
 pieces_change pieces g f (x ∷ xs) h = ap₂ ◌++◌ h.0 (pieces_change pieces g f xs h.1) ∙ sym (map-append f (pieces x) (flat_map pieces xs))
 
--- the cells of the row of a name in a table that stands
+-- the cells of a row that names an existing table
 cells_named : (tables : List StoredTable) (s : StoredTable) (key : Value) (row : Row) → Stands tables s → row.name ≡ name_in s key
     → cells_of tables row ≡ cells_from s.id key (pos 1) (values_of s.table row)
 cells_named tables s key row stands named =
@@ -50,15 +50,14 @@ cells_named tables s key row stands named =
     ap (λ (o : Option StoredTable). unwrap_or (option_map (λ t. cells_in t row) o) []) found
     ∙ ap (λ (n : RowName). cells_from s.id n.key (pos 1) (values_of s.table row)) named
 
--- a row of a name in a table that stands fits that table
+-- a row that names an existing table fits that table
 fits_named : (tables : List StoredTable) (s : StoredTable) (key : Value) (row : Row) → Stands tables s → IsOfTables tables row → row.name ≡ name_in s key → IsRowOf s.table row
 fits_named tables s key row stands of named =
     let found = row_in tables row of in
     let one : found.0 ≡ s = same_Some found.0 s (sym found.1.found ∙ ap (λ (n : RowName). stored_named tables n.table) named ∙ stands) in
     subst (λ (t : StoredTable). IsRowOf t.table row) one found.1.fits
 
--- a row's cells, where another row stands in its place if it is the one of a key, with the same name and
--- with values replaced: new values are put into them
+-- if the row of a key is replaced by one with the same name and new values, the new values are written to its cells
 cells_change : (tables : List StoredTable) (s : StoredTable) (key : Value) (news : List (Option Value)) (row other : Row) → AreTables tables → Stands tables s → IsOfTables tables row
     → other.name ≡ row.name → (IsRowOf s.table row → values_of s.table other ≡ replaced news (values_of s.table row))
     → cells_of tables (if same_row row.name (name_in s key) then other else row) ≡ map (put_values s.id (stored key) (pos 1) news) (cells_of tables row)
@@ -77,7 +76,7 @@ cells_change tables s key news row other are stands of named values =
           (is_of_row tables s key row are (stands_has tables s stands) of))))
     ]
 
--- UPDATE of plain columns: the cells of a row with plain values replaced
+-- UPDATE of plain columns: the cells of a row whose plain values are replaced
 plain_cells : (tables : List StoredTable) (s : StoredTable) (key : Value) (news : List (Option Value)) (row : Row) → AreTables tables → Stands tables s → IsOfTables tables row
     → cells_of tables (with_values (name_in s key) news row) ≡ map (plain_on s key news) (cells_of tables row)
 plain_cells tables s key news row are stands of =
@@ -95,7 +94,7 @@ sets_plain s key news first rest change sets old new finding =
           (IsPermutation-map (plain_on s key news) (flat_map (cells_of tables) rows) c.cells coded.cells_are);
     }))
 
--- COMMIT: the cells of a row with amounts replaced
+-- COMMIT: the cells of a row whose amounts are replaced
 amount_cells : (tables : List StoredTable) (new : NewAmounts) (row : Row) → AreTables tables → Stands tables new.table.now → IsOfTables tables row
     → cells_of tables (with_new_amounts (name_in new.table.now new.key.now) new.amounts row) ≡ map (amounts_on new) (cells_of tables row)
 amount_cells tables new row are stands of =
@@ -104,7 +103,7 @@ amount_cells tables new row are stands of =
     cells_change tables s new.key.now (new_amounts s.table.columns news) row (record row { amounts = replaced news row.amounts }) are stands of refl
     (λ fits. amounts_replaced s.table.columns 0 s.table.key row.name.key row.amounts row.plain news fits.amounts (AllZip-long _ _ row.plain fits.plain))
 
--- a row with amounts replaced is one of its table
+-- a row whose amounts are replaced fits its table
 amounts_fit : (tables : List StoredTable) (name : RowName) (news : List (Option ℤ)) (row : Row) → IsOfTables tables row → IsOfTables tables (with_new_amounts name news row)
 amounts_fit tables name news row of =
     elim (cases_Bool (same_row row.name name)) [ inl t ↦ rw t (go (stored_named tables row.name.table) of) | inr n ↦ rw n of ]

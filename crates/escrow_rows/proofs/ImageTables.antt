@@ -1,4 +1,4 @@
--- CREATE TABLE and DROP TABLE: the image with one more table, and without a table and its rows.
+-- CREATE TABLE adds a table to the image; DROP TABLE removes a table and its rows.
 use Rattle.std.proofs.Common.{◌≡◌, ℕ, ℤ, Bool, true, false, not, List, [], ◌∷◌, Some, map, filter, find, flat_map, refl, sym, ap, ◌∙◌, inl, inr, IsPermutation}
 use Rattle.std.specs.Borrow.{Bor}
 use Rattle.std.specs.Prelude.{bytes_eq, option_map, unwrap_or}
@@ -23,16 +23,16 @@ use Rattle.escrow_rows.proofs.Cells.{filter_pieces, is_in_row, numbers_tell, one
 use Rattle.escrow_rows.proofs.Images.{image_after}
 use Rattle.escrow_rows.proofs.Same.{same_numbers}
 
--- pieces that are the same at each item make the same list
+-- if the pieces of each item are the same, so are the whole lists
 pub pieces_same : {A B : Type 0} (f g : A → List B) (xs : List A) → AllByRecursion (λ x. f x ≡ g x) xs → flat_map f xs ≡ flat_map g xs
 pieces_same f g [] h = refl
 pieces_same f g (x ∷ xs) h = rw (h.0, pieces_same f g xs h.1)
 
--- the items of a list are those of any of its orders
+-- a list has the same items in any order
 pub has_permutation : {A : Type 0} (xs ys : List A) → IsPermutation xs ys → (x : A) → Has xs x → Has ys x
 has_permutation xs ys same x h = all_has (Has ys) xs (all-permutation (Has ys) ys xs (IsPermutation-sym xs ys same) (has_all (Has ys) ys (λ y k. k))) x h
 
--- a table that was found among the tables is found among more of them
+-- a table that was found is found after tables are added
 pub still_found : (tables after : List StoredTable) (name : List ℕ) (t : StoredTable) → AreTables after → ((x : StoredTable) → Has tables x → Has after x)
     → stored_named tables name ≡ Some t → stored_named after name ≡ Some t
 still_found tables after name t are more found =
@@ -44,7 +44,7 @@ still_found tables after name t are more found =
     let one : again.0 ≡ t = one_name after are again.0 t new.0 has (name_same _ _ new.1 ∙ sym (name_same _ _ old.1)) in
     again.1 ∙ ap Some one
 
--- rows of tables have the same cells among more tables
+-- rows have the same cells after tables are added
 same_cells : (tables after : List StoredTable) (rows : List Row) → AreTables after → ((x : StoredTable) → Has tables x → Has after x) → AreRows tables rows
     → flat_map (cells_of tables) rows ≡ flat_map (cells_of after) rows
 same_cells tables after rows are more of =
@@ -53,7 +53,7 @@ same_cells tables after rows are more of =
     let found = (row_in tables row has).1.found in
     ap (λ o. unwrap_or (option_map (λ s. cells_in s row) o) []) (found ∙ sym (still_found tables after row.name.table _ are more found))) rows of.of_tables)
 
--- the step of CREATE TABLE puts a table without rows
+-- the step of CREATE TABLE adds a table without rows
 pub creates : (s : StoredTable) (id : ℤ) (name text : Bor (List ℕ)) → id ≡ s.id → name.now ≡ s.table.name → text.now ≡ canonical s.table
     → (old new : Database) → Does (step.InsertTab id name text ∷ []) old new → Creates s old new
 creates s id name text number named written old new does tables after rows are of whole fine =
@@ -62,7 +62,7 @@ creates s id name text number named written old new does tables after rows are o
       cells_are = rw (← same_cells tables after rows fine (λ x k. has_permutation (s ∷ tables) after whole x (inr k)) of) coded.cells_are;
     })
 
--- where a test implies another, it finds the same item among those that pass the other
+-- if one test implies another, it finds the same item among the items that pass the other
 find_filter : {A : Type 0} (p q : A → Bool) → ((x : A) → p x ≡ true → q x ≡ true) → (xs : List A) → find p (filter q xs) ≡ find p xs
 find_filter p q implies [] = refl
 find_filter p q implies (x ∷ xs) =
@@ -72,13 +72,13 @@ find_filter p q implies (x ∷ xs) =
       | inr f ↦ elim (cases_Bool (q x)) [ inl kept ↦ rw (kept, f) more | inr out ↦ rw (out, f) more ]
     ]
 
--- a table of another name is found among those of other names
+-- a table of another name is found after one table is removed
 pub found_without : (tables : List StoredTable) (name other : List ℕ) → bytes_eq other name ≡ false → stored_named (without_stored name tables) other ≡ stored_named tables other
 found_without tables name other apart =
     find_filter (λ s. bytes_eq s.table.name other) (λ s. not (bytes_eq s.table.name name))
     (λ s e. ap not (ap (λ n. bytes_eq n name) (name_same s.table.name other e) ∙ apart)) tables
 
--- the rows of other tables have the same cells without a table
+-- rows of other tables have the same cells after a table is removed
 cells_without : (tables : List StoredTable) (rows : List Row) (name : List ℕ)
     → flat_map (cells_of (without_stored name tables)) (without_rows_of name rows) ≡ flat_map (cells_of tables) (without_rows_of name rows)
 cells_without tables rows name =
@@ -88,21 +88,21 @@ cells_without tables rows name =
     let apart = not-true (bytes_eq row.name.table name) (has_filter kept rows row k).1 in
     ap (λ o. unwrap_or (option_map (λ s. cells_in s row) o) []) (found_without tables name row.name.table apart)))
 
--- the cells that aren't of a table are those of the rows of the others
+-- the cells that do not belong to a table are those of the other tables' rows
 cells_left : (tables : List StoredTable) (rows : List Row) (s : StoredTable) → AreTables tables → AreRows tables rows → Has tables s
     → filter (λ cell. not (is_in (sql.Int s.id) cell)) (flat_map (cells_of tables) rows) ≡ flat_map (cells_of tables) (without_rows_of s.table.name rows)
 cells_left tables rows s are of has =
     filter_pieces (cells_of tables) (λ cell. not (is_in (sql.Int s.id) cell)) (λ row. not (bytes_eq row.name.table s.table.name)) rows
     (all_weaker (IsOfTables tables) _ (λ row k. all_weaker _ _ (λ cell e. ap not e) (cells_of tables row) (is_in_row tables s row are has k)) rows of.of_tables)
 
--- the rows of TAB that haven't a number are those of the other tables
+-- the rows of TAB with other numbers are those of the other tables
 pub tabs_left : (tables : List StoredTable) (s : StoredTable) → AreTables tables → Has tables s
     → filter (λ tab. not (same (column tab 0) (sql.Int s.id))) (map tab_row tables) ≡ map tab_row (without_stored s.table.name tables)
 tabs_left tables s are has =
     filter-map (λ tab. not (same (column tab 0) (sql.Int s.id))) tab_row tables
     ∙ ap (map tab_row) (filter_same _ _ tables (has_all _ tables (λ t k. ap not (same_numbers t.id s.id ∙ numbers_tell tables are t s k has))))
 
--- the steps of DROP TABLE take out the table and its rows
+-- the steps of DROP TABLE remove the table and its rows
 pub drops : (s : StoredTable) (id : ℤ) → id ≡ s.id → (old new : Database) → Does (step.DeleteCells id ∷ step.DeleteTab id ∷ []) old new → Drops s old new
 drops s id number old new does tables rows are of stands =
     let name = s.table.name in

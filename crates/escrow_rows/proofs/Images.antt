@@ -1,4 +1,4 @@
--- What steps make of an image.
+-- What steps do to an image.
 use Rattle.std.proofs.Common.{Bool, true, List, map, fold, flat_map, sym, ◌∙◌, subst, IsPermutation}
 use Rattle.std.proofs.lemmas.List.Sorted.{IsPermutation-trans}
 use Rattle.sqlite.specs.Effect.{Database}
@@ -11,12 +11,12 @@ use Rattle.escrow_rows.specs.Image.{IsImage, AreTables, AreRows, tab_row, cells_
 use Rattle.escrow_rows.specs.Answers.{Tells}
 use Rattle.escrow_rows.specs.Changes.{Stands, TurnsRows, Migrates}
 
--- the rows of CELL and of TAB are those of tables and rows, in any order
+-- the rows of CELL and TAB are those of these tables and rows, in any order
 pub record Encodes (tables : List StoredTable) (rows : List Row) (c : Contents) : Type 0 where
   pub tabs_are : IsPermutation (map tab_row tables) c.tabs
   pub cells_are : IsPermutation (flat_map (cells_of tables) rows) c.cells
 
--- steps that turn the contents of one image into those of another turn the image into that
+-- if steps turn the contents of one image into those of another, they turn the first image into the second
 pub image_after : (steps : List Step) (tables after : List StoredTable) (rows turned : List Row) (old new : Database) → Does steps old new
     → (Encodes tables rows (contents old) → Encodes after turned (fold done (contents old) steps)) → IsImage tables rows old → IsImage after turned new
 image_after steps tables after rows turned old new does turns image =
@@ -29,7 +29,7 @@ image_after steps tables after rows turned old new does turns image =
       cells_are = IsPermutation-trans _ _ _ is.cells_are holds.cells_are;
     }
 
--- a store that is brought to the known format is the image of what it was the image of before
+-- a migration to the known format leaves the store the image of the same tables and rows
 pub image_migrated : (old new : Database) → MigratesStore old new → Migrates old new
 image_migrated old new migrates number tables rows image =
     let has = migrates number image.store image.format_is in
@@ -40,7 +40,7 @@ image_migrated old new migrates number tables rows image =
       cells_are = subst (IsPermutation (flat_map (cells_of tables) rows)) (sym has.cells_are) image.cells_are;
     }
 
--- the same as of steps, of a call that names one of the tables and leaves them all, where a test of their rows is told
+-- the same for a call that names one table, changes no table, and reports a test of its rows
 pub rows_after : (steps : List Step) (s : StoredTable) (held : List Row → Bool) (after : List Row → List Row) (old new : Database) → Does steps old new → Tells s held old true
     → ((tables : List StoredTable) (rows : List Row) → AreTables tables → AreRows tables rows → Stands tables s
     → (c : Contents) → Encodes tables rows c → Encodes tables (after rows) (fold done c steps))

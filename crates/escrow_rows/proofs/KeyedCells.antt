@@ -1,4 +1,4 @@
--- The cells of rows, each by its key, its place and its value: they rise.
+-- The cells of rows, each given by its key, place and value, are in ascending order.
 use Rattle.std.proofs.Common.{◌≡◌, ℕ, ℤ, pos, ◌+◌, ◌<◌, ◌≤◌, List, [], ◌∷◌, ◌++◌, map, flat_map, length, Ordering, Less, refl, ap, ◌∙◌, arith}
 use Rattle.std.specs.List.{AllByRecursion}
 use Rattle.std.specs.Ordering.{on, then_cmp, ordering_then}
@@ -20,11 +20,11 @@ use Rattle.escrow_rows.specs.Image.{stored, cells_from}
 use Rattle.escrow_rows.specs.Placed.{placed, keyed, keyed_cells}
 use Rattle.escrow_rows.proofs.PlacedCells.{later_place, placed-push}
 
--- a cell by its key, its place and its value
+-- a cell, given by its key, place and value
 abbrev pub with_key : SqlRow → SqlRow
 with_key c = column c 1 ∷ column c 2 ∷ column c 3 ∷ []
 
--- so the cells of values are those values by their key and their places
+-- the cells of values, given by their key and their places
 pub cells_keyed : (id : ℤ) (key : Value) (place : ℕ) (vs : List Value) → map with_key (cells_from id key (pos place) vs) ≡ keyed key place vs
 cells_keyed id key place [] = refl
 cells_keyed id key place (v ∷ vs) = ap (λ cells. (stored key ∷ sql.Int (pos place) ∷ stored v ∷ []) ∷ cells) (cells_keyed id key (place + 1) vs)
@@ -40,24 +40,24 @@ cell_cmp = then_cmp (on (λ r. column r 0) value_cmp) (on (λ r. column r 1) val
 pub cell_cmp_total : IsTotalOrder cell_cmp
 cell_cmp_total = then_total (on_total (λ (r : SqlRow). column r 0) value_cmp_total) (on_total (λ (r : SqlRow). column r 1) value_cmp_total)
 
--- a cell stands before another
+-- a cell is before another
 abbrev pub Below : SqlRow → SqlRow → Type 0
 Below a b = cell_cmp a b ≡ Less
 
--- SQLite's order of the values that cells hold is theirs
+-- SQLite compares stored values as keys are compared
 pub stored_cmp : (a b : Value) → value_cmp (stored a) (stored b) ≡ key_cmp a b
 stored_cmp (Number a) (Number b) = value_cmp-Int a b
 stored_cmp (Number a) (Text b) = value_cmp-apart (sql.Int a) (sql.Text b) (λ e. omega arith)
 stored_cmp (Text a) (Number b) = value_cmp-apart (sql.Text a) (sql.Int b) (λ e. omega arith)
 stored_cmp (Text a) (Text b) = value_cmp-Text a b
 
--- what holds of all cells of a key from a place on holds of those of values
+-- what holds of all cells of a key from a place on holds of the cells of these values
 keyed_all : (P : SqlRow → Type 0) (key : Value) (from place : ℕ) → ((n : ℕ) (v : Value) → from ≤ n → P (stored key ∷ sql.Int (pos n) ∷ stored v ∷ [])) → (vs : List Value) → from ≤ place
     → AllByRecursion P (keyed key place vs)
 keyed_all P key from place each [] h = tt
 keyed_all P key from place each (v ∷ vs) h = (each place v h, keyed_all P key from (place + 1) each vs (omega arith))
 
--- of one key, a cell stands before those at later places
+-- of two cells of one key, the one at the lower place comes first
 place_below : (key : Value) (m n : ℕ) (v w : Value) → m < n → Below (stored key ∷ sql.Int (pos m) ∷ stored v ∷ []) (stored key ∷ sql.Int (pos n) ∷ stored w ∷ [])
 place_below key m n v w h =
     ap (λ o. ordering_then o (value_cmp (sql.Int (pos m)) (sql.Int (pos n)))) (tied_itself value_cmp_total (stored key)) ∙ value_cmp-Int (pos m) (pos n) ∙ later_place m n h
@@ -69,17 +69,17 @@ keyed_rise key place (v ∷ vs) = (
   keyed_rise key (place + 1) vs,
 )
 
--- the keys of rows rise
+-- the keys of rows are ascending
 abbrev pub KeysRise : List Row → Type 0
 KeysRise = Rises (λ a b. key_cmp a.name.key b.name.key ≡ Less)
 
--- so each cell of a row stands before those of a row of a later key
+-- each cell of a row comes before those of a row with a later key
 key_below : (a b : Value) (m : ℕ) (v : Value) (cells : List Value) → key_cmp a b ≡ Less → AllByRecursion (Below (stored a ∷ sql.Int (pos m) ∷ stored v ∷ [])) (keyed b 1 cells)
 key_below a b m v cells h =
     keyed_all (Below (stored a ∷ sql.Int (pos m) ∷ stored v ∷ [])) b 1 1
     (λ n w k. ap (λ o. ordering_then o (value_cmp (sql.Int (pos m)) (sql.Int (pos n)))) (stored_cmp a b ∙ h)) cells (omega arith)
 
--- and so do all cells
+-- the cells of all rows are ascending
 pub rows_rise : (table : TableDef) (rows : List Row) → KeysRise rows → Rises Below (flat_map (keyed_cells table) rows)
 rows_rise table [] up = tt
 rows_rise table (row ∷ rows) up =

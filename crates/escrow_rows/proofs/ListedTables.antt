@@ -1,4 +1,4 @@
--- The tables of a catalog are those that can stand in a store together.
+-- The tables of a catalog are those that can be in a store together.
 use Rattle.std.proofs.Common.{◌≡◌, ℕ, pos, int_le, Bool, true, false, not, List, [], ◌∷◌, map, bytes_eq, inl, inr, ap, subst, arith}
 use Rattle.std.specs.Prelude.{IsTrue}
 use Rattle.std.specs.Cmp.Lexicographic.{slice_cmp}
@@ -18,7 +18,7 @@ use Rattle.escrow_schema.specs.Stored.{IsListed, catalog_of, stored_of}
 use Rattle.escrow_schema.proofs.Listed.{all_map, all_unmap}
 use Rattle.escrow_rows.specs.Image.{AreTables}
 
--- items stay apart through a map, and were apart before it
+-- items are distinct exactly if their images are
 apart_map : {A B : Type 0} (before : B → B → Bool) (f : A → B) (xs : List A) → IsAscending (λ a b. before (f a) (f b)) xs → IsAscending before (map f xs)
 apart_map before f [] h = tt
 apart_map before f (x ∷ xs) h = (all_map (λ y. IsTrue (before (f x) y)) f xs h.0, apart_map before f xs h.1)
@@ -27,7 +27,7 @@ apart_unmap : {A B : Type 0} (before : B → B → Bool) (f : A → B) (xs : Lis
 apart_unmap before f [] h = tt
 apart_unmap before f (x ∷ xs) h = (all_unmap (λ y. IsTrue (before (f x) y)) f xs h.0, apart_unmap before f xs h.1)
 
--- names in order differ
+-- ordered names differ
 below_differs : (a b : List ℕ) → is_lt (slice_cmp nat_cmp a b) ≡ true → not (bytes_eq a b) ≡ true
 below_differs a b less = elim (cases_Bool (bytes_eq a b)) [
   | inl same ↦ absurd (both_ways (is_lt (slice_cmp nat_cmp a b))
@@ -55,7 +55,7 @@ listed_are tables listed =
       few = omega (arith, listed.is_catalog.few, length-map tables stored, length-map tables (λ (c : CountedTable). c.stored.table));
     }
 
--- and such tables in order of name are those of a catalog
+-- tables that can be in a store together and form a catalog are listed
 pub are_listed : (tables : List CountedTable) → AreTables (stored_of tables) → IsCatalog (catalog_of tables) → IsListed tables
 are_listed tables are catalog =
     let stored : CountedTable → StoredTable = λ c. c.stored in

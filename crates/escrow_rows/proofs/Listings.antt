@@ -1,4 +1,4 @@
--- What TAB lists of the tables of an image.
+-- What TAB lists about the tables of an image.
 use Rattle.std.proofs.Common.{◌≡◌, ℕ, ℤ, pos, ◌+◌, Bool, true, false, not, List, [], ◌∷◌, ◌++◌, map, length, take, get_or, Result, Ordering, Less, Equal, Greater, is_gt, IsTrue, refl, sym, ap, ap₂, ◌∙◌, subst, IsPermutation, IsSorted}
 use Rattle.std.specs.Prelude.{◌<◌, IfOk}
 use Rattle.std.specs.List.{AllByRecursion}
@@ -28,7 +28,7 @@ use Rattle.escrow_rows.specs.Image.{tab_row}
 use Rattle.escrow_rows.specs.Listing.{listed_row}
 use Rattle.escrow_cells.proofs.Rising.{ascending_from_sorted}
 
--- the number, and the text, that a column of TAB has
+-- the number and the text in a column of TAB
 abbrev number_in : Sql → ℤ
 number_in (sql.Int z) = z
 number_in _ = pos 0
@@ -49,14 +49,14 @@ listings_back : (tables : List StoredTable) → map listed_by (map tab_row table
 listings_back [] = refl
 listings_back (s ∷ tables) = ap (λ more. listing s ∷ more) (listings_back tables)
 
--- what is read lists the tables
+-- the rows that were read list the tables
 all_listed : (tables : List StoredTable) (db : Database) (answer : List ListedTable) → IsPermutation (map tab_row tables) (tabs db) → AreTabs (tabs db) (map listed_row answer)
     → IsPermutation (map listing tables) answer
 all_listed tables db answer coded read =
     let rows = IsPermutation-map listed_by (map tab_row tables) (map listed_row answer) (IsPermutation-trans (map tab_row tables) (tabs db) (map listed_row answer) coded read.same_tabs) in
     subst (IsPermutation (map listing tables)) (listed_back answer) (subst (λ ts. IsPermutation ts (map listed_by (map listed_row answer))) (listings_back tables) rows)
 
--- where a test holds of each two items, either way round, it does in any order of them
+-- if a symmetric test holds of each two items of a list, it holds in any order of the list
 module _ {A : Type 0} (before : A → A → Bool) (turned : (x y : A) → before x y ≡ true → before y x ≡ true) where
   record Alike (xs ys : List A) : Type 0 where
     each : (x : A) → AllByRecursion (λ y. IsTrue (before x y)) xs → AllByRecursion (λ y. IsTrue (before x y)) ys
@@ -97,7 +97,7 @@ less_if Greater h k = absurd (false≢true (sym h))
 abbrev NotAbove : ListedTable → ListedTable → Type 0
 NotAbove a b = is_gt (value_cmp (sql.Int a.id) (sql.Int b.id)) ≡ false
 
--- so numbers that never fall and differ rise
+-- numbers that never decrease and are distinct increase
 numbers_rise : (answer : List ListedTable) → Rises NotAbove answer → IsAscending other_number answer → IsAscending (λ a b. is_lt (int_cmp a.id b.id)) answer
 numbers_rise [] up apart = tt
 numbers_rise (t ∷ answer) up apart = (
@@ -121,14 +121,14 @@ tells_tables db answer read = record {
       (apart_permutation other_number other_turned (map listing tables) answer (all_listed tables db answer image.tabs_are of_tab) (listed_apart tables are.ids_apart));
 }
 
--- one more row that is read
+-- one more row is read
 pub listed_more : (rows : List SqlRow) (tables new : List ListedTable) (i : ℕ) (row : SqlRow) (t : ListedTable) → i < length rows → row ≡ get_or rows i row
     → take i rows ≡ map listed_row tables → row ≡ listed_row t → new ≡ tables ++ t ∷ [] → take (i + 1) rows ≡ map listed_row new
 listed_more rows tables new i row t within at before is added =
     take_more rows i row within ∙ ap₂ (λ (done : List SqlRow) (r : SqlRow). done ++ r ∷ []) before (sym at ∙ is)
     ∙ sym (map-append listed_row tables (t ∷ [])) ∙ sym (ap (map listed_row) added)
 
--- the same of a store that a call has read
+-- the same for a store that a call has read
 module _ {S : Type 0} (g : Ghosts S) (inside old new : Held S) (same_conn : inside ≡ old) where
   pub tables_told_of : {V E : Type 0} (items : V → List ListedTable) (read shown : List SqlRow) (r : Result V E) → shown ≡ read → IsTrue (state g new).is_open
       → (IsStore (state g inside).now → AreTabs (tabs (state g inside).now) read)

@@ -1,4 +1,4 @@
--- What a call that only reads leaves, and has given to a sink.
+-- What a call that only reads leaves unchanged, and what it passes to a sink.
 use Rattle.std.proofs.Common.{◌≡◌, List, Result, Ok, Err, IsTrue, OnOk, refl, ◌∙◌, subst, inl, arith}
 use Rattle.sqlite_value.specs.Order.{Row as SqlRow}
 use Rattle.sqlite_trees.specs.declared.store.Store.{Ghosts}
@@ -17,7 +17,7 @@ only_reads_none s = record {
   survives = record { clean = omega arith; shield = λ h. h; counts = omega arith; limit = refl; closes = λ clean still. inl still; crash = λ clean db h. inl h };
 }
 
--- one read after others
+-- one read after another
 pub only_reads_then : (a b c : State) → OnlyReads a b → OnlyReads b c → OnlyReads a c
 only_reads_then a b c one two = record {
   same = λ usable. two.same usable ∙ one.same (two.usable usable);

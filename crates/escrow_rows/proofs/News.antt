@@ -10,12 +10,13 @@ use Rattle.escrow_schema.specs.Fit.{plains, values_from}
 use Rattle.escrow_schema.specs.Rows.{replaced}
 use Rattle.escrow_rows.specs.Inside.{new_plain, new_amounts, first_new}
 
--- a list that isn't empty, by its first item and the rest
+-- a non-empty list, by its first item and the rest
 by_head : {A : Type 0} (P : List A → Type 0) (xs : List A) (n : ℕ) → length xs ≡ suc n → ((x : A) (rest : List A) → length rest ≡ n → P (x ∷ rest)) → P xs
 by_head P [] n e h = absurd (omega arith)
 by_head P (x ∷ rest) n e h = h x rest (omega arith)
 
--- a fact of the columns of a row with its amounts and plain values, by the first column: RESERVABLE, the key, or another
+-- induction over the columns of a row with its amounts and plain values: the first column is RESERVABLE, the key or a
+-- plain one
 by_columns : (at : ℕ) (P : List Column → ℕ → List ℤ → List Value → Type 0) → ((place : ℕ) (amounts : List ℤ) (plain : List Value) → P [] place amounts plain)
     → ((column : Column) (columns : List Column) (place : ℕ) (a : ℤ) (amounts : List ℤ) (plain : List Value) → column.reservable ≡ true → P columns (place + 1) amounts plain → P (column ∷ columns) place (a ∷ amounts) plain)
     → ((column : Column) (columns : List Column) (place : ℕ) (amounts : List ℤ) (plain : List Value) → column.reservable ≡ false → (place == at) ≡ true → P columns (place + 1) amounts plain → P (column ∷ columns) place amounts plain)
@@ -38,7 +39,7 @@ by_columns at P none amount key other (column ∷ columns) place amounts plain m
           ])
     ]
 
--- a row's values with its plain values replaced are its values, each replaced by its column's
+-- replacing a row's plain values replaces each value by that of its column
 pub plain_replaced : (columns : List Column) (place at : ℕ) (key : Value) (amounts : List ℤ) (plain : List Value) (news : List (Option Value))
     → length amounts ≡ length (reservables columns) → length plain ≡ length (plains columns place at)
     → values_from columns place at key amounts (replaced news plain) ≡ replaced (new_plain columns place at news) (values_from columns place at key amounts plain)
@@ -58,7 +59,7 @@ plain_replaced columns place at key amounts plain news many enough =
     first_plain column columns place at key amounts p ps (None ∷ news) h = ap (λ (vs : List Value). p ∷ vs) (h news)
     first_plain column columns place at key amounts p ps (Some v ∷ news) h = ap (λ (vs : List Value). v ∷ vs) (h news)
 
--- a row's values with its amounts replaced are its values, each replaced by its column's
+-- replacing a row's amounts replaces each value by that of its column
 pub amounts_replaced : (columns : List Column) (place at : ℕ) (key : Value) (amounts : List ℤ) (plain : List Value) (news : List (Option ℤ))
     → length amounts ≡ length (reservables columns) → length plain ≡ length (plains columns place at)
     → values_from columns place at key (replaced news amounts) plain ≡ replaced (new_amounts columns news) (values_from columns place at key amounts plain)
@@ -78,7 +79,7 @@ amounts_replaced columns place at key amounts plain news many enough =
     first_amount columns place at key a rest plain (None ∷ news) h = ap (λ (vs : List Value). value.Number a ∷ vs) (h news)
     first_amount columns place at key a rest plain (Some n ∷ news) h = ap (λ (vs : List Value). value.Number n ∷ vs) (h news)
 
--- replacing items leaves as many
+-- replacing items keeps their number
 pub length_replaced : {A : Type 0} (news : List (Option A)) (xs : List A) → length (replaced news xs) ≡ length xs
 length_replaced [] xs = refl
 length_replaced (new ∷ news) [] = refl

@@ -1,4 +1,4 @@
--- Of rows in order, one at most has a name.
+-- Among rows in order, at most one has a given name.
 use Rattle.std.proofs.Common.{◌≡◌, true, false, List, [], ◌∷◌, filter, refl, ap, sym, ◌∙◌, subst, inl, inr}
 use Rattle.std.specs.Prelude.{option_to_list}
 use Rattle.std.specs.Ordering.{is_lt}
@@ -11,7 +11,7 @@ use Rattle.escrow_num.specs.Order.{row_cmp, same_row}
 use Rattle.escrow_num.proofs.Orders.{before_itself, by_row, row_same, row_total}
 use Rattle.escrow_schema.specs.Rows.{row_named, row_before}
 
--- a row that stands after another has another name
+-- a row that comes after another has another name
 later_apart : (a b : Row) (name : RowName) → a.name ≡ name → row_before a b ≡ true → same_row b.name name ≡ false
 later_apart a b name e before =
     elim (cases_Bool (same_row b.name name)) [
@@ -19,7 +19,7 @@ later_apart a b name e before =
       | inr f ↦ f
     ]
 
--- the rows of a name are the one that is found by it
+-- the rows with a name are the one that the name finds
 pub rows_named : (rows : List Row) (name : RowName) → IsAscending row_before rows → filter (λ row. same_row row.name name) rows ≡ option_to_list (row_named rows name)
 rows_named [] name up = refl
 rows_named (r ∷ rows) name up =

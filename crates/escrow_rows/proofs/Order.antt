@@ -1,4 +1,4 @@
--- Rows in any order, put in order.
+-- Rows in any order, sorted.
 use Rattle.std.proofs.Common.{◌≡◌, ◌⊎◌, Bool, true, false, cond, List, [], ◌∷◌, refl, sym, ap, ◌∙◌, inl, inr, IsPermutation}
 use Rattle.std.specs.List.{AllByRecursion}
 use Rattle.std.specs.Prelude.{IsTrue}
@@ -12,12 +12,12 @@ use Rattle.escrow_schema.specs.Rows.{row_before, with_row}
 use Rattle.escrow_rows.specs.View.{sorted_rows}
 
 module _ {A : Type 0} (before : A → A → Bool) (trans : (x y z : A) → before x y ≡ true → before y z ≡ true → before x z ≡ true) (itself : (x : A) → before x x ≡ false) where
-  -- the items put in order, each among those behind it
+  -- the sorted items: each is inserted into those after it
   abbrev pub sorted : List A → List A
   sorted [] = []
   sorted (x ∷ xs) = put before x (sorted xs)
 
-  -- two items differ: one of them is before the other
+  -- two items differ: one comes before the other
   abbrev Differ : A → A → Type 0
   Differ x y = IsTrue (before x y) ⊎ IsTrue (before y x)
 
@@ -38,7 +38,7 @@ module _ {A : Type 0} (before : A → A → Bool) (trans : (x y z : A) → befor
   put_past : (x y : A) (zs : List A) → before x y ≡ false → put before x (y ∷ zs) ≡ y ∷ put before x zs
   put_past x y zs h = rw h refl
 
-  -- two items that differ may be put in either order
+  -- two items that differ may be inserted in either order
   exchange : (x y : A) (zs : List A) → before x y ≡ true → put before x (put before y zs) ≡ put before y (put before x zs)
   exchange x y [] h = put_here x y [] h ∙ sym (put_past y x [] (one_way x y h))
   exchange x y (z ∷ zs) h =
@@ -60,7 +60,8 @@ module _ {A : Type 0} (before : A → A → Bool) (trans : (x y z : A) → befor
   exchanged : (x y : A) (zs : List A) → Differ x y → put before x (put before y zs) ≡ put before y (put before x zs)
   exchanged x y zs = elim [ inl h ↦ exchange x y zs h | inr h ↦ sym (exchange y x zs h) ]
 
-  -- what differs from each of some items differs from each of the others; these differ where those do, and are put in the same order
+  -- if an item differs from all of one list, it differs from all of the other; if the first list's items differ, so do
+  -- the second's, and both are sorted alike
   record Alike (xs ys : List A) : Type 0 where
     each : (x : A) → AllByRecursion (Differ x) xs → AllByRecursion (Differ x) ys
     all : AllDiffer xs → AllDiffer ys
@@ -97,7 +98,7 @@ module _ {A : Type 0} (before : A → A → Bool) (trans : (x y z : A) → befor
   sorted_already [] h = refl
   sorted_already (x ∷ xs) h = ap (put before x) (sorted_already xs h.1) ∙ put_first x xs h.0
 
-  -- items in any order, put in order
+  -- items in any order, sorted
   pub sorted_permutation : (xs ys : List A) → IsAscending before xs → IsPermutation xs ys → sorted ys ≡ xs
   sorted_permutation xs ys h same = sym ((alike xs ys same).order (ascending_differ xs h)) ∙ sorted_already xs h
 
@@ -115,6 +116,6 @@ in_order_sorted : (rows : List Row) → sorted_rows rows ≡ sorted row_before r
 in_order_sorted [] = refl
 in_order_sorted (row ∷ rows) = with_row_put row (sorted_rows rows) ∙ ap (put row_before row) (in_order_sorted rows)
 
--- rows in any order, put in order
+-- rows in any order, sorted
 pub in_order_permutation : (rows others : List Row) → IsAscending row_before rows → IsPermutation rows others → sorted_rows others ≡ rows
 in_order_permutation rows others h same = in_order_sorted others ∙ sorted_permutation row_before rows_trans rows_itself rows others h same

@@ -1,4 +1,4 @@
--- Values, each by its place.
+-- Values, each with its place.
 use Rattle.std.proofs.Common.{◌≡◌, ℕ, ℤ, zero, suc, pos, ◌+◌, ◌<◌, ◌≤◌, Ordering, Less, int_cmp, List, [], ◌∷◌, ◌++◌, map, length, length-append, take, get_or, refl, ap, ap₂, sym, ◌∙◌, arith}
 use Rattle.std.specs.List.{AllByRecursion}
 use Rattle.std.specs.Ordering.{on}
@@ -15,7 +15,7 @@ use Rattle.escrow_num.specs.declared.value.Value.TheVariants.{Number, Text}
 use Rattle.escrow_rows.specs.Image.{stored, cells_from}
 use Rattle.escrow_rows.specs.Placed.{placed}
 
--- values that are kept the same are the same
+-- values that are stored as the same value are the same
 pub stored_same : (a b : Value) → stored a ≡ stored b → a ≡ b
 stored_same (Number a) (Number b) e = cc
 stored_same (Number a) (Text b) e = absurd (cc)
@@ -43,12 +43,12 @@ place_cmp_total = on_total (λ (r : SqlRow). column r 0) value_cmp_total
 pub later_place : (m n : ℕ) → m < n → int_cmp (pos m) (pos n) ≡ Less
 later_place m n h = sym (int_cmp_is (pos m) (pos n) Less (omega (arith, ints)))
 
--- what holds of all cells from a place on holds of those of values
+-- what holds of all cells from a place on holds of the cells of these values
 pub placed_all : (P : SqlRow → Type 0) (from place : ℕ) → ((n : ℕ) (v : Value) → from ≤ n → P (sql.Int (pos n) ∷ stored v ∷ [])) → (vs : List Value) → from ≤ place → AllByRecursion P (placed place vs)
 placed_all P from place each [] h = tt
 placed_all P from place each (v ∷ vs) h = (each place v h, placed_all P from (place + 1) each vs (omega arith))
 
--- the cells of values rise
+-- the cells of values are ascending
 pub placed_rise : (place : ℕ) (vs : List Value) → Rises (λ a b. place_cmp a b ≡ Less) (placed place vs)
 placed_rise place [] = tt
 placed_rise place (v ∷ vs) = (
@@ -63,16 +63,16 @@ get_placed place i [] cell v h = absurd (omega arith)
 get_placed place zero (w ∷ vs) cell v h = ap (λ (n : ℕ). sql.Int (pos n) ∷ stored w ∷ []) (omega arith)
 get_placed place (suc i) (w ∷ vs) cell v h = get_placed (place + 1) i vs cell v (omega arith) ∙ ap (λ (n : ℕ). sql.Int (pos n) ∷ stored (get_or vs i v) ∷ []) (omega arith)
 
--- a cell by its place and its value
+-- a cell, given by its place and value
 abbrev pub in_place : SqlRow → SqlRow
 in_place c = column c 2 ∷ column c 3 ∷ []
 
--- so the cells of values are those values by their places
+-- the cells of values are those values with their places
 pub cells_placed : (id : ℤ) (key : Value) (place : ℕ) (vs : List Value) → map in_place (cells_from id key (pos place) vs) ≡ placed place vs
 cells_placed id key place [] = refl
 cells_placed id key place (v ∷ vs) = ap (λ cells. (sql.Int (pos place) ∷ stored v ∷ []) ∷ cells) (cells_placed id key (place + 1) vs)
 
--- one more cell that is read
+-- one more cell is read
 pub placed_more : (cells : List SqlRow) (values new : List Value) (i : ℕ) (cell : SqlRow) (v : Value) → i < length cells → cell ≡ get_or cells i cell
     → take i cells ≡ placed 1 values → length values ≡ i → cell ≡ sql.Int (pos (i + 1)) ∷ stored v ∷ [] → new ≡ values ++ v ∷ []
     → (take (i + 1) cells ≡ placed 1 new) × (length new ≡ i + 1)

@@ -1,4 +1,4 @@
--- The cells of a row, told apart by their places, and the values read from them.
+-- The cells of a row, distinguished by their places, and the values read from them.
 use Rattle.std.proofs.Common.{◌≡◌, ℤ, pos, ◌<ℤ◌, true, false, List, [], ◌∷◌, length, filter, find, Some, refl, sym, ap, ap₂, ◌∙◌, inl, inr, arith}
 use Rattle.std.specs.Prelude.{◌+ℤ◌, option_map, unwrap_or}
 use Rattle.std.specs.List.{AllByRecursion}
@@ -18,7 +18,7 @@ use Rattle.escrow_rows.specs.Image.{stored, cells_from}
 use Rattle.escrow_rows.specs.View.{value_kept, kept_from}
 use Rattle.escrow_rows.proofs.Same.{same_numbers}
 
--- a number is the same as itself, and as no other
+-- SQLite finds a number equal to itself and to no other
 pub same_itself : (n : ℤ) → same (sql.Int n) (sql.Int n) ≡ true
 same_itself n = same_numbers n n ∙ (Decides-int_eq n n).1 refl
 
@@ -34,7 +34,7 @@ same_later m n h = apart n m (λ e. omega (arith, ints))
 same_earlier : (m n : ℤ) → m <ℤ n → same (sql.Int m) (sql.Int n) ≡ false
 same_earlier m n h = apart m n (λ e. omega (arith, ints))
 
--- what holds of all places behind one holds of those of the cells behind it
+-- what holds of all later places holds of those of the cells that follow
 pub places_behind : (P : Sql → Type 0) (first : ℤ) → ((n : ℤ) → first <ℤ n → P (sql.Int n)) → (id : ℤ) (key : Value) (place : ℤ) (values : List Value) → first <ℤ place
     → AllByRecursion (λ cell. P (column cell 2)) (cells_from id key place values)
 places_behind P first each id key place [] behind = tt
@@ -44,7 +44,7 @@ places_behind P first each id key place (v ∷ values) behind =
 pub next_place : (place : ℤ) → place <ℤ (place +ℤ pos 1)
 next_place place = omega (arith, ints)
 
--- one of the cells of a row stands at its place
+-- one of a row's cells is at its place
 pub one_cell : (id : ℤ) (key : Value) (place : ℤ) (values : List Value)
     → AllByRecursion (λ cell. filter (λ other. same (column other 2) (column cell 2)) (cells_from id key place values) ≡ cell ∷ []) (cells_from id key place values)
 one_cell id key place [] = tt
@@ -72,7 +72,7 @@ value_back : (v : Value) → value_kept (stored v) ≡ v
 value_back (Number z) = refl
 value_back (Text t) = refl
 
--- where each cell of a row is found, the values of its columns are read
+-- if each cell of a row is found, the values of its columns are read
 pub values_read : (all : List SqlRow) (id : ℤ) (key : Value) (place : ℤ) (columns : List Column) (values : List Value) → length values ≡ length columns
     → AllByRecursion (λ cell. find (is_at (sql.Int id) (stored key) (column cell 2)) all ≡ Some cell) (cells_from id key place values)
     → kept_from all id (stored key) place columns ≡ values

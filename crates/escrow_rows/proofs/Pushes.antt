@@ -19,7 +19,7 @@ use Rattle.escrow_cells.specs.Step.{Contents, kept}
 use Rattle.escrow_rows.specs.Image.{stored}
 use Rattle.escrow_rows.specs.Inside.{SetsCellOf, on_cells, put_value, put_values, new_plain, new_amounts, first_new}
 
--- what is left to put into the cells of a row makes the whole of these contents
+-- writing the remaining values to the cells of a row gives these contents
 abbrev pub Leaves : ℤ → Sql → ℕ → List (Option Value) → Contents → Contents → Type 0
 Leaves id key i news c whole = on_cells (put_values id key (pos (i + 1)) news) c ≡ whole
 
@@ -31,18 +31,18 @@ put_next id key i new news left before after whole next h put =
     rw put (ap (λ (cells : List SqlRow). record before { cells = cells })
     (map-map (put_values id key (pos (i + 1 + 1)) news) (put_value id key (pos (i + 1)) (option_map stored new)) before.cells) ∙ start)
 
--- a column without a new value is passed
+-- a column without a new value is skipped
 pub pass_next : (id : ℤ) (key : Sql) (i : ℕ) (news left : List (Option Value)) (before whole : Contents)
     → left ≡ None ∷ news → Leaves id key i left before whole → Leaves id key (i + 1) news before whole
 pass_next id key i news left before whole next h = subst (λ (l : List (Option Value)). Leaves id key i l before whole) next h
 
--- nothing is left
+-- no value remains
 pub none_left : (id : ℤ) (key : Sql) (i : ℕ) (left : List (Option Value)) (c whole : Contents) → left ≡ [] → Leaves id key i left c whole → c ≡ whole
 none_left id key i left c whole none h =
     let end : Leaves id key i [] c whole = subst (λ (l : List (Option Value)). Leaves id key i l c whole) none h in
     sym (ap (λ (cells : List SqlRow). record c { cells = cells }) (map-id c.cells)) ∙ end
 
--- the new values from a column on, where it is plain, or isn't
+-- the new values from a column on, whether it is plain or not
 pub plain_taken : (columns : List Column) (i : ℕ) (column : Column) (at : ℕ) (news : List (Option Value)) (n : ℕ) → i < length columns → column ≡ get_or columns i column
     → column.reservable ≡ false → (i == at) ≡ false
     → new_plain (drop i columns) i at (drop n news) ≡ first_new (drop n news) ∷ new_plain (drop (i + 1) columns) (i + 1) at (drop (n + 1) news)
@@ -53,7 +53,7 @@ pub plain_passed : (columns : List Column) (i : ℕ) (column : Column) (at : ℕ
     → (column.reservable || i == at) ≡ true → new_plain (drop i columns) i at news ≡ None ∷ new_plain (drop (i + 1) columns) (i + 1) at news
 plain_passed columns i column at news within here passed = rw (drop_item columns i column within here, passed) refl
 
--- the new values from a column on, where it is RESERVABLE, or isn't
+-- the new values from a column on, whether it is RESERVABLE or not
 pub amount_taken : (columns : List Column) (i : ℕ) (column : Column) (news : List (Option ℤ)) (n : ℕ) → i < length columns → column ≡ get_or columns i column
     → column.reservable ≡ true → new_amounts (drop i columns) (drop n news) ≡ option_map value.Number (first_new (drop n news)) ∷ new_amounts (drop (i + 1) columns) (drop (n + 1) news)
 amount_taken columns i column news n within here r = rw (drop_item columns i column within here, r, ← drop-drop 1 n news) refl
@@ -62,7 +62,7 @@ pub amount_passed : (columns : List Column) (i : ℕ) (column : Column) (news : 
     → column.reservable ≡ false → new_amounts (drop i columns) news ≡ None ∷ new_amounts (drop (i + 1) columns) news
 amount_passed columns i column news within here r = rw (drop_item columns i column within here, r) refl
 
--- one more step puts a value into a cell of the row
+-- one more step writes a value to a cell of the row
 pub sets_more : (s : StoredTable) (key : Value) (steps : List Step) (id place : ℤ) (k value : Datum) (i : ℕ) → id ≡ s.id → kept k ≡ stored key → i < length s.table.columns → place ≡ pos (i + 1)
     → AllByRecursion (SetsCellOf s key) steps → AllByRecursion (SetsCellOf s key) (steps ++ step.SetCell id k place value ∷ [])
 sets_more s key steps id place k value i number is within here before = all-append (SetsCellOf s key) steps (step.SetCell id k place value ∷ []) before ((number, is, i, within, here), tt)

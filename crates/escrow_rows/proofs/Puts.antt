@@ -1,4 +1,4 @@
--- New values put into the cells of a row.
+-- New values written to the cells of a row.
 use Rattle.std.proofs.Common.{◌≡◌, ℤ, pos, ◌+ℤ◌, ◌∙◌, true, false, Option, Some, None, List, [], ◌∷◌, map, map-id, refl, sym, ap, ap₂, arith}
 use Rattle.std.specs.Prelude.{option_map, unwrap_or, ◌<ℤ◌}
 use Rattle.std.proofs.lemmas.Bool.{and_left, and_right, false_from_ne_true}
@@ -16,17 +16,17 @@ use Rattle.escrow_rows.specs.Image.{stored, cells_from}
 use Rattle.escrow_rows.specs.Inside.{on_cells, put_value, put_values}
 use Rattle.escrow_rows.proofs.Same.{same_numbers, same_stored}
 
--- without a new value contents stay
+-- without a new value, the contents are unchanged
 pub no_value : (id : ℤ) (key : Sql) (place : ℤ) (c : Contents) → on_cells (put_value id key place None) c ≡ c
 no_value id key place c = ap (λ (cells : List SqlRow). record c { cells = cells }) (map-id c.cells)
 
--- a cell at another place stays
+-- a cell at another place is unchanged
 put_apart : (id : ℤ) (key : Sql) (place : ℤ) (new : Option Sql) (cell : SqlRow)
     → is_at (sql.Int id) key (sql.Int place) cell ≡ false → put_value id key place new cell ≡ cell
 put_apart id key place None cell e = refl
 put_apart id key place (Some v) cell e = rw e refl
 
--- so does a cell of another row
+-- a cell of another row is unchanged
 pub puts_apart : (id : ℤ) (key : Sql) (place : ℤ) (news : List (Option Value)) (cell : SqlRow)
     → is_of (sql.Int id) key cell ≡ false → put_values id key place news cell ≡ cell
 puts_apart id key place [] cell e = refl
@@ -35,18 +35,18 @@ puts_apart id key place (new ∷ news) cell e =
     (put_apart id key place (option_map stored new) cell (and_left (is_of (sql.Int id) key cell) (same (column cell 2) (sql.Int place)) e))
     ∙ puts_apart id key (place +ℤ pos 1) news cell e
 
--- numbers that differ are not the same to SQLite
+-- SQLite finds different numbers different
 places_apart : (p q : ℤ) → ¬ (p ≡ q) → same (sql.Int p) (sql.Int q) ≡ false
 places_apart p q apart = same_numbers p q ∙ false_from_ne_true _ (λ e. apart ((Decides-int_eq p q).0 e))
 
--- a number, and a value, is the same as itself
+-- SQLite finds a number equal to itself, and so each value
 itself : (p : ℤ) → same (sql.Int p) (sql.Int p) ≡ true
 itself p = same_numbers p p ∙ (Decides-int_eq p p).1 refl
 
 stored_itself : (k : Value) → same (stored k) (stored k) ≡ true
 stored_itself k = same_stored k k ∙ same_value k
 
--- new values for later places leave a cell
+-- new values for later places leave a cell unchanged
 puts_later : (id : ℤ) (key : Sql) (place : ℤ) (news : List (Option Value)) (a b v : Sql) (q : ℤ)
     → q <ℤ place → put_values id key place news (a ∷ b ∷ sql.Int q ∷ v ∷ []) ≡ a ∷ b ∷ sql.Int q ∷ v ∷ []
 puts_later id key place [] a b v q before = refl
@@ -57,7 +57,7 @@ puts_later id key place (new ∷ news) a b v q before =
     (and_right (is_of (sql.Int id) key cell) (same (sql.Int q) (sql.Int place)) (places_apart q place (λ e. omega (arith, ints)))))
     ∙ puts_later id key (place +ℤ pos 1) news a b v q (omega (arith, ints))
 
--- a new value for an earlier place leaves cells
+-- a new value for an earlier place leaves cells unchanged
 put_earlier : (id : ℤ) (key : Sql) (place : ℤ) (new : Option Sql) (other : ℤ) (k : Value) (q : ℤ) (vs : List Value)
     → place <ℤ q → map (put_value id key place new) (cells_from other k q vs) ≡ cells_from other k q vs
 put_earlier id key place new other k q [] after = refl
@@ -74,7 +74,7 @@ put_here : (id : ℤ) (k : Value) (place : ℤ) (new : Option Value) (v : Value)
 put_here id k place None v = refl
 put_here id k place (Some w) v = rw (itself id, stored_itself k, itself place) refl
 
--- THE CELLS OF A ROW: those of its values, each replaced by the one beside it, are its cells with these put into them
+-- THE CELLS OF A ROW: the cells of the replaced values are the old cells with the new values written to them
 pub replaced_cells : (id : ℤ) (k : Value) (place : ℤ) (news : List (Option Value)) (vs : List Value)
     → cells_from id k place (replaced news vs) ≡ map (put_values id (stored k) place news) (cells_from id k place vs)
 replaced_cells id k place [] vs = sym (map-id (cells_from id k place vs))

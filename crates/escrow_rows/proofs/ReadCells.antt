@@ -1,4 +1,4 @@
--- What is made of the cells of the row of a key.
+-- What is computed from the cells of a key's row.
 use Rattle.std.proofs.Common.{◌≡◌, ◌<◌, ◌≤◌, ◌+◌, ℕ, ℤ, pos, true, false, IsTrue, Less, Result, Option, Some, None, option_map, List, [], ◌∷◌, ◌++◌, append-nil, map, filter, drop, get_or, flat_map, length, ap, ap₂, sym, ◌∙◌, subst, refl, arith, IsPermutation}
 use Rattle.std.proofs.Math.Numerals.{add-one}
 use Rattle.std.proofs.Math.Seq.{drop-cons}
@@ -40,16 +40,16 @@ use Rattle.escrow_rows.proofs.PlacedCells.{cells_placed, get_placed, in_place, l
 use Rattle.escrow_rows.proofs.RowRead.{placed_named, row_there}
 use Rattle.escrow_rows.proofs.Spans.{in_span, length-placed_in, span_placed}
 
--- what is shown of a row, if there is one
+-- what a row shows, if there is one
 abbrev shown_of : (Row → List SqlRow) → Option Row → List SqlRow
 shown_of of None = []
 shown_of of (Some row) = of row
 
--- the cells of a row of a table, each by its place and its value
+-- the cells of a row of a table, each by its place and value
 abbrev whole_of : TableDef → Row → List SqlRow
 whole_of table row = placed 1 (values_of table row)
 
--- so those in a span of columns
+-- the same for a span of columns
 abbrev span_of : ℕ → ℕ → TableDef → Row → List SqlRow
 span_of start many table row = placed_in start many (values_of table row)
 
@@ -61,7 +61,7 @@ module _ (tables : List StoredTable) (rows : List Row) (s : StoredTable) (key : 
   abbrev mine : List SqlRow
   mine = map in_place (filter (is_of (sql.Int s.id) (stored key)) (cells db))
 
-  -- the cells of a key are those of the row of the name
+  -- the cells of a key are those of the row with that name
   held : IsPermutation (shown_of (whole_of s.table) named) mine
   held = at named refl (placed_named tables rows s key db are of stands coded)
     where
@@ -76,12 +76,12 @@ module _ (tables : List StoredTable) (rows : List Row) (s : StoredTable) (key : 
   rising None = tt
   rising (Some row) = placed_rise 1 (values_of s.table row)
 
-  -- cells that are read are those of the row of the name
+  -- the cells that were read are those of the row with that name
   read_told : (answer : List SqlRow) → AreOfRow (sql.Int s.id) (stored key) (cells db) answer → answer ≡ shown_of (whole_of s.table) named
   read_told answer read =
       sorted_unique place_cmp place_cmp_total (shown_of (whole_of s.table) named) answer (rising named) (IsPermutation-trans (shown_of (whole_of s.table) named) mine answer held read.same_cells) read.in_order
 
-  -- and so those in a span of columns
+  -- the same for a span of columns
   span_told : (start many : ℕ) (answer : List SqlRow) → AreOfSpan (pos (start + 1)) (pos (start + many)) (sql.Int s.id) (stored key) (cells db) answer → answer ≡ shown_of (span_of start many s.table) named
   span_told start many answer read =
       let within = in_span start many in
@@ -98,7 +98,7 @@ module _ (s : StoredTable) (key : Value) (db : Database) (of : Row → List SqlR
   abbrev TellsShown : Option (List SqlRow) → Type 0
   TellsShown = Tells s (λ rows. option_map of (row_named rows (name_in s key))) db
 
-  -- what is found of cells is what the row shows, where each row shows some
+  -- if each row shows something, what was found in the cells is what the row shows
   pub tells_shown : (answer : List SqlRow) (found : Option (List SqlRow)) → ((row : Row) → IsRowOf s.table row → 0 < length (of row))
       → ((tables : List StoredTable) (rows : List Row) → AreTables tables → AreRows tables rows → Stands tables s → IsImage tables rows db → answer ≡ shown_of of (row_named rows (name_in s key)))
       → IsRowOfCells answer found → TellsShown found
@@ -113,7 +113,7 @@ module _ (s : StoredTable) (key : Value) (db : Database) (of : Row → List SqlR
       at (Some some) None e is told = absurd (is.1 told)
       at (Some some) (Some row) e is told = ap Some (is.0 ∙ told)
 
-  -- where there are no cells there is no row
+  -- if there are no cells, there is no row
   pub none_told : {A : Type 0} (made : Row → A) → TellsShown None → Tells s (λ rows. option_map made (row_named rows (name_in s key))) db None
   none_told made tells tables rows are of_tables stands image = at (row_named rows (name_in s key)) (tells tables rows are of_tables stands image)
     where
@@ -121,7 +121,7 @@ module _ (s : StoredTable) (key : Value) (db : Database) (of : Row → List SqlR
       at None e = refl
       at (Some row) e = absurd (none-some _ e)
 
-  -- what is made of cells tells what the row of these cells has
+  -- what is computed from cells is what the row with these cells has
   pub some_told : {A : Type 0} (made : Row → A) (shown : List SqlRow) (answer : A) → TellsShown (Some shown) → ((row : Row) → IsRowOf s.table row → shown ≡ of row → answer ≡ made row)
       → Tells s (λ rows. option_map made (row_named rows (name_in s key))) db (Some answer)
   some_told made shown answer tells is tables rows are of_tables stands image = at (row_named rows (name_in s key)) refl (tells tables rows are of_tables stands image)
@@ -130,7 +130,7 @@ module _ (s : StoredTable) (key : Value) (db : Database) (of : Row → List SqlR
       at None here e = absurd (none-some _ (sym e))
       at (Some row) here e = ap Some (is row (row_there tables rows s key row of_tables stands here).0 (same_Some _ _ e))
 
--- the same of a store that a call has read
+-- the same for a store that a call has read
 module _ {S : Type 0} (g : Ghosts S) (inside old new : Held S) (same : inside ≡ old) (s : StoredTable) (key : Value) (id : ℤ) (kept : Sql) (number : id ≡ s.id) (is : kept ≡ stored key) (opened : IsTrue (state g new).is_open)
     (answer : List SqlRow) {E : Type 0} (r : Result (Option (List SqlRow)) E) (found : IfOk r (IsRowOfCells answer)) where
   told_of : (of : Row → List SqlRow) (Reads : Sql → Sql → List SqlRow → List SqlRow → Type 0) → (IsStore (state g inside).now → Reads (sql.Int id) kept (cells (state g inside).now) answer)
@@ -161,14 +161,14 @@ module _ {S : Type 0} (g : Ghosts S) (inside old new : Held S) (same : inside �
       (λ row fits. omega (arith, some, length-placed_in start many (values_of s.table row) (omega (arith, within, length-values_of s.table row fits))))
       (λ tables rows are of stands image. span_told tables rows s key (state g old).now are of stands image.cells_are start many answer (read_old image.store)))
 
--- the amounts among the values of a row are the row's
+-- the amounts among a row's values are the row's amounts
 pub amounts_back : (table : TableDef) (row : Row) → IsTable table → IsRowOf table row → amounts_of table.columns (values_of table row) ≡ row.amounts
 amounts_back table row is_table is_row =
     let values = values_of table row in
     mapped_some (λ key. record { name = record { table = table.name; key = key }; amounts = amounts_of table.columns values; plain = plain_of table.columns values 0 table.key }) (slice_get values table.key) row
     (row_with_values_of table row is_table is_row) (λ key found whole. ap (λ (r : Row). r.amounts) whole)
 
--- values are told by their cells
+-- cells determine their values
 pub placed_same : (place : ℕ) (vs ws : List Value) → placed place vs ≡ placed place ws → vs ≡ ws
 placed_same place [] [] e = refl
 placed_same place [] (w ∷ ws) e = absurd (cc)
@@ -179,7 +179,7 @@ placed_same place (v ∷ vs) (w ∷ ws) e =
     ap₂ (λ (x : Value) (xs : List Value). x ∷ xs) (stored_same v w value) (placed_same (place + 1) vs ws later)
 
 module _ (columns : List Column) (cells : List SqlRow) (before i : ℕ) (column : Column) (within : i < length columns) (here : column ≡ get_or columns i column) (long : length cells ≡ length columns) where
-  -- as many values as columns
+  -- there are as many values as columns
   values_within : (values : List Value) → cells ≡ placed (before + 1) values → i < length values
   values_within values shown = let many : length cells ≡ length (placed (before + 1) values) = ap length shown in omega (arith, many, within, long, length-placed (before + 1) values)
 
@@ -198,7 +198,7 @@ module _ (columns : List Column) (cells : List SqlRow) (before i : ℕ) (column 
       rw (drop_item columns i column within here, values_left values (Number a) short, r)
       (ap (λ (w : Value). number_in w ∷ amounts_of (drop (i + 1) columns) (drop (i + 1) values)) value)
 
-  -- and from any other on
+  -- the amounts from any other column on
   pub amount_passed : column.reservable ≡ false → (values : List Value) → cells ≡ placed (before + 1) values → amounts_of (drop i columns) (drop i values) ≡ amounts_of (drop (i + 1) columns) (drop (i + 1) values)
   amount_passed r values shown =
       rw (drop_item columns i column within here, values_left values (Number (pos 0)) (values_within values shown), r) refl

@@ -1,4 +1,4 @@
--- How many rows of an image a table has, told by the cells at the first place.
+-- The number of a table's rows in an image, counted by the cells at the first place.
 use Rattle.std.proofs.Common.{◌≡◌, ℕ, ℤ, pos, ◌<◌, nat_lt, Option, Some, None, Bool, false, ◌&&◌, List, [], ◌∷◌, ◌++◌, length, length-append, filter, flat_map, Result, Ok, Err, IsTrue, refl, ap, ◌∙◌, subst, subst₂, arith}
 use Rattle.std.specs.Prelude.{◌+ℤ◌, IfOk, OnOk, bytes_eq, is_some, option_to_list}
 use Rattle.std.specs.List.{AllByRecursion}
@@ -45,7 +45,7 @@ first_cells id key (v ∷ values) h =
     places_behind (λ s. same s (sql.Int (pos 1)) ≡ false) (pos 1) (same_later (pos 1)) id key (pos 1 +ℤ pos 1) values (next_place (pos 1)) in
     rw (same_itself (pos 1)) (ap (λ (others : List SqlRow). length (first ∷ others)) (filter_none is_first rest behind))
 
--- a row of tables has one first cell
+-- each row of the tables has one first cell
 one_first : (tables : List StoredTable) (row : Row) → AreTables tables → IsOfTables tables row → length (filter is_first (cells_of tables row)) ≡ 1
 one_first tables row are of =
     let found = row_in tables row of in
@@ -55,7 +55,7 @@ one_first tables row are of =
     ap (λ cs. length (filter is_first cs)) found.1.cells
     ∙ first_cells t.id row.name.key (values_of t.table row) (omega (arith, long, key_stands t.table table))
 
--- where one of the items made of each x passes, as many pass as there are x
+-- if one piece of each item passes a test, as many pieces pass as there are items
 pieces_counted : {A B : Type 0} (f : A → List B) (p : B → Bool) (xs : List A) → AllByRecursion (λ x. length (filter p (f x)) ≡ 1) xs → length (filter p (flat_map f xs)) ≡ length xs
 pieces_counted f p [] h = refl
 pieces_counted f p (x ∷ xs) h =
@@ -64,7 +64,7 @@ pieces_counted f p (x ∷ xs) h =
     let both : length (filter p (f x ++ flat_map f xs)) ≡ length (filter p (f x) ++ filter p (flat_map f xs)) = ap length (filter-append p (f x) (flat_map f xs)) in
     omega (arith, length-append (filter p (f x)) (filter p (flat_map f xs)))
 
--- as many rows pass a test as there are first cells of them
+-- as many rows pass a test as there are first cells of these rows
 firsts_counted : (tables : List StoredTable) (rows : List Row) (test : SqlRow → Bool) (mine : Row → Bool) → AreTables tables → AreRows tables rows
     → AllByRecursion (λ row. AllByRecursion (λ cell. test cell ≡ mine row) (cells_of tables row)) rows
     → length (filter (λ c. test c && is_first c) (flat_map (cells_of tables) rows)) ≡ length (filter mine rows)
@@ -73,7 +73,7 @@ firsts_counted tables rows test mine are of tests =
     ap length (filter_twice test is_first (flat_map (cells_of tables) rows) ∙ ap (filter is_first) (filter_pieces (cells_of tables) test mine rows tests))
     ∙ pieces_counted (cells_of tables) is_first (filter mine rows) (all_filter _ mine rows firsts)
 
--- a table of an image has as many rows as there are first cells of it
+-- a table of an image has as many rows as first cells
 cells_count : (tables : List StoredTable) (rows : List Row) (s : StoredTable) → AreTables tables → AreRows tables rows → Stands tables s
     → length (filter (λ c. is_in (sql.Int s.id) c && is_first c) (flat_map (cells_of tables) rows)) ≡ length (rows_of rows s.table.name)
 cells_count tables rows s are of stands =
@@ -90,7 +90,7 @@ some_there : (o : Option Row) → nat_lt 0 (length (option_to_list o)) ≡ is_so
 some_there None = refl
 some_there (Some row) = refl
 
--- a row of an image has a key where there is a first cell of it
+-- an image has the row of a key exactly if it has that row's first cell
 pub tells_stands : (s : StoredTable) (key : Value) (db : Database) (n : ℕ) → (IsStore db → n ≡ length (filter (is_at (sql.Int s.id) (stored key) (sql.Int (pos 1))) (cells db)))
     → Tells s (λ rows. is_some (row_named rows (name_in s key))) db (nat_lt 0 n)
 tells_stands s key db n counted tables rows are of stands image =
@@ -100,12 +100,12 @@ tells_stands s key db n counted tables rows are of stands image =
     let cells_are = IsPermutation-filter (is_at (sql.Int s.id) (stored key) (sql.Int (pos 1))) (flat_map (cells_of tables) rows) (cells db) image.cells_are in
     ap (nat_lt 0) (counted image.store ∙ length_permutation _ _ cells_are ∙ mine ∙ ap length (rows_named rows name of.row_order)) ∙ some_there (row_named rows name)
 
--- what holds of a result, where it is one
+-- if a result has a value, two facts about it hold together
 both_ok : {T E : Type 0} (P : T → Type 0) (Q : Type 0) (r : Result T E) → IfOk r P → OnOk r Q → IfOk r (λ x. Q × P x)
 both_ok P Q (Ok x) p q = (q, p)
 both_ok P Q (Err e) p q = tt
 
--- the same of a store that a call has read
+-- the same for a store that a call has read
 module _ {S : Type 0} (g : Ghosts S) (inside old new : Held S) (same_conn : inside ≡ old) where
   pub count_told_of : (s : StoredTable) (id : ℤ) {E : Type 0} (r : Result ℕ E) → id ≡ s.id
       → IfOk r (λ n. IsStore (state g inside).now → n ≡ length (filter (λ c. is_in (sql.Int id) c && is_first c) (cells (state g inside).now)))

@@ -1,4 +1,4 @@
--- The cells of a key in an image are those of the row of its name.
+-- The cells of a key in an image are those of the row with its name.
 use Rattle.std.proofs.Common.{◌≡◌, Some, List, map, filter, flat_map, ap, ◌∙◌, subst, IsPermutation}
 use Rattle.std.specs.Prelude.{option_to_list}
 use Rattle.std.proofs.lemmas.List.Sorted.{IsPermutation-map}
@@ -22,7 +22,7 @@ use Rattle.escrow_rows.proofs.Cells.{filter_pieces, is_of_row, row_of_stored, st
 use Rattle.escrow_rows.proofs.OneRow.{rows_named}
 use Rattle.escrow_rows.proofs.PlacedCells.{in_place}
 
--- among the cells of rows, those of a key in a table are the cells of the row of that name
+-- among the cells of rows, those of a key in a table are the cells of the row with that name
 named_cells : (tables : List StoredTable) (rows : List Row) (s : StoredTable) (key : Value) → AreTables tables → AreRows tables rows → Stands tables s
     → filter (is_of (sql.Int s.id) (stored key)) (flat_map (cells_of tables) rows) ≡ flat_map (cells_of tables) (option_to_list (row_named rows (name_in s key)))
 named_cells tables rows s key are of stands =
@@ -30,7 +30,7 @@ named_cells tables rows s key are of stands =
     (all_weaker (IsOfTables tables) _ (λ row has. is_of_row tables s key row are (stands_has tables s stands) has) rows of.of_tables)
     ∙ ap (flat_map (cells_of tables)) (rows_named rows (name_in s key) of.row_order)
 
--- the cells of a key, each by its place and its value, are those of the row of a name
+-- the cells of a key, each by its place and value, are those of the row with a name
 pub placed_named : (tables : List StoredTable) (rows : List Row) (s : StoredTable) (key : Value) (db : Database)
     → AreTables tables → AreRows tables rows → Stands tables s → IsPermutation (flat_map (cells_of tables) rows) (cells db)
     → IsPermutation (map in_place (flat_map (cells_of tables) (option_to_list (row_named rows (name_in s key))))) (map in_place (filter (is_of (sql.Int s.id) (stored key)) (cells db)))
@@ -39,7 +39,7 @@ placed_named tables rows s key db are of stands coded =
     subst (λ (cs : List SqlRow). IsPermutation (map in_place cs) (map in_place (filter mine (cells db)))) (named_cells tables rows s key are of stands)
     (IsPermutation-map in_place (filter mine (flat_map (cells_of tables) rows)) (filter mine (cells db)) (IsPermutation-filter mine (flat_map (cells_of tables) rows) (cells db) coded))
 
--- the row of a name in a table that stands is one of that table, with its cells
+-- a row that names an existing table belongs to that table, with its cells
 pub row_there : (tables : List StoredTable) (rows : List Row) (s : StoredTable) (key : Value) (row : Row) → AreRows tables rows → Stands tables s → row_named rows (name_in s key) ≡ Some row
     → IsRowOf s.table row × (cells_of tables row ≡ cells_in s row)
 row_there tables rows s key row of stands e =

@@ -1,4 +1,4 @@
--- What a reader of rows has read once it has taken all cells of a table.
+-- What a reader of rows has read after it has taken all cells of a table.
 use Rattle.std.proofs.Common.{◌≡◌, ℕ, ℤ, ◌<◌, Bool, false, Option, Some, None, List, [], ◌∷◌, ◌++◌, flat_map, length, append-nil, inl, inr, refl, sym, ap, ◌∙◌, subst, arith, IsTrue}
 use Rattle.std.specs.Prelude.{IfSome}
 use Rattle.std.specs.List.{AllByRecursion}
@@ -53,7 +53,7 @@ module _ {T : Type 0} (HasTaken : T → T → List KeyedRow → Type 0) where
           other = λ no. absurd (cc);
         }
 
-    -- at the end no cell is of another row than whole ones, and none is lacking; or it is so for no rows
+    -- at the end, either the cells are those of complete rows, or they are the cells of no rows
     read : (cells : List SqlRow) (found : Option T) → HasGathered HasTaken fresh last cells → IfSome found (λ taker. IsTrue last.fits × (last.row.values ≡ []) × (taker ≡ last.taker))
         → (found ≡ None → IsTrue last.fits → last.row.values ≡ [] → ⊥) → IsRead HasTaken fresh.columns fresh.taker cells found
     read cells (Some taker) taken all lacks =
@@ -71,7 +71,7 @@ module _ {T : Type 0} (HasTaken : T → T → List KeyedRow → Type 0) where
       | inr bad ↦ taken.other bad rows [] whole (sym is ∙ sym (append-nil cells))
     ]
 
-    -- so it is of the cells that a call has read of a store
+    -- the same for the cells that a call has read from a store
     pub read_of : {S : Type 0} (g : Ghosts S) (inside old new : Held S) (s : StoredTable) (id : ℤ) (found : Option T) → inside ≡ old → id ≡ s.id → fresh.columns ≡ length s.table.columns → IsTrue (state g new).is_open
         → (IsStore (state g inside).now → Takes (HasGathered HasTaken) (AreOfTable (sql.Int id) (cells (state g inside).now)) fresh last)
         → IfSome found (λ taker. IsTrue last.fits × (last.row.values ≡ []) × (taker ≡ last.taker)) → (found ≡ None → IsTrue last.fits → last.row.values ≡ [] → ⊥)

@@ -1,4 +1,4 @@
--- SQLite's `=` on values that cells hold.
+-- SQLite's `=` on the values in cells.
 use Rattle.std.proofs.Common.{◌≡◌, ℕ, ℤ, Bool, true, false, Some, List, refl, ap, ◌∙◌, arith, int_cmp, nat_cmp, Ordering}
 use Rattle.std.specs.Prelude.{bytes_eq}
 use Rattle.std.specs.Ordering.{is_eq, int_eq}
@@ -13,7 +13,7 @@ use Rattle.escrow_num.specs.Order.{value_eq}
 use Rattle.escrow_cells.specs.Step.{same}
 use Rattle.escrow_rows.specs.Image.{stored}
 
--- a test as SQL tells it, where neither side is NULL
+-- an SQL test, if neither side is NULL
 abbrev told : Ordering → Bool
 told o = is_true (from_truth (Some (is_eq o)))
 
@@ -21,7 +21,7 @@ told_is : (b : Bool) → is_true (from_truth (Some b)) ≡ b
 told_is true = refl
 told_is false = refl
 
--- numbers are the same to SQLite where they are equal, and so are texts
+-- SQLite's `=` on numbers is equality, and so it is on texts
 pub same_numbers : (a b : ℤ) → same (sql.Int a) (sql.Int b) ≡ int_eq a b
 unfolding binary
 same_numbers a b = ap told (value_cmp-Int a b) ∙ told_is (is_eq (int_cmp a b))
@@ -30,7 +30,7 @@ pub same_texts : (s t : List ℕ) → same (sql.Text s) (sql.Text t) ≡ bytes_e
 unfolding binary
 same_texts s t = ap told (value_cmp-Text s t) ∙ told_is (is_eq (slice_cmp nat_cmp s t)) ∙ is_eq-slice_cmp s t
 
--- two values that are kept are the same to SQLite where they are the same
+-- SQLite's `=` on stored values is equality of the values
 pub same_stored : (a b : Value) → same (stored a) (stored b) ≡ value_eq a b
 unfolding binary
 same_stored (Number a) (Number b) = same_numbers a b

@@ -20,7 +20,7 @@ use Rattle.escrow_rows.proofs.PlacedCells.{length-placed}
 
 -- ---- the cells
 
--- to SQLite a cell stands in a span
+-- SQLite's test of whether a cell is in a span
 abbrev pub in_span : ℕ → ℕ → SqlRow → Bool
 in_span start many cell = is_within (pos (start + 1)) (pos (start + many)) (column cell 0)
 
@@ -29,12 +29,12 @@ and_false true = refl
 and_false false = refl
 
 module _ (start many : ℕ) where
-  -- no cell behind the span stands in it
+  -- no cell after the span is in it
   none_behind : (place : ℕ) (vs : List Value) → start + many < place → filter (in_span start many) (placed place vs) ≡ []
   none_behind place [] h = refl
   none_behind place (v ∷ vs) h = rw (behind_last place (start + many) h, and_false (is_from (pos (start + 1)) (sql.Int (pos place)))) (none_behind (place + 1) vs (omega arith))
 
-  -- of cells from one in the span on, those in it are the first
+  -- among the cells from one in the span on, those in it come first
   first_in : (left place : ℕ) (vs : List Value) → start < place → place + left ≡ start + many + 1 → filter (in_span start many) (placed place vs) ≡ placed place (take left vs)
   first_in zero place vs h all = none_behind place vs (omega arith)
   first_in (suc left) place [] h all = refl
@@ -42,13 +42,13 @@ module _ (start many : ℕ) where
       rw (from_first (start + 1) place (omega arith), up_to_last place (start + many) (omega arith))
       (ap (λ (cells : List SqlRow). (sql.Int (pos place) ∷ stored v ∷ []) ∷ cells) (first_in left (place + 1) vs (omega arith) (omega arith)))
 
-  -- those before it are passed
+  -- the cells before it are skipped
   passed : (left place : ℕ) (vs : List Value) → place + left ≡ start + 1 → filter (in_span start many) (placed place vs) ≡ placed (start + 1) (take many (drop left vs))
   passed zero place vs all = first_in many place vs (omega arith) (omega arith) ∙ ap (λ (n : ℕ). placed n (take many vs)) (omega arith)
   passed (suc left) place [] all = ap (placed (start + 1)) (sym (take-nil many))
   passed (suc left) place (v ∷ vs) all = rw (before_first place (start + 1) (omega arith)) (passed left (place + 1) vs (omega arith))
 
-  -- the cells of values that stand in the span
+  -- the cells of values that are in the span
   pub span_placed : (values : List Value) → filter (in_span start many) (placed 1 values) ≡ placed_in start many values
   span_placed values = passed start 1 values (omega arith)
 
@@ -97,7 +97,7 @@ module _ (columns shown : List Column) (start many : ℕ) (same : shown ≡ colu
   spanned : take (start + many - start) (drop start shown) ≡ take many (drop start columns)
   spanned = ap (λ (cs : List Column). take (start + many - start) (drop start cs)) same ∙ ap (λ (n : ℕ). take n (drop start columns)) (add-sub_cancel_left start many)
 
-  -- a span with all RESERVABLE columns has all amounts
+  -- a span that contains all RESERVABLE columns has all amounts
   pub amounts_in_span : (values : List Value) → length values ≡ length columns → amounts_of (take (start + many - start) (drop start shown)) (take many (drop start values)) ≡ amounts_of columns values
   amounts_in_span values long =
       ap (λ (cs : List Column). amounts_of cs (take many (drop start values))) spanned ∙ amounts_first many (drop start columns) (drop start values) none_left ∙ amounts_behind start columns values long none_before
@@ -112,7 +112,7 @@ module _ (columns shown : List Column) (start many : ℕ) (same : shown ≡ colu
 
 -- ---- which columns
 
--- of the first i columns those that are RESERVABLE stand in a span, which begins at the first of all where it has none
+-- the RESERVABLE ones of the first i columns are in a span; an empty span begins at the first column
 pub record Spans (columns : List Column) (i start many : ℕ) : Type 0 where
   pub within : start + many ≤ i
   pub inside : i ≤ length columns
@@ -122,7 +122,7 @@ pub record Spans (columns : List Column) (i start many : ℕ) : Type 0 where
 
 module _ (columns : List Column) (i start many : ℕ) (so_far : Spans columns i start many) where
   module _ (within : i < length columns) where
-    -- a column that isn't RESERVABLE is passed
+    -- a column that is not RESERVABLE is skipped
     pub spans_passed : (column : Column) → column ≡ get_or columns i column → column.reservable ≡ false → Spans columns (i + 1) start many
     spans_passed column here plain =
         let front = take i columns in
@@ -138,7 +138,7 @@ module _ (columns : List Column) (i start many : ℕ) (so_far : Spans columns i 
           behind = ap reservables rest ∙ filter-append (λ (c : Column). c.reservable) (drop (start + many) front) (column ∷ []) ∙ rw (so_far.behind, plain) refl;
         }
 
-    -- to one that is, the span reaches
+    -- the span extends to a RESERVABLE column
     pub spans_reached : (from so_many : ℕ) → (many ≡ 0 → from ≡ i) → (many ≢ 0 → from ≡ start) → from + so_many ≡ i + 1 → Spans columns (i + 1) from so_many
     spans_reached from so_many none some last =
         let least : 0 ≤ many = omega arith in
@@ -159,7 +159,7 @@ module _ (columns : List Column) (i start many : ℕ) (so_far : Spans columns i 
           behind = ap reservables (drop_of_length-le (take (i + 1) columns) (omega (arith, last, length-take (i + 1) columns)));
         }
 
-  -- at the end it is that of all columns, or the first
+  -- at the end, the span contains all RESERVABLE columns; if there are none, it is the first column
   pub spans_all : length columns ≤ i → 0 < length columns → (reservables (drop (start + max many 1) columns) ≡ []) × (start + max many 1 ≤ length columns)
   spans_all past some =
       let least : 0 ≤ many = omega arith in

@@ -1,4 +1,4 @@
--- The cells of a table of an image tell its rows.
+-- The cells of a table of an image determine its rows.
 use Rattle.std.proofs.Common.{◌≡◌, true, IsTrue, List, [], ◌∷◌, map, filter, flat_map, Ordering, Less, Equal, is_lt, sym, ap, ◌∙◌, refl}
 use Rattle.std.specs.Prelude.{bytes_eq}
 use Rattle.std.specs.Cmp.Lexicographic.{slice_cmp}
@@ -23,12 +23,12 @@ use Rattle.escrow_schema.specs.Rows.{row_before, rows_of}
 use Rattle.escrow_rows.proofs.Cells.{filter_pieces, is_in_row, row_of_stored, stands_has}
 use Rattle.escrow_rows.proofs.KeyedCells.{cells_keyed, KeysRise, with_key}
 
--- what is made of each item may be made in another way
+-- two functions with the same pieces for each item make the same list
 pub same_pieces : {A B : Type 0} (f g : A → List B) (xs : List A) → AllByRecursion (λ x. f x ≡ g x) xs → flat_map f xs ≡ flat_map g xs
 same_pieces f g [] h = refl
 same_pieces f g (x ∷ xs) h = rw (h.0, same_pieces f g xs h.1) refl
 
--- the rows of a table that stands are of that table, with its cells
+-- the rows of an existing table belong to that table, with its cells
 pub own_rows : (tables : List StoredTable) (rows : List Row) (s : StoredTable) → AreRows tables rows → Stands tables s
     → AllByRecursion (λ row. (row.name.table ≡ s.table.name) × IsRowOf s.table row × (map with_key (cells_of tables row) ≡ keyed_cells s.table row)) (rows_of rows s.table.name)
 own_rows tables rows s of stands =
@@ -38,7 +38,7 @@ own_rows tables rows s of stands =
     let own = row_of_stored tables s row stands (all_has (IsOfTables tables) rows of.of_tables row found.0) named in
     (named, own.0, ap (map with_key) own.1 ∙ cells_keyed s.id row.name.key 1 (values_of s.table row)))
 
--- among the cells of an image, those of a table are those of its rows
+-- among the cells of an image, those of a table are the cells of its rows
 pub own_cells : (tables : List StoredTable) (rows : List Row) (s : StoredTable) → AreTables tables → AreRows tables rows → Stands tables s
     → map with_key (filter (is_in (sql.Int s.id)) (flat_map (cells_of tables) rows)) ≡ flat_map (keyed_cells s.table) (rows_of rows s.table.name)
 own_cells tables rows s are of stands =
@@ -48,18 +48,18 @@ own_cells tables rows s are of stands =
     ∙ map-flat_map with_key (cells_of tables) mine
     ∙ same_pieces (λ row. map with_key (cells_of tables row)) (λ row. keyed_cells s.table row) mine (all_weaker _ (λ row. map with_key (cells_of tables row) ≡ keyed_cells s.table row) (λ row own. own.2) mine (own_rows tables rows s of stands))
 
--- what `is_lt` answers
+-- the result of `is_lt`
 less : (o : Ordering) → is_lt o ≡ true → o ≡ Less
 less Less e = refl
 less _ e = absurd (cc)
 
--- of two rows of one table, the one that stands first has the lower key
+-- of two rows of one table, the earlier one has the lower key
 key_less : (a b : Row) → a.name.table ≡ b.name.table → row_before a b ≡ true → value_cmp a.name.key b.name.key ≡ Less
 key_less a b same before =
     let tied : slice_cmp nat_cmp a.name.table b.name.table ≡ Equal = ap (slice_cmp nat_cmp a.name.table) (sym same) ∙ tied_itself nat_list_cmp_total a.name.table in
     less (value_cmp a.name.key b.name.key) (sym (ap (λ o. is_lt (ordering_then o (value_cmp a.name.key b.name.key))) tied) ∙ before)
 
--- so their keys rise
+-- the keys of its rows are ascending
 pub keys_rise : (table : TableDef) (rows : List Row) → AllByRecursion (λ row. row.name.table ≡ table.name) rows → IsAscending row_before rows → KeysRise rows
 keys_rise table [] named up = tt
 keys_rise table (row ∷ rows) named up = (

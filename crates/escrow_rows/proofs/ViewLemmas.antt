@@ -1,4 +1,4 @@
--- The rows that a store holds are those that it is the image of.
+-- The rows that a store holds are those of which it is the image.
 use Rattle.std.proofs.Common.{◌≡◌, ℕ, pos, ◌<◌, false, List, [], ◌∷◌, ◌++◌, length, filter, flat_map, find, Option, Some, refl, ap, ap₂, ◌∙◌, subst, arith, IsPermutation}
 use Rattle.std.specs.Prelude.{◌+ℤ◌, cond, option_and_then}
 use Rattle.std.specs.List.{AllByRecursion}
@@ -27,18 +27,18 @@ use Rattle.escrow_rows.proofs.Found.{find_permutation, filter_twice, flat_map_no
 use Rattle.escrow_rows.proofs.Order.{in_order_permutation}
 use Rattle.escrow_rows.proofs.Places.{same_itself, number_same, same_later, next_place, places_behind, one_cell, values_read}
 
--- the table of a number is found by it
+-- the table with a number is found by it
 numbered : (tables : List StoredTable) → AreTables tables → (t : StoredTable) → Has tables t → stored_numbered tables (sql.Int t.id) ≡ Some t
 numbered tables are t has =
     let found = has_find (λ s. same (sql.Int s.id) (sql.Int t.id)) tables t has (same_itself t.id) in
     let passes = find_has (λ s. same (sql.Int s.id) (sql.Int t.id)) tables found.0 found.1 in
     found.1 ∙ ap Some (one_number tables are found.0 t passes.0 has (number_same found.0.id t.id passes.1))
 
--- no row stands for a cell but the first one
+-- only the first cell of a row stands for a row
 none_later : (tables : List StoredTable) (all : List SqlRow) (cell : SqlRow) → same (column cell 2) (sql.Int (pos 1)) ≡ false → row_at tables all cell ≡ []
 none_later tables all cell h = rw h refl
 
--- the row that the first of a row's cells stands for
+-- the row for which its first cell stands
 row_of_first : (tables : List StoredTable) (all : List SqlRow) (t : StoredTable) (key v : Value) (row : Row) → stored_numbered tables (sql.Int t.id) ≡ Some t
     → row_with t.table (kept_from all t.id (stored key) (pos 1) t.table.columns) ≡ Some row
     → row_at tables all (sql.Int t.id ∷ stored key ∷ sql.Int (pos 1) ∷ stored v ∷ []) ≡ row ∷ []
@@ -47,7 +47,7 @@ row_of_first tables all t key v row found is =
     ap (λ b. cond b (option_to_list (option_and_then make (stored_numbered tables (sql.Int t.id)))) []) (same_itself (pos 1))
     ∙ ap (λ o. option_to_list (option_and_then make o)) found ∙ ap option_to_list is
 
--- the rows that a row's cells stand for
+-- the rows for which a row's cells stand
 rows_of_cells : (tables : List StoredTable) (all : List SqlRow) (t : StoredTable) (key : Value) (values : List Value) (row : Row) → 0 < length values
     → stored_numbered tables (sql.Int t.id) ≡ Some t → row_with t.table (kept_from all t.id (stored key) (pos 1) t.table.columns) ≡ Some row
     → flat_map (row_at tables all) (cells_from t.id key (pos 1) values) ≡ row ∷ []
@@ -60,7 +60,7 @@ rows_of_cells tables all t key (v ∷ values) row long found is =
     (flat_map_nothing (row_at tables all) rest (all_weaker _ (λ cell. row_at tables all cell ≡ []) (none_later tables all) rest behind))
 
 module _ (tables : List StoredTable) (rows : List Row) (all : List SqlRow) (are : AreTables tables) (of : AreRows tables rows) (same_cells : IsPermutation (flat_map (cells_of tables) rows) all) where
-  -- the cells of a row's table and key are its own
+  -- the cells with a row's table and key are its own
   own_cells : (row : Row) (t : StoredTable) → Has rows row → IsRowIn tables row t
       → filter (is_of (sql.Int t.id) (stored row.name.key)) (flat_map (cells_of tables) rows) ≡ cells_in t row
   own_cells row t has is =
@@ -81,7 +81,7 @@ module _ (tables : List StoredTable) (rows : List Row) (all : List SqlRow) (are 
       ∙ ap (filter (λ other. same (column other 2) (column cell 2))) (own_cells row t has is) ∙ only))
       (cells_in t row) (one_cell t.id row.name.key (pos 1) (values_of t.table row))
 
-  -- a row's cells stand for it alone
+  -- a row's cells stand only for that row
   row_back : (row : Row) → Has rows row → flat_map (row_at tables all) (cells_of tables row) ≡ row ∷ []
   row_back row has =
       let found = row_in tables row (all_has (IsOfTables tables) rows of.of_tables row has) in
@@ -94,7 +94,7 @@ module _ (tables : List StoredTable) (rows : List Row) (all : List SqlRow) (are 
       ∙ rows_of_cells tables all t row.name.key (values_of t.table row) row (omega (arith, long, key_stands t.table table)) (numbered tables are t is.has)
       (ap (row_with t.table) values ∙ row_with_values_of t.table row table is.fits)
 
-  -- the rows that the cells stand for are the rows, in any order
+  -- the rows for which the cells stand are the rows, in any order
   pub rows_back : IsPermutation rows (flat_map (row_at tables all) all)
   rows_back =
       subst (λ others. IsPermutation others (flat_map (row_at tables all) all))

@@ -20,14 +20,14 @@ use Rattle.escrow_rows.specs.Whole.{rows_with}
 use Rattle.escrow_rows.proofs.RowRead.{row_there}
 use Rattle.escrow_rows.proofs.TableRead.{own_rows}
 
--- rows of a table are those that their values make
+-- the values of a table's rows make these rows again
 pub rows_back : (table : TableDef) (rows : List Row) → IsTable table → AllByRecursion (IsRowOf table) rows → rows_with table (map (values_of table) rows) ≡ rows
 rows_back table [] is_table of = refl
 rows_back table (r ∷ rows) is_table of =
     ap₂ (λ (xs ys : List Row). xs ++ ys) (ap option_to_list (row_with_values_of table r is_table of.0)) (rows_back table rows is_table of.1)
 
 module _ (s : StoredTable) (db : Database) where
-  -- the row that the values of a row make is that row
+  -- the row made of a row's values is that row
   pub row_made : (key : Value) (values : List Value) (made : Row) → IsTable s.table → TellsValues s key db (Some values) → row_with s.table values ≡ Some made → TellsRow s key db (Some made)
   row_made key values made is_table tells is tables rows are of stands image = at (row_named rows (name_in s key)) refl (tells tables rows are of stands image)
     where
@@ -36,7 +36,7 @@ module _ (s : StoredTable) (db : Database) where
       at (Some row) here e =
           sym is ∙ ap (row_with s.table) (same_Some _ _ e) ∙ row_with_values_of s.table row is_table (row_there tables rows s key row of stands here).0
 
-  -- where there are no values there is no row
+  -- if there are no values, there is no row
   pub no_row : (key : Value) → TellsValues s key db None → TellsRow s key db None
   no_row key tells tables rows are of stands image = at (row_named rows (name_in s key)) (tells tables rows are of stands image)
     where
@@ -44,7 +44,7 @@ module _ (s : StoredTable) (db : Database) where
       at None e = refl
       at (Some row) e = absurd (none-some _ e)
 
-  -- so are those of all rows
+  -- the same for all rows
   pub rows_made : (all : List (List Value)) (made : List Row) → IsTable s.table → TellsAllValues s db all → made ≡ rows_with s.table all → TellsRows s db made
   rows_made all made is_table tells is = λ tables rows are of stands image.
       let mine = rows_of rows s.table.name in

@@ -1,15 +1,18 @@
 //! A row that is built from its cells as they are read.
-ghost use Rattle.std.specs.Prelude.{◌≡◌, ◌≢◌, ◌↔◌, ◌+◌, pos, [], false, IsTrue, None, Ok, IfSome, IfOk};
+ghost use Rattle.std.specs.Prelude.{◌≡◌, ◌≢◌, ◌↔◌, ◌+◌, ◌++◌, pos, [], ◌∷◌, false, length, if◌then◌else◌, IsTrue, None, Ok, IfSome, IfOk, OnOk};
 ghost use Rattle.sqlite_value.specs.declared.value.Value.TheVariants.{Int};
 ghost use Rattle.sqlite_value.specs.Order.{column};
 ghost use Rattle.sqlite_value.specs.Value.{owned};
 ghost use Rattle.escrow_num.specs.declared.value.Value.{Value as HeldValue};
+ghost use Rattle.escrow_schema.specs.Column.{reservables};
+ghost use Rattle.escrow_schema.specs.Fit.{amounts_of, number_in};
 ghost use Rattle.escrow_rows.specs.Image.{stored, CanBeHeld};
 ghost use Rattle.escrow_rows.specs.Gathered.{Extends, cell_at};
 ghost use Rattle.escrow_rows.specs.declared.keyed_row.KeyedRow.{KeyedRow as Keyed};
 
 use crate::datum::read_value;
-use escrow_num::{Amount, Seq, Value};
+use escrow_num::{Amount, Failure, Seq, Value};
+use escrow_schema::Column;
 use sqlite::Row;
 use sqlite_value::value::ValueRef;
 use std::alloc::{AllocError, Global};
@@ -55,6 +58,52 @@ impl KeyedRow {
         };
         self.values.push(value)?;
         Ok(true)
+    }
+
+    /// Returns the amounts of its RESERVABLE columns, in column order. Its values must be those of
+    /// these columns. Fails with [`Failure::Store`] unless it has one value for each column, and a
+    /// number for each RESERVABLE column.
+    pub fn amounts(&self, alloc: Global, columns: &[Column]) -> Result<Seq<Amount>, Failure>
+        ensures told { IfOk result (λ amounts. amounts ≡ amounts_of columns.now self.now.values) }
+        ensures many { IfOk result (λ amounts. length amounts ≡ length (reservables columns.now)) }
+    {
+        if columns.len() != self.values.len() {
+            return Err(Failure::Store);
+        }
+        let amounts = amounts_of(alloc, columns, self.values.as_slice())?;
+        Ok(Seq::from_vec(amounts))
+    }
+}
+
+/// Returns the amounts of the RESERVABLE columns, in column order, from a value for each column.
+fn amounts_of(alloc: Global, columns: &[Column], values: &[Value]) -> Result<Vec<Amount>, Failure>
+    requires { length columns.now ≡ length values.now }
+    ensures { IfOk result (λ amounts. amounts.items ≡ amounts_of columns.now values.now) }
+{
+    let mut amounts = Vec::new(alloc);
+    for (i, column) in columns.iter().enumerate() {
+        add_amount(&mut amounts, column, &values[i])?;
+    }
+    Ok(amounts)
+}
+
+/// Adds the amount of a column if the column is RESERVABLE.
+fn add_amount(amounts: &mut Vec<Amount>, column: &Column, value: &Value) -> Result<(), Failure>
+    ensures { OnOk result (amounts.new.items ≡ amounts.old.items ++ (if column.now.reservable then number_in value.now ∷ [] else [])) }
+{
+    if column.reservable {
+        amounts.push(number_of(value)?)?;
+    }
+    Ok(())
+}
+
+/// Returns the number that a value is. Fails with [`Failure::Store`] if the value is a text.
+fn number_of(value: &Value) -> Result<Amount, Failure>
+    ensures { IfOk result (λ number. number ≡ number_in value.now) }
+{
+    match value {
+        Value::Number(amount) => Ok(*amount),
+        Value::Text(_) => Err(Failure::Store),
     }
 }
 

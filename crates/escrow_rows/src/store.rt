@@ -42,13 +42,14 @@ impl<S: Alter> RowStore<S> {
         self.conn
     }
 
-    /// Shows that a crash leaves exactly what the store holds, as long as no fault has shut it.
-    /// Makes no store call.
-    pub fn rests(&self)
-        ensures { IsTrue (state S.Store self.now).is_open → (trees : Trees) → (state S.Store self.now).may_leave trees → trees ≡ (state S.Store self.now).now.trees }
+    /// Returns whether the connection is outside a transaction, which it is between any two calls.
+    /// So a crash leaves exactly what the store holds, as long as no fault has shut it. Makes no
+    /// store call.
+    pub fn is_at_rest(&self) -> bool
+        ensures always { IsTrue result }
+        ensures left { IsTrue (state S.Store self.now).is_open → (trees : Trees) → (state S.Store self.now).may_leave trees → trees ≡ (state S.Store self.now).now.trees }
     {
-        // Outside a transaction, the contents of the store are what was committed last.
-        let _ = self.conn.is_autocommit();
+        self.conn.is_autocommit()
     }
 
     /// Limits the steps that a statement of the store may take; `None` means no limit. A call that

@@ -42,7 +42,7 @@ first_part Less rest e = inr refl
 first_part Equal rest e = inl refl
 first_part Greater rest e = absurd (cc)
 
--- a row before another is of its table, or of one before it
+-- a row that is before another belongs to the same table or an earlier one
 abbrev IsUpTo : List ℕ → List ℕ → Type 0
 IsUpTo a b = (a ≡ b) ⊎ (is_below a b ≡ true)
 
@@ -56,7 +56,7 @@ below_up_to : (a b c : List ℕ) → is_below a b ≡ true → IsUpTo b c → is
 below_up_to a b c less (inl same) = subst (λ (n : List ℕ). is_below a n ≡ true) same less
 below_up_to a b c less (inr more) = before_trans (slice_cmp nat_cmp) nat_list_cmp_total a b c less more
 
--- ---- the rows of the first table, and the others
+-- ---- the rows of the first table and those of the others
 
 none_of : (name : List ℕ) (rows : List Row) → AllByRecursion (λ r. bytes_eq r.name.table name ≡ false) rows → rows_of rows name ++ without_rows_of name rows ≡ rows
 none_of name [] h = refl
@@ -73,7 +73,7 @@ none_of name (r ∷ rows) h =
     none_left name [] h = refl
     none_left name (r ∷ rows) h = rw h.0 (none_left name rows h.1)
 
--- rows in order are those of a table that is not after any, and then the others
+-- if no table is earlier than a given one, its rows come first and the others follow
 split_first : (name : List ℕ) (rows : List Row) → IsAscending row_before rows → AllByRecursion (λ r. IsUpTo name r.name.table) rows
     → rows_of rows name ++ without_rows_of name rows ≡ rows
 split_first name [] order up = refl
@@ -94,7 +94,7 @@ split_first name (r ∷ rows) order up = elim (cases_Bool (bytes_eq r.name.table
 
 -- ---- all tables
 
--- a row is of one of the tables
+-- a row belongs to one of the tables
 abbrev IsOfOne : List TableDef → Row → Type 0
 IsOfOne tables r = (t : TableDef) × Has tables t × (t.name ≡ r.name.table)
 
@@ -149,7 +149,7 @@ of_one tables r = at (table_named tables r.name.table) refl
     at None e h = absurd h
     at (Some t) e h = let found = find_has (λ (t : TableDef). bytes_eq t.name r.name.table) tables t e in (t, found.0, name_same t.name r.name.table found.1)
 
--- the rows of the tables of a catalog, one table after another, are all of its rows
+-- in a catalog, the rows of the tables, one table after another, are all rows
 pub all_by_table : (catalog : List TableDef) (rows : List Row) → IsAscending table_before catalog → AreRowsOf catalog rows → rows_by_table rows catalog ≡ rows
 all_by_table catalog rows order are =
     by_table_all catalog rows order are.row_order (has_all (IsOfOne catalog) rows (λ r k. of_one catalog r (all_has (HasTable catalog) rows are.tables r k)))

@@ -1,4 +1,4 @@
--- The rows of tables with reservations applied to them.
+-- The rows of tables after reservations are applied to them.
 use Rattle.std.proofs.Common.{◌≡◌, ◌≤◌, ℕ, true, false, List, [], ◌∷◌, Option, Some, None, map, length, bytes_eq, cond, suc, IsTrue, refl, sym, ap, ◌∙◌, subst}
 use Rattle.std.specs.List.{AllByRecursion}
 use Rattle.std.specs.Prelude.{IsSomeAnd}
@@ -21,7 +21,7 @@ use Rattle.escrow_tables.specs.Puts.{ArePuts, TellsPut}
 use Rattle.escrow_tables.proofs.Puts.{put_rows, puts_apply}
 
 module _ (reservations : List Reservation) where
-  -- a row with changes added is one of its table
+  -- a row still belongs to its table after changes are added
   after_fits : (row : Row) (o : Option StoredTable) → IsSomeAnd o (λ s. IsRowOf s.table row) → IsSomeAnd o (λ s. IsRowOf s.table (row_after reservations row))
   after_fits row None h = h
   after_fits row (Some s) h =
@@ -31,7 +31,7 @@ module _ (reservations : List Reservation) where
   applied_fit tables [] of = tt
   applied_fit tables (row ∷ rows) of = (after_fits row (stored_named tables row.name.table) of.0, applied_fit tables rows of.1)
 
-  -- the rows stay in their order
+  -- the rows keep their order
   applied_before : (first : Row) (rows : List Row) → AllByRecursion (λ row. IsTrue (row_before first row)) rows
       → AllByRecursion (λ row. IsTrue (row_before (row_after reservations first) row)) (applied rows reservations)
   applied_before first [] order = tt
@@ -56,7 +56,7 @@ module _ (reservations : List Reservation) where
     few_rows = λ table. subst (λ n. n ≤ MAX_ROWS) (sym (applied_many rows table)) (are.few_rows table);
   }
 
-  -- a database with new amounts of the rows of all reservations is that of the rows with these applied
+  -- a database with the new amounts of all reserved rows holds the rows to which the reservations are applied
   pub held_after : (tables : List CountedTable) (rows : List Row) (news : List NewAmounts) (old new : Database) → AreTables (stored_of tables) → IsHeld tables rows old
       → ArePuts (stored_of tables) reservations news → AllByRecursion (TellsPut rows reservations) news
       → PutsAmounts news old new → IsHeld tables (applied rows reservations) new

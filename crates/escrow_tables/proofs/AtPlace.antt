@@ -1,4 +1,4 @@
--- What is read of the table at a place.
+-- What is read from the table at a place.
 use Rattle.std.proofs.Common.{◌≡◌, ℕ, List, Option, Some, None, Result, get_or, subst}
 use Rattle.std.specs.Prelude.{IfOk, IfSome, IsSomeAnd, IsTrue}
 use Rattle.std.proofs.lemmas.Result.{IfOk-weaker}
@@ -19,20 +19,20 @@ use Rattle.escrow_tables.proofs.Named.{IsNamed, named_is_table}
 use Rattle.escrow_tables.proofs.Placed.{is_placed}
 use Rattle.escrow_tables.proofs.Reading.{name_of, told_of}
 
--- what stands at the place of a name is its table
+-- the table at the place of a name has this name
 pub named_at : (tables : List CountedTable) (name : List ℕ) (place : ℕ) (c : CountedTable) → place_named (catalog_of tables) name ≡ Some place → c ≡ get_or tables place c → IsNamed tables name c
 named_at tables name place c at item = (is_placed tables name place c at item).named
 
--- and it is one that some text defines
+-- some text defines this table
 pub is_table_at : (tables : List CountedTable) (name : List ℕ) (place : ℕ) (c : CountedTable) → IsCatalog (catalog_of tables) → place_named (catalog_of tables) name ≡ Some place → c ≡ get_or tables place c → IsTable c.stored.table
 is_table_at tables name place c catalog at item = named_is_table tables name c catalog (named_at tables name place c at item)
 
 module _ (tables : List CountedTable) (name : List ℕ) (c : CountedTable) (named : IsNamed tables name c) where
-  -- what holds of a table holds of that of its name in the catalog
+  -- what holds of this table holds of the one that the catalog finds by name
   pub in_catalog : (P : TableDef → Type 0) → P c.stored.table → IsSomeAnd (table_named (catalog_of tables) name) P
   in_catalog P h = rw named.in_catalog h
 
-  -- an answer of the row of a key is one of the row of its name
+  -- an answer about the row of a key is an answer about the row of its name
   pub row_told : {A E : Type 0} (of : Option Row → A) (key : Value) (old new last : State) (r : Result A E) → Keeps old last tables → (IsUsable new → IsUsable old) → HasCleanDisk new
       → IfOk r (λ found. IsTrue new.is_open × Tells c.stored (λ rows. of (row_named rows (name_in c.stored key))) old.now found)
       → IfOk r (λ found. found ≡ of (row_named (rows_in (stored_of tables) last.now) (record { table = name; key = key })))
@@ -40,7 +40,7 @@ module _ (tables : List CountedTable) (name : List ℕ) (c : CountedTable) (name
       subst (λ (n : RowName). IfOk r (λ found. found ≡ of (row_named (rows_in (stored_of tables) last.now) n))) (name_of tables name c named key)
       (told_of tables name c named old new last r (λ found. found) (λ rows. of (row_named rows (name_in c.stored key))) keeps before clean told)
 
-  -- and one of the rows of a table is one of the rows of its name
+  -- an answer about the rows of a table is an answer about the rows of its name
   pub rows_told : {A E : Type 0} (of : List Row → A) (old new last : State) (r : Result A E) → Keeps old last tables → (IsUsable new → IsUsable old) → HasCleanDisk new
       → IfOk r (λ found. IsTrue new.is_open × Tells c.stored (λ rows. of (rows_of rows c.stored.table.name)) old.now found)
       → IfOk r (λ found. found ≡ of (rows_of (rows_in (stored_of tables) last.now) name))
@@ -48,7 +48,7 @@ module _ (tables : List CountedTable) (name : List ℕ) (c : CountedTable) (name
       subst (λ (n : List ℕ). IfOk r (λ found. found ≡ of (rows_of (rows_in (stored_of tables) last.now) n))) named.name_is
       (told_of tables name c named old new last r (λ found. found) (λ rows. of (rows_of rows c.stored.table.name)) keeps before clean told)
 
-  -- an answer by the definition of the table is one by that of its name in the catalog
+  -- an answer about the table's definition is an answer about the definition in the catalog
   pub by_table : {A E : Type 0} (P : TableDef → A → Type 0) (r : Result A E) → IfOk r (P c.stored.table) → IfOk r (λ found. IsSomeAnd (table_named (catalog_of tables) name) (λ table. P table found))
   by_table P r = IfOk-weaker r (P c.stored.table) (λ found. IsSomeAnd (table_named (catalog_of tables) name) (λ table. P table found)) (λ found told. in_catalog (λ table. P table found) told)
 

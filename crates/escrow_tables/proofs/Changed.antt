@@ -13,14 +13,14 @@ use Rattle.escrow_checks.specs.Form.{changed, all_changed}
 use Rattle.escrow_schema.specs.Rows.{replaced}
 use Rattle.escrow_tables.specs.Puts.{changed_by}
 
--- what references to reservations lead to
+-- the reservations behind a list of references
 abbrev pub read : List (Bor Reservation) → List Reservation
 read reservations = map (λ (r : Bor Reservation). r.now) reservations
 
 pub length-read : (reservations : List (Bor Reservation)) → length (read reservations) ≡ length reservations
 length-read reservations = length-map reservations (λ (r : Bor Reservation). r.now)
 
--- the one at a place
+-- the reservation at a place
 pub read_at : (reservations : List (Bor Reservation)) (i : ℕ) (r : Bor Reservation) → i < length reservations → r ≡ get_or reservations i r
     → (i < length (read reservations)) × (r.now ≡ get_or (read reservations) i r.now)
 read_at reservations i r below at = (
@@ -28,7 +28,7 @@ read_at reservations i r below at = (
   ap (λ (q : Bor Reservation). q.now) at ∙ sym (get_or-map (λ (q : Bor Reservation). q.now) reservations i r r.now below),
 )
 
--- those before a place, one of which is of the row of a name or none, and those from it on
+-- whether a row is named by a reservation before a place, and the reservations from the place on
 any_read : (p : Reservation → Bool) (reservations : List (Bor Reservation)) → list_any (λ (r : Bor Reservation). p r.now) reservations ≡ list_any p (read reservations)
 any_read p [] = refl
 any_read p (r ∷ reservations) = ap (λ (b : Bool). p r.now || b) (any_read p reservations)
@@ -45,12 +45,12 @@ read_from reservations i =
     ∙ ap (take (length reservations - i)) (sym (drop-map (λ (r : Bor Reservation). r.now) i reservations))
     ∙ ap (λ (n : ℕ). take (n - i) (drop i (read reservations))) (sym (length-read reservations))
 
--- no changes change nothing
+-- an empty list of changes changes nothing
 pub changed_nil : (amounts : List ℤ) → changed amounts [] ≡ amounts
 changed_nil [] = refl
 changed_nil (a ∷ rest) = refl
 
--- one more change, at a column that there is
+-- one more change, at an existing column
 changed_suc : (amounts changes : List ℤ) (i : ℕ) (x y : ℤ) → i < length amounts → i < length changes
     → x ≡ get_or (changed amounts (take i changes)) i x → y ≡ get_or changes i y
     → changed amounts (take (suc i) changes) ≡ set (changed amounts (take i changes)) i (x +ℤ y)
@@ -68,11 +68,11 @@ changed_past (a ∷ rest) [] (suc i) past = refl
 changed_past (a ∷ rest) (c ∷ changes) zero past = absurd (omega arith)
 changed_past (a ∷ rest) (c ∷ changes) (suc i) past = ap (λ zs. (a +ℤ c) ∷ zs) (changed_past rest changes i (omega arith))
 
--- the changes that count, so far
+-- the changes so far
 counted_take : (i : ℕ) (changes : List (Option ℤ)) → deltas (take i changes) ≡ take i (deltas changes)
 counted_take i changes = sym (take-map (λ (o : Option ℤ). unwrap_or o (pos 0)) i changes)
 
--- one more change that counts, at a column that there is and past the last one
+-- one more change, at an existing column or past the last one
 pub counted_more : (amounts : List ℤ) (changes : List (Option ℤ)) (i : ℕ) (x : ℤ) (o : Option ℤ) → i < length amounts → i < length changes
     → x ≡ get_or (changed amounts (deltas (take i changes))) i x → o ≡ get_or changes i o
     → changed amounts (deltas (take (i + 1) changes)) ≡ set (changed amounts (deltas (take i changes))) i (x +ℤ unwrap_or o (pos 0))
@@ -92,7 +92,7 @@ all_changed_push : (amounts : List ℤ) (before : List (List ℤ)) (changes : Li
 all_changed_push amounts [] changes = refl
 all_changed_push amounts (first ∷ before) changes = all_changed_push (changed amounts first) before changes
 
--- one more reservation: of the row, and of another
+-- one more reservation, of this row or of another
 pub changes_more : (name : RowName) (before : List ℤ) (reservations : List Reservation) (i : ℕ) (r : Reservation) → i < length reservations → r ≡ get_or reservations i r
     → changed_by (take (i + 1) reservations) name before ≡ changed (changed_by (take i reservations) name before) (changes_at name r)
 changes_more name before reservations i r below at =
@@ -105,7 +105,7 @@ changes_own name r same = rw same refl
 pub changes_other : (name : RowName) (r : Reservation) → same_row name r.row ≡ false → changes_at name r ≡ []
 changes_other name r other = rw other refl
 
--- reservations of other rows, in front of the others, change nothing
+-- if no earlier reservation is of this row, the earlier ones change nothing
 changed_later : (name : RowName) (before : List ℤ) (reservations : List Reservation) (i : ℕ) → list_any (λ r. same_row r.row name) (take i reservations) ≡ false
     → changed_by (drop i reservations) name before ≡ changed_by reservations name before
 changed_later name before [] zero none = refl
@@ -126,7 +126,7 @@ changed_from name before reservations i none =
     ap (λ rs. changed_by rs name before) (read_from reservations i ∙ take_all (length all - i) (drop i all) (omega (arith, length-drop i all)))
     ∙ changed_later name before all i none
 
--- one more item replaced, or kept
+-- one more item, replaced or kept
 replaced_push : {A : Type 0} (news : List (Option A)) (new : Option A) (xs : List A) (x : A) → length news ≡ length xs
     → replaced (news ++ new ∷ []) (xs ++ x ∷ []) ≡ replaced news xs ++ unwrap_or new x ∷ []
 replaced_push [] new [] x long = refl
@@ -156,7 +156,7 @@ pub turns_all : {A : Type 0} (news : List (Option A)) (before after : List A) (i
 turns_all news before after i end so_far even =
     subst₂ (λ xs ys. replaced news xs ≡ ys) (take_all i before (omega arith)) (take_all i after (omega arith)) so_far.turned
 
--- items replaced twice by the same
+-- replacing items twice by the same ones equals replacing them once
 pub replaced_twice : {A : Type 0} (news : List (Option A)) (xs : List A) → replaced news (replaced news xs) ≡ replaced news xs
 replaced_twice [] xs = refl
 replaced_twice (new ∷ news) [] = refl

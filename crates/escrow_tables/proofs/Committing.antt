@@ -1,4 +1,4 @@
--- COMMIT: one call that puts the new amounts of rows.
+-- COMMIT: one call that writes the new amounts of rows.
 use Rattle.std.proofs.Common.{◌≡◌, Bool, true, false, List, refl}
 use Rattle.std.specs.List.{AllByRecursion}
 use Rattle.sqlite_trees.specs.declared.store.Store.{Ghosts}
@@ -31,11 +31,11 @@ module _ {S : Type 0} (g : Ghosts S) (old new was later : Held S) (tables : List
   turns : IsUsable (state g old) → (db : Database) → PutsAmounts news (state g was).now db → IsHeld tables rows db
   turns usable db = held_after reservations tables _ news (state g was).now db (listed_are tables keeps.listed) (keeps.held usable.0) puts (told usable.0)
 
-  -- the reservations are applied where the call is done
+  -- if the call succeeds, the reservations are applied
   pub commits : Writes g (seen g old was tables) (seen g new later tables) is_done (catalog_of tables) rows
   commits = writes g old new _ is_done it was later tables tables tables rows keeps keeps.listed turns (λ e. (refl, if_done e)) (λ e. (refl, if_not e))
 
-  -- and the fields keep what they hold
+  -- the fields keep their contents
   pub keeps_committed : Keeps (state g new) (state g later) tables
   keeps_committed =
       keeps_on g old new _ is_done it was later tables tables tables rows keeps keeps.listed turns (λ e. (refl, if_done e)) (λ e. (refl, if_not e))

@@ -35,7 +35,7 @@ use Rattle.escrow_tables.specs.Inside.{HasCount, IsHeld, Keeps, catalog_of, stor
 use Rattle.escrow_tables.proofs.Named.{named_stored}
 use Rattle.escrow_tables.proofs.Writing.{keeps_on, seen, writes}
 
--- a name that isn't in the catalog is that of no table in the store
+-- if a name is not in the catalog, no table of the store has it
 unnamed : (tables : List CountedTable) (name : List ℕ) → table_named (catalog_of tables) name ≡ None → stored_named (stored_of tables) name ≡ None
 unnamed tables name new = named_stored tables name ∙ at (counted_named tables name) (sym (named_table tables name) ∙ new)
   where
@@ -43,7 +43,7 @@ unnamed tables name new = named_stored tables name ∙ at (counted_named tables 
     at None e = refl
     at (Some c) e = absurd (none-some c.stored.table (sym e))
 
--- a new table, of a number and a name that no other has
+-- a new table, with a number and a name that no other table has
 pub record IsNew (tables : List CountedTable) (s : StoredTable) : Type 0 where
   pub is_table : IsTable s.table
   pub number : IsTrue (int_le (pos 1) s.id)
@@ -51,7 +51,7 @@ pub record IsNew (tables : List CountedTable) (s : StoredTable) : Type 0 where
   pub unheard : table_named (catalog_of tables) s.table.name ≡ None
   pub room : length (catalog_of tables) < MAX_TABLES
 
--- a table is new among those that are seen, by a number that is free there
+-- a table with a free number is new among the tables seen
 pub is_new : (tables : List CountedTable) (s : StoredTable) (catalog : List TableDef) → catalog_of tables ≡ catalog
     → IsTrue (int_le (pos 1) s.id) × AllByRecursion (λ (c : CountedTable). c.stored.id ≢ s.id) tables
     → IsTable s.table → table_named catalog s.table.name ≡ None → length catalog < MAX_TABLES → IsNew tables s
@@ -64,7 +64,7 @@ is_new tables s catalog is free defined unheard room = record {
 }
 
 module _ (tables : List CountedTable) (after : List StoredTable) (s : StoredTable) (are_after : AreTables after) (same : IsPermutation (s ∷ stored_of tables) after) where
-  -- rows of the others are rows of theirs
+  -- rows of the old tables are rows of the new list of tables
   more_has : (row : Row) → IsOfTables (stored_of tables) row → IsOfTables after row
   more_has row h =
       let found = row_in (stored_of tables) row h in
@@ -78,7 +78,7 @@ module _ (tables : List CountedTable) (after : List StoredTable) (s : StoredTabl
     few_rows = of.few_rows;
   }
 
--- no row is of a table that isn't there
+-- no row belongs to a table that does not exist
 no_rows_of : (tables : List StoredTable) (rows : List Row) (name : List ℕ) → stored_named tables name ≡ None → AllByRecursion (IsOfTables tables) rows → rows_of rows name ≡ []
 no_rows_of tables rows name none of =
     filter_none (λ (row : Row). bytes_eq row.name.table name) rows
@@ -86,25 +86,25 @@ no_rows_of tables rows name none of =
     (λ row h. false_from_ne_true (bytes_eq row.name.table name)
     (λ e. subst (λ (o : Option StoredTable). IsSomeAnd o (λ t. IsRowOf t.table row)) (ap (stored_named tables) (name_same row.name.table name e) ∙ none) h)) rows of)
 
--- a table that is put among others is one of them
+-- a table inserted among others is one of them
 has_insert : {A : Type 0} (xs : List A) (i : ℕ) (x : A) → Has (insert xs i x) x
 has_insert [] zero x = inl refl
 has_insert [] (suc i) x = inl refl
 has_insert (y ∷ ys) zero x = inl refl
 has_insert (y ∷ ys) (suc i) x = inr (has_insert ys i x)
 
--- a place at which a table was put is one among the others, or behind them
+-- a table was inserted at a place among the others, or at the end
 insert_within : {A : Type 0} (xs : List A) (i : ℕ) (x : A) → i < length (insert xs i x) → i ≤ length xs
 insert_within [] zero x within = omega arith
 insert_within [] (suc i) x within = absurd (omega arith)
 insert_within (y ∷ ys) zero x within = omega arith
 insert_within (y ∷ ys) (suc i) x within = let rest = insert_within ys i x (omega arith) in omega arith
 
--- what stands at the place is the new table
+-- the table at the place is the new one
 pub added_at : (tables : List CountedTable) (place : ℕ) (new c : CountedTable) → place < length (insert tables place new) → slice_get (insert tables place new) place ≡ Some c → c ≡ new
 added_at tables place new c within at = sym (get_or_from_slice_get (insert tables place new) place c c at) ∙ get_or-insert_at tables place new c (insert_within tables place new within)
 
--- where the new table is taken out again, the others are left
+-- removing the new table again leaves the others
 pub undone : {E : Type 0} (tables added left : List CountedTable) (place : ℕ) (c : CountedTable) (r : Result TableDef E) → table_named (catalog_of tables) c.stored.table.name ≡ None
     → added ≡ insert tables place c → OnOk r (left ≡ without_counted c.stored.table.name added) → (IsErr r ↔ (table_named (catalog_of added) c.stored.table.name ≡ None)) → left ≡ tables
 undone tables added left place c (Ok t) new is rest refused = rest ∙ ap (without_counted c.stored.table.name) is ∙ taken_back tables c place new
@@ -127,7 +127,7 @@ module _ (tables : List CountedTable) (place : ℕ) (c : CountedTable) (none : c
   are_whole : AreTables (stored_of (insert tables place c))
   are_whole = listed_are (insert tables place c) listed_whole
 
-  -- the tables are held with a new one, which has no rows
+  -- the tables are held together with a new one, which has no rows
   held_more : (rows : List Row) (old db : Database) → IsHeld tables rows old → Creates c.stored old db → IsHeld (insert tables place c) rows db
   held_more rows old db held makes =
       let unheard = unnamed tables c.stored.table.name new.unheard in

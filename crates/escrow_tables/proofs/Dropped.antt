@@ -1,4 +1,4 @@
--- DROP TABLE: the tables that are held, without one of them and its rows.
+-- DROP TABLE: the held tables without one of them and its rows.
 use Rattle.std.proofs.Common.{◌≡◌, ◌≤◌, ℕ, Bool, true, false, not, List, [], ◌∷◌, length, filter, Option, None, Some, Result, Ok, Err, refl, sym, ap, subst, ◌∙◌, inl, inr, arith, bytes_eq}
 use Rattle.std.specs.Prelude.{◌↔◌, IsErr, IsSomeAnd, OnOk}
 use Rattle.std.proofs.lemmas.Bool.{cases_Bool, not-true}
@@ -33,13 +33,13 @@ use Rattle.escrow_tables.proofs.Writing.{keeps_on, seen, writes}
 stored_without : (name : List ℕ) (tables : List CountedTable) → stored_of (without_counted name tables) ≡ without_stored name (stored_of tables)
 stored_without name tables = sym (filter-map (λ (s : StoredTable). not (bytes_eq s.table.name name)) (λ (c : CountedTable). c.stored) tables)
 
--- where a table has a name, it is taken out, and those of other names are left
+-- if a table has the name, it is removed, and tables with other names remain
 pub taken : {E : Type 0} (tables left : List CountedTable) (table : TableDef) (name : List ℕ) (r : Result TableDef E) → table_named (catalog_of tables) name ≡ Some table
     → OnOk r (left ≡ without_counted name tables) → (IsErr r ↔ (table_named (catalog_of tables) name ≡ None)) → left ≡ without_counted name tables
 taken tables left table name (Ok t) is rest refused = rest
 taken tables left table name (Err e) is rest refused = absurd (none-some table (sym (refused.0 refl) ∙ is))
 
--- what passes a test among what passes another is no more than what passes it
+-- filtering by a second test first never gives more items
 fewer : {A : Type 0} (p q : A → Bool) (xs : List A) → length (filter p (filter q xs)) ≤ length (filter p xs)
 fewer p q [] = omega arith
 fewer p q (x ∷ xs) =
@@ -49,7 +49,7 @@ fewer p q (x ∷ xs) =
       | inr out ↦ rw out (elim (cases_Bool (p x)) [ inl t ↦ rw t (omega arith) | inr f ↦ rw f rest ])
     ]
 
--- rows of the others are rows of theirs
+-- rows of the other tables are rows of the remaining tables
 fewer_rows : (name : List ℕ) (tables : List StoredTable) (rows : List Row) → AreRows tables rows → AreRows (without_stored name tables) (without_rows_of name rows)
 fewer_rows name tables rows of =
     let kept : Row → Bool = λ row. not (bytes_eq row.name.table name) in
@@ -63,7 +63,7 @@ fewer_rows name tables rows of =
       few_rows = λ table. omega (arith, of.few_rows table, fewer (λ (row : Row). bytes_eq row.name.table table) kept rows);
     }
 
--- a table of another name has the rows that it had
+-- a table with another name keeps its rows
 rows_of_other : (name other : List ℕ) (rows : List Row) → bytes_eq other name ≡ false → rows_of (without_rows_of name rows) other ≡ rows_of rows other
 rows_of_other name other rows apart =
     filter-filter (λ (row : Row). bytes_eq row.name.table other) (λ (row : Row). not (bytes_eq row.name.table name))
@@ -73,7 +73,7 @@ module _ (tables : List CountedTable) (name : List ℕ) (c : CountedTable) (name
   are : AreTables (stored_of tables)
   are = listed_are tables listed
 
-  -- the others are held, with their rows
+  -- the other tables are held with their rows
   held_less : (rows : List Row) (old db : Database) → IsHeld tables rows old → Drops c.stored old db → IsHeld (without_counted name tables) (without_rows_of name rows) db
   held_less rows old db held makes =
       let image = makes (stored_of tables) rows are held.are_rows named.stands held.image in

@@ -1,4 +1,4 @@
--- The rows of a store are those that its database is the image of.
+-- The rows of a store are those of which its database is the image.
 use Rattle.std.proofs.Common.{◌≡◌, List, refl, subst, sym}
 use Rattle.sqlite.specs.Effect.{Database}
 use Rattle.sqlite.specs.State.{State, HasCleanDisk}
@@ -15,7 +15,7 @@ use Rattle.escrow_tables.specs.Inside.{IsHeld, Keeps, stored_of}
 pub rows_held : (tables : List CountedTable) (rows : List Row) (db : Database) → AreTables (stored_of tables) → IsHeld tables rows db → rows_in (stored_of tables) db ≡ rows
 rows_held tables rows db are held = rows_are (stored_of tables) rows db are held.are_rows held.image.cells_are
 
--- what is held is what is read
+-- the rows that are held are those that are read
 pub held_itself : (tables : List CountedTable) (rows : List Row) (db : Database) → AreTables (stored_of tables) → IsHeld tables rows db
     → IsHeld tables (rows_in (stored_of tables) db) db
 held_itself tables rows db are held = subst (λ (rs : List Row). IsHeld tables rs db) (sym (rows_held tables rows db are held)) held

@@ -1,4 +1,4 @@
--- Tables by name, among those that are kept.
+-- Tables by name, among the stored tables.
 use Rattle.std.proofs.Common.{◌≡◌, ℕ, List, Option, Some, None, option_map, bytes_eq, sym, ap, ◌∙◌, subst}
 use Rattle.std.specs.Prelude.{IsSomeAnd}
 use Rattle.sqlite_trees.proofs.ListLemmas.{all_weaker}
@@ -21,7 +21,7 @@ use Rattle.escrow_tables.specs.Inside.{stored_of, catalog_of}
 pub named_stored : (tables : List CountedTable) (name : List ℕ) → stored_named (stored_of tables) name ≡ option_map (λ (c : CountedTable). c.stored) (counted_named tables name)
 named_stored tables name = find_through (λ (s : StoredTable). bytes_eq s.table.name name) (λ (c : CountedTable). c.stored) tables
 
--- what is known of the table of a name
+-- what is known of the table with a name
 pub record IsNamed (tables : List CountedTable) (name : List ℕ) (c : CountedTable) : Type 0 where
   pub has : Has tables c
   pub name_is : c.stored.table.name ≡ name
@@ -40,13 +40,13 @@ is_named tables name c e =
       stands = subst (λ (n : List ℕ). stored_named (stored_of tables) n ≡ Some c.stored) (sym same) stored;
     }
 
--- it is one that some text defines
+-- some text defines it
 pub named_is_table : (tables : List CountedTable) (name : List ℕ) (c : CountedTable) → IsCatalog (catalog_of tables) → IsNamed tables name c → IsTable c.stored.table
 named_is_table tables name c catalog named =
     let found = find_has (λ (t : TableDef). bytes_eq t.name name) (catalog_of tables) c.stored.table named.in_catalog in
     all_has IsTable (catalog_of tables) catalog.tables c.stored.table found.0
 
--- a row of a table in the catalog is one of the tables in the store, and the other way round
+-- a row belongs to a table of the catalog exactly if it belongs to a table of the store
 both_tables : (row : Row) (o : Option CountedTable) → IsSomeAnd (option_map (λ (c : CountedTable). c.stored.table) o) (λ t. IsRowOf t row) → IsSomeAnd (option_map (λ (c : CountedTable). c.stored) o) (λ s. IsRowOf s.table row)
 both_tables row None h = h
 both_tables row (Some c) h = h
@@ -73,6 +73,6 @@ rows_of_catalog tables rows are = record {
   few_rows = are.few_rows;
 }
 
--- a row of a table in the catalog fits the table of its name
+-- a row of a table in the catalog fits the table with its name
 pub row_fits : (tables : List CountedTable) (row : Row) (c : CountedTable) → IsNamed tables row.name.table c → HasTable (catalog_of tables) row → IsRowOf c.stored.table row
 row_fits tables row c named h = subst (λ (o : Option TableDef). IsSomeAnd o (λ t. IsRowOf t row)) named.in_catalog h

@@ -1,4 +1,4 @@
--- Rows after a change are rows of the tables, and how many each table has.
+-- After a change, the rows are still rows of the tables; how many rows each table then has.
 use Rattle.std.proofs.Common.{◌+◌, ◌<◌, ◌≡◌, ◌≤◌, ℕ, ◌∙◌, ◌∷◌, Bool, true, false, List, None, Option, Some, [], ap, arith, bytes_eq, cond, filter, inl, inr, length, map, refl, subst, sym}
 use Rattle.std.specs.Prelude.{IsSome, is_none, not, option_to_list}
 use Rattle.std.specs.List.{AllByRecursion}
@@ -26,12 +26,12 @@ use Rattle.escrow_rows.proofs.OneRow.{rows_named}
 use Rattle.escrow_rows.proofs.Runs.{writes_as}
 use Rattle.escrow_tables.specs.Calls.{with_new}
 
--- INSERT: the row is put among the rows in their order
+-- INSERT: the row is inserted in order
 with_row_put : (row : Row) (rows : List Row) → with_row row rows ≡ put row_before row rows
 with_row_put row [] = refl
 with_row_put row (other ∷ rest) = ap (λ zs. cond (row_before row other) (row ∷ other ∷ rest) (other ∷ zs)) (with_row_put row rest)
 
--- where no row has its name, it is put among them
+-- if no row has its name, it is inserted
 pub none_from : (o : Option Row) → is_none o ≡ true → o ≡ None
 none_from None none = refl
 none_from (Some row) none = absurd (false≢true none)
@@ -39,7 +39,7 @@ none_from (Some row) none = absurd (false≢true none)
 pub put_as_new : (row : Row) (rows : List Row) → row_named rows row.name ≡ None → with_new row rows ≡ with_row row rows
 put_as_new row rows none = rw none refl
 
--- so the store's call that puts it makes of the rows what they are with a new one
+-- the store's call that inserts it makes the rows those with a new one
 pub puts_new : {S : Type 0} (g : Ghosts S) (old new : Held S) (is_done : Bool) (s : StoredTable) (row : Row) → Transacts (state g old) (state g new) is_done (Inserts s row)
     → Transacts (state g old) (state g new) is_done (TurnsRows s (λ rows. is_none (row_named rows row.name)) (with_new row))
 puts_new g old new is_done s row it =
@@ -48,11 +48,11 @@ puts_new g old new is_done s row it =
     let made = inserts tables rows are of stands image in
     (made.0, subst (λ (rs : List Row). IsImage tables rs after) (sym (put_as_new row rows (none_from (row_named rows row.name) made.0))) made.1)) it
 
--- one where a test passes, and none where it doesn't
+-- 1 if a test passes, 0 otherwise
 abbrev one_if : Bool → ℕ
 one_if b = cond b 1 0
 
--- its table has a row more
+-- its table has one more row
 count_with : (row : Row) (rows : List Row) (table : List ℕ) → length (rows_of (with_row row rows) table) ≡ length (rows_of rows table) + one_if (bytes_eq row.name.table table)
 count_with row rows table =
     ap (λ (rs : List Row). length (rows_of rs table)) (with_row_put row rows) ∙ length-filter_put row_before (λ (r : Row). bytes_eq r.name.table table) row rows
@@ -61,17 +61,17 @@ pub one_more : (row : Row) (rows : List Row) → length (rows_of (with_row row r
 one_more row rows =
     count_with row rows row.name.table ∙ ap (λ (n : ℕ). length (rows_of rows row.name.table) + n) (cond-true (bytes_eq row.name.table row.name.table) 1 0 (same_name row.name.table))
 
--- names that differ fail the test
+-- different names fail the test for equality
 differ_eq : (a b : List ℕ) → ¬ (b ≡ a) → bytes_eq a b ≡ false
 differ_eq a b differ = false_from_ne_true (bytes_eq a b) (λ t. differ (sym (name_same a b t)))
 
--- and the other tables have as many as they had
+-- the other tables keep their number of rows
 pub others_with : (row : Row) (rows : List Row) (table : List ℕ) → ¬ (table ≡ row.name.table) → length (rows_of (with_row row rows) table) ≡ length (rows_of rows table)
 others_with row rows table differ =
     let none : one_if (bytes_eq row.name.table table) ≡ 0 = cond-false (bytes_eq row.name.table table) 1 0 (differ_eq row.name.table table differ) in
     omega (arith, count_with row rows table)
 
--- a new row stands in its order
+-- a new row is inserted in its order
 in_order : (row : Row) (rows : List Row) → row_named rows row.name ≡ None → IsAscending row_before rows → IsAscending row_before (with_row row rows)
 in_order row rows new ascending =
     let differs : (y : Row) → Has rows y → ¬ (by_row row y ≡ Equal) = λ y h e.
@@ -121,7 +121,7 @@ are_rows_kept tables keep rows are = record {
   few_rows = λ table. let fewer_of = fewer (λ (r : Row). bytes_eq r.name.table table) keep rows in let few = are.few_rows table in omega arith;
 }
 
--- DELETE: the rows of a table are the one that is taken out, where it is of the table, and the others
+-- DELETE: a table's rows are the remaining ones and, if the removed row was of this table, that row
 both_kept : {A : Type 0} (p q : A → Bool) (xs : List A) → length (filter p xs) ≡ length (filter p (filter q xs)) + length (filter p (filter (λ x. not (q x)) xs))
 both_kept p q [] = omega arith
 both_kept p q (x ∷ xs) =
@@ -165,11 +165,11 @@ others_without rows name table order has differ =
     let none : one_if (bytes_eq name.table table) ≡ 0 = cond-false (bytes_eq name.table table) 1 0 (differ_eq name.table table differ) in
     omega (arith, count_without rows name table order has)
 
--- UPDATE of plain columns: names stay
+-- UPDATE of plain columns: names are unchanged
 name_stays : (name : RowName) (values : List (Option Value)) (row : Row) → (with_values name values row).name ≡ row.name
 name_stays name values row = cond_both (same_row row.name name) (record row { plain = replaced values row.plain }) row (λ (r : Row). r.name ≡ row.name) (λ _. refl) (λ _. refl)
 
--- a change that a test doesn't see changes no count
+-- a change that a test does not see changes no count
 count_map : {A : Type 0} (p : A → Bool) (f : A → A) → ((x : A) → p (f x) ≡ p x) → (xs : List A) → length (filter p (map f xs)) ≡ length (filter p xs)
 count_map p f same [] = refl
 count_map p f same (x ∷ xs) =
@@ -178,7 +178,7 @@ count_map p f same (x ∷ xs) =
     let after = length_kept (p x) x (filter p xs) in
     ap (λ b. length (cond b (f x ∷ filter p (map f xs)) (filter p (map f xs)))) (same x) ∙ omega arith
 
--- rows that are changed, but for their names
+-- rows whose values change and whose names do not
 module _ (f : Row → Row) (named : (row : Row) → (f row).name ≡ row.name) where
   pub count_changed : (rows : List Row) (table : List ℕ) → length (rows_of (map f rows) table) ≡ length (rows_of rows table)
   count_changed rows table = count_map (λ (r : Row). bytes_eq r.name.table table) f (λ r. ap (λ (n : RowName). bytes_eq n.table table) (named r)) rows

@@ -19,11 +19,11 @@ use Rattle.escrow_schema.specs.declared.counted_table.CountedTable.{CountedTable
 abbrev steps : RangeInclusive ℤ → Option ℤ → RangeInclusive ℤ → Type 0
 steps = range_inclusive_steps int_gap (λ x y. y ≡ x +ℤ pos 1)
 
--- a range that has a number left isn't spent
+-- a range with a number left is not exhausted
 unspent : (s : RangeInclusive ℤ) (n : ℕ) → n + 1 ≡ range_inclusive_left int_gap s → s.exhausted ≡ false
 unspent s n left = elim (cases_Bool s.exhausted) [ inl t ↦ absurd (let k : n + 1 ≡ 0 = rw t at left in omega arith) | inr f ↦ f ]
 
--- calls lead up from the start
+-- calls move the start only upwards
 led_up : (s t : RangeInclusive ℤ) (xs : List ℤ) → Yields steps s xs t → t.exhausted ≡ false → (s.exhausted ≡ false) × (s.start ≤ℤ t.start)
 led_up s t [] e left = subst (λ u. (s.exhausted ≡ false) × (s.start ≤ℤ u.start)) e (subst (λ (u : RangeInclusive ℤ). u.exhausted ≡ false) (sym e) left, omega (arith, ints))
 led_up s t (x ∷ xs) (j, step, more) left =
@@ -31,7 +31,7 @@ led_up s t (x ∷ xs) (j, step, more) left =
     let next = step.1.2 later.0 in
     (unspent s (range_inclusive_left int_gap j) step.1.1, omega (arith, ints, later.1, next))
 
--- what is found from a number on, by a test that stays as it is
+-- what a search from a number on finds, if its test does not change
 pub found_from : {F : Type 0} {g : Mut F (Bor ℤ × Unit {0}) Bool} (Yes : ℤ → Type 0) (s u : RangeInclusive ℤ) (f : F) (r : Option ℤ) → FindsItem steps g s f r u
     → ((x : ℤ) (q : F) → CalledAt g f x true q → Yes x) → ((x : ℤ) (q : F) → CalledAt g f x false q → q ≡ f)
     → IfSome r (λ x. (s.start ≤ℤ x) × Yes x)
@@ -46,12 +46,12 @@ found_from {F} {g} Yes s u f (Some x) (xs, j, (t, led, step), folds, (h, called)
     unmoved [] j e same = e
     unmoved (x ∷ xs) j (k, called, more) same = unmoved xs j (subst (λ q. FoldsTo (λ p x q. CalledAt g p x false q) q xs j) (same x k called) more) same
 
--- the test of a number from 1 on
+-- the test that a number is at least 1
 pub from_one : (id : ℤ) → pos 1 ≤ℤ id → int_le (pos 1) id ≡ true
 from_one (pos n) h = let above : 1 ≤ n = omega (arith, ints) in grind (arith, nat_tests)
 from_one (negsuc n) h = absurd (omega (arith, ints))
 
--- a number that no table passes with is no table's
+-- if no table passes the test for a number, no table has the number
 pub no_table_has : (tables : List CountedTable) (id : ℤ) → list_any (λ c. int_eq c.stored.id id) tables ≡ false → AllByRecursion (λ (c : CountedTable). c.stored.id ≢ id) tables
 no_table_has [] id h = tt
 no_table_has (c ∷ cs) id h =

@@ -1,4 +1,4 @@
--- The table at a place, and how many rows each table has after a change of one of them.
+-- The table at a place, and the number of rows of each table after a change of one of them.
 use Rattle.std.proofs.Common.{◌≡◌, ◌<◌, ℕ, zero, suc, Bool, true, false, List, [], ◌∷◌, Some, ap, refl, arith, bytes_eq, find, get_or, inl, inr, length, subst, sym, ◌∙◌}
 use Rattle.std.specs.Prelude.{IsTrue, not, slice_get}
 use Rattle.std.specs.List.{AllByRecursion}
@@ -36,14 +36,14 @@ find_at p (x ∷ xs) zero d within passes before = cond-true (p x) (Some x) (fin
 find_at p (x ∷ xs) (suc i) d within passes before =
     cond-false (p x) (Some x) (find p xs) (before 0 (omega arith)) ∙ find_at p xs i d (omega arith) passes (λ k below. before (suc k) (omega arith))
 
--- a table stands at a place, and it is the one of a name
+-- the table at a place, which is also the one with a name
 pub record IsPlaced (tables : List CountedTable) (name : List ℕ) (place : ℕ) (c : CountedTable) : Type 0 where
   pub within : place < length tables
   pub item : c ≡ get_or tables place c
   pub counted : Some c ≡ counted_named tables name
   pub named : IsNamed tables name c
 
--- what stands at the place of a name
+-- the table at the place of a name
 pub is_placed : (tables : List CountedTable) (name : List ℕ) (place : ℕ) (c : CountedTable) → place_named (catalog_of tables) name ≡ Some place → c ≡ get_or tables place c → IsPlaced tables name place c
 is_placed tables name place c at item =
     let p : CountedTable → Bool = λ c. bytes_eq c.stored.table.name name in
@@ -51,7 +51,7 @@ is_placed tables name place c at item =
     let found = find_at p tables place c first.0 first.1 first.2 in
     record { within = first.0; item = item; counted = ap Some item ∙ sym found; named = is_named tables name c (ap Some item ∙ sym found) }
 
--- the place of a name is one of the catalog, and of the tables that are kept
+-- the place of a name is within the catalog and within the list of tables
 pub place_within : (catalog : List TableDef) (name : List ℕ) (place : ℕ) → place_named catalog name ≡ Some place → place < length catalog
 place_within catalog name place at = grind (arith, common_steps)
 
@@ -61,7 +61,7 @@ length_kept tables place within = omega (arith, length-map tables (λ (c : Count
 pub kept_within : (tables : List CountedTable) (name : List ℕ) (place : ℕ) → place_named (catalog_of tables) name ≡ Some place → place < length tables
 kept_within tables name place at = length_kept tables place (place_within (catalog_of tables) name place at)
 
--- what a place gives is what stands there
+-- looking up a place gives the item at that place
 pub item_at : (tables : List CountedTable) (place : ℕ) (c : CountedTable) → slice_get tables place ≡ Some c → c ≡ get_or tables place c
 item_at tables place c at = sym (get_or_from_slice_get tables place c c at)
 
@@ -70,13 +70,13 @@ stored_recounted [] place n = refl
 stored_recounted (c ∷ tables) zero n = refl
 stored_recounted (c ∷ tables) (suc place) n = ap (λ (ss : List StoredTable). c.stored ∷ ss) (stored_recounted tables place n)
 
--- with its own number of rows nothing changes
+-- setting a table's count to its own number of rows changes nothing
 pub recounted_itself : (tables : List CountedTable) (place : ℕ) (c : CountedTable) → c ≡ get_or tables place c → recounted tables place c.rows ≡ tables
 recounted_itself [] place c item = refl
 recounted_itself (d ∷ tables) zero c item = ap (λ (o : CountedTable). record d { rows = o.rows } ∷ tables) item
 recounted_itself (d ∷ tables) (suc place) c item = ap (λ (ts : List CountedTable). d ∷ ts) (recounted_itself tables place c item)
 
--- no two tables have one name
+-- no two tables have the same name
 abbrev pub AreApart : List CountedTable → Type 0
 AreApart = IsAscending (λ (a b : CountedTable). not (bytes_eq a.stored.table.name b.stored.table.name))
 
@@ -110,12 +110,12 @@ module _ (rows new : List Row) (c : CountedTable) (n : ℕ) (others : (name : Li
       let differ = all_has (λ (u : CountedTable). IsTrue (not (bytes_eq t.stored.table.name u.stored.table.name))) ts apart.0 c has in
       (other_count t (other_name t.stored.table.name c.stored.table.name differ) h.0, counts_at ts i (omega arith) at apart.1 h.1)
 
-  -- each table has as many rows as are counted, where those of other names have as many as they had
+  -- each table's count is right, if tables of other names keep their number of rows
   pub counts_after : (tables : List CountedTable) (name : List ℕ) (place : ℕ) → IsPlaced tables name place c → AreTables (stored_of tables)
       → AllByRecursion (HasCount rows) tables → AllByRecursion (HasCount new) (recounted tables place n)
   counts_after tables name place placed are = counts_at tables place placed.within placed.item (apart tables are)
 
--- the same, where each table has as many rows as it had
+-- the same if all tables keep their number of rows
 pub counts_same : (rows new : List Row) → ((name : List ℕ) → length (rows_of new name) ≡ length (rows_of rows name)) → (tables : List CountedTable)
     → AllByRecursion (HasCount rows) tables → AllByRecursion (HasCount new) tables
 counts_same rows new same = all_weaker (HasCount rows) (HasCount new) (λ c h. h ∙ sym (same c.stored.table.name))

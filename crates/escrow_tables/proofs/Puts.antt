@@ -1,4 +1,4 @@
--- New amounts put into rows, one after another.
+-- New amounts written to rows, one after another.
 use Rattle.std.proofs.Common.{◌≡◌, ℤ, Bool, true, false, ◌||◌, List, [], ◌∷◌, ◌++◌, map, fold, Some, refl, sym, ap, ap₂, ◌∙◌, subst, inl, inr}
 use Rattle.std.specs.List.{AllByRecursion, list_any}
 use Rattle.std.proofs.lemmas.Bool.{cases_Bool}
@@ -21,15 +21,15 @@ use Rattle.escrow_rows.proofs.Found.{find_permutation, one_row}
 use Rattle.escrow_tables.specs.Puts.{TellsPut, row_put, IsFor}
 use Rattle.escrow_tables.proofs.Changed.{changed_nil, changes_other, replaced_twice}
 
--- puts on a row, one after another
+-- writes to one row, one after another
 abbrev pub all_into : List NewAmounts → Row → Row
 all_into puts row = fold (λ row put. with_new_amounts (row_put put) put.amounts row) row puts
 
--- a put is of a row
+-- a write is for this row
 abbrev IsOf : Row → NewAmounts → Bool
 IsOf row put = same_row row.name (row_put put)
 
--- puts on rows are those on each row
+-- writing to all rows is writing to each row
 pub put_rows : (puts : List NewAmounts) (rows : List Row) → put_all puts rows ≡ map (all_into puts) rows
 put_rows [] rows = sym (map-id rows)
 put_rows (put ∷ puts) rows = put_rows puts (with_amounts (row_put put) put.amounts rows) ∙ twice rows
@@ -38,11 +38,11 @@ put_rows (put ∷ puts) rows = put_rows puts (with_amounts (row_put put) put.amo
     twice [] = refl
     twice (row ∷ rows) = ap (λ rest. all_into (put ∷ puts) row ∷ rest) (twice rows)
 
--- a put of a row gives it these amounts
+-- a write for a row gives it these amounts
 abbrev Gives : Row → List ℤ → NewAmounts → Type 0
 Gives row after put = IsOf row put ≡ true → replaced put.amounts row.amounts ≡ after
 
--- a row that has its amounts after the puts keeps them
+-- a row that already has its final amounts keeps them
 all_kept : (puts : List NewAmounts) (row : Row) (after : List ℤ) → AllByRecursion (Gives row after) puts → all_into puts (record row { amounts = after }) ≡ record row { amounts = after }
 all_kept [] row after gives = refl
 all_kept (put ∷ puts) row after gives = elim (cases_Bool (IsOf row put)) [
@@ -51,7 +51,7 @@ all_kept (put ∷ puts) row after gives = elim (cases_Bool (IsOf row put)) [
   | inr there ↦ rw there (all_kept puts row after gives.1)
 ]
 
--- a row that a put is of has them in the end
+-- a row that some write is for has them in the end
 all_given : (puts : List NewAmounts) (row : Row) (after : List ℤ) → AllByRecursion (Gives row after) puts → list_any (IsOf row) puts ≡ true
     → all_into puts row ≡ record row { amounts = after }
 all_given [] row after gives some = absurd (cc)
@@ -60,7 +60,7 @@ all_given (put ∷ puts) row after gives some = elim (cases_Bool (IsOf row put))
   | inr there ↦ (let later = rw there at some in rw there (all_given puts row after gives.1 later))
 ]
 
--- another one stays
+-- any other row is unchanged
 none_given : (puts : List NewAmounts) (row : Row) → list_any (IsOf row) puts ≡ false → all_into puts row ≡ row
 none_given [] row none = refl
 none_given (put ∷ puts) row none = elim (cases_Bool (IsOf row put)) [
@@ -68,7 +68,7 @@ none_given (put ∷ puts) row none = elim (cases_Bool (IsOf row put)) [
   | inr there ↦ (let later = rw there at none in rw there (none_given puts row later))
 ]
 
--- a row that no put is of has no reservation
+-- a row that no write is for has no reservation
 no_reservation : (puts : List NewAmounts) (row : Row) (r : Reservation) → list_any (IsOf row) puts ≡ false → IsFor puts r → same_row row.name r.row ≡ false
 no_reservation puts row r none for = elim (cases_Bool (same_row row.name r.row)) [
   | inl same ↦ absurd (let some = subst (λ (n : RowName). list_any (λ put. same_row n (row_put put)) puts ≡ true) (sym (row_same row.name r.row same)) for in cc)
@@ -83,16 +83,16 @@ no_changes row (r ∷ reservations) amounts none =
     ap (λ zs. all_changed zs (map (changes_to row) reservations)) (ap (changed amounts) (changes_other row.name r none.0) ∙ changed_nil amounts)
     ∙ no_changes row reservations amounts none.1
 
--- functions that make the same of each item make the same of a list
+-- functions that agree on each item agree on the list
 map_each : {A : Type 0} (f g : A → A) (xs : List A) → AllByRecursion (λ x. f x ≡ g x) xs → map f xs ≡ map g xs
 map_each f g [] same = refl
 map_each f g (x ∷ xs) same = ap₂ ◌∷◌ same.0 (map_each f g xs same.1)
 
--- one of the rows is found by its name
+-- each of the rows is found by its name
 row_itself : (rows : List Row) (row : Row) → IsAscending row_before rows → Has rows row → row_named rows row.name ≡ Some row
 row_itself rows row order has = find_permutation (λ other. same_row other.name row.name) rows rows row (IsPermutation-refl rows) (one_row rows row order has)
 
--- puts that are those of the reservations, row by row, and are of each reservation's row apply them
+-- if the writes have each row's new amounts, and each reserved row has a write, they apply the reservations
 pub puts_apply : (puts : List NewAmounts) (rows : List Row) (reservations : List Reservation) → IsAscending row_before rows → AllByRecursion (IsFor puts) reservations
     → AllByRecursion (TellsPut rows reservations) puts → map (all_into puts) rows ≡ applied rows reservations
 puts_apply puts rows reservations order for tell = map_each (all_into puts) (row_after reservations) rows (has_all _ rows each)
@@ -107,12 +107,12 @@ puts_apply puts rows reservations order for tell = map_each (all_into puts) (row
           (all_weaker (IsFor puts) (λ r. same_row row.name r.row ≡ false) (λ r. no_reservation puts row r none) reservations for)))
     ]
 
--- one more put
+-- one more write
 pub for_more : (puts : List NewAmounts) (put : NewAmounts) (reservations : List Reservation) → AllByRecursion (IsFor puts) reservations → AllByRecursion (IsFor (puts ++ put ∷ [])) reservations
 for_more puts put reservations = all_weaker (IsFor puts) (IsFor (puts ++ put ∷ []))
     (λ r for. list_any-append (λ p. same_row r.row (row_put p)) puts (put ∷ []) ∙ ap (λ b. b || list_any (λ p. same_row r.row (row_put p)) (put ∷ [])) for) reservations
 
--- it is of the row that it names
+-- a write is for the row that it names
 pub for_itself : (puts : List NewAmounts) (put : NewAmounts) (r : Reservation) → row_put put ≡ r.row → IsFor (puts ++ put ∷ []) r
 for_itself puts put r is =
     let here : same_row r.row (row_put put) ≡ true = subst (λ (n : RowName). same_row r.row n ≡ true) (sym is) (same_row_itself r.row) in
@@ -122,7 +122,7 @@ for_itself puts put r is =
     or_true true = refl
     or_true false = refl
 
--- puts of the row of one reservation are of that of another one of the row
+-- writes that cover the row of one reservation cover each other reservation of that row
 pub for_same : (puts : List NewAmounts) (reservations : List Reservation) (r : Reservation) → list_any (λ other. same_row other.row r.row) reservations ≡ true
     → AllByRecursion (IsFor puts) reservations → IsFor puts r
 for_same puts [] r named for = absurd (cc)

@@ -1,4 +1,4 @@
--- The new amounts of COMMIT: those of the row of each reservation, made of the amounts that are given.
+-- The new amounts of COMMIT: those of each reserved row, computed from the given amounts.
 use Rattle.std.proofs.Common.{◌≡◌, ℕ, ℤ, List, Option, Some, option_map, [], ◌∷◌, ◌++◌, take, ◌+◌, ◌<◌, map, length, get_or, true, sym, ap, ◌∙◌, subst₂, arith}
 use Rattle.std.specs.List.{list_any}
 use Rattle.std.proofs.lemmas.List.{get_or-map, length-map, take_more}
@@ -18,7 +18,7 @@ use Rattle.escrow_tables.specs.Calls.{AreGiven}
 use Rattle.escrow_tables.specs.Puts.{ArePuts, TellsPut, changed_by, row_put}
 use Rattle.escrow_tables.proofs.Puts.{for_more, for_itself, for_same}
 
--- the amounts that are given beside a reservation are those of its row
+-- the amounts given with a reservation are those of its row
 pub given_at : {A : Type 0} (of : A → List ℤ) (rows : List Row) (reservations : List Reservation) (before : List A) (i : ℕ) (r : Reservation) (amounts : A)
     → i < length reservations → length before ≡ length reservations → r ≡ get_or reservations i r → amounts ≡ get_or before i amounts
     → AreGiven rows reservations (map of before) → option_map (λ (row : Row). row.amounts) (row_named rows r.row) ≡ Some (of amounts)
@@ -30,7 +30,7 @@ given_at of rows reservations before i r amounts below many at at_amounts given 
     ∙ get_or-map Some (map of before) i (of amounts) (Some (of amounts)) (omega (arith, length-map before of))
     ∙ ap Some (get_or-map of before i amounts (of amounts) (omega arith) ∙ sym (ap of at_amounts))
 
--- new amounts that are made of them
+-- new amounts computed from them
 pub put_told : (rows : List Row) (reservations : List Reservation) (put : NewAmounts) (name : RowName) (before : List ℤ) → row_put put ≡ name
     → option_map (λ (row : Row). row.amounts) (row_named rows name) ≡ Some before → replaced put.amounts before ≡ changed_by reservations name before → TellsPut rows reservations put
 put_told rows reservations put name before is given made row named =
@@ -42,7 +42,7 @@ one_more : (reservations : List Reservation) (i : ℕ) (r : Reservation) → i <
     → take (i + 1) reservations ≡ take i reservations ++ r ∷ []
 one_more reservations i r below at = take_more reservations i r below ∙ ap (λ x. take i reservations ++ x ∷ []) (sym at)
 
--- one more reservation: its row is one that new amounts are of, or now gets them
+-- one more reservation: its row has new amounts already, or gets them now
 pub puts_same : (tables : List StoredTable) (reservations : List Reservation) (puts : List NewAmounts) (i : ℕ) (r : Reservation) → i < length reservations → r ≡ get_or reservations i r
     → list_any (λ other. same_row other.row r.row) (take i reservations) ≡ true → ArePuts tables (take i reservations) puts → ArePuts tables (take (i + 1) reservations) puts
 puts_same tables reservations puts i r below at named so_far = record {

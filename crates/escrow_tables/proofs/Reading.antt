@@ -1,4 +1,4 @@
--- What the store answers of its image, said of the rows that are read.
+-- What the store answers about its image, in terms of the rows that are read.
 use Rattle.std.proofs.Common.{◌≡◌, ℕ, List, Result, ap, arith, subst, ◌∙◌}
 use Rattle.std.specs.Prelude.{IfOk, IsTrue}
 use Rattle.std.proofs.lemmas.Result.{IfOk-weaker}
@@ -14,7 +14,7 @@ use Rattle.escrow_schema.specs.declared.counted_table.CountedTable.{CountedTable
 use Rattle.escrow_tables.specs.Inside.{Keeps, stored_of}
 use Rattle.escrow_tables.proofs.Named.{IsNamed}
 
--- what the fields keep, they keep over a call that reads
+-- the fields keep their contents over a call that reads
 pub keeps_reading : (old new last : State) (tables : List CountedTable) → Keeps old last tables → OnlyReads old new → Keeps new last tables
 keeps_reading old new last tables keeps only_reads = record {
   listed = keeps.listed;
@@ -23,7 +23,7 @@ keeps_reading old new last tables keeps only_reads = record {
 }
 
 module _ (tables : List CountedTable) (name : List ℕ) (c : CountedTable) (named : IsNamed tables name c) where
-  -- an answer of the image is one of the rows: the store was open, so it held what was last written
+  -- an answer about the image is one about the rows: the store was open, so it held what was last written
   pub told_of : {X E A : Type 0} (old new last : State) (r : Result X E) (items : X → A) (of : List Row → A) → Keeps old last tables → (IsUsable new → IsUsable old) → HasCleanDisk new
       → IfOk r (λ found. IsTrue new.is_open × Tells c.stored of old.now (items found)) → IfOk r (λ found. items found ≡ of (rows_in (stored_of tables) last.now))
   told_of old new last r items of keeps before clean =

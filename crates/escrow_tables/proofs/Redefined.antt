@@ -1,4 +1,4 @@
--- ALTER TABLE: the tables that are held, one of them over other checks.
+-- ALTER TABLE: the held tables, one of them with other checks.
 use Rattle.std.proofs.Common.{◌≡◌, ℕ, Bool, true, false, cond, List, [], ◌∷◌, length, map, get_or, find, Option, Some, refl, sym, ap, ap₂, subst, ◌∙◌, inl, inr, bytes_eq}
 use Rattle.std.specs.Prelude.{IsSomeAnd}
 use Rattle.std.specs.List.{AllByRecursion}
@@ -32,13 +32,13 @@ use Rattle.escrow_tables.specs.Inside.{HasCount, IsHeld, Keeps, catalog_of, stor
 use Rattle.escrow_tables.proofs.Placed.{IsPlaced, is_placed}
 use Rattle.escrow_tables.proofs.Writing.{keeps_on, seen, writes}
 
--- ---- a list of which the item that passes a test is changed
+-- ---- a list in which the item that passes a test is changed
 
 none_changed : {A : Type 0} (p : A → Bool) (f : A → A) (xs : List A) → AllByRecursion (λ x. p x ≡ false) xs → map (λ x. cond (p x) (f x) x) xs ≡ xs
 none_changed p f [] h = refl
 none_changed p f (x ∷ xs) h = rw h.0 (ap (λ zs. x ∷ zs) (none_changed p f xs h.1))
 
--- where one item at most passes, what is made of it is what is made of all that pass
+-- if at most one item passes, changing that item changes all that pass
 one_changed : {A : Type 0} (p : A → Bool) (f h : A → A) (y : A) (xs : List A) → Once p xs → find p xs ≡ Some y → f y ≡ h y → map (λ x. cond (p x) (f x) x) xs ≡ map (λ x. cond (p x) (h x) x) xs
 one_changed p f h y [] once is same = refl
 one_changed p f h y (x ∷ xs) once is same = elim (cases_Bool (p x)) [
@@ -49,9 +49,9 @@ one_changed p f h y (x ∷ xs) once is same = elim (cases_Bool (p x)) [
   | inr e ↦ rw e (ap (λ zs. x ∷ zs) (one_changed p f h y xs once.1 (sym (cond-false (p x) (Some x) (find p xs) e) ∙ is) same))
 ]
 
--- ---- tables of which one is over other checks
+-- ---- tables, one of which has other checks
 
--- a table as it is then
+-- a table as it is afterwards
 abbrev over : List ℕ → List Check → StoredTable → StoredTable
 over name checks s = cond (bytes_eq s.table.name name) (with_checks checks s) s
 
@@ -63,12 +63,12 @@ over_rows name checks row s fits =
     cond_both (bytes_eq s.table.name name) (with_checks checks s) s (λ (t : StoredTable). IsRowOf t.table row)
     (λ _. record { table_name = fits.table_name; key = fits.key; plain = fits.plain; amounts = fits.amounts }) (λ _. fits)
 
--- what is so of the table that is found, or of the one that is found otherwise
+-- what holds of the table found before holds of the one found afterwards
 found_over : (P : StoredTable → Type 0) (b : Bool) (s t : StoredTable) (others after : Option StoredTable) → (P s → P t) → (IsSomeAnd others P → IsSomeAnd after P) → IsSomeAnd (cond b (Some s) others) P → IsSomeAnd (cond b (Some t) after) P
 found_over P true s t others after here later h = here h
 found_over P false s t others after here later h = later h
 
--- a row of one of the tables still is
+-- a row of one of the tables still is one
 over_of_tables : (name : List ℕ) (checks : List Check) (row : Row) (tables : List StoredTable) → IsOfTables tables row → IsOfTables (with_redefined name checks tables) row
 over_of_tables name checks row [] of = of
 over_of_tables name checks row (s ∷ tables) of =
@@ -82,13 +82,13 @@ over_are_rows name checks tables rows of = record {
   few_rows = of.few_rows;
 }
 
--- ---- the tables with another definition of the one of its name
+-- ---- the tables with a new definition for one name
 
--- a table is another over other checks
+-- a table differs from another only in its checks
 abbrev pub IsOver : TableDef → TableDef → Type 0
 IsOver table old = table ≡ record old { checks = table.checks }
 
--- it is one that stands at the place of its name, where it is the one of its name
+-- the table at the place of its name is that table
 pub is_over : (tables : List CountedTable) (place : ℕ) (c : CountedTable) (table : TableDef) → place_named (catalog_of tables) table.name ≡ Some place → c ≡ get_or tables place c
     → IsSomeAnd (table_named (catalog_of tables) table.name) (IsOver table) → IsOver table c.stored.table
 is_over tables place c table at item alike =
@@ -102,7 +102,7 @@ module _ (tables : List CountedTable) (place : ℕ) (c : CountedTable) (table : 
   abbrev named : CountedTable → Bool
   named o = bytes_eq o.stored.table.name table.name
 
-  -- a table over the other checks
+  -- a table with the other checks
   abbrev over_checks : CountedTable → CountedTable
   over_checks o = record o { stored = with_checks table.checks o.stored }
 
@@ -122,7 +122,7 @@ module _ (tables : List CountedTable) (place : ℕ) (c : CountedTable) (table : 
           (elim (named o) as (λ b. (cond b (over_checks o) o).stored ≡ cond b (with_checks table.checks o.stored) o.stored) [ true ↦ refl | false ↦ refl ])
           (each ts)
 
-  -- the definition has the name that it had
+  -- the definition keeps its name
   counts_over : (rows : List Row) (ts : List CountedTable) → AllByRecursion (HasCount rows) ts → AllByRecursion (HasCount rows) (with_definition table ts)
   counts_over rows [] h = tt
   counts_over rows (o ∷ ts) h = (
@@ -130,7 +130,7 @@ module _ (tables : List CountedTable) (place : ℕ) (c : CountedTable) (table : 
     counts_over rows ts h.1,
   )
 
-  -- the tables are held, with the rows that they had
+  -- the tables are held, with their old rows
   held_over : (rows : List Row) (old db : Database) → IsHeld tables rows old → Redefines c.stored table.checks old db → IsHeld (with_definition table tables) rows db
   held_over rows old db held makes =
       let named : c.stored.table.name ≡ table.name = placed.named.name_is in

@@ -32,12 +32,12 @@ use Rattle.escrow_tables.proofs.NewRows.{are_rows_kept, are_rows_plain, are_rows
 use Rattle.escrow_tables.proofs.Placed.{IsPlaced, counts_after, counts_same, recounted_itself, stored_recounted}
 use Rattle.escrow_tables.proofs.Writing.{keeps_on, seen, writes}
 
--- what is held of rows after a change of those of a table
+-- what is held of the rows after a change of one table's rows
 pub record Turned (tables : List CountedTable) (place n : ℕ) (rows : List Row) : Type 0 where
   pub are_rows : AreRows (stored_of tables) rows
   pub counts : AllByRecursion (HasCount rows) (recounted tables place n)
 
--- The rows of the table at a place change, and it has then n.
+-- The rows of the table at a place change; it then has n rows.
 module _ {S : Type 0} (g : Ghosts S) (old new was later : Held S) (tables fields : List CountedTable) (name : List ℕ) (place : ℕ) (c : CountedTable) (named : IsNamed tables name c)
     (held : List Row → Bool) (after : List Row → List Row) (n : ℕ) (keeps : Keeps (state g old) (state g was) tables)
     (turned : HasCleanDisk (state g old) → held (rows_in (stored_of tables) (state g was).now) ≡ true → Turned tables place n (after (rows_in (stored_of tables) (state g was).now)))
@@ -46,7 +46,7 @@ module _ {S : Type 0} (g : Ghosts S) (old new was later : Held S) (tables fields
   listed_after : IsListed (recounted tables place n)
   listed_after = listed_recounted tables place n keeps.listed
 
-  -- the call turns what is held into what is held after it
+  -- the call turns what was held into what is held afterwards
   turns : IsUsable (state g old) → (db : Database) → TurnsRows c.stored held after (state g was).now db
       → IsHeld (recounted tables place n) (after (rows_in (stored_of tables) (state g was).now)) db
   turns usable db change =
@@ -72,7 +72,7 @@ module _ {S : Type 0} (g : Ghosts S) (old new was later : Held S) (tables fields
       keeps_on g old new (TurnsRows c.stored held after) is_done it was later tables (recounted tables place n) (fields) (after (rows_in (stored_of tables) (state g was).now)) keeps
       listed_after turns if_done if_not
 
-  -- where the call is done, the test held of the rows
+  -- if the call succeeds, the test held of the rows
   pub row_held : is_done ≡ true → HasCleanDisk (state g new) → held (rows_in (stored_of tables) (state g was).now) ≡ true
   row_held e clean =
       let made = it.done e clean in
@@ -81,12 +81,12 @@ module _ {S : Type 0} (g : Ghosts S) (old new was later : Held S) (tables fields
       (subst (λ (first : Database). TurnsRows c.stored held after first (state g new).now) (keeps.same usable) made.1
       (stored_of tables) (rows_in (stored_of tables) (state g was).now) (listed_are tables keeps.listed) kept.are_rows named.stands kept.image).0
 
-  -- the call writes, and the fields keep what they hold
+  -- the call writes, and the fields keep their contents
   pub row_written : Writes g (seen g old was tables) (seen g new later (fields)) is_done (catalog_of tables) (after (rows_in (stored_of tables) (state g was).now))
       × Keeps (state g new) (state g later) (fields)
   row_written = (row_writes, row_keeps)
 
--- what a call tells that found no row
+-- what is known after a call that found no row
 pub none_held : (old new was : State) (tables : List CountedTable) (name : List ℕ) (c : CountedTable) (named : IsNamed tables name c) (held : List Row → Bool) (keeps : Keeps old was tables)
     → doubt old.is_clean ≤ doubt new.is_clean → HasCleanDisk new → IsTrue old.is_open × Tells c.stored held old.now false → false ≡ held (rows_in (stored_of tables) was.now)
 none_held old new was tables name c named held keeps before clean none =
@@ -97,11 +97,11 @@ none_held old new was tables name c named held keeps before clean none =
 
 module _ (tables : List CountedTable) (name : List ℕ) (place : ℕ) (c : CountedTable) (placed : IsPlaced tables name place c) (are : AreTables (stored_of tables))
     (rows : List Row) (are_rows : AreRows (stored_of tables) rows) (counts : AllByRecursion (HasCount rows) tables) where
-  -- a table has as many rows as are counted
+  -- a table has as many rows as its count says
   has_count : c.rows ≡ length (rows_of rows name)
   has_count = all_has (HasCount rows) tables counts c placed.named.has ∙ ap (λ (n : List ℕ). length (rows_of rows n)) placed.named.name_is
 
-  -- the counts after a change of the number of its rows
+  -- the counts after its number of rows changes
   new_counts : (new : List Row) (n : ℕ) → ((other : List ℕ) → ¬ (other ≡ name) → length (rows_of new other) ≡ length (rows_of rows other)) → n ≡ length (rows_of new name)
       → AllByRecursion (HasCount new) (recounted tables place n)
   new_counts new n others own =

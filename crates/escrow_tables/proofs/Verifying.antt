@@ -1,4 +1,4 @@
--- A store that is verified again: its tables are the ones of which it is the image, and its rows meet their checks.
+-- A store that is verified again: its tables are those of which it is the image, and its rows meet their checks.
 use Rattle.std.proofs.Common.{◌≡◌, List, map, sym, ap, ◌∙◌, subst, subst₂}
 use Rattle.std.specs.List.{AllByRecursion}
 use Rattle.sqlite.specs.Effect.{Database}
@@ -19,7 +19,7 @@ use Rattle.escrow_recover.proofs.OpenedLemmas.{definitions, stores_rows}
 use Rattle.escrow_recover.proofs.StoredOnce.{stored_once}
 use Rattle.escrow_tables.specs.Inside.{Keeps, catalog_of, stored_of}
 
--- the tables that are kept are found again, and their rows meet their checks
+-- verification finds the kept tables again, and their rows meet their checks
 pub meet_again : (old new last : State) (tables found : List CountedTable) → Keeps old last tables → OnlyReads old new → IsListed found → (HasCleanDisk new → IsOpened new found) → HasCleanDisk new
     → AllByRecursion (MeetsChecks (catalog_of tables)) (rows_in (stored_of tables) last.now)
 meet_again old new last tables found keeps only_reads listed opened clean =

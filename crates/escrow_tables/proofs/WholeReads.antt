@@ -21,7 +21,7 @@ use Rattle.escrow_tables.proofs.AllRows.{below_differs}
 abbrev is_named : List ℕ → TableDef → Bool
 is_named name t = bytes_eq t.name name
 
--- a table stands at a place, and is found there by its name
+-- a table is at a place, and its name finds it there
 pub record IsAtPlace (catalog : List TableDef) (place : ℕ) (t : TableDef) : Type 0 where
   pub placed : place_named catalog t.name ≡ Some place
   pub found : table_named catalog t.name ≡ Some t
@@ -65,13 +65,13 @@ at_place (u ∷ catalog) (suc place) order within =
 
 -- ---- its rows
 
--- the definition that is found by the name at a place is the one that stands there
+-- the definition found by the name at a place is the one at that place
 pub one_there : (catalog : List TableDef) (place : ℕ) (t found : TableDef) → IsAtPlace catalog place t
     → ((name : List ℕ) → place_named catalog name ≡ Some place → table_named catalog name ≡ Some found) → found ≡ t
 one_there catalog place t found at named =
     let same : Some found ≡ Some t = sym (named t.name at.placed) ∙ at.found in cc
 
--- what is read of the table at a place are its rows, which follow those of the tables before it
+-- the rows read from the table at a place follow those of the earlier tables
 pub adds : (catalog : List TableDef) (rows : List Row) (place : ℕ) (t first : TableDef) (found old new : List Row)
     → IsAtPlace catalog place t → first ≡ t → found ≡ rows_of rows first.name → new ≡ old ++ found
     → new ++ rows_by_table rows (drop (place + 1) catalog) ≡ old ++ rows_by_table rows (drop place catalog)

@@ -1,4 +1,4 @@
--- What a call of the store that writes makes of the tables and rows of a database.
+-- What a writing call of the store does to the tables and rows of a database.
 use Rattle.std.proofs.Common.{◌≡◌, ◌∙◌, Bool, true, false, List, ap, ap₂, arith, inl, refl, subst, subst₂, sym}
 use Rattle.std.proofs.lemmas.Bool.{false≢true}
 use Rattle.sqlite_trees.specs.declared.store.Store.{Ghosts}
@@ -21,11 +21,11 @@ use Rattle.escrow_tables.specs.Inside.{IsHeld, Keeps, catalog_of, stored_of}
 use Rattle.escrow_schema.specs.declared.counted_table.CountedTable.{CountedTable}
 use Rattle.escrow_tables.proofs.Held.{held_itself, rows_held}
 
--- what contracts see of a connection, of how it was when it was last written, and of tables
+-- what contracts see of a connection, of its state at the last write, and of tables
 abbrev pub seen : {S : Type 0} → Ghosts S → Held S → Held S → List CountedTable → Tables S
 seen g store last tables = record { store = store; catalog = catalog_of tables; rows = rows_in (stored_of tables) (state g last).now }
 
--- a database of which tables and rows are held holds them
+-- a database holds the tables and rows that are held in it
 pub holds : (tables : List CountedTable) (rows : List Row) (db : Database) → AreTables (stored_of tables) → IsHeld tables rows db → Holds (catalog_of tables) rows db
 holds tables rows db are held = record {
   tables = stored_of tables;
@@ -56,23 +56,23 @@ untouched g it catalog rows = record {
 }
 
 module _ {S : Type 0} (g : Ghosts S) (old new : Held S) (D : Database → Database → Type 0) where
-  -- The tables that stand are kept, and how the store was when it was last written; the change makes others of
-  -- them, with other rows. The fields have these, and the store as it is then, where the call is done.
+  -- The tables are kept, with the store as it was last written; the change makes other tables and rows. If the call
+  -- succeeds, the fields have these, and the store as it is then.
   module _ (is_done : Bool) (it : Transacts (state g old) (state g new) is_done D) (was later : Held S) (tables after fields : List CountedTable) (rows : List Row) (keeps : Keeps (state g old) (state g was) tables)
       (listed_after : IsListed after) (turns : IsUsable (state g old) → (db : Database) → D (state g was).now db → IsHeld after rows db)
       (if_done : is_done ≡ true → (fields ≡ after) × (later ≡ new)) (if_not : is_done ≡ false → (fields ≡ tables) × (later ≡ was)) where
     are_after : AreTables (stored_of after)
     are_after = listed_are after listed_after
 
-    -- a clean disk was clean before
+    -- a disk that is clean was clean before
     was_clean : HasCleanDisk (state g new) → HasCleanDisk (state g old)
     was_clean clean = omega (arith, it.survives.clean, clean)
 
-    -- what was changed was the database as it was last written
+    -- the change started from the database as it was last written
     turned : IsUsable (state g old) → (db : Database) → D (state g old).now db → IsHeld after rows db
     turned usable db change = turns usable db (subst (λ (first : Database). D first db) (keeps.same usable) change)
 
-    -- what is held after a call that is done
+    -- what is held after a call that succeeds
     held_done : is_done ≡ true → HasCleanDisk (state g new) → IsHeld after rows (state g new).now
     held_done e clean = let made = it.done e clean in turned (it.usable (clean, made.0)) (state g new).now made.1
 
@@ -94,7 +94,7 @@ module _ {S : Type 0} (g : Ghosts S) (old new : Held S) (D : Database → Databa
           (λ clean trees made. (made.0, (made.1, holds after rows made.1 are_after (turned (was_clean clean, made.0) made.1 made.2), made.3))) it.survives;
     }
 
-    -- and the fields keep what they hold
+    -- the fields keep their contents
     pub keeps_on : Keeps (state g new) (state g later) fields
     keeps_on = by is_done refl
       where

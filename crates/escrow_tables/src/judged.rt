@@ -1,13 +1,13 @@
 //! What the rows of a table break.
-ghost use Rattle.std.specs.Prelude.{◌≡◌, [], ◌∷◌, IfOk};
+ghost use Rattle.std.specs.Prelude.{◌≡◌, IfOk};
 ghost use Rattle.escrow_schema.specs.Definition.{IsTable};
-ghost use Rattle.escrow_tables.specs.Judged.{first_violation};
-ghost use Rattle.escrow_rows.specs.Whole.{rows_with};
+ghost use Rattle.escrow_tables.specs.Judged.{by_amounts, first_violation};
+ghost use Rattle.escrow_tables.specs.Judging.{by_cells};
 
 use crate::judge::RowJudge;
 use crate::tables::Tables;
-use escrow_num::{Failure, Name, Value, Violation};
-use escrow_rows::{KeyedRow, RowTaker, made_row};
+use escrow_num::{Failure, Name, RowName, Violation};
+use escrow_rows::{KeyedRow, RowTaker};
 use escrow_schema::TableDef;
 use sqlite::Alter;
 use std::alloc::Global;
@@ -33,7 +33,7 @@ impl<S: Alter> Tables<S> {
     ) -> Result<Option<Violation>, Failure>
         requires place { place_named self.old.catalog name ≡ Some place }
         requires table { table_named self.old.catalog name ≡ Some (J.table judge.now) }
-        ensures told { HasCleanDisk (state S.Store self.new.store) → IfOk result (λ found. found ≡ first_violation (J.violation judge.now) (rows_of self.old.rows name)) }
+        ensures told { HasCleanDisk (state S.Store self.new.store) → IfOk result (λ found. found ≡ first_violation (by_amounts (J.violation judge.now)) (rows_of self.old.rows name)) }
         ensures reads { Reads S.Store self.old self.new }
         ensures open { HasCleanDisk (state S.Store self.new.store) → OnOk result (IsTrue (state S.Store self.new.store).is_open) }
     {
@@ -58,6 +58,9 @@ struct JudgedTable<'a, J: RowJudge> {
 }
 
 impl<'a, J: RowJudge> Model for JudgedTable<'a, J> {
+    ghost use Rattle.std.specs.Prelude.{◌≡◌};
+    ghost use Rattle.escrow_schema.specs.Definition.{IsTable};
+
     ghost Value = { J };
 
     ghost coded = { J.code };
@@ -77,13 +80,17 @@ impl<'a, J: RowJudge> JudgedTable<'a, J> {
         JudgedTable { table, judge }
     }
 
-    /// Returns what the row that values make breaks, if anything. Fails if values make no row of
-    /// the table.
-    fn violation(&self, alloc: Global, values: &[Value]) -> Result<Option<Violation>, Failure>
-        ensures { IfOk result (λ found. found ≡ first_violation (J.violation self.now) (rows_with (J.table self.now) (values.now ∷ []))) }
+    /// Returns what a row breaks, if anything. Fails if the row lacks a value, or the amount of a
+    /// RESERVABLE column.
+    fn violation(&self, alloc: Global, row: KeyedRow) -> Result<Option<Violation>, Failure>
+        ensures { IfOk result (λ found. found ≡ by_cells (J.violation self.now) (J.table self.now) row) }
     {
-        let row = made_row(alloc, self.table, values)?;
-        Ok(self.judge.violation(&row))
+        let amounts = row.amounts(alloc, self.table.columns.as_slice())?;
+        let name = RowName {
+            table: self.table.name,
+            key: row.key,
+        };
+        Ok(self.judge.violation(&name, amounts.as_slice()))
     }
 }
 
@@ -103,7 +110,7 @@ impl<J: RowJudge> RowTaker for RowsJudged<'_, J> {
 
     fn take(&mut self, row: KeyedRow) -> Result<(), Failure> {
         if self.found.is_none() {
-            self.found = self.judged.violation(self.alloc, row.values.as_slice())?;
+            self.found = self.judged.violation(self.alloc, row)?;
         }
         Ok(())
     }

@@ -53,14 +53,15 @@ impl<S: Alter> Tables<S> {
         ensures store { result.store ≡ opened.store }
         ensures catalog { result.catalog ≡ catalog_of opened.catalog }
         ensures rows { (rows : List Row) → Stores (state S.Store opened.store) opened.catalog rows → result.rows ≡ rows }
+        ensures valid { IsCatalog result.catalog }
+        ensures are_rows { HasCleanDisk (state S.Store result.store) → AreRowsOf result.catalog result.rows }
     {
         let Opened {
             store,
             catalog,
             migrated: _,
         } = opened;
-        // The contract of `tables` says what always holds of the catalog.
-        let _ = catalog.tables();
+        prove!(catalog.tables().len() <= Catalog::MAX_TABLES);
         Tables {
             last: Snapshot::of(&store),
             store,
@@ -76,16 +77,22 @@ impl<S: Alter> Tables<S> {
         self.store.into_connection()
     }
 
+    /// Returns whether the store is outside a transaction, which it is between any two calls. So if
+    /// the store can be used, a crash leaves exactly these tables and rows. Makes no store call.
+    pub fn is_at_rest(&self) -> bool
+        ensures always { IsTrue result }
+        ensures left { IsUsable (state S.Store self.now.store) → (trees : Trees) → (state S.Store self.now.store).may_leave trees → AreHeld self.now.catalog self.now.rows trees }
+    {
+        self.store.is_at_rest()
+    }
+
     /// Returns how many tables there are. Makes no store call. The catalog is valid at any time. If
-    /// the disk returned what was written, the rows are rows of it. If the store can be used, a
-    /// crash leaves exactly these tables and rows.
+    /// the disk returned what was written, the rows are rows of it.
     pub fn len(&self) -> usize
         ensures len { result ≡ length self.now.catalog }
         ensures catalog { IsCatalog self.now.catalog }
         ensures rows { HasCleanDisk (state S.Store self.now.store) → AreRowsOf self.now.catalog self.now.rows }
-        ensures left { IsUsable (state S.Store self.now.store) → (trees : Trees) → (state S.Store self.now.store).may_leave trees → AreHeld self.now.catalog self.now.rows trees }
     {
-        self.store.rests();
         self.catalog.tables().len()
     }
 
@@ -109,6 +116,7 @@ impl<S: Alter> Tables<S> {
         requires { place < length self.now.catalog }
         ensures named { (name : List ℕ) → place_named self.now.catalog name ≡ Some place → table_named self.now.catalog name ≡ Some result.now }
         ensures table { IsTable result.now }
+        ensures catalog { IsCatalog self.now.catalog }
     {
         &self.catalog.at(place).stored.table
     }

@@ -43,8 +43,6 @@ impl<S: Alter> Tables<S> {
         ensures told { HasCleanDisk (state S.Store self.new.store) → OnOk result (rows.new.items ++ rows_by_table self.old.rows (drop (place + 1) self.old.catalog) ≡ rows.old.items ++ rows_by_table self.old.rows (drop place self.old.catalog)) }
         ensures reads { Reads S.Store self.old self.new }
     {
-        // The contract of `len` says what always holds of the tables.
-        let _ = self.len();
         let name = self.table(place).name;
         let mut more = self.rows_at(alloc, place, name)?.into_vec();
         rows.append(&mut more)?;

@@ -5,7 +5,7 @@ ghost use Rattle.escrow_schema.specs.Definition.{IsTable};
 ghost use Rattle.escrow_schema.specs.Print.{declared_checks};
 
 use escrow_bounds::Addition;
-use escrow_num::{Row, Violation};
+use escrow_num::{Amount, RowName, Violation};
 use escrow_reserved::{Reserved, first_violation};
 use escrow_schema::{Column, TableDef};
 use escrow_tables::RowJudge;
@@ -96,13 +96,13 @@ impl RowJudge for AddedJudge<'_> {
 
     ghost violation = { violation_by };
 
-    fn violation(&self, row: &Row) -> Option<Violation> {
+    fn violation(&self, name: &RowName, amounts: &[Amount]) -> Option<Violation> {
         let first = self.added.first;
         let count = self.added.count;
-        if self.reserved.is_reserved(&row.name) {
-            return self.addition.violation(&row.name, first, count);
+        if self.reserved.is_reserved(name) {
+            return self.addition.violation(name, first, count);
         }
         let checks = self.added.table.checks.as_slice();
-        first_violation(&checks[first..first + count], row.amounts.as_slice(), &[])
+        first_violation(&checks[first..first + count], amounts, &[])
     }
 }

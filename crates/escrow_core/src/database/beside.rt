@@ -65,10 +65,7 @@ impl<S: Alter> Database<S> {
         ensures count { result ≡ length (own session self.now.state.reservations) }
         ensures kept { IsKept S.Store self.now }
     {
-        let journal = self.reserved.txns().journal(session);
-        // Gives the proof that there are few enough to be counted.
-        let _ = journal.session();
-        journal.all().len() as u32
+        self.reserved.txns().journal(session).all().len() as u32
     }
 
     /// Serves a statement that commutes with the COMMITs of other sessions. Returns `None` if the

@@ -24,35 +24,46 @@ impl<S: Alter> Database<S> {
     ghost use Rattle.escrow_core.specs.Serving.{Answers, IsFailure, OnlyReads, unless_stands};
     ghost use Rattle.escrow_machine.specs.Accepted.{IsRefusal, PassesEarly};
 
-    /// INSERT: adds the row that the values make to the committed rows. Whether its key is free is
-    /// known from the write. The key is looked for only if the row isn't added.
+    /// INSERT: adds the row that the values make to the committed rows. If the amounts of a row with
+    /// its key are kept, that row exists. Otherwise the write tells whether the key is free, and the
+    /// row is read only if the write isn't done.
     pub(crate) fn insert(&mut self, alloc: Global, session: Session, text: &InsertText) -> Answer
         ensures { Answers S.Store session (Statement.Insert text.now) self.old result self.new }
     {
         let (place, row) = self.plan_insert(alloc, session, text)?;
+        if self.is_remembered(&row.name) {
+            return Err(Refusal::RowExists);
+        }
         if let Some(refusal) = row_refusal(
             self.tables.table(place),
             self.tables.count(place),
             &row,
         ) {
-            return Err(self.row_exists_or(place, &row.name, refusal));
+            return Err(self.row_exists_or(alloc, place, &row.name, refusal));
         }
         if self.tables.insert(alloc, place, &row)? {
             return Ok(Reply::Inserted);
         }
-        Err(self.row_exists_or(place, &row.name, Refusal::Store))
+        Err(self.row_exists_or(alloc, place, &row.name, Refusal::Store))
     }
 
-    /// Returns why a new row isn't added: a row has its name, or else another reason. Asks the
-    /// store unless the row is kept; the store may fail.
-    fn row_exists_or(&mut self, place: usize, name: &RowName, other: Refusal) -> Refusal
+    /// Returns why a new row isn't added: a row has its name, or else another reason. Keeps the
+    /// amounts of the row that has its name, so that the next INSERT is refused at once. Memory or
+    /// the store may fail.
+    fn row_exists_or(
+        &mut self,
+        alloc: Global,
+        place: usize,
+        name: &RowName,
+        other: Refusal,
+    ) -> Refusal
         requires { place_named self.old.state.catalog name.now.table ≡ Some place }
         ensures told { IsFailure result ⊎ (HasCleanDisk (state S.Store self.new.store) → result ≡ unless_stands (row_named self.old.state.rows name.now) other) }
         ensures only_reads { OnlyReads S.Store self.old self.new }
     {
-        match self.stands(place, name) {
-            Ok(true) => Refusal::RowExists,
-            Ok(false) => other,
+        match self.amounts(alloc, place, name) {
+            Ok(Some(_)) => Refusal::RowExists,
+            Ok(None) => other,
             Err(failure) => Refusal::from(failure),
         }
     }

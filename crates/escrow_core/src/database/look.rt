@@ -80,18 +80,12 @@ impl<S: Alter> Database<S> {
         Ok(Some(amounts))
     }
 
-    /// Returns whether the committed row of a name exists. `place` is that of its table. Asks the
-    /// store unless the row's amounts are kept.
-    pub(crate) fn stands(&mut self, place: usize, name: &RowName) -> Result<bool, Failure>
-        requires { place_named self.old.state.catalog name.now.table ≡ Some place }
-        ensures told { HasCleanDisk (state S.Store self.new.store) → IfOk result (λ stands. stands ≡ is_some (row_named self.old.state.rows name.now)) }
-        ensures only_reads { OnlyReads S.Store self.old self.new }
-        ensures stays { HasCleanDisk (state S.Store self.new.store) → OnOk result (IsTrue (state S.Store self.old.store).is_open → IsTrue (state S.Store self.new.store).is_open) }
+    /// Returns whether the amounts of the row of a name are kept. Such a row exists. Makes no store
+    /// call.
+    pub(crate) fn is_remembered(&self, name: &RowName) -> bool
+        ensures { HasCleanDisk (state S.Store self.now.store) → IsTrue result → IsTrue (is_some (row_named self.now.state.rows name.now)) }
     {
-        if self.recent.amounts(name).is_some() {
-            return Ok(true);
-        }
-        self.tables.stands(place, name)
+        self.recent.amounts(name).is_some()
     }
 
     /// Returns the values of the committed row of a name, in column order, if there is one. The

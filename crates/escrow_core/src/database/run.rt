@@ -11,7 +11,7 @@ use std::alloc::{AllocError, Global};
 
 impl<S: Alter> Database<S> {
     ghost use Rattle.std.specs.Prelude.{◌≡◌, IfOk, IsTrue, OnErr};
-    ghost use Rattle.sqlite.specs.Held.{HeldBack as Shown, state};
+    ghost use Rattle.sqlite.specs.Held.{Held as Shown, state};
     ghost use Rattle.sqlite.specs.State.{HasCleanDisk, Survives};
     ghost use Rattle.sqlite_trees.specs.Tree.{Trees};
     ghost use Rattle.escrow_rows.specs.Answers.{IsUsable};
@@ -62,8 +62,7 @@ impl<S: Alter> Database<S> {
             self.serve_next(alloc, event, are_shared, &mut held, replies);
         }
         self.settle_all(alloc, held.plan(), held.places(), replies);
-        // Gives the proof what a crash leaves.
-        let _ = self.next_id();
+        prove!(self.tables.is_at_rest());
     }
 
     /// Serves the next event, before or after the COMMITs that are held back are written. No COMMIT

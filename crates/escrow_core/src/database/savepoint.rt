@@ -15,8 +15,6 @@ impl<S: Alter> Database<S> {
     pub(crate) fn savepoint(&mut self, session: Session, name: Name) -> Answer
         ensures { Answers S.Store session (Statement.Savepoint name) self.old result self.new }
     {
-        // Gives the proof the range of the number.
-        let _ = session.get();
         self.reserved.mark(session, name)?;
         Ok(Reply::Savepoint(name))
     }

@@ -34,7 +34,7 @@ impl<S: Alter> Database<S> {
         ensures usable { IsUsable (state S.Store self.new.store) → IsUsable (state S.Store self.old.store) }
         ensures crash { Survives (state S.Store self.old.store) (state S.Store self.new.store) (λ trees. IsTrue (state S.Store self.old.store).is_open × AreAfterEnds plan.now self.old.state trees) }
     {
-        // Gives the proof that there are few enough reservations to be counted.
+        // The contract of `next_id` says that no more reservations are open than can be counted.
         let _ = self.next_id();
         let mut settled = Settled {
             committed: 0,
@@ -88,7 +88,7 @@ impl<S: Alter> Database<S> {
     fn settle_each(&mut self, alloc: Global, plan: &[(Session, End)]) -> Result<Settled, Stop>
         ensures { Settles S.Store plan.now self.old result self.new }
     {
-        // Gives the proof that there are few enough reservations to be counted.
+        // The contract of `next_id` says that no more reservations are open than can be counted.
         let _ = self.next_id();
         let mut settled = Settled {
             committed: 0,

@@ -66,8 +66,6 @@ impl<S: Alter> Database<S> {
         let Some(at) = self.reserved.find(&name) else {
             return self.reserve_first(alloc, session, text, place, name, changes);
         };
-        // Gives the proof the range of the number.
-        let _ = session.get();
         let id = self.reserved.grant(session, name, at, changes)?;
         Ok(Reply::Reserved { id })
     }
@@ -91,8 +89,6 @@ impl<S: Alter> Database<S> {
         let Some(amounts) = self.amounts(alloc, place, &name)? else {
             return Err(Refusal::NoSuchRow);
         };
-        // Gives the proof the range of the number.
-        let _ = session.get();
         let checks = self.tables.table(place).checks.as_slice();
         let id = self
             .reserved

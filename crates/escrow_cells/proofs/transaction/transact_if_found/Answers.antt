@@ -16,7 +16,7 @@ returns-in_err-do_finding-clause-writes g c =
     c.drop-tx.ensures.undone c.drop-tx.ensures.survives in
     search (rules, it)
 
--- it found none: the transaction is rolled back
+-- no cell was found: the transaction is rolled back
 pub returns-then-not-branch-clause-writes : goal.returns-then-not-branch-clause-writes
 returns-then-not-branch-clause-writes g c =
     let it = undone _ _ _ c.requires.settled (DoesFinding c.args.first.now c.args.rest.now) _ (just_begun g.S.Store c.args.conn.now _ c.transaction-tx.ensures.begun) c.do_finding.ensures.acts.pending
@@ -64,7 +64,7 @@ returns-in_err-do_steps-clause-writes g c =
     let it = undone _ _ _ c.requires.settled (DoesFinding c.args.first.now c.args.rest.now) _ c.loop-some.invariant.goes_on.1.pending c.do_steps.ensures.acts.pending c.drop-tx-in_err-do_steps.ensures.undone c.drop-tx-in_err-do_steps.ensures.survives in
     search (rules, it)
 
--- all steps are done, of which the first found a cell
+-- all steps ran, and the first found a cell
 whole : (g : given.Over) (c : After-commit g) → GoesOn (length (c.args.first.now ∷ c.args.rest.now)) (DoesFinding c.args.first.now c.args.rest.now) (state g.S.Store c.args.conn.now) (state g.S.Store c.loop-some.tx.conn.now)
 whole g c =
     let so_far = c.loop-some.invariant.goes_on in

@@ -21,7 +21,7 @@ returns-then-not-are_apart-clause-foreign c = λ told tables are same.
     let tested : are_apart read ≡ false = ap are_apart (sym c.deref.ensures.value) ∙ sym c.are_apart.ensures ∙ c.if-not-are_apart.true in
     both_ways (are_apart read) tested (read_apart c.args.rows.now tables are same read (record { rows_are = c.in_ok-tables.ensures.rows; each = c.in_ok-tables.ensures.each }))
 
--- the tables that are read
+-- the tables that were read
 read : (c : goal.In_ok-put_in_order) → AreRead c.args.rows.now c.in_ok-tables.tables.items
 read c = record { rows_are = c.in_ok-tables.ensures.rows; each = c.in_ok-tables.ensures.each }
 

@@ -26,7 +26,7 @@ pub returns-in_err-place : goal.returns-in_err-place
 returns-in_err-place g c =
     refusal_serves g.S.Store c.args.session (adds c.args.table c.args.text.now) c.args.self.now c.from_residual.result c.in_err-place.field-0.0 c.from_residual.ensures.1 c.in_err-place.ensures.refused
 
--- the table that stands, and what is added to it
+-- the table in the catalog, and the checks to add
 record IsPlanned (g : given.Over) (c : In_ok-place g) : Type 0 where
   old : TableDef
   named : table_named c.self.inside.tables.catalog c.args.table ≡ Some old
@@ -98,7 +98,7 @@ returns-in_err-violation g c =
     (handed_on g.S.Store c.args.session asked d mid c.from_residual-in_err-violation.result (refusal_for f) c.from_residual-in_err-violation.ensures.1
     (look_failed g.S.Store c.args.session asked d mid f only_reads refl early refl))
 
--- what was found is the machine's answer
+-- the violation found is the machine's
 judged : (g : given.Over) (c : In_ok-violation g) → HasCleanDisk (state g.S.Store c.first_violation.new.self.store)
     → c.in_ok-violation.field-0 ≡ added_violation (database_of c.self.inside.tables c.self.inside.reserved.txns).state c.args.table c.args.text.now
 judged g c clean =
@@ -139,7 +139,7 @@ looked g c = record {
   early = rw (← c.self.view_is) at c.in_ok-place.ensures.early;
 }
 
--- nothing refuses it
+-- the write may be made
 may : (g : given.Over) (c : In_default g)
     → (old : TableDef) × MayAlter g.S.Store c.args.session (adds c.args.table c.args.text.now) (database_of c.first_violation.new.self c.self.inside.reserved.txns) c.args.table old c.in_ok-place.added.table
 may g c =

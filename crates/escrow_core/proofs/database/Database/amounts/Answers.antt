@@ -7,7 +7,7 @@ use Rattle.escrow_core.proofs.Altering.{read_holds}
 use Rattle.escrow_core.proofs.Serving.{remembered_holds}
 use Rattle.escrow_core.proofs.database.Database.amounts.Goals as goal
 
--- they are kept
+-- the amounts are kept
 pub returns-in-Some-clause-told : goal.returns-in-Some-clause-told
 returns-in-Some-clause-told g c = λ u.
     let kept = c.self.inside.recent in
@@ -25,7 +25,7 @@ pub invariant_of-self : goal.invariant_of-self
 invariant_of-self g c =
     read_holds g.S.Store c.self.inside.tables c.amounts-2.new.self c.self.inside.reserved.txns c.self.inside.reserved.places c.self.inside.recent c.self.invariant c.amounts-2.ensures.reads
 
--- and what it answered is kept
+-- the amounts from the store are kept
 pub invariant_of-self-2 : goal.invariant_of-self-2
 invariant_of-self-2 g c =
     remembered_holds g.S.Store c.self.inside.tables c.amounts-2.new.self c.self.inside.reserved.txns c.self.inside.reserved.places c.self.inside.recent c.remember.new.self c.args.name.now c.in-Some-2.amounts

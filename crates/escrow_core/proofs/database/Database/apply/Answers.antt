@@ -9,7 +9,7 @@ use Rattle.escrow_core.proofs.database.Database.apply.Given as given
 use Rattle.escrow_core.proofs.database.Database.apply.Goals as goal
 use Rattle.escrow_core.proofs.database.Database.apply.Goals.{After-is_empty}
 
--- the reservations that are applied are the session's
+-- the applied reservations are those of the session
 mine : (g : given.Over) (c : After-is_empty g) → c.all.result.now ≡ own c.args.session c.self.inside.reserved.txns.reservations
 mine g c = c.all.ensures ∙ c.journal.ensures.reservations ∙ ap (λ (o : Open). own c.args.session o.reservations) c.txns.ensures
 
@@ -24,7 +24,7 @@ returns-then-is_empty-clause-done g c =
     let none = holds_none c.all.result.now (own c.args.session c.self.inside.reserved.txns.reservations) (mine g at) (sym c.if-is_empty.true ∙ c.is_empty.ensures) in
     rw (← c.self.view_is, c.end.ensures.count, c.end.ensures.txns) (just_ended g.S.Store c.args.session c.self.inside.tables c.self.inside.reserved.txns none)
 
--- it holds some
+-- the session holds a reservation
 holds : (g : given.Over) (c : After-is_empty g) → false ≡ c.is_empty.result → nat_lt 0 (length (own c.args.session c.args.self.now.state.reservations)) ≡ true
 holds g c some =
     holds_some c.all.result.now (own c.args.session c.args.self.now.state.reservations)

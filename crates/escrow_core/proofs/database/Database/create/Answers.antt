@@ -27,7 +27,7 @@ create-requires-clause-new g c =
     let early = rw (← c.self.view_is) at c.in_ok-table.ensures.early in
     new_table (database_of c.self.inside.tables c.self.inside.reserved.txns).state c.args.session c.args.text.now c.in_ok-table.table early c.in_ok-table.ensures.table
 
--- nothing refuses it
+-- the write may be made
 may : (g : given.Over) (c : After-create g)
     → MayWrite g.S.Store c.args.session (statement.Create c.args.text.now) (database_of c.self.inside.tables c.self.inside.reserved.txns) (reply.Created c.args.text.now.table)
     (record (database_of c.self.inside.tables c.self.inside.reserved.txns).state { catalog = with_table c.in_ok-table.table c.self.inside.tables.catalog }) Any

@@ -17,7 +17,7 @@ pub returns-in_err-place : goal.returns-in_err-place
 returns-in_err-place g c =
     early_serves g.S.Store c.args.session (statement.Delete c.args.text.now) c.args.self.now c.from_residual.result c.in_err-place.field-0.0 c.from_residual.ensures.1 c.in_err-place.ensures.early
 
--- a row that is reserved stands
+-- a reserved row exists
 pub returns-then-is_reserved : goal.returns-then-is_reserved
 returns-then-is_reserved g c =
     let d = database_of c.self.inside.tables c.self.inside.reserved.txns in
@@ -30,7 +30,7 @@ returns-then-is_reserved g c =
     (late_refused g.S.Store c.args.session (statement.Delete text) d refusal.RowReserved refl early
     (λ u. delete_reserved d.state c.args.session text name named early (reserved_stands d.state name (c.self.invariant.keeps.kept.safe_rows u) reserved) reserved))
 
--- it may be taken out
+-- the row may be removed
 may : (g : given.Over) (c : After-forget g)
     → MayWrite g.S.Store c.args.session (statement.Delete c.args.text.now) (database_of c.self.inside.tables c.self.inside.reserved.txns)
     (tried (row_named c.self.inside.tables.rows c.in_ok-name.name) refusal.NoSuchRow reply.Deleted)
@@ -45,7 +45,7 @@ returns-in_err-delete g c =
     (failure_serves g.S.Store c.args.session (statement.Delete c.args.text.now) c.self.inside.tables c.delete.new.self c.self.inside.reserved.txns _ _ (may g (goal.at.returns-in_err-delete g c).After-forget)
     c.from_residual-in_err-delete.result c.in_err-delete.field-0.0 c.from_residual-in_err-delete.ensures.1 c.in_err-delete.ensures.writes)
 
--- it isn't there
+-- the row does not exist
 pub returns-then-not-branch : goal.returns-then-not-branch
 returns-then-not-branch g c =
     let d = database_of c.self.inside.tables c.self.inside.reserved.txns in
@@ -70,7 +70,7 @@ invariant_of-self-then-not-branch g c =
     unwritten_holds g.S.Store c.self.inside.tables c.delete.new.self c.self.inside.reserved.txns c.self.inside.reserved.places _ _ c.self.inside.recent c.forget.new.self c.self.invariant (rw c.if-not-branch.true at c.in_ok-delete.ensures.writes)
     (left_without c.self.inside.recent c.forget.new.self (same_row c.in_ok-name.name) (gone_too c.forget.new.self c.in_ok-name.name c.forget.ensures.gone) c.forget.ensures.others)
 
--- it was taken out
+-- the row was removed
 pub invariant_of-self-2 : goal.invariant_of-self-2
 invariant_of-self-2 g c =
     write_holds g.S.Store c.args.session (statement.Delete c.args.text.now) c.self.inside.tables c.delete.new.self c.self.inside.reserved.txns _ _ (may g (goal.at.invariant_of-self-2 g c).After-forget)

@@ -16,7 +16,7 @@ pub returns-in_err-place : goal.returns-in_err-place
 returns-in_err-place g c =
     early_serves g.S.Store c.args.session (drops c.args.table c.args.name) c.args.self.now c.from_residual.result c.in_err-place.field-0.0 c.from_residual.ensures.1 c.in_err-place.ensures.early
 
--- nothing refuses it
+-- the write may be made
 may : (g : given.Over) (c : In_ok-altered g)
     → MayAlter g.S.Store c.args.session (drops c.args.table c.args.name) (database_of c.self.inside.tables c.self.inside.reserved.txns) c.args.table c.table.result.now c.in_ok-altered.altered
 may g c =

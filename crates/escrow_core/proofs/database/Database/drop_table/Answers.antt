@@ -18,7 +18,7 @@ returns-in_err-place g c =
 pub drop_table-requires : goal.drop_table-requires
 drop_table-requires g c = (c.args.name, rw (← c.self.view_is) at c.in_ok-place.ensures.place)
 
--- nothing refuses it
+-- the write may be made
 may : (g : given.Over) (c : After-drop_table g)
     → MayWrite g.S.Store c.args.session (statement.Drop c.args.name) (database_of c.self.inside.tables c.self.inside.reserved.txns) (reply.Dropped c.args.name) (after_drop (database_of c.self.inside.tables c.self.inside.reserved.txns).state c.args.name)
     (λ row. bytes_eq row.table c.args.name ≡ false)

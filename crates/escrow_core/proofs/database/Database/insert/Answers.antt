@@ -11,8 +11,8 @@ use Rattle.escrow_tables.specs.Calls.{with_new}
 use Rattle.escrow_core.specs.Inside.{database_of}
 use Rattle.escrow_core.specs.Database.{Database}
 use Rattle.escrow_core.specs.Serving.{unless_stands}
-use Rattle.escrow_core.proofs.Inserting.{IsAsked, is_made, made_row, may_insert, put_none, put_reply, room_left, row_refused, store_refused}
-use Rattle.escrow_core.proofs.Serving.{Any, MayWrite, failure_serves, look_refused, refusal_serves, refusal_told, still_clean, told_or_failed, unwritten_holds, write_holds, write_serves}
+use Rattle.escrow_core.proofs.Inserting.{IsAsked, is_made, made_row, may_insert, put_none, put_reply, room_left, row_exists, row_refused, store_refused}
+use Rattle.escrow_core.proofs.Serving.{Any, MayWrite, failure_serves, late_refused, look_refused, refusal_serves, refusal_told, still_clean, told_or_failed, unwritten_holds, write_holds, write_serves}
 use Rattle.escrow_core.proofs.database.Database.insert.Given as given
 use Rattle.escrow_core.proofs.database.Database.insert.Goals as goal
 use Rattle.escrow_core.proofs.database.Database.insert.Goals.{After-count, After-insert}
@@ -21,11 +21,19 @@ pub returns-in_err-place : goal.returns-in_err-place
 returns-in_err-place g c =
     refusal_serves g.S.Store c.args.session (statement.Insert c.args.text.now) c.args.self.now c.from_residual.result c.in_err-place.field-0.0 c.from_residual.ensures.1 c.in_err-place.ensures.refused
 
--- the place of its table, in what a database keeps
+-- a row with this name is kept, so it exists
+pub returns-then-is_remembered : goal.returns-then-is_remembered
+returns-then-is_remembered g c =
+    let d = c.args.self.now in
+    let early = c.in_ok-place.ensures.early in
+    late_refused g.S.Store c.args.session (statement.Insert c.args.text.now) d refusal.RowExists refl early
+    (λ u. row_exists d.state c.args.session c.args.text.now c.in_ok-place.row c.in_ok-place.ensures.row early (c.is_remembered.ensures u c.if-is_remembered.true))
+
+-- the place of the row's table in the catalog
 placed : (g : given.Over) (c : After-count g) → place_named c.self.inside.tables.catalog c.args.text.now.table ≡ Some c.in_ok-place.place
 placed g c = rw (← c.self.view_is) at c.in_ok-place.ensures.place
 
--- the row that is made
+-- the new row
 asked : (g : given.Over) (c : After-count g) → IsAsked g.S.Store (database_of c.self.inside.tables c.self.inside.reserved.txns) c.args.session c.args.text.now c.in_ok-place.row c.table.result.now c.count.result
 asked g c = record {
   made = rw (← c.self.view_is) at c.in_ok-place.ensures.row;
@@ -42,7 +50,7 @@ row_refusal-requires-clause-fits g c =
     let is = asked g (goal.at.row_refusal-requires-clause-fits g c).After-count in
     made_row (database_of c.self.inside.tables c.self.inside.reserved.txns).state c.args.text.now c.in_ok-place.row c.table.result.now is.named is.made
 
--- its room or a check refuses it, unless a row has its name
+-- the table's room or a check refuses the row, unless a row has its name
 pub row_exists_or-requires : goal.row_exists_or-requires
 row_exists_or-requires g c =
     let s : State = c.args.self.now.state in
@@ -77,7 +85,7 @@ insert-requires-clause-room g c =
     let d = database_of c.self.inside.tables c.self.inside.reserved.txns in
     room_left g.S.Store d c.args.session c.args.text.now c.in_ok-place.row c.table.result.now c.count.result (asked g (goal.at.insert-requires-clause-room g c).After-count) (sym c.in_default.is ∙ c.row_refusal.ensures)
 
--- neither refuses it
+-- neither refuses the row
 may : (g : given.Over) (c : After-insert g)
     → MayWrite g.S.Store c.args.session (statement.Insert c.args.text.now) (database_of c.self.inside.tables c.self.inside.reserved.txns) (put_reply (row_named c.self.inside.tables.rows c.in_ok-place.row.name))
     (record (database_of c.self.inside.tables c.self.inside.reserved.txns).state { rows = with_new c.in_ok-place.row c.self.inside.tables.rows }) Any
@@ -95,7 +103,7 @@ pub invariant_of-self : goal.invariant_of-self
 invariant_of-self g c =
     unwritten_holds g.S.Store c.self.inside.tables c.insert.new.self c.self.inside.reserved.txns c.self.inside.reserved.places _ _ c.self.inside.recent c.self.inside.recent c.self.invariant c.in_err-insert.ensures.writes (λ name. inr refl)
 
--- it was put, so no row had its name
+-- the row was inserted, so no row had its name
 pub invariant_of-self-then-branch : goal.invariant_of-self-then-branch
 invariant_of-self-then-branch g c =
     write_holds g.S.Store c.args.session (statement.Insert c.args.text.now) c.self.inside.tables c.insert.new.self c.self.inside.reserved.txns _ _ (may g (goal.at.invariant_of-self-then-branch g c).After-insert)
@@ -107,7 +115,7 @@ returns-then-branch g c =
     (write_serves g.S.Store c.args.session (statement.Insert c.args.text.now) c.self.inside.tables c.insert.new.self c.self.inside.reserved.txns _ _ (may g (goal.at.returns-then-branch g c).After-insert) reply.Inserted refl
     (λ u. put_none (row_named c.self.inside.tables.rows c.in_ok-place.row.name) (c.in_ok-insert.ensures.told u c.if-branch.true)) (rw c.if-branch.true at c.in_ok-insert.ensures.writes))
 
--- it wasn't: a row has its name, or the store refused it for what others made of it
+-- it was not inserted: a row has its name, or the store refused it
 pub invariant_of-self-2 : goal.invariant_of-self-2
 invariant_of-self-2 g c =
     unwritten_holds g.S.Store c.self.inside.tables c.insert.new.self c.self.inside.reserved.txns c.self.inside.reserved.places _ _ c.self.inside.recent c.self.inside.recent c.self.invariant (rw c.if-branch.false at c.in_ok-insert.ensures.writes) (λ name. inr refl)

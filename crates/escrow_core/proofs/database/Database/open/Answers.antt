@@ -14,8 +14,8 @@ invariant_of-result g c =
     rw (c.in-Ok.ensures, c.new-in-Ok.ensures) (record {
       keeps = record {
         kept = record {
-          orderly = opened_orderly tables.catalog c.len.ensures.catalog;
-          safe_rows = λ clean. opened_safe tables.catalog tables.rows (c.len.ensures.rows clean)
+          orderly = opened_orderly tables.catalog c.over-tables.ensures.valid;
+          safe_rows = λ clean. opened_safe tables.catalog tables.rows (c.over-tables.ensures.are_rows clean)
               (let is = c.requires (rw c.over-tables.ensures.store at clean) in
               rw (c.over-tables.ensures.catalog, c.over-tables.ensures.rows is.0 is.1)
               (subst (λ (catalog : List TableDef). AllByRecursion (MeetsChecks catalog) is.0) (definitions found.catalog) is.1.store.meet));

@@ -47,7 +47,7 @@ pub invariant_of-self : goal.invariant_of-self
 invariant_of-self g c =
     unwritten_holds g.S.Store c.self.inside.tables c.set_plain.new.self c.self.inside.reserved.txns c.self.inside.reserved.places _ _ c.self.inside.recent c.self.inside.recent c.self.invariant c.in_err-set_plain.ensures.writes (λ name. inr refl)
 
--- it doesn't stand
+-- the row does not exist
 pub returns-then-not-branch : goal.returns-then-not-branch
 returns-then-not-branch g c =
     let d = database_of c.self.inside.tables c.self.inside.reserved.txns in
@@ -65,7 +65,7 @@ pub invariant_of-self-then-not-branch : goal.invariant_of-self-then-not-branch
 invariant_of-self-then-not-branch g c =
     unwritten_holds g.S.Store c.self.inside.tables c.set_plain.new.self c.self.inside.reserved.txns c.self.inside.reserved.places _ _ c.self.inside.recent c.self.inside.recent c.self.invariant (rw c.if-not-branch.true at c.in_ok-set_plain.ensures.writes) (λ name. inr refl)
 
--- it was replaced
+-- the values were replaced
 pub invariant_of-self-2 : goal.invariant_of-self-2
 invariant_of-self-2 g c =
     write_holds g.S.Store c.args.session (statement.Update c.args.text.now) c.self.inside.tables c.set_plain.new.self c.self.inside.reserved.txns _ _ (writes g (goal.at.invariant_of-self-2 g c).After-as_slice)

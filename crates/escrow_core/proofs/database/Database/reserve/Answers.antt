@@ -12,7 +12,7 @@ use Rattle.escrow_core.proofs.database.Database.reserve.Given as given
 use Rattle.escrow_core.proofs.database.Database.reserve.Goals as goal
 use Rattle.escrow_core.proofs.database.Database.reserve.Goals.{After-grant}
 
--- what is planned, of a row that has a place
+-- the plan, for a row that has a place
 planned : (g : given.Over) (c : After-grant g) → IsPlanned (database_of c.self.inside.tables c.self.inside.reserved.txns).state c.args.text.now (row_name c.args.text.now.table c.args.key) c.args.changes
 planned g c = record {
   table = refl;
@@ -40,8 +40,7 @@ grant-requires-clause-short g c =
 pub grant-requires-clause-room : goal.grant-requires-clause-room
 grant-requires-clause-room g c =
     let s : State = (database_of c.self.inside.tables c.self.inside.reserved.txns).state in
-    let of_session : IsSession c.args.session = rw c.get.ensures.value at c.get.ensures.within in
-    room_for_one s c.args.session c.args.text.now c.args.key c.args.changes c.self.invariant.keeps.kept.orderly of_session (rw (← c.self.view_is) at c.requires.plan)
+    λ of_session. room_for_one s c.args.session c.args.text.now c.args.key c.args.changes c.self.invariant.keeps.kept.orderly of_session (rw (← c.self.view_is) at c.requires.plan)
 
 pub returns-in_err-id : goal.returns-in_err-id
 returns-in_err-id g c =
@@ -59,7 +58,7 @@ invariant_of-self-2 g c = record {
       let places = c.self.inside.reserved.places in
       let name = row_name c.args.text.now.table c.args.key in
       let at_grant = (goal.at.invariant_of-self-2 g c).After-grant in
-      let of_session : IsSession c.args.session = rw c.get.ensures.value at c.get.ensures.within in
+      let of_session : IsSession c.args.session = c.grant.ensures.within in
       rw c.in_ok-id.ensures.granted
       (from_some (place_at places name) (there g at_grant) (λ place at.
       grant_keeps g.S.Store c.args.session c.args.text.now name c.args.changes d places c.grant.new.self.places (planned g at_grant) c.self.invariant.keeps.kept of_session place at

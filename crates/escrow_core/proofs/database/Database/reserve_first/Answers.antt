@@ -30,11 +30,11 @@ returns-in_default g c =
     first_lacks g.S.Store c.args.session c.args.text.now c.args.name c.args.changes c.args.self.now c.amounts.new.self (record { table = c.requires.table; plan = c.requires.plan }) c.requires.first
     c.amounts.ensures.only_reads (λ clean. rw c.in_default.is at (c.in_ok-amounts.ensures.told clean))
 
--- the state since the row was looked for is the one before
+-- the state is the same as before the row was looked for
 same : (g : given.Over) (c : After-as_slice g) → (database_of c.self.inside.tables c.self.inside.reserved.txns).state ≡ c.args.self.now.state
 same g c = ap (λ (d : Database _). d.state) c.self.view_is ∙ c.amounts.ensures.only_reads.same
 
--- the row's table, which has its amounts
+-- the row's table, and the row's amounts
 named : (g : given.Over) (c : After-as_slice g) → table_named c.self.inside.tables.catalog c.args.name.table ≡ Some c.table.result.now
 named g c = c.table.ensures.named c.args.name.table (subst (λ (s : State). place_named s.catalog c.args.name.table ≡ Some c.args.place) (sym (same g c)) c.requires.place)
 
@@ -47,7 +47,7 @@ pub grant_first-requires-clause-covered : goal.grant_first-requires-clause-cover
 grant_first-requires-clause-covered g c =
     rw (c.as_slice-checks.ensures, c.as_slice.ensures) (covered c.table.result.now c.in-Some.amounts c.table.ensures.table (many g c))
 
--- it is looked at, planned, and not reserved
+-- the row was read, its changes are planned, and it is not reserved
 looked : (g : given.Over) (c : After-as_slice g) → OnlyReads g.S.Store c.args.self.now (database_of c.self.inside.tables c.self.inside.reserved.txns)
 looked g c = rw (← c.self.view_is) at c.amounts.ensures.only_reads
 
@@ -67,10 +67,10 @@ grant_first-requires-clause-short g c =
 
 pub grant_first-requires-clause-room : goal.grant_first-requires-clause-room
 grant_first-requires-clause-room g c =
-    let of_session : IsSession c.args.session = rw c.get.ensures.value at c.get.ensures.within in
+    λ of_session.
     room_for_one (database_of c.self.inside.tables c.self.inside.reserved.txns).state c.args.session c.args.text.now c.args.name.key c.args.changes c.self.invariant.keeps.kept.orderly of_session (planned g c).plan
 
--- a refusal leaves each row the place that it had
+-- after a refusal, each row has the same place as before
 pub invariant_of-self : goal.invariant_of-self
 invariant_of-self g c = record {
   keeps = rw c.in_err-id.ensures.refused
@@ -92,7 +92,7 @@ pub invariant_of-self-2 : goal.invariant_of-self-2
 invariant_of-self-2 g c = record {
   keeps = (let at = (goal.at.invariant_of-self-2 g c).After-as_slice in
       let made = rw (c.as_slice-checks.ensures, c.as_slice.ensures) at c.in_ok-id.ensures.made in
-      let of_session : IsSession c.args.session = rw c.get.ensures.value at c.get.ensures.within in
+      let of_session : IsSession c.args.session = c.grant_first.ensures.within in
       rw c.in_ok-id.ensures.granted
       (first_keeps g.S.Store c.args.session c.args.text.now c.args.name c.args.changes (database_of c.self.inside.tables c.self.inside.reserved.txns) c.self.inside.reserved.places c.grant_first.new.self.places
       (planned g at) c.self.invariant.keeps of_session c.table.result.now c.in-Some.amounts made.0 (named g at) (many g at) (read g at) made.1

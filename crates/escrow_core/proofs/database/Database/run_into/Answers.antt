@@ -52,7 +52,7 @@ returns g c =
       served = (served.answers, served.as_many, served.is_replies, served.ran);
       clean = still_clean _ _ _ it.left;
       capacity = c.settle_all.ensures.capacity ∙ at.invariant.capacity;
-      left = c.next_id.ensures.left;
+      left = rw (← c.self.view_is) c.is_at_rest.ensures.left;
       usable = it.usable;
       crash = left_behind (state g.S.Store c.args.self.now.store) (state g.S.Store new.self.store) c.args.self.now.state events c.args.replies.now.items new.replies.items new.self.state it;
     }

@@ -30,7 +30,7 @@ invariant_of-self-2 g c = record {
       let s = d.state in
       let session = c.args.session in
       let name = c.args.name in
-      let of_session : IsSession session = rw c.get.ensures.value at c.get.ensures.within in
+      let of_session : IsSession session = c.mark.ensures.within in
       let none : savepoint_refusal session name (open_in s) ≡ None = no_reason _ c.mark.result _ c.in_ok-mark.was c.mark.ensures.refused in
       let room = savepoint_room s session name (savepoint_accepted s session name none) in
       rw c.in_ok-mark.ensures.saved (record {

@@ -30,11 +30,11 @@ returns-in_err-place g c = λ session.
     rw (left_by _ _ c.from_residual.ensures.1)
     (early_refused g.S.Store session (statement.ShowBounds c.args.text.now) c.args.self.now c.in_err-place.field-0.0 (sym (c.in_err-place.ensures.early session)))
 
--- the table of the row that is named
+-- the table of the named row
 named : (g : given.Over) (c : After-bounds g) → table_named c.self.inside.tables.catalog c.args.text.now.table ≡ Some c.table-table.result.now
 named g c = c.table-table.ensures.named c.args.text.now.table (rw (← c.self.view_is) at c.in_ok-place.ensures.place)
 
--- where the row is reserved its place is of that table
+-- if the row is reserved, its place is of that table
 of_table : (g : given.Over) (c : After-bounds g) → (place : Place) → place_at c.self.inside.reserved.places c.in_ok-name.name ≡ Some place → IsOfTable c.table-table.result.now place
 of_table g c place at =
     let catalog = c.self.inside.tables.catalog in

@@ -15,7 +15,7 @@ use Rattle.escrow_tables.proofs.tables.Tables.apply.Given as given
 use Rattle.escrow_tables.proofs.tables.Tables.apply.Goals as goal
 use Rattle.escrow_tables.proofs.tables.Tables.apply.Goals.{After-put_amounts}
 
--- the call writes, and the fields keep what they hold
+-- the call writes, and the fields keep their contents
 written : (g : given.Over) (c : After-put_amounts g) (is_done : Bool) (later : Held g.row.S.Denot) → is_ok c.put_amounts.result ≡ is_done
     → (is_done ≡ true → later ≡ c.put_amounts.new.self) → (is_done ≡ false → later ≡ c.self.inside.last.value)
     → Writes g.S.Store (seen g.S.Store c.self.inside.store c.self.inside.last.value c.self.inside.catalog) (seen g.S.Store c.put_amounts.new.self later c.self.inside.catalog) is_done

@@ -17,19 +17,19 @@ use Rattle.escrow_tables.proofs.tables.Tables.create.Given as given
 use Rattle.escrow_tables.proofs.tables.Tables.create.Goals as goal
 use Rattle.escrow_tables.proofs.tables.Tables.create.Goals.{After-create_table, After-remove}
 
--- the table is new among those that the catalog had
+-- the table is new to the catalog
 new : (g : given.Over) (c : After-create_table g) → IsNew c.self.inside.catalog (new_table c.in-Some.id c.args.table).stored
 new g c =
     is_new c.self.inside.catalog (new_table c.in-Some.id c.args.table).stored c.args.self.now.catalog (ap (λ (v : Tables g.row.S.Denot). v.catalog) c.self.view_is)
     (rw c.tables.ensures.value at c.in-Some.ensures) c.requires.table c.requires.new c.requires.room
 
--- it is put among them
+-- it is inserted into the catalog
 was_added : (g : given.Over) (c : After-create_table g) → c.add.new.self ≡ insert c.self.inside.catalog c.in-Ok.place (new_table c.in-Some.id c.args.table)
 was_added g c =
     let number : to_z w64 (of_z w64 c.in-Some.id) ≡ c.in-Some.id = to_z-of_z w64 c.in-Some.id (search rules) in
     c.in-Ok.ensures.added ∙ ap (λ (id : ℤ). insert c.self.inside.catalog c.in-Ok.place (new_table id c.args.table)) number
 
--- the call writes, and the fields keep what they hold
+-- the call writes, and the fields keep their contents
 written : (g : given.Over) (c : After-create_table g) (is_done : Bool) (fields : List CountedTable) (later : Held g.row.S.Denot) → is_ok c.create_table.result ≡ is_done
     → (is_done ≡ true → (fields ≡ c.add.new.self) × (later ≡ c.create_table.new.self)) → (is_done ≡ false → (fields ≡ c.self.inside.catalog) × (later ≡ c.self.inside.last.value))
     → Writes g.S.Store (seen g.S.Store c.self.inside.store c.self.inside.last.value c.self.inside.catalog) (seen g.S.Store c.create_table.new.self later fields) is_done
@@ -50,7 +50,7 @@ written g c is_done fields later ok if_done if_not =
       create_keeps tables place counted refl c.self.invariant.listed (new g c) catalog g.S.Store old c.create_table.new.self c.self.inside.last.value later is_done it fields c.self.invariant done if_not,
     )
 
--- where the store has refused, the table is taken out again, and the others are left
+-- if the store refuses, the table is removed again, and the others remain
 left : (g : given.Over) (c : After-remove g) → IsNew c.self.inside.catalog (new_table c.in-Some.id c.args.table).stored
     → c.add.new.self ≡ insert c.self.inside.catalog c.in-Ok.place (new_table c.in-Some.id c.args.table) → c.remove.new.self ≡ c.self.inside.catalog
 left g c new added =

@@ -40,7 +40,7 @@ turned g c clean stood =
     let held = c.self.invariant.held clean in
     delete_turns tables c.args.place counted c.args.name.now (counted.rows - 1) (placed g c) (listed_are tables c.self.invariant.listed) (rows g c) held.are_rows held.counts stood refl
 
--- what the store's call makes of it, said of the row's name
+-- the result of the store's call, in terms of the row's name
 made : (g : given.Over) (c : After-delete g) (is_done : Bool) → was_done c.delete.result ≡ is_done
     → Transacts (state g.S.Store c.self.inside.store) (state g.S.Store c.delete.new.self) is_done (TurnsRows c.at-counted.result.now.stored (λ rs. is_some (row_named rs c.args.name.now)) (without_row c.args.name.now))
 made g c is_done ok =
@@ -49,7 +49,7 @@ made g c is_done ok =
     subst₂ (λ b (n : RowName). Transacts (state g.S.Store c.self.inside.store) (state g.S.Store c.delete.new.self) b (TurnsRows counted.stored (λ rs. is_some (row_named rs n)) (without_row n))) ok
     (name_of c.self.inside.catalog name.table counted (placed g c).named name.key) c.delete.ensures.writes
 
--- the call writes, and the fields keep what they hold
+-- the call writes, and the fields keep their contents
 written : (g : given.Over) (c : After-delete g) (is_done : Bool) (fields : List CountedTable) (later : Held g.row.S.Denot) → was_done c.delete.result ≡ is_done
     → (is_done ≡ true → (fields ≡ recounted c.self.inside.catalog c.args.place (c.at-counted.result.now.rows - 1)) × (later ≡ c.delete.new.self)) → (is_done ≡ false → (fields ≡ c.self.inside.catalog) × (later ≡ c.self.inside.last.value))
     → Writes g.S.Store (seen g.S.Store c.self.inside.store c.self.inside.last.value c.self.inside.catalog) (seen g.S.Store c.delete.new.self later fields) is_done
@@ -72,7 +72,7 @@ returns-in_err-delete-clause-writes g c =
     rw (failed.1, ← c.self.view_is)
     ((written g (goal.at.returns-in_err-delete-clause-writes g c).After-delete false c.self.inside.catalog c.self.inside.last.value (ap was_done c.in_err-delete.was) (λ e. absurd (false≢true e)) (λ _. (refl, refl))).0)
 
--- the row isn't there
+-- the row does not exist
 pub invariant_of-self-then-not-branch : goal.invariant_of-self-then-not-branch
 invariant_of-self-then-not-branch g c =
     (written g (goal.at.invariant_of-self-then-not-branch g c).After-delete false c.self.inside.catalog c.self.inside.last.value (ap was_done c.in_ok-delete.was ∙ c.if-not-branch.true) (λ e. absurd (false≢true e)) (λ _. (refl, refl))).1
@@ -93,7 +93,7 @@ returns-then-not-branch-clause-told g c =
     (none_held (state g.S.Store c.self.inside.store) (state g.S.Store c.delete.new.self) (state g.S.Store c.self.inside.last.value) tables name.table counted (placed g at).named (is_there counted.stored name.key)
     c.self.invariant c.delete.ensures.writes.survives.clean clean (c.delete.ensures.none clean (c.in_ok-delete.was ∙ ap Ok c.if-not-branch.true))))
 
--- it was taken out
+-- the row was removed
 counted : (g : given.Over) (c : After-count g) → c.count.new.self ≡ recounted c.self.inside.catalog c.args.place (c.at-counted.result.now.rows - 1)
 counted g c = c.count.ensures ∙ ap (recounted c.self.inside.catalog c.args.place) c.saturating_sub-rows.ensures
 

@@ -18,7 +18,7 @@ use Rattle.escrow_tables.proofs.tables.Tables.drop_table.Given as given
 use Rattle.escrow_tables.proofs.tables.Tables.drop_table.Goals as goal
 use Rattle.escrow_tables.proofs.tables.Tables.drop_table.Goals.{After-drop_table, After-remove}
 
--- the call writes, and the fields keep what they hold
+-- the call writes, and the fields keep their contents
 written : (g : given.Over) (c : After-drop_table g) (name : List ℕ) → place_named (catalog_of c.self.inside.catalog) name ≡ Some c.args.place → (is_done : Bool) (fields : List CountedTable) (later : Held g.row.S.Denot) → is_ok c.drop_table.result ≡ is_done
     → (is_done ≡ true → (fields ≡ without_counted name c.self.inside.catalog) × (later ≡ c.drop_table.new.self)) → (is_done ≡ false → (fields ≡ c.self.inside.catalog) × (later ≡ c.self.inside.last.value))
     → Writes g.S.Store (seen g.S.Store c.self.inside.store c.self.inside.last.value c.self.inside.catalog) (seen g.S.Store c.drop_table.new.self later fields) is_done
@@ -35,7 +35,7 @@ written g c name at is_done fields later ok if_done if_not =
       drop_keeps tables name counted named c.self.invariant.listed g.S.Store old new c.self.inside.last.value later is_done it fields c.self.invariant if_done if_not,
     )
 
--- the table that the catalog is without is the one at the place
+-- the table removed from the catalog is the one at the place
 left : (g : given.Over) (c : After-remove g) (name : List ℕ) → place_named (catalog_of c.self.inside.catalog) name ≡ Some c.args.place → c.remove.new.self ≡ without_counted name c.self.inside.catalog
 left g c name at =
     let tables = c.self.inside.catalog in

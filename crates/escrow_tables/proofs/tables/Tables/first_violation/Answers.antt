@@ -3,7 +3,7 @@ use Rattle.std.proofs.lemmas.Option.{same_Some}
 use Rattle.sqlite.specs.Held.{state}
 use Rattle.escrow_num.specs.declared.failure.Failure.{Failure}
 use Rattle.escrow_num.specs.declared.refusal.Violation.{Violation}
-use Rattle.escrow_tables.specs.Judged.{first_violation}
+use Rattle.escrow_tables.specs.Judged.{by_amounts, first_violation}
 use Rattle.escrow_tables.specs.declared.judged.RowsJudged.{RowsJudged}
 use Rattle.escrow_tables.proofs.AtPlace.{named_at, rows_told}
 use Rattle.escrow_tables.proofs.JudgedRows.{judged_told}
@@ -13,7 +13,7 @@ use Rattle.escrow_tables.proofs.tables.Tables.first_violation.Given as given
 use Rattle.escrow_tables.proofs.tables.Tables.first_violation.Goals as goal
 use Rattle.escrow_tables.proofs.tables.Tables.first_violation.Goals.{After-at}
 
--- what stands at the place is the table of the name
+-- the table at the place is the one with the name
 named : (g : given.Over) (c : After-at g) → IsNamed c.self.inside.catalog c.args.name c.at.result.now
 named g c = named_at c.self.inside.catalog c.args.name c.args.place c.at.result.now (rw (← c.self.view_is) at c.requires.place) (item_at c.self.inside.catalog c.args.place c.at.result.now c.at.ensures.at)
 
@@ -44,6 +44,6 @@ returns-clause-told g c =
     let found : Result (Option Violation) Failure = Ok c.in-Some.taker.found in
     rw (← c.self.view_is, ← c.new.ensures) (λ clean.
     let read = rw c.in-Some.is at c.in_ok-taker.ensures.read clean in
-    rows_told tables c.args.name counted (named g after) (first_violation (violation c.new.result)) old (state g.S.Store c.read_rows.new.self) (state g.S.Store c.self.inside.last.value) found
+    rows_told tables c.args.name counted (named g after) (first_violation (by_amounts (violation c.new.result))) old (state g.S.Store c.read_rows.new.self) (state g.S.Store c.self.inside.last.value) found
     c.self.invariant c.read_rows.ensures.only_reads.usable clean
     (read.0, judged_told table violation counted.stored old.now taker c.in-Some.taker is_table (own g after ∙ ap table (sym c.new.ensures)) refl read.1))

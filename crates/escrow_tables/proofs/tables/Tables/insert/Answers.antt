@@ -25,7 +25,7 @@ use Rattle.escrow_tables.proofs.tables.Tables.insert.Given as given
 use Rattle.escrow_tables.proofs.tables.Tables.insert.Goals as goal
 use Rattle.escrow_tables.proofs.tables.Tables.insert.Goals.{After-count, After-insert}
 
--- the greatest number of the type that counts rows
+-- the greatest value of the type that counts rows
 abbrev most : ℕ
 most = 18446744073709551615
 
@@ -49,14 +49,14 @@ turned g c clean none =
     insert_turns tables c.args.place counted row (min (counted.rows + 1) most) most (placed g c) (listed_are tables c.self.invariant.listed) (rows g c) held.are_rows held.counts fits
     (none_from (row_named (rows g c) row.name) none) room (omega arith) refl
 
--- what the store's call makes of it
+-- the result of the store's call
 made : (g : given.Over) (c : After-insert g) (is_done : Bool) → was_done c.insert.result ≡ is_done
     → Transacts (state g.S.Store c.self.inside.store) (state g.S.Store c.insert.new.self) is_done (TurnsRows c.at-counted.result.now.stored (λ rs. is_none (row_named rs c.args.row.now.name)) (with_new c.args.row.now))
 made g c is_done ok =
     puts_new g.S.Store c.self.inside.store c.insert.new.self is_done c.at-counted.result.now.stored c.args.row.now
     (subst (λ b. Transacts (state g.S.Store c.self.inside.store) (state g.S.Store c.insert.new.self) b (Inserts c.at-counted.result.now.stored c.args.row.now)) ok c.insert.ensures)
 
--- the call writes, and the fields keep what they hold
+-- the call writes, and the fields keep their contents
 written : (g : given.Over) (c : After-insert g) (is_done : Bool) (fields : List CountedTable) (later : Held g.row.S.Denot) → was_done c.insert.result ≡ is_done
     → (is_done ≡ true → (fields ≡ recounted c.self.inside.catalog c.args.place (min (c.at-counted.result.now.rows + 1) most)) × (later ≡ c.insert.new.self)) → (is_done ≡ false → (fields ≡ c.self.inside.catalog) × (later ≡ c.self.inside.last.value))
     → Writes g.S.Store (seen g.S.Store c.self.inside.store c.self.inside.last.value c.self.inside.catalog) (seen g.S.Store c.insert.new.self later fields) is_done
@@ -84,7 +84,7 @@ returns-in_err-insert-clause-writes g c =
     rw (failed.1, ← c.self.view_is)
     ((written g (goal.at.returns-in_err-insert-clause-writes g c).After-insert false c.self.inside.catalog c.self.inside.last.value (ap was_done c.in_err-insert.was) (λ e. absurd (false≢true e)) (λ _. (refl, refl))).0)
 
--- the store refused it
+-- the store refused the row
 pub invariant_of-self-then-not-branch : goal.invariant_of-self-then-not-branch
 invariant_of-self-then-not-branch g c =
     (written g (goal.at.invariant_of-self-then-not-branch g c).After-insert false c.self.inside.catalog c.self.inside.last.value (ap was_done c.in_ok-insert.was ∙ c.if-not-branch.true) (λ e. absurd (false≢true e)) (λ _. (refl, refl))).1
@@ -94,7 +94,7 @@ returns-then-not-branch-clause-writes g c =
     rw (← c.self.view_is)
     ((written g (goal.at.returns-then-not-branch-clause-writes g c).After-insert false c.self.inside.catalog c.self.inside.last.value (ap was_done c.in_ok-insert.was ∙ c.if-not-branch.true) (λ e. absurd (false≢true e)) (λ _. (refl, refl))).0)
 
--- it was put
+-- the row was inserted
 counted : (g : given.Over) (c : After-count g) → c.count.new.self ≡ recounted c.self.inside.catalog c.args.place (min (c.at-counted.result.now.rows + 1) most)
 counted g c = c.count.ensures ∙ ap (recounted c.self.inside.catalog c.args.place) c.saturating_add-rows.ensures
 

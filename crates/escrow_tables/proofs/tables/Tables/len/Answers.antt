@@ -1,11 +1,7 @@
-use Rattle.std.proofs.Common.{◌∙◌, ap}
-use Rattle.sqlite.specs.Effect.{Database}
 use Rattle.sqlite.specs.Held.{state}
 use Rattle.escrow_rows.specs.View.{rows_in}
 use Rattle.escrow_tables.specs.Inside.{stored_of}
 use Rattle.escrow_tables.proofs.Named.{rows_of_catalog}
-use Rattle.escrow_rows.proofs.ListedTables.{listed_are}
-use Rattle.escrow_tables.proofs.Writing.{holds}
 use Rattle.escrow_tables.proofs.tables.Tables.len.Goals as goal
 
 pub returns-clause-rows : goal.returns-clause-rows
@@ -13,16 +9,6 @@ returns-clause-rows g c =
     let tables = c.self.inside.catalog in
     let rows = rows_in (stored_of tables) (state g.S.Store c.self.inside.last.value).now in
     rw (← c.self.view_is) (λ clean. rows_of_catalog tables rows (c.self.invariant.held clean).are_rows)
-
-pub returns-clause-left : goal.returns-clause-left
-returns-clause-left g c =
-    let tables = c.self.inside.catalog in
-    let db = (state g.S.Store c.self.inside.last.value).now in
-    rw (← c.self.view_is) (λ usable trees left. (
-      db,
-      holds tables (rows_in (stored_of tables) db) db (listed_are tables c.self.invariant.listed) (c.self.invariant.held usable.0),
-      c.rests.ensures usable.1 trees left ∙ ap (λ (d : Database). d.trees) (c.self.invariant.same usable),
-    ))
 
 pub returns-clause-catalog : goal.returns-clause-catalog
 returns-clause-catalog g c = rw (← c.self.view_is) c.self.invariant.listed.is_catalog

@@ -18,7 +18,7 @@ use Rattle.escrow_tables.proofs.tables.Tables.redefine.Given as given
 use Rattle.escrow_tables.proofs.tables.Tables.redefine.Goals as goal
 use Rattle.escrow_tables.proofs.tables.Tables.redefine.Goals.{After-redefine}
 
--- the call writes, and the fields keep what they hold
+-- the call writes, and the fields keep their contents
 written : (g : given.Over) (c : After-redefine g) (is_done : Bool) (fields : List CountedTable) (later : Held g.row.S.Denot) → is_ok c.redefine.result ≡ is_done
     → (is_done ≡ true → (fields ≡ with_definition c.args.table c.self.inside.catalog) × (later ≡ c.redefine.new.self))
     → (is_done ≡ false → (fields ≡ c.self.inside.catalog) × (later ≡ c.self.inside.last.value))

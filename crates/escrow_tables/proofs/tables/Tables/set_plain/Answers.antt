@@ -40,7 +40,7 @@ turned g c clean _ =
     let fits : AllByRecursion (HasTable (catalog_of tables)) (with_plain name values (rows g c)) = (rw (← c.self.view_is) at c.requires.fits) clean in
     plain_turns tables c.args.place c.at.result.now name values (placed g c) (rows g c) held.are_rows held.counts fits
 
--- what the store's call makes of it, said of the row's name
+-- the result of the store's call, in terms of the row's name
 made : (g : given.Over) (c : After-set_plain g) (is_done : Bool) → was_done c.set_plain.result ≡ is_done
     → Transacts (state g.S.Store c.self.inside.store) (state g.S.Store c.set_plain.new.self) is_done
     (TurnsRows c.at.result.now.stored (λ rs. is_some (row_named rs c.args.name.now)) (with_plain c.args.name.now c.args.values.now))
@@ -51,7 +51,7 @@ made g c is_done ok =
     subst₂ (λ b (n : RowName). Transacts (state g.S.Store c.self.inside.store) (state g.S.Store c.set_plain.new.self) b (TurnsRows counted.stored (λ rs. is_some (row_named rs n)) (with_plain n values))) ok
     (name_of c.self.inside.catalog name.table counted (placed g c).named name.key) c.set_plain.ensures.writes
 
--- the call writes, and the fields keep what they hold
+-- the call writes, and the fields keep their contents
 written : (g : given.Over) (c : After-set_plain g) (is_done : Bool) (later : Held g.row.S.Denot) → was_done c.set_plain.result ≡ is_done
     → (is_done ≡ true → later ≡ c.set_plain.new.self) → (is_done ≡ false → later ≡ c.self.inside.last.value)
     → Writes g.S.Store (seen g.S.Store c.self.inside.store c.self.inside.last.value c.self.inside.catalog) (seen g.S.Store c.set_plain.new.self later c.self.inside.catalog) is_done
@@ -78,7 +78,7 @@ returns-in_err-set_plain-clause-writes g c =
     rw (failed.1, ← c.self.view_is)
     ((written g (goal.at.returns-in_err-set_plain-clause-writes g c).After-set_plain false c.self.inside.last.value (ap was_done c.in_err-set_plain.was) (λ e. absurd (false≢true e)) (λ _. refl)).0)
 
--- the row isn't there
+-- the row does not exist
 pub invariant_of-self-then-not-branch : goal.invariant_of-self-then-not-branch
 invariant_of-self-then-not-branch g c =
     (written g (goal.at.invariant_of-self-then-not-branch g c).After-set_plain false c.self.inside.last.value (ap was_done c.in_ok-set_plain.was ∙ c.if-not-branch.true) (λ e. absurd (false≢true e)) (λ _. refl)).1
