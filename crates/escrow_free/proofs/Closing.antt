@@ -68,7 +68,7 @@ pub long_histories : {S : Type 0} (place : ℕ) (parts : List (Part S)) (closed 
 long_histories place parts [] = refl
 long_histories place parts (c ∷ closed) = ap suc (long_histories (place + 1) parts closed)
 
--- a history is that of the database at its place
+-- the history of the database at a place
 pub record HistoryAt {S : Type 0} (place : ℕ) (parts : List (Part S)) (closed : List (Closed S)) (i : ℕ) (entries : List Entry) : Type 0 where
   pub closing : Closed S
   pub there : slice_get closed i ≡ Some closing
@@ -120,7 +120,7 @@ serves_free {S} g sharing parts closed script desks old_bytes new_bytes whole se
       ap (λ n. all_entries n parts history.closing) (let e : place ≡ 0 + place = omega arith in e) ∙ sym history.same in
       its history.closing history.there ∙ ap (receipts_of session) entry
 
--- where the bytes of the script are known
+-- the bytes of the script are known
 pub serves_each : {S : Type 0} (g : Ghosts S) (sharing : Shared S) (parts : List (Part S)) (closed : List (Closed S)) (script : Option (List ℕ)) (desks : List Desk) (passes : List Pass)
     (old_bytes new_bytes : Option (List ℕ)) → passes ≡ map pass_of desks → AreWhole g sharing passes parts closed
     → IfSome script (λ bytes. IsServed (length sharing.openings) bytes desks old_bytes new_bytes) → IfSome script (λ bytes. ServesFree bytes (histories parts closed) old_bytes new_bytes)

@@ -1,4 +1,4 @@
--- Items that are dealt out, and what comes of them.
+-- Items that are dealt out, and their results.
 use Rattle.std.proofs.Common.{◌≡◌, ◌≢◌, ◌⊎◌, ℕ, ◌<◌, List, [], ◌∷◌, ◌++◌, length, set, get_or, slice_get, Some, refl, sym, ap, subst, ◌∙◌, inl, inr}
 use Rattle.std.specs.List.{AllByRecursion, AllZip}
 use Rattle.std.proofs.lemmas.Option.{slice_get_read}
@@ -7,8 +7,8 @@ use Rattle.escrow_shards.specs.Pass.{Pass}
 use Rattle.escrow_shards.specs.Shared.{Shared, HasPass}
 use Rattle.escrow_sessions.specs.Fed.{of}
 use Rattle.escrow_sessions.specs.Serving.{IsDone, AreDone, HasItsPass, Serves}
-use Rattle.escrow_sessions.specs.declared.done.Done.{Done}
-use Rattle.escrow_sessions.specs.declared.done.Given.{Given}
+use Rattle.escrow_sessions.specs.declared.feed.Done.{Done}
+use Rattle.escrow_sessions.specs.declared.feed.Given.{Given}
 use Rattle.escrow_sessions.specs.declared.feed.Feed.{Feed}
 use Rattle.escrow_free.specs.Dealing.{AreDealt, IsAdded, IsNewFeed}
 use Rattle.escrow_free.specs.Desks.{answers_of, ArePassesServed, IsDoneDesk, IsUnservedDesk}
@@ -25,7 +25,7 @@ dealt_none passes feeds all = record {
       subst (IsNewFeed seat) (some_same its.0 feed (sym its.1.0 ∙ there)) its.1.1;
 }
 
--- one item more was dealt out
+-- one more item was dealt out
 pub dealt_one : (passes : List Pass) (items : List (ℕ × Request)) (now : List Feed) (place : ℕ) (r : Request) (feed next : Feed) → AreDealt passes items now → place < length now → feed ≡ get_or now place feed
     → IsAdded feed r next → AreDealt passes (items ++ (place, r) ∷ []) (set now place next)
 dealt_one passes items now place r feed next before below read added = record {
@@ -45,7 +45,7 @@ dealt_one passes items now place r feed next before below read added = record {
       let apart = away.0 in
       let was = before.each p seat last at away.1 in (was.0, was.1 ∙ sym (of_else p place r items (λ same. apart (sym same))))
 
--- feeds of passes that are for databases and sessions are too
+-- if the passes belong to databases and sessions, so do their feeds
 pub dealt_seats : {S : Type 0} (sharing : Shared S) (passes : List Pass) (items : List (ℕ × Request)) (feeds : List Feed) → AllByRecursion (HasPass sharing) passes → AreDealt passes items feeds
     → AllByRecursion (HasItsPass sharing) feeds
 dealt_seats sharing passes items feeds have dealt = all_of_each (HasItsPass sharing) feeds (λ place feed there.
@@ -59,7 +59,7 @@ answered passes items feeds place seat feed gs end dealt at there serves =
     let is = dealt.each place seat feed at there in
     subst (λ (s : Pass). Serves s (of place items) gs end) is.0 (subst (λ (rs : List Request). Serves feed.pass rs gs end) is.1 serves)
 
--- the desks of what was done with the feeds
+-- the desks after their feeds were served
 pub dealt_served : (passes : List Pass) (items : List (ℕ × Request)) (feeds : List Feed) (done : List Done) (desks : List Desk) → AreDealt passes items feeds → AreDone feeds done → AllZip IsDoneDesk done desks
     → ArePassesServed passes items desks
 dealt_served passes items feeds done desks dealt were all = record {
@@ -78,7 +78,7 @@ dealt_served passes items feeds done desks dealt were all = record {
       subst (λ (d : Desk). Serves seat (of place items) (answers_of d) d.pass) same passed;
 }
 
--- the desks of feeds that weren't served
+-- the desks if their feeds were not served
 pub dealt_unserved : (passes : List Pass) (items : List (ℕ × Request)) (feeds : List Feed) (desks : List Desk) → AreDealt passes items feeds → AllZip IsUnservedDesk feeds desks → ArePassesServed passes items desks
 dealt_unserved passes items feeds desks dealt all = record {
   count = sym (zip_long IsUnservedDesk feeds desks all) ∙ dealt.count;

@@ -10,7 +10,7 @@ use Rattle.escrow_shards.specs.Shared.{Shared, HasPass}
 use Rattle.escrow_shards.proofs.NewPasses.{passes_have_places}
 use Rattle.escrow_sessions.specs.Fed.{of}
 use Rattle.escrow_sessions.specs.Serving.{Serves}
-use Rattle.escrow_sessions.specs.declared.done.Given.{Given}
+use Rattle.escrow_sessions.specs.declared.feed.Given.{Given}
 use Rattle.escrow_stats.specs.Tally.{tally_of}
 use Rattle.escrow_stats.specs.declared.tally.Tally.{Tally}
 use Rattle.escrow_free.specs.Desks.{desk_of, answers_of, IsNewDesk, HasDesk, HavePasses, AreServed, AreTotals, seat_after, Fits}
@@ -18,7 +18,7 @@ use Rattle.escrow_free.specs.FreeOutput.{Taken}
 use Rattle.escrow_free.specs.declared.desk.Desk.{Desk}
 use Rattle.escrow_sessions.proofs.Places.{some_same, none_some, at_below, below_at, beside, all_of_each, zip_long}
 
--- what no request was given
+-- no request was answered
 pub record Nothing (seat : Pass) (gs : List Given) (new : Pass) : Type 0 where
   pub none : gs ≡ []
   pub same : new ≡ seat
@@ -34,7 +34,7 @@ fits_served items taken old mid served fits = λ place session desk is at.
     let was = nothing_served (seat_after place session taken) (answers_of before.0) (before.0).pass (fits place session before.0 is before.1) in
     subst (λ (seat : Pass). Serves seat (of (desk_of place session) items) (answers_of desk) desk.pass) was.same (served.each (desk_of place session) before.0 desk before.1 at was.none)
 
--- no desk was asked: what is served is nothing
+-- no desk was asked: nothing is served
 pub none_served : (desks : List Desk) (items : List (ℕ × Request)) → items ≡ [] → AreServed desks items desks
 none_served desks items none = subst (λ (is : List (ℕ × Request)). AreServed desks is desks) (sym none) (record { count = refl; each = each }) where
   each : (place : ℕ) (before after : Desk) → slice_get desks place ≡ Some before → slice_get desks place ≡ Some after → answers_of before ≡ [] → Serves before.pass [] (answers_of after) after.pass
@@ -42,7 +42,7 @@ none_served desks items none = subst (λ (is : List (ℕ × Request)). AreServed
       let same : before ≡ after = some_same before after (sym at ∙ also) in
       subst (λ (d : Desk). Serves before.pass [] (answers_of d) d.pass) same (subst (λ (gs : List Given). Serves before.pass [] gs before.pass) (sym empty) refl)
 
--- between phases each pass is of a session of a database
+-- between phases, each pass belongs to a session of a database
 place_within : (k n : ℕ) → k < n * MAX → k / MAX < n
 place_within k n below = omega arith
 
@@ -86,7 +86,7 @@ seat_again session is = let a = is.0 in omega arith
 before_most : (session : ℕ) → IsSession session → session - 1 < MAX
 before_most session is = let a = is.0 in let b = is.1 in omega arith
 
--- before a line took anything all totals are those of no replies
+-- before any line took an entry, all totals are those of no replies
 all_alike : {A : Type 0} (n k : ℕ) (x y : A) → slice_get (replicate n x) k ≡ Some y → y ≡ x
 all_alike zero k x y at = absurd (none_some y at)
 all_alike (suc n) zero x y at = some_same y x (sym at)

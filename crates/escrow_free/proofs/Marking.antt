@@ -7,23 +7,23 @@ use Rattle.escrow_sessions.proofs.AtOnce.{zip_by}
 use Rattle.escrow_free.specs.Ranks.{marked_by, ranks_from}
 use Rattle.escrow_free.specs.declared.desk.Desk.{Desk}
 
--- the items that are left, one step on
+-- the remaining items, one step later
 drop_next : {A : Type 0} (xs : List A) (i : ℕ) (x : A) → i < length xs → x ≡ get_or xs i x → drop i xs ≡ x ∷ drop (i + 1) xs
 drop_next xs i x within same = drop_more xs i x within ∙ ap (λ y. y ∷ drop (i + 1) xs) (sym same)
 
--- one item more marks its desk
+-- one more item marks its desk
 pub marked_more : (items : List (ℕ × Request)) (i : ℕ) (item : ℕ × Request) (marks all : List Bool) → i < length items → item ≡ get_or items i item
     → marked_by (drop i items) marks ≡ all → marked_by (drop (i + 1) items) (set marks item.0 true) ≡ all
 marked_more items i item marks all within same so_far = sym (ap (λ (xs : List (ℕ × Request)). marked_by xs marks) (drop_next items i item within same)) ∙ so_far
 
--- one desk more has its rank
+-- one more desk has its rank
 pub ranked_more : (marks : List Bool) (i n : ℕ) (mark : Bool) (ranks all : List ℕ) → i < length marks → mark ≡ get_or marks i mark
     → ranks ++ ranks_from n (drop i marks) ≡ all → (ranks ++ n ∷ []) ++ ranks_from (if mark then n + 1 else n) (drop (i + 1) marks) ≡ all
 ranked_more marks i n mark ranks all within same so_far =
     append_assoc ranks (n ∷ []) (ranks_from (if mark then n + 1 else n) (drop (i + 1) marks))
     ∙ ap (λ (xs : List Bool). ranks ++ ranks_from n xs) (sym (drop_next marks i mark within same)) ∙ so_far
 
--- one step where each item of a list becomes another, and where all have
+-- one step of replacing each item of a list, and the end, when all are replaced
 pub changed_more : {X : Type 0} (f : X → X) (xs all : List X) (i : ℕ) (x y : X) → i < length xs → y ≡ f (get_or xs i x)
     → take i xs ++ map f (drop i xs) ≡ all → take (i + 1) (set xs i y) ++ map f (drop (i + 1) (set xs i y)) ≡ all
 changed_more f xs all i x y within new so_far =
@@ -36,7 +36,7 @@ pub changed_all : {X : Type 0} (f : X → X) (xs all : List X) (i : ℕ) → len
 changed_all f xs all i past so_far =
     sym (append-nil xs) ∙ ap₂ (λ before behind. before ++ map f behind) (sym (take_all i xs past)) (sym (drop_all i xs past)) ∙ so_far
 
--- what stands in a relation place by place stands in a weaker one
+-- items related place by place are also related by a weaker relation
 same_zip : {A : Type 0} (xs : List A) → AllZip (λ x y. x ≡ y) xs xs
 same_zip [] = tt
 same_zip (x ∷ xs) = (refl, same_zip xs)
@@ -44,11 +44,11 @@ same_zip (x ∷ xs) = (refl, same_zip xs)
 pub zip_as : {A B : Type 0} (R T : A → B → Type 0) → ((x : A) (y : B) → R x y → T x y) → (xs : List A) (ys : List B) → AllZip R xs ys → AllZip T xs ys
 zip_as R T so xs ys all = zip_by R (λ y z. y ≡ z) T (λ x y z r e. subst (T x) e (so x y r)) xs ys ys all (same_zip ys)
 
--- one less is left
+-- one fewer remains
 pub one_less : (left rest n m : ℕ) → left ≡ n → rest + 1 ≡ left → n ≡ m + 1 → rest ≡ m
 one_less left rest n m same gone short = omega arith
 
--- a desk more is taken into a list, or left out of it
+-- one more desk is included in a list or left out of it
 module _ {X : Type 0} (F : List Bool → List Desk → List X) (marks : List Bool) (i : ℕ) (mark : Bool) (desks olds news : List Desk) (done all : List X)
     (within : i < length marks) (same : mark ≡ get_or marks i mark) (are : desks ≡ olds) (so_far : done ++ F (drop i marks) desks ≡ all) where
   now : F (drop i marks) desks ≡ F (mark ∷ drop (i + 1) marks) olds
@@ -60,13 +60,13 @@ module _ {X : Type 0} (F : List Bool → List Desk → List X) (marks : List Boo
   pub desk_left : F (mark ∷ drop (i + 1) marks) olds ≡ F (drop (i + 1) marks) news → done ++ F (drop (i + 1) marks) news ≡ all
   desk_left step = ap (λ (xs : List X). done ++ xs) (sym (now ∙ step)) ∙ so_far
 
--- within a list it doesn't matter which value stands for one that isn't there
+-- within a list, it does not matter which default is used
 pub any_default : {A : Type 0} (xs : List A) (i : ℕ) (d e : A) → i < length xs → get_or xs i d ≡ get_or xs i e
 any_default [] i d e below = absurd (omega (arith, below))
 any_default (x ∷ xs) zero d e below = refl
 any_default (x ∷ xs) (suc i) d e below = any_default xs i d e (omega (arith, below))
 
--- what names a place before items are renamed does so one step on
+-- if the first remaining item names a place before renaming, it does so one step later
 pub head_named : {A : Type 0} (P : A → Type 0) (xs : List A) (i : ℕ) (d : A) → i < length xs → AllByRecursion P (drop i xs) → P (get_or xs i d)
 head_named P xs i d within all = (subst (AllByRecursion P) (drop_more xs i d within) all).0
 

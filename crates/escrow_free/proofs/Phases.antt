@@ -34,7 +34,7 @@ read_more lines more (Some bytes) None rest first second = absurd first
 read_more lines more (Some bytes) (Some mid) None first second = absurd second
 read_more lines more (Some bytes) (Some mid) (Some rest) first second = first ∙ ap (λ (ls : List (List ℕ)). lines ++ ls) second ∙ sym (append_assoc lines more (lines_of rest))
 
--- the line that is taken next, of which so many bytes are kept
+-- the next line, with as many of its bytes as are kept
 record Next (bytes rest : Option (List ℕ)) (kept : List ℕ) : Type 0 where
   line : List ℕ
   is_kept : kept ≡ take (MAX_LINE + 1) line
@@ -45,7 +45,7 @@ next_line None rest kept short taken = record { line = kept; is_kept = sym (take
 next_line (Some bytes) None kept short taken = absurd taken
 next_line (Some bytes) (Some rest) kept short taken = record { line = taken.0; is_kept = taken.2; read = taken.1 }
 
--- at the end nothing is left
+-- at the end, nothing remains
 pub over_none : (found : Bool) (bytes rest : Option (List ℕ)) (kept : List ℕ) → found ≡ false → TakesLine found bytes rest kept → TakesLines [] bytes rest
 over_none found bytes rest kept e taken = none bytes rest (subst (λ (f : Bool). TakesLine f bytes rest kept) e taken) where
   none : (b r : Option (List ℕ)) → TakesLine false b r kept → TakesLines [] b r
@@ -61,7 +61,7 @@ is_over found bytes mid rest lines kept e read taken = over bytes mid rest read 
   over (Some b) (Some m) None a t = absurd t
   over (Some b) (Some m) (Some r) a t = t.1
 
--- one line more is read and planned
+-- one more line is read and planned
 pub read_one : (n : ℕ) (bytes mid rest : Option (List ℕ)) (kept line : List ℕ) (found : Bool) (old new : Plan) → found ≡ true → line ≡ kept → length line ≤ MAX_LINE + 1
     → TakesLine found mid rest kept → Adds n line old new → IsRead n bytes mid old → IsRead n bytes rest new
 read_one n bytes mid rest kept line found old new is_found same short taken adds so_far =
@@ -76,8 +76,8 @@ read_one n bytes mid rest kept line found old new is_found same short taken adds
 
 -- PHASES
 
--- Some phases were served: their lines were read, what they do was written, and the desks fit what they took, of
--- which the totals are.
+-- Some phases were served: their lines were read and their output was written. The desks and totals match what the
+-- lines took.
 pub record Stands (n : ℕ) (script rest old_bytes new_bytes : Option (List ℕ)) (desks : List Desk) (totals : List Tally) : Type 0 where
   pub lines : List (List ℕ)
   pub out : List ℕ
@@ -104,7 +104,7 @@ stands_new n script bytes unread desks totals none fits counts = record {
   first None = tt
   first (Some b) = refl
 
--- a phase more
+-- one more phase
 pub stands_more : (n : ℕ) (script mid rest old_bytes now_bytes new_bytes : Option (List ℕ)) (plan : Plan) (before served after : List Desk) (counted totals : List Tally) (out : List ℕ)
     → IsRead n mid rest plan → AreServed before plan.items.items served → PrintsTo plan.lines.items served counted out [] after totals → Appends now_bytes new_bytes out
     → Stands n script mid old_bytes now_bytes before counted → Stands n script rest old_bytes new_bytes after totals
@@ -131,7 +131,7 @@ nothing_behind : (xs ys : List ℕ) → xs ++ ys ≡ [] → ys ≡ []
 nothing_behind [] ys e = e
 nothing_behind (x ∷ xs) ys e = cc
 
--- all of the script was read
+-- the whole script was read
 pub at_end : (script was remaining : Option (List ℕ)) (was_unread unread : List ℕ) (limit now : ℕ) → Spends script was limit now → IsOver (left was_unread was) (left unread remaining)
     → IfSome script (λ bytes. IsAtEnd remaining)
 at_end None was remaining was_unread unread limit now spends over = tt
@@ -139,7 +139,7 @@ at_end (Some bytes) None remaining was_unread unread limit now spends over = abs
 at_end (Some bytes) (Some rest) None was_unread unread limit now spends over = tt
 at_end (Some bytes) (Some rest) (Some more) was_unread unread limit now spends over = nothing_behind unread more over
 
--- and served
+-- the whole script was served
 pub finished : (n : ℕ) (script rest remaining old_bytes new_bytes : Option (List ℕ)) (desks : List Desk) (totals : List Tally) (now : ℕ) → length desks ≡ n * MAX → Stands n script rest old_bytes new_bytes desks totals
     → IsOver script rest → Spends script remaining MAX_SCRIPT now → IfSome script (λ bytes. IsAtEnd remaining)
     → IfSome script (λ bytes. IsServed n bytes desks old_bytes new_bytes)
@@ -157,7 +157,7 @@ finished n (Some bytes) (Some rest) remaining old_bytes new_bytes desks totals n
       appends = stood.appends;
     }
 
--- what is over for a phase is over for the script
+-- the end of input for a phase is the end for the script
 pub over_all : (script mid rest : Option (List ℕ)) (lines : List (List ℕ)) → TakesLines lines script mid → IsOver mid rest → IsOver script rest
 over_all None mid rest lines read over = tt
 over_all (Some bytes) None rest lines read over = absurd read

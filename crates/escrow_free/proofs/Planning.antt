@@ -1,4 +1,4 @@
--- What is planned for lines, and what they do by it.
+-- What is planned for lines, and what the lines then do.
 use Rattle.std.proofs.Common.{◌≡◌, ℕ, ◌*◌, ◌<◌, ◌≤◌, List, [], ◌∷◌, ◌++◌, refl, sym, ap, subst, ◌∙◌, append_assoc, inl, inr, arith}
 use Rattle.std.specs.List.{AllByRecursion}
 use Rattle.std.proofs.lemmas.List.{append-nil}
@@ -18,7 +18,7 @@ use Rattle.escrow_free.specs.Printing.{HasItsDesk, Matches, Prints}
 use Rattle.escrow_free.specs.declared.plan.Planned.{Planned}
 use Rattle.escrow_free.specs.declared.plan.Planned.TheVariants as planned
 
--- what holds of two values holds of their equals
+-- what holds of two values holds of values equal to them
 forward : {A B : Type 0} (P : A → B → Type 0) (a c : A) (b d : B) → a ≡ c → b ≡ d → P a b → P c d
 forward P a c b d e f h = subst (λ x. P x d) e (subst (P a) f h)
 
@@ -29,7 +29,7 @@ all_append : {A : Type 0} (P : A → Type 0) (xs ys : List A) → AllByRecursion
 all_append P [] ys none more = more
 all_append P (x ∷ xs) ys all more = (all.0, all_append P xs ys all.1 more)
 
--- one line more is planned
+-- one more line is planned
 pub plans_one : (n : ℕ) (lines : List (List ℕ)) (plan p : List Planned) (items i : List (ℕ × Request)) (line : List ℕ) → Plans n lines plan items → PlansBytes n line p i
     → Plans n (lines ++ line ∷ []) (plan ++ p) (items ++ i)
 plans_one n [] plan p items i line h step =
@@ -45,7 +45,7 @@ plans_one n (l ∷ lines) plan p items i line h step = (
   ap (λ (x : List (ℕ × Request)). x ++ i) h.7 ∙ append_assoc h.2 h.3 i,
 )
 
--- EACH LINE THAT ASKS HAS ITS REQUEST
+-- EACH LINE THAT REQUESTS SOMETHING HAS ITS REQUEST
 
 module _ (ps : List Planned) (is : List (ℕ × Request)) (m : Matches ps is) where
   abbrev Matched : List Planned → List (ℕ × Request) → Type 0
@@ -72,12 +72,12 @@ plans_match n [] plan items h = backward Matches plan [] items [] h.0 h.1 refl
 plans_match n (line ∷ lines) plan items h =
     backward Matches plan (h.0 ++ h.1) items (h.2 ++ h.3) h.6 h.7 (reading_matches h.1 h.3 (plans_match n lines h.1 h.3 h.5) h.4.0 h.0 h.2 h.4.2)
 
--- EACH NAMES A DESK
+-- EACH REQUEST NAMES A DESK
 
 is_line : (place session : ℕ) (text : List ℕ) → statement place session text ≡ no_line → ⊥
 is_line place session text e = cc
 
--- a statement names one of the databases, and a session
+-- a statement names one of the databases and a session
 named : (n : ℕ) (bytes : List ℕ) (place session : ℕ) (text : List ℕ) → Reads n bytes (statement place session text) → (place < n) × IsSession session
 named n bytes place session text (inl good) = (good.1.within, good.1.is_session)
 named n bytes place session text (inr bad) = absurd (is_line place session text bad.1)
@@ -85,7 +85,7 @@ named n bytes place session text (inr bad) = absurd (is_line place session text 
 pub within_desks : (n place session : ℕ) → place < n → IsSession session → desk_of place session < n * MAX
 within_desks n place session below is = let most = is.1 in let least = is.0 in omega arith
 
--- what a line adds names desks that are there
+-- the requests of a line name existing desks
 record NamesDesks (n : ℕ) (p : List Planned) (i : List (ℕ × Request)) : Type 0 where
   lines : AllByRecursion (HasItsDesk (n * MAX)) p
   items : AllByRecursion (λ x. x.0 < n * MAX) i
@@ -132,9 +132,9 @@ plan_desks n lines plan items few h = (plans_name n lines plan items few h).line
 pub item_desks : (n : ℕ) (lines : List (List ℕ)) (plan : List Planned) (items : List (ℕ × Request)) → n ≤ MAX_DATABASES → Plans n lines plan items → AllByRecursion (λ x. x.0 < n * MAX) items
 item_desks n lines plan items few h = (plans_name n lines plan items few h).items
 
--- WHAT LINES DO, by what is printed
+-- WHAT LINES DO, given what is printed
 
--- the first of lines, and the others
+-- the first line and the others
 record Heads (taken end : List Taken) (out : List ℕ) (reading : Reading) (ps : List Planned) (is : List (ℕ × Request)) : Type 0 where
   first : List ℕ
   rest : List ℕ
@@ -188,7 +188,7 @@ lines_do n (line ∷ lines) plan items taken end out h p =
     let head = reading_does h.1 h.3 taken end out h.4.0 h.0 h.2 h.4.2 q in
     (head.first, head.rest, head.mid, (h.4.0, h.4.1, head.does), lines_do n lines h.1 h.3 head.mid end head.rest h.5 head.prints, head.parts)
 
--- lines, and then more
+-- some lines, followed by more
 pub do_more : (n : ℕ) (lines more : List (List ℕ)) (taken mid end : List Taken) (out back : List ℕ) → DoLines n taken lines out mid → DoLines n mid more back end
     → DoLines n taken (lines ++ more) (out ++ back) end
 do_more n [] more taken mid end out back h then =

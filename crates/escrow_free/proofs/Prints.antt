@@ -21,7 +21,7 @@ use Rattle.escrow_free.specs.declared.plan.Planned.TheVariants as planned
 pub prints_none : (plan : List Planned) (desks : List Desk) (totals : List Tally) → PrintsTo plan desks totals [] plan desks totals
 prints_none plan desks totals = λ items taken m fits counts. record { left = items; took = taken; matches = m; fits = fits; counts = counts; prints = λ back end p. p }
 
--- lines, and then more
+-- some lines, followed by more
 pub prints_more : (plan mid rest : List Planned) (old now new : List Desk) (counted so_far totals : List Tally) (out more : List ℕ)
     → PrintsTo plan old counted out mid now so_far → PrintsTo mid now so_far more rest new totals → PrintsTo plan old counted (out ++ more) rest new totals
 prints_more plan mid rest old now new counted so_far totals out more first second = λ items taken m fits counts.
@@ -36,7 +36,7 @@ prints_more plan mid rest old now new counted so_far totals out more first secon
       prints = λ back end p. subst (λ (o : List ℕ). Prints taken plan items o end) (sym (append_assoc out more back)) (one.prints (more ++ back) end (two.prints back end p));
     }
 
--- another name for a line, and for what it prints
+-- equal lines print equal text
 pub prints_as : (line same : Planned) (plan rest : List Planned) (old new : List Desk) (counted totals : List Tally) (out text : List ℕ)
     → line ≡ same → out ≡ text → PrintsTo (same ∷ plan) old counted text rest new totals → PrintsTo (line ∷ plan) old counted out rest new totals
 prints_as line same plan rest old new counted totals out text is e prints =
@@ -64,7 +64,7 @@ totals_print place session tally plan desks totals is at = λ items taken m fits
       prints = λ back end p. (back, p, ap (λ (t : Tally). rendered_totals (database_name place) session t ++ back) (counts place session tally is at));
     }
 
--- all of them
+-- all lines
 pub record AllPrinted (taken : List Taken) (plan : List Planned) (items : List (ℕ × Request)) (out : List ℕ) (new : List Desk) (totals : List Tally) : Type 0 where
   pub end : List Taken
   pub prints : Prints taken plan items out end
@@ -82,9 +82,9 @@ all_printed plan items taken old new counted totals out to m fits counts =
       counts = all.counts;
     }
 
--- WHAT IS GATHERED
+-- WHAT IS BUFFERED
 
--- Some lines were printed; what they print was written, but for what is gathered.
+-- Some lines were printed; their output was written, except for what is buffered.
 pub record Printed (plan : List Planned) (old : List Desk) (counted : List Tally) (rest : List Planned) (new : List Desk) (totals : List Tally) (old_bytes new_bytes : Option (List ℕ)) (gathered : List ℕ) : Type 0 where
   pub written : List ℕ
   pub appends : Appends old_bytes new_bytes written

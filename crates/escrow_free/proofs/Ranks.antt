@@ -1,4 +1,4 @@
--- Desks that are marked, and their ranks among these.
+-- Marked desks, and their ranks among the marked ones.
 use Rattle.std.proofs.Common.{◌≡◌, ◌⊎◌, ℕ, zero, suc, ◌+◌, ◌<◌, Bool, true, false, eqb, if◌then◌else◌, List, [], ◌∷◌, map, length, set, replicate, slice_get, get_or, Some, All, refl, sym, ap, subst, ◌∙◌, inl, inr, arith}
 use Rattle.std.specs.List.{AllByRecursion}
 use Rattle.std.proofs.lemmas.Bool.{eq-eqb, ne_eqb, cases_eq}
@@ -14,7 +14,7 @@ use Rattle.escrow_sessions.proofs.Places.{some_same, none_some, long_set, set_he
 
 -- MARKS
 
--- a mark that is there stays
+-- a mark that is set stays set
 set_stays : (marks : List Bool) (i k : ℕ) → slice_get marks k ≡ Some true → slice_get (set marks i true) k ≡ Some true
 set_stays [] i k e = e
 set_stays (m ∷ marks) zero zero e = refl
@@ -61,7 +61,7 @@ suc_same a b e = omega arith
 no_mark : Some false ≡ Some true → ⊥
 no_mark e = cc
 
--- marked desks of one rank are one
+-- marked desks of one rank are the same desk
 same_rank : (marks : List Bool) (j k : ℕ) → slice_get marks j ≡ Some true → slice_get marks k ≡ Some true → rank marks j ≡ rank marks k → j ≡ k
 same_rank [] j k at there e = absurd (none_some true at)
 same_rank (m ∷ marks) zero zero at there e = refl
@@ -78,7 +78,7 @@ rank_of marks item at = let e = rank_at 0 marks item.0 (below_at marks item.0 tr
 if_same : (b c : Bool) (x : Request) (xs ys : List Request) → b ≡ c → xs ≡ ys → (if b then x ∷ xs else xs) ≡ (if c then x ∷ ys else ys)
 if_same b c x xs ys e f = rw (e, f) refl
 
--- two tests that tell the same
+-- two tests with the same result
 tests_same : (a b c d : ℕ) → (a ≡ b → c ≡ d) → (c ≡ d → a ≡ b) → eqb a b ≡ eqb c d
 tests_same a b c d there back = elim (cases_eq a b) [
   | inl same ↦ eq-eqb a b same ∙ sym (eq-eqb c d (there same))
@@ -97,7 +97,7 @@ of_renamed marks k (item ∷ items) at all =
 
 -- PARTS
 
--- the pass of a marked desk stands at its rank
+-- the pass of a marked desk is at its rank
 pub parted_at : (marks : List Bool) (desks : List Desk) (k : ℕ) (desk : Desk) → slice_get marks k ≡ Some true → slice_get desks k ≡ Some desk
     → slice_get (parted marks desks) (rank marks k) ≡ Some desk.pass
 parted_at [] desks k desk at there = absurd (none_some true at)
@@ -112,7 +112,7 @@ parted_none [] = refl
 parted_none (true ∷ marks) = parted_none marks
 parted_none (false ∷ marks) = parted_none marks
 
--- the passes are those of desks
+-- the passes are those of the desks
 pub parted_seats : {S : Type 0} (sharing : Shared S) (marks : List Bool) (desks : List Desk) → AllByRecursion (HasDesk sharing) desks → AllByRecursion (HasPass sharing) (parted marks desks)
 parted_seats sharing [] desks all = tt
 parted_seats sharing (true ∷ marks) [] all = parted_seats sharing marks [] all
@@ -120,7 +120,7 @@ parted_seats sharing (false ∷ marks) [] all = parted_seats sharing marks [] al
 parted_seats sharing (true ∷ marks) (d ∷ desks) all = (all.0, parted_seats sharing marks desks all.1)
 parted_seats sharing (false ∷ marks) (d ∷ desks) all = parted_seats sharing marks desks all.1
 
--- what stands at a place of all: the desk that rested there, or one that was served, at its rank
+-- the desk at a place: an unmarked desk is the old one, and a marked one is the served desk of its rank
 abbrev StoodAt : List Bool → List Desk → List Desk → ℕ → Desk → Type 0
 StoodAt marks desks served k new = (slice_get desks k ≡ Some new) ⊎ ((slice_get marks k ≡ Some true) × (slice_get served (rank marks k) ≡ Some new))
 
@@ -142,9 +142,9 @@ long_merged (true ∷ marks) (d ∷ desks) [] long all = absurd (omega (arith, l
 long_merged (true ∷ marks) (d ∷ desks) (s ∷ served) long all = ap suc (long_merged marks desks served (omega (arith, long)) (omega (arith, all)))
 long_merged (false ∷ marks) (d ∷ desks) served long all = ap suc (long_merged marks desks served long (omega (arith, all)))
 
--- ALL TOGETHER
+-- ALL DESKS
 
--- the marks of items, over so many desks
+-- the marks of items, for a number of desks
 abbrev pub marks_over : List Desk → List (ℕ × Request) → List Bool
 marks_over desks items = marked_by items (replicate (length desks) false)
 
@@ -160,7 +160,7 @@ module _ (desks : List Desk) (items : List (ℕ × Request)) (within : All (λ x
       all_marked items (replicate (length desks) false)
       (subst (λ n. AllByRecursion (λ (x : ℕ × Request). x.0 < n) items) (sym (length-replicate (length desks) false)) (all_parts (λ (x : ℕ × Request). x.0 < length desks) items within))
 
-  -- an item, by rank, names one of the passes
+  -- an item names one of the passes by rank
   rank_within : (item : ℕ × Request) → IsMarked (marks_over desks items) item → (renamed (ranks_from 0 (marks_over desks items)) item).0 < length (parted (marks_over desks items) desks)
   rank_within item at =
       let here = at_below desks item.0 (subst (λ n. item.0 < n) long_over (below_at (marks_over desks items) item.0 true at)) in
@@ -176,7 +176,7 @@ module _ (desks : List Desk) (items : List (ℕ × Request)) (within : All (λ x
   pub renamed_within : All (λ x. x.0 < length (parted (marks_over desks items) desks)) (map (renamed (ranks_from 0 (marks_over desks items))) items)
   renamed_within = all_places (λ (x : ℕ × Request). x.0 < length (parted (marks_over desks items) desks)) (map (renamed (ranks_from 0 (marks_over desks items))) items) (ranks_within items marked_over)
 
-  -- the desks that are put together are those that were served
+  -- the reassembled desks are those that were served
   pub all_served : (served : List Desk) → ArePassesServed (parted (marks_over desks items) desks) (map (renamed (ranks_from 0 (marks_over desks items))) items) served
       → AreServed desks items (merged (marks_over desks items) served (rested (marks_over desks items) desks))
   all_served served passes = record {

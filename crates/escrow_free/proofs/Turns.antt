@@ -1,4 +1,4 @@
--- A line's turn: its session's desk gives its next answer, and the line takes an entry or none.
+-- A line's turn: its session's desk returns the next answer, and the line takes one entry or none.
 use Rattle.std.proofs.Common.{◌≡◌, ◌≢◌, ◌⊎◌, ℕ, Bool, true, false, ◌&&◌, ◌<◌, ◌≤◌, eqb, if◌then◌else◌, Option, Some, None, List, [], ◌∷◌, ◌++◌, length, map, set, slice_get, refl, sym, ap, subst, ◌∙◌, inl, inr, arith}
 use Rattle.std.proofs.lemmas.Bool.{eq-eqb, ne_eqb, cases_eq}
 use Rattle.std.proofs.lemmas.List.{length-append, length-map, map-append}
@@ -9,13 +9,13 @@ use Rattle.escrow_statement.specs.declared.statement.Request.TheVariants as requ
 use Rattle.escrow_statement.specs.declared.statement.Statement.{Statement}
 use Rattle.escrow_stats.specs.Tally.{tally_of}
 use Rattle.escrow_stats.specs.declared.tally.Tally.{Tally}
-use Rattle.escrow_shards.specs.declared.answer.Answer.TheVariants as answer
-use Rattle.escrow_shards.specs.declared.receipt.Receipt.{Receipt}
+use Rattle.escrow_shards.specs.declared.pass.Answer.TheVariants as answer
+use Rattle.escrow_shards.specs.declared.pass.Receipt.{Receipt}
 use Rattle.escrow_shards.specs.Pass.{Pass}
 use Rattle.escrow_sessions.specs.Fed.{of}
 use Rattle.escrow_sessions.specs.Serving.{IsGiven, Serves}
-use Rattle.escrow_sessions.specs.declared.done.Given.{Given}
-use Rattle.escrow_sessions.specs.declared.done.Given.TheVariants as given
+use Rattle.escrow_sessions.specs.declared.feed.Given.{Given}
+use Rattle.escrow_sessions.specs.declared.feed.Given.TheVariants as given
 use Rattle.escrow_script.specs.Line.{database_name}
 use Rattle.escrow_free.specs.Desks.{desk_of, answers_of, IsNext, IsCounted, seat_after, Fits, AreTotals}
 use Rattle.escrow_free.specs.FreeOutput.{Taken, taken_by, replies_by, Does}
@@ -27,7 +27,7 @@ use Rattle.escrow_sessions.proofs.Places.{set_cases}
 
 -- WHAT A SESSION TOOK
 
--- what a line took of its session
+-- what a line took from its session
 abbrev one_taken : ℕ → ℕ → Receipt → Taken
 one_taken place session r = record { place = place; session = session; receipt = r }
 
@@ -91,9 +91,9 @@ serving_grows seat [] (g ∷ gs) pass none = absurd none
 serving_grows seat (r ∷ rs) (g ∷ gs) pass h =
     let first = given_grows r g seat h.0 h.1.0 in let more = serving_grows h.0 rs gs pass h.1.1 in omega (arith, first, more)
 
--- A TURN
+-- ONE TURN
 
--- what a line does as its statement is given an answer, which leads to a pass, and to totals that count it
+-- what a line does when its statement gets an answer, which gives a new pass and totals that count it
 record Turned (place session : ℕ) (taken : List Taken) (asked : Statement) (out : List ℕ) (mid : Pass) (counted totals : Tally) : Type 0 where
   took : List Taken
   does : Does taken place session (request.Statement asked) out took
@@ -101,7 +101,7 @@ record Turned (place session : ℕ) (taken : List Taken) (asked : Statement) (ou
   counts : counted ≡ tally_of (replies_by place session taken) → totals ≡ tally_of (replies_by place session took)
   others : (p s : ℕ) → (p ≡ place → s ≡ session → ⊥) → taken_by p s took ≡ taken_by p s taken
 
--- the replies of what was taken, with one more
+-- the replies taken so far, and one more
 replies_more : (place session : ℕ) (taken : List Taken) (r : Receipt) → replies_by place session (taken ++ one_taken place session r ∷ []) ≡ replies_by place session taken ++ r.reply ∷ []
 replies_more place session taken r =
     ap (map (λ (x : Receipt). x.reply)) (taken_here place session taken r) ∙ map-append (λ (x : Receipt). x.reply) (taken_by place session taken) (r ∷ [])
@@ -130,7 +130,7 @@ given_turns place session taken asked (given.Reply (answer.Unserved cause)) mid 
 }
 given_turns place session taken asked (given.Totals shown) mid pass counted totals h most counts = absurd h
 
--- the next answer of a desk, whichever it is
+-- the next answer of a desk, in each case
 record NextTurned (place session : ℕ) (taken : List Taken) (asked : Statement) (rs : List Request) (out : List ℕ) (news : List Given) (pass : Pass) (counted totals : Tally) : Type 0 where
   mid : Pass
   turned : Turned place session taken asked out mid counted totals
@@ -161,7 +161,7 @@ next_turns place session taken asked rs None olds news pass counted totals is co
 
 -- DESKS
 
--- sessions with one desk are one
+-- sessions with the same desk are equal
 one_desk : (p s place session : ℕ) → IsSession s → IsSession session → desk_of p s ≡ desk_of place session → (p ≡ place) × (s ≡ session)
 one_desk p s place session is also same =
     let a = is.0 in let b = is.1 in let c = also.0 in let d = also.1 in (omega arith, omega arith)
@@ -172,7 +172,7 @@ of_first k item items e = rw (eq-eqb item.0 k e) refl
 of_other : (k : ℕ) (item : ℕ × Request) (items : List (ℕ × Request)) → (item.0 ≡ k → ⊥) → of k (item ∷ items) ≡ of k items
 of_other k item items apart = rw (ne_eqb item.0 k apart) refl
 
--- a line that asks prints its session's next answer
+-- a line that requests something prints its session's next answer
 module _ (place session : ℕ) (desks : List Desk) (totals : List Tally) (old new : Desk) (counted tally : Tally) (next : Option Given) (plan : List Planned) (is_session : IsSession session)
     (at : slice_get desks (desk_of place session) ≡ Some old) (beside : slice_get totals (desk_of place session) ≡ Some counted) (pass : new.pass ≡ old.pass)
     (nexts : IsNext (answers_of old) next (answers_of new)) (counts : IsCounted next old.pass counted tally) where

@@ -7,15 +7,15 @@ use Rattle.escrow_statement.specs.declared.statement.Request.{Request}
 use Rattle.escrow_machine.specs.declared.reply.Reply.{Reply}
 use Rattle.escrow_stats.specs.Tally.{tally_of}
 use Rattle.escrow_stats.specs.declared.tally.Tally.{Tally}
-use Rattle.escrow_shards.specs.declared.answer.Answer.TheVariants as answer
+use Rattle.escrow_shards.specs.declared.pass.Answer.TheVariants as answer
 use Rattle.escrow_shards.specs.Pass.{Pass}
 use Rattle.escrow_shards.specs.Shared.{Shared, HasPass}
 use Rattle.escrow_sessions.specs.Fed.{of}
 use Rattle.escrow_sessions.specs.Serving.{Serves}
-use Rattle.escrow_sessions.specs.declared.done.Done.{Done}
-use Rattle.escrow_sessions.specs.declared.done.Given.{Given}
+use Rattle.escrow_sessions.specs.declared.feed.Done.{Done}
+use Rattle.escrow_sessions.specs.declared.feed.Given.{Given}
 use Rattle.escrow_sessions.specs.declared.feed.Feed.{Feed}
-use Rattle.escrow_sessions.specs.declared.done.Given.TheVariants as given
+use Rattle.escrow_sessions.specs.declared.feed.Given.TheVariants as given
 use Rattle.escrow_free.specs.FreeOutput.{Taken, taken_by, replies_by}
 use Rattle.escrow_free.specs.declared.desk.Desk.{Desk}
 

@@ -16,7 +16,7 @@ use Rattle.escrow_stats.specs.Tally.{tally_of}
 use Rattle.escrow_stats.specs.Text.{rendered_totals}
 use Rattle.escrow_shards.specs.Answer.{IsUnserved}
 use Rattle.escrow_shards.specs.Receipts.{receipts_of}
-use Rattle.escrow_shards.specs.declared.receipt.Receipt.{Receipt}
+use Rattle.escrow_shards.specs.declared.pass.Receipt.{Receipt}
 use Rattle.escrow_script.specs.declared.limits.TheConstants.{MAX_SCRIPT}
 use Rattle.escrow_script.specs.Line.{Reading, nothing, join, restart, statement, no_line, database_name, Reads, lines_of}
 use Rattle.escrow_script.specs.Written.{fault_refusal, no_line_text}

@@ -10,9 +10,9 @@ use Rattle.escrow_reply.specs.Text.{rendered}
 use Rattle.escrow_stats.specs.Tally.{tally_of}
 use Rattle.escrow_stats.specs.Text.{rendered_totals}
 use Rattle.escrow_stats.specs.declared.tally.Tally.{Tally}
-use Rattle.escrow_shards.specs.declared.answer.Answer.TheVariants as answer
-use Rattle.escrow_sessions.specs.declared.done.Given.{Given}
-use Rattle.escrow_sessions.specs.declared.done.Given.TheVariants as given
+use Rattle.escrow_shards.specs.declared.pass.Answer.TheVariants as answer
+use Rattle.escrow_sessions.specs.declared.feed.Given.{Given}
+use Rattle.escrow_sessions.specs.declared.feed.Given.TheVariants as given
 use Rattle.escrow_script.specs.declared.limits.TheConstants.{MAX_DATABASES}
 use Rattle.escrow_script.specs.Line.{database_name}
 use Rattle.escrow_script.specs.Written.{fault_refusal, no_line_text}

@@ -48,8 +48,8 @@ impl Desk {
         ensures pass { self.new.pass ≡ self.old.pass }
         ensures counted { IsCounted result self.old.pass totals.old totals.new }
     {
-        // Gives the proof that there are no more receipts than a total can count.
-        let _ = self.pass.receipts().len();
+        // A total can count all receipts.
+        prove!(self.pass.receipts().len() < usize::MAX);
         let given = self.answers.next();
         if let Some(Given::Reply(Answer::Served(reply))) = &given {
             *totals = totals.with(reply);

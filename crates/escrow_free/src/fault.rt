@@ -23,13 +23,13 @@ pub enum FreeFault {
     #[error("a store can't be read")]
     Store,
     /// A transaction is open in a database that was handed in.
-    #[error("a transaction is open")]
+    #[error("a database has an open transaction")]
     Open,
     /// A phase has statements of more sessions than may run at the same time.
-    #[error("too many sessions in a phase")]
+    #[error("a phase has more than 64 sessions")]
     Sessions,
     /// The histories of the databases don't match the replies to their sessions.
-    #[error("the histories don't fit the replies")]
+    #[error("the replies don't match the histories of the databases")]
     Mismatch,
 }
 

@@ -17,13 +17,13 @@ use Rattle.escrow_memory.specs.declared.tree.Edit.TheVariants.{Put, Delete, Inse
 use Rattle.escrow_memory.specs.Edit.{Fits}
 use Rattle.escrow_memory.specs.Trees.{heading, all_held}
 
--- a number that names a tree has one
+-- a number that names a tree is in range
 pub present : (trees : List Held) (t : ℕ) → shape_of trees t ≢ Absent → t < length trees
 present [] t there = absurd (there refl)
 present (x ∷ trees) zero there = omega arith
 present (x ∷ trees) (suc t) there = omega (arith, present trees t there)
 
--- the tree at a number shows there
+-- the tree with a number is shown under that number
 pub tree_at : (trees : List Shared) (t : ℕ) (x : Shared) → t < length trees → x ≡ get_or trees t x
     → (shape_of (all_held trees) t ≡ x.tree.value.shape) × (rows_of (all_held trees) t ≡ x.tree.value.rows)
 tree_at [] t x within is = absurd (omega arith)
@@ -35,7 +35,7 @@ heading_at [] t x within is = absurd (omega arith)
 heading_at (y ∷ trees) zero x within is = ap (λ z. heading z.tree.value) (sym is)
 heading_at (y ∷ trees) (suc t) x within is = heading_at trees t x (omega arith) is
 
--- a tree with the same heading leaves the headings
+-- a tree with the same heading leaves the headings unchanged
 pub headings_kept : (trees : List Held) (t : ℕ) (x : Held) → x.0 ≡ get_or (headings trees) t no_heading → headings (set trees t x) ≡ headings trees
 headings_kept trees t x same = rw (map-set, same) (set-get_or (headings trees) t no_heading)
 
@@ -49,7 +49,7 @@ get_or-push_default [] d (suc k) = refl
 get_or-push_default (x ∷ xs) d zero = refl
 get_or-push_default (x ∷ xs) d (suc k) = get_or-push_default xs d k
 
--- what stands for no tree shows nothing
+-- a placeholder for no tree shows nothing
 pub alike_push : (old mid : List Held) → AreAlike old mid → AreAlike old (mid ++ (no_heading, []) ∷ [])
 alike_push old mid h =
     let longer : headings (mid ++ (no_heading, []) ∷ []) ≡ headings mid ++ no_heading ∷ [] = map-append (λ (y : Held). y.0) mid _ in
@@ -64,13 +64,13 @@ alike_push old mid h =
 pub alike_same : (trees : List Held) → AreAlike trees trees
 alike_same trees = record { rows = refl; shapes = refl; reals = refl; objects = refl }
 
--- an edit of a tree that a call can name goes under the list of objects
+-- an edit of a tree that a call can name commutes with the list of objects
 with_tree_turned : (db : Trees) (t : ℕ) (rows objects : List Row) → t < 2 ^ 32
     → with_tree (with_tree db t rows) catalog_tree objects ≡ with_tree (with_tree db catalog_tree objects) t rows
 with_tree_turned db t rows objects low =
     fun_ext (λ k. elim (cases_eq k t) [ inl same ↦ rw (same, named t low, eq-eqb t t refl) | inr other ↦ rw (ne_eqb k t other) ])
 
--- the trees after one was edited
+-- the trees after one of them was edited
 pub forest_edited : (old new : List Held) (t : ℕ) (edit : List Row → List Row) → t < 2 ^ 32 → headings new ≡ headings old
     → rows_of new ≡ with_tree (rows_of old) t (edit (rows_of old t)) → forest new ≡ with_tree (forest old) t (edit (forest old t))
 forest_edited old new t edit low same rows = rw (same, rows, named t low) (with_tree_turned (rows_of old) t _ _ low)
@@ -78,21 +78,21 @@ forest_edited old new t edit low same rows = rw (same, rows, named t low) (with_
 pub shape_named : (trees : List Held) (t : ℕ) → t < 2 ^ 32 → all_shapes trees t ≡ shape_of trees t
 shape_named trees t low = rw (named t low, unnumbered t low)
 
--- a write fits a tree that is there
+-- a write fits only an existing tree
 pub fits_present : (edit : Edit) (shape : Shape) → Fits edit shape → shape ≢ Absent
 fits_present (Put row) shape fits none = let is = fits.0 in cc
 fits_present (Delete id) shape fits none = cc
 fits_present (Insert order entry) shape fits none = cc
 fits_present (Remove order entry) shape fits none = cc
 
--- a tree that is found shows under its number
+-- a tree that is found is shown under its number
 pub found_there : (trees : List Held) (t : ℕ) (x : Held) → slice_get trees t ≡ Some x
     → (shape_of trees t ≡ x.0.0) × (rows_of trees t ≡ x.1) × (reals_in (headings trees) t ≡ reals_unless_absent x.0.0 x.0.1)
 found_there [] t x is = cc
 found_there (y ∷ trees) zero x is = let same : y ≡ x = cc in rw same (refl, refl, refl)
 found_there (y ∷ trees) (suc t) x is = found_there trees t x is
 
--- and nothing shows where none is
+-- if no tree is found, none is shown
 pub none_there : (trees : List Held) (t : ℕ) → slice_get trees t ≡ None → (shape_of trees t ≡ Absent) × (rows_of trees t ≡ []) × (reals_in (headings trees) t ≡ 0)
 none_there [] t is = (refl, refl, refl)
 none_there (y ∷ trees) zero is = cc

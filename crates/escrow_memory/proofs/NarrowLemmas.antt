@@ -1,4 +1,4 @@
--- A narrow entry's fields.
+-- The fields of a narrow entry.
 use Rattle.std.proofs.Common.{◌≡◌, ℕ, ◌-◌, ℤ, int_cmp, true, false, ◌<◌, ◌≤◌, List, [], ◌∷◌, length, take, drop, get_or, arith}
 use Rattle.std.proofs.lemmas.List.{take_rest}
 use Rattle.std.proofs.lemmas.Bool.{le-ltb}
@@ -26,14 +26,14 @@ unfolding varint_value
 narrow_value [] some narrow = absurd (omega arith)
 narrow_value (byte ∷ bytes) some narrow = grind (arith, nat_tests)
 
--- the fields of an entry whose header's length takes a byte
+-- the fields of an entry whose header length takes one byte
 pub narrow_fields : (entry : List ℕ) → 1 ≤ length entry → get_or entry 0 0 < 128
     → decode entry ≡ values_of (drop 1 (take (get_or entry 0 0) entry)) (drop (get_or entry 0 0) entry)
 unfolding decode
 narrow_fields entry some narrow =
     rw (narrow_len entry some narrow, narrow_value entry some narrow, le-ltb (length entry) 1 some)
 
--- the first field, where its type takes a byte, and those behind it
+-- the first field, if its type takes one byte, and the later fields
 pub narrow_first : (types body : List ℕ) → 1 ≤ length types → get_or types 0 0 < 128
     → values_of types body ≡ serial_value (get_or types 0 0) (take (serial_size (get_or types 0 0)) body) ∷ values_of (take (length types - 1) (drop 1 types)) (drop (serial_size (get_or types 0 0)) body)
 narrow_first types body some narrow =
@@ -41,11 +41,11 @@ narrow_first types body some narrow =
     let value = narrow_value types some narrow in
     rw (take_rest types 1, ← value, ← len) (values_of-step types body (omega arith))
 
--- no type, no field
+-- without types there are no fields
 pub no_fields : (types body : List ℕ) → length types ≡ 0 → values_of types body ≡ []
 no_fields types body none = values_of-end types body (omega (arith, varint_len_pos types))
 
--- integers are ordered alike by each collation
+-- all collations order integers alike
 collated_ints : (collation : Collation) (a b : ℤ) → collated collation (Int a) (Int b) ≡ int_cmp a b
 collated_ints Binary a b = value_cmp-Int a b
 collated_ints NoCase a b = value_cmp-Int a b

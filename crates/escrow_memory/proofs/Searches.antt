@@ -1,4 +1,4 @@
--- The rows of a tree are cut where a key stands.
+-- The rows of a tree below a key come first.
 use Rattle.std.proofs.Common.{◌≡◌, ℕ, zero, suc, ◌+◌, ◌-◌, ◌<◌, ◌≤◌, min, not, List, [], ◌∷◌, ◌++◌, length, take, drop, reverse, get_or, refl, ap, sym, ◌∙◌, arith, is_lt, is_gt, true≢false, drop-cons, add-one}
 use Rattle.std.proofs.lemmas.List.{take_more, reverse-append}
 use Rattle.sqlite_value.specs.Order.{Row}
@@ -28,7 +28,7 @@ none_before [] (suc at) none = refl
 none_before (x ∷ rows) zero none = refl
 none_before (x ∷ rows) (suc at) none = absurd (omega arith)
 
--- and else gives the next one
+-- a cursor before the end has a next row
 pub next_from : (rows : List Row) (at : ℕ) → at < length rows → drop at rows ≡ get_or rows at [] ∷ drop (at + 1) rows
 next_from rows at within = drop-cons rows at [] within ∙ ap (λ k. get_or rows at [] ∷ drop k rows) (sym (add-one at))
 

@@ -21,7 +21,7 @@ use Rattle.escrow_memory.specs.Held.{Held, headings, rows_of, shape_of, objects_
 use Rattle.escrow_memory.specs.Store.{trees_of, snapshot_of, current, block_view, IsReplaced}
 use Rattle.escrow_memory.proofs.Forests.{rows_set, forest_edited}
 
--- two sound stores with one base and the same savepoints differ in what the transaction sees
+-- two sound stores with the same base and savepoints differ only in what the transaction sees
 pub written : (old new : BlockStore) (trees : Trees) (kinds : ℕ → Shape) (bits : ℕ → ℕ) → new.base ≡ old.base → new.marks ≡ old.marks → old.is_broken ≡ false → new.is_broken ≡ false
     → (snapshot_of (current new)).trees ≡ trees → (snapshot_of (current new)).shape ≡ kinds → (snapshot_of (current new)).reals ≡ bits
     → block_view new ≡ record (block_view old) { trees = trees; shape = kinds; reals = bits; cursors = (block_view new).cursors }
@@ -70,7 +70,7 @@ module _ (old new : BlockStore) (tree : ℕ) (it : Held) (low : tree < 2 ^ 32) (
       written old new _ _ _ made.base made.marks made.was_sound made.sound (rw made.version (versioned_object (forest (trees_of (current old))) _ tree (current old).version it.1 edit (omega arith) trees))
       (rw kinds (under_version (shapes (trees_of (current old))) tree _ _ (omega arith))) (rw real (under_version (reals (trees_of (current old))) tree _ _ (omega arith)))
 
-  -- a tree that is made or dropped
+  -- a tree that is created or dropped
   pub replaced : it.1 ≡ [] → (edit : List Row → List Row) → objects_from 0 (set (headings made.trees.room) tree it.0) ≡ edit (objects_of made.trees.room)
       → SetsObject (block_view old) (block_view new) tree it.0.0 (reals_unless_absent it.0.0 it.0.1) edit
   replaced empty edit listed = record {
@@ -83,7 +83,7 @@ module _ (old new : BlockStore) (tree : ℕ) (it : Held) (low : tree < 2 ^ 32) (
     });
   }
 
-  -- a tree that keeps its rows, and is listed as another object
+  -- a tree that keeps its rows and is listed as another object
   pub relabelled : (o : Object) → it.0 ≡ (o.shape, o.reals, description o) → o.shape ≢ Absent → all_shapes (trees_of (current old)) tree ≡ o.shape → it.1 ≡ (block_view old).trees tree
       → Relists (block_view old) (block_view new) ((tree, o) ∷ [])
   relabelled o is there shaped rows =
@@ -102,7 +102,7 @@ module _ (old new : BlockStore) (tree : ℕ) (it : Held) (low : tree < 2 ^ 32) (
             ∙ (λ i. record (block_view old) { trees = trees i; shape = kinds i; reals = set_at (all_reals (trees_of (current old))) tree (real i); cursors = (block_view new).cursors });
       }
 
--- a write leaves all but trees and cursors
+-- a write changes only trees and cursors
 pub write_frame : (old new : View) (tree : ℕ) (edit : List Row → List Row) → SetsTree old new tree edit → OnlyWrites old new
 write_frame old new tree edit h = λ i. record (h.is i) { trees = new.trees; cursors = new.cursors }
 
@@ -122,12 +122,12 @@ edit_shown s made done t edit low seen number same rows kept =
       reals = set_at (set_at (reals_in (heads i)) catalog_tree 0) version_tree 0;
     }
 
--- a row that isn't encoded has a cause
+-- a row that cannot be encoded gives a cause
 pub cause_of : (old : View) (Fits : Type 0) (e : StoreError) → IsRefusal Fits e → HasCause old ⊥ (¬ Fits) e
 cause_of old Fits e (inl memory) = rw memory tt
 cause_of old Fits e (inr refused) = rw refused.0 refused.1
 
--- a call that failed and left all but cursors
+-- a call that failed and changed only cursors
 pub failed : {X : Type 0} (r : Result X StoreError) (old new : View) → new ≡ record old { cursors = new.cursors } → IfErr r (IsFailure old new)
 failed (Ok x) old new same = tt
 failed (Err e) old new same = record {
@@ -145,7 +145,7 @@ failed (Err e) old new same = record {
   refused = λ _ _. same;
 }
 
--- two forests that hold the same trees and version are seen alike
+-- two forests with the same trees and version look the same
 pub same_snapshot : (a b : Forest) → trees_of a ≡ trees_of b → a.version ≡ b.version → snapshot_of a ≡ snapshot_of b
 same_snapshot a b trees version = λ i. record {
   trees = with_version (forest (trees i)) (version i);
@@ -153,7 +153,7 @@ same_snapshot a b trees version = λ i. record {
   reals = all_reals (trees i);
 }
 
--- a failure has a cause that follows from its own
+-- the cause of a failure may be replaced by a weaker one
 pub cause_weaker : {X : Type 0} (r : Result X StoreError) (old : View) (Fault Why Whence : Type 0) → (Why → Whence) → IfErr r (HasCause old ⊥ Why) → IfErr r (HasCause old Fault Whence)
 cause_weaker (Ok x) old Fault Why Whence so h = tt
 cause_weaker (Err OutOfMemory) old Fault Why Whence so h = tt

@@ -126,20 +126,6 @@ fn splice_child<N: Node>(
     Ok(())
 }
 
-/// Joins the child at a place with the next, and then with the one before it, if both are small.
-fn join_around<N: Node>(
-    alloc: Global,
-    children: &mut Vec<Child<N>>,
-    place: usize,
-) -> Result<(), AllocError>
-    requires { AreCounted N.rows children.old.items }
-    ensures rows { OnOk result (children_rows N.rows children.new.items ≡ children_rows N.rows children.old.items) }
-    ensures counted { OnOk result (AreCounted N.rows children.new.items) }
-{
-    join_small(alloc, children, place)?;
-    join_small(alloc, children, place.saturating_sub(1))
-}
-
 /// Changes the children as [`Node::splice`] does, and returns which child was changed.
 fn edit_children<N: Node>(
     alloc: Global,
@@ -158,7 +144,9 @@ fn edit_children<N: Node>(
     if place < children.len() {
         splice_child(alloc, children, place, within, cut, new)?;
         if new.is_none() {
-            join_around(alloc, children, place)?;
+            // With the next, and then with the one before it.
+            join_small(alloc, children, place)?;
+            join_small(alloc, children, place.saturating_sub(1))?;
         }
     } else if let Some(entry) = new {
         children.push(Child::of_one(alloc, entry)?)?;

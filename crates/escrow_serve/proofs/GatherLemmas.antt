@@ -24,7 +24,7 @@ use Rattle.escrow_serve.proofs.LinesLemmas.{lines_more, takes_more}
 pub gathers_none : (databases : ℕ) (waits : List Waiting) (parts : List Part) → waits ≡ [] → length parts ≡ databases → AreAsked parts [] → Gathers databases waits parts []
 gathers_none databases waits parts none count asked = record { count = count; are = tt; waits = none; asked = asked }
 
--- one line more waits
+-- one more line waits
 pub gathers_more : (databases : ℕ) (waits : List Waiting) (parts afters : List Part) (items : List Item) (bytes : List ℕ) (asked : Task) (waiting : Waiting) → waiting ≡ waiting_of asked → MayWait asked
     → IsTask databases bytes asked → length afters ≡ length parts → (AreAsked parts items → AreAsked afters (behind items bytes asked)) → Gathers databases waits parts items
     → Gathers databases (waits ++ waiting ∷ []) afters (behind items bytes asked)
@@ -38,17 +38,17 @@ gathers_more databases waits parts afters items bytes asked waiting is may reads
       asked = more gathers.asked;
     }
 
--- or none more
+-- no more line waits
 pub gathers_still : (databases : ℕ) (waits : List Waiting) (parts afters : List Part) (items : List Item) → length afters ≡ length parts → (AreAsked parts items → AreAsked afters items)
     → Gathers databases waits parts items → Gathers databases waits afters items
 gathers_still databases waits parts afters items count still gathers = record { count = count ∙ gathers.count; are = gathers.are; waits = gathers.waits; asked = still gathers.asked }
 
--- a batch asks what a line asks, which waits
+-- a batch requests what a waiting line requests
 abbrev pub Waits : Task → Waiting → List Part → List Part → Type 0
 Waits asked waiting parts afters =
     (waiting ≡ waiting_of asked) × MayWait asked × ((bytes : List ℕ) (items : List Item) → AreAsked parts items → AreAsked afters (behind items bytes asked))
 
--- what waits is of a database that exists
+-- a waiting line belongs to an existing database
 item_within : (databases : ℕ) (bytes : List ℕ) (asked : Task) → IsTask databases bytes asked → IsWithin databases (waiting_of asked)
 item_within databases bytes (task.Refuse place session refusal) is = names_one databases bytes place session is.0 is.2
 item_within databases bytes (task.Statement place session asked) is = names_one databases bytes place session is.0 is.1
@@ -58,9 +58,9 @@ pub all_within : (databases : ℕ) (items : List Item) → AllByRecursion (IsIte
 all_within databases [] all = tt
 all_within databases (item ∷ items) all = (item_within databases item.bytes item.task all.0.0, all_within databases items all.1)
 
--- LINES THAT WERE TAKEN
+-- LINES THAT ARE TAKEN
 
--- what a batch does with one line more
+-- what a batch does with one more line
 pub record Admits (asked : Task) (waits now : List Waiting) (parts afters : List Part) (alone : Option Task) : Type 0 where
   pub waiting : IfNone alone ((databases : ℕ) (bytes : List ℕ) (items : List Item) → IsTask databases bytes asked → Gathers databases waits parts items
       → Gathers databases now afters (behind items bytes asked))
@@ -127,18 +127,18 @@ gathers_next databases first unread mid rest kept asked waits now parts afters b
       fewer = omega (arith, so_far.fewer, fewer, length-append so_far.lines (kept ∷ []));
     }
 
--- a line that was in hand was not taken
+-- a line already in hand was not taken
 pub gathers_stay : (databases : ℕ) (first unread mid rest : List ℕ) (waits : List Waiting) (parts : List Part) (alone : Option Task) → rest ≡ mid
     → GathersLines databases first unread mid waits parts alone → GathersLines databases first unread rest waits parts alone
 gathers_stay databases first unread mid rest waits parts alone same so_far =
     subst (λ (u : List ℕ). GathersLines databases first unread u waits parts alone) (sym same) so_far
 
--- what a test tells
+-- the result of a test
 pub none_of : (alone : Option Task) (tested : Bool) → is_some alone ≡ not tested → tested ≡ true → alone ≡ None
 none_of None tested same none = refl
 none_of (Some asked) tested same none = absurd (true≢false (same ∙ ap not none))
 
--- room for what waits
+-- there is room for the waiting lines
 pub room_of : (alone : Option Task) (old new len capacity : ℕ) → MatchOption alone (new ≡ old + 1) (λ _. new ≡ old) → len + MAX_SHORT * (old + 1) ≤ capacity → HasRoom alone new len capacity
 room_of None old new len capacity is room = omega (arith, is, room)
 room_of (Some asked) old new len capacity is room = omega (arith, is, room)
@@ -153,7 +153,7 @@ room_for_all (Some asked) waits len capacity room = omega (arith, room)
 
 -- THE LINES ARE SERVED
 
--- those that waited, where there is no other
+-- those that waited, if there is no other line
 pub hand_of_batch : (databases : ℕ) (first unread rest : List ℕ) (waits : List Waiting) (parts : List Part) (states new : List State) (totals counted : List Totals) (out : List ℕ)
     → (so_far : GathersLines databases first unread rest waits parts None) → LinesServed states totals (map (λ (i : Item). i.bytes) so_far.items) out new counted
     → LinesServed states totals (first ∷ so_far.lines) out new counted
@@ -162,7 +162,7 @@ hand_of_batch databases first unread rest waits parts states new totals counted 
     so_far.whole ∙ ap (λ (ls : List (List ℕ)). map (λ (i : Item). i.bytes) so_far.items ++ ls) so_far.is_last ∙ append-nil (map (λ (i : Item). i.bytes) so_far.items) in
     subst (λ (ls : List (List ℕ)). LinesServed states totals ls out new counted) (sym all) served
 
--- and the one that may not wait behind them
+-- and the one that may not wait with them
 pub hand_and_one : (databases : ℕ) (first unread rest : List ℕ) (waits : List Waiting) (parts : List Part) (asked : Task) (states mid new : List State) (totals between counted : List Totals) (out more : List ℕ)
     → (so_far : GathersLines databases first unread rest waits parts (Some asked)) → LinesServed states totals (map (λ (i : Item). i.bytes) so_far.items) out mid between
     → ((bytes : List ℕ) → IsTask databases bytes asked → LineServed mid between bytes more new counted) → LinesServed states totals (first ∷ so_far.lines) (out ++ more) new counted

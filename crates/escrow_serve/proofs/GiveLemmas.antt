@@ -1,4 +1,4 @@
--- The reply to a line that waits.
+-- The reply to a waiting line.
 use Rattle.std.proofs.Common.{◌≡◌, ℕ, ◌<◌, List, [], ◌∷◌, ◌++◌, length, map, arith, refl, sym, ap, subst, ◌∙◌, append_assoc, inl, inr}
 use Rattle.std.specs.Prelude.{slice_set, slice_index_or}
 use Rattle.std.specs.List.{AllByRecursion}
@@ -26,20 +26,20 @@ use Rattle.escrow_serve.proofs.RunLemmas.{runs_end, runs_next, runs_some, runs_w
 use Rattle.escrow_serve.proofs.ServeLemmas.{nothing_served}
 use Rattle.escrow_serve.proofs.TotalsLemmas.{line_of_none, line_of_statement, line_unchanged}
 
--- what is given to a line that waits so serves it
+-- the reply given to a waiting line serves the line
 abbrev pub Gives : ℕ → Waiting → List Totals → List ℕ → List Totals → List Part → List Part → Type 0
 Gives databases waits totals out counted parts left =
     (states new : List State) (item : Item) (items : List Item) → waits ≡ waiting_of item.task → IsItem databases item → Runs states new (item ∷ items) parts
     → (mid : List State) × LineServed states totals item.bytes out mid counted × Runs mid new items left
 
--- what a text is answered in a database, whichever state it has
+-- the answer to a text in a database, whatever its state
 abbrev pub Answered : List ℕ → Totals → ℕ → Reply → List ℕ → Totals → Type 0
 Answered name own session answer out counted = (old new : State) (text : List ℕ) → Answers old session text answer new → TextServed name old own session text out new counted
 
 reads_among : (databases : ℕ) (states : List State) (bytes : List ℕ) (reading : _) → databases ≡ length states → Reads databases bytes reading → Reads (length states) bytes reading
 reads_among databases states bytes reading same reads = subst (λ (n : ℕ). Reads n bytes reading) same reads
 
--- NOTHING
+-- NO REQUEST
 
 nothing_given : (databases : ℕ) (totals : List Totals) (parts : List Part) (states new : List State) (bytes : List ℕ) (asked : Task) (items : List Item) → databases ≡ length states
     → waiting.Nothing ≡ waiting_of asked → IsTask databases bytes asked → MayWait asked → Runs states new (record { bytes = bytes; task = asked } ∷ items) parts
@@ -59,7 +59,7 @@ pub gives_nothing : (databases : ℕ) (totals : List Totals) (parts : List Part)
 gives_nothing databases totals parts count states new item items same is runs =
     nothing_given databases totals parts states new item.bytes item.task items (count ∙ runs.parted) same is.0 is.1 runs
 
--- NO LINE
+-- NOT A LINE
 
 no_line_given : (databases : ℕ) (totals : List Totals) (parts : List Part) (states new : List State) (bytes : List ℕ) (asked : Task) (items : List Item) → databases ≡ length states
     → waiting.NoLine ≡ waiting_of asked → IsTask databases bytes asked → Runs states new (record { bytes = bytes; task = asked } ∷ items) parts
@@ -75,7 +75,7 @@ pub gives_no_line : (databases : ℕ) (totals : List Totals) (parts : List Part)
 gives_no_line databases totals parts count states new item items same is runs =
     no_line_given databases totals parts states new item.bytes item.task items (count ∙ runs.parted) same is.0 runs
 
--- A TEXT THAT IS REFUSED
+-- A REFUSED TEXT
 
 -- its line
 pub refused_line : (databases : ℕ) (states : List State) (totals : List Totals) (place session : ℕ) (refusal : Refusal) (bytes name out : List ℕ) (own counted : Totals) → databases ≡ length states
@@ -137,7 +137,7 @@ pub gives_asked : (databases : ℕ) (totals : List Totals) (parts : List Part) (
 gives_asked databases totals parts place session name out own counted old left answer parted each is_own is_old popped is_name answered states new item items same is runs =
     asked_given databases totals parts states new place session item.bytes name out own counted old left answer item.task items (parted ∙ runs.parted) parted each is_own is_old popped is_name answered same is.0 runs
 
--- each has its reply
+-- each line has its reply
 none_given : (databases : ℕ) (parts : List Part) (states new : List State) (place session : ℕ) (bytes : List ℕ) (old : Part) (asked : Task) (items : List Item) → databases ≡ length parts
     → old ≡ slice_index_or parts place old → old.answers.items ≡ [] → waiting.Asked place session ≡ waiting_of asked → IsTask databases bytes asked
     → Runs states new (record { bytes = bytes; task = asked } ∷ items) parts → ⊥
@@ -153,9 +153,9 @@ pub gives_none : (databases : ℕ) (totals counted : List Totals) (parts lefts :
 gives_none databases totals counted parts lefts place session out old parted is_old none states new item items same is runs =
     absurd (none_given databases parts states new place session item.bytes old item.task items parted is_old none same is.0 runs)
 
--- ALL LINES THAT WAIT
+-- ALL WAITING LINES
 
--- some of the lines were given their replies, and the others wait
+-- some lines have got their replies, and the others wait
 pub record Given (databases : ℕ) (states new : List State) (totals counted : List Totals) (items : List Item) (left : List Waiting) (parts : List Part) (out : List ℕ) : Type 0 where
   pub done : List Item
   pub rest : List Item

@@ -1,4 +1,4 @@
--- Lines that are taken one after another, and served so.
+-- Lines that are taken one after another and served in that order.
 use Rattle.std.proofs.Common.{◌≡◌, ℕ, suc, ◌+◌, ◌≤◌, List, [], ◌∷◌, ◌++◌, length, take, Option, arith, refl, sym, ap, subst, ◌∙◌, append_assoc, true}
 use Rattle.std.proofs.lemmas.List.{append-nil, length-append}
 use Rattle.escrow_machine.specs.State.{State}
@@ -10,7 +10,7 @@ use Rattle.escrow_serve.specs.Output.{Sitting, ServesBytes, ServesLines}
 use Rattle.escrow_serve.specs.Totals.{AllSit, LineServed, LinesServed}
 use Rattle.escrow_serve.specs.declared.totals.Totals.{Totals}
 
--- of each line so much is kept as a line may have and one byte more
+-- of each line, at most one byte more than the longest line is kept
 abbrev pub AreKept : List (List ℕ) → List (List ℕ) → Type 0
 AreKept [] [] = Unit {0}
 AreKept (line ∷ lines) (kept ∷ more) = (kept ≡ take (MAX_LINE + 1) line) × AreKept lines more
@@ -22,7 +22,7 @@ kept_count [] (k ∷ kept) are = absurd are
 kept_count (l ∷ lines) [] are = absurd are
 kept_count (l ∷ lines) (k ∷ kept) are = ap suc (kept_count lines kept are.1)
 
--- what is kept of lines is served as the lines
+-- serving the kept part of lines is serving the lines
 pub serves_kept : (sittings new : List Sitting) (lines kept : List (List ℕ)) (out : List ℕ) → AreKept lines kept → ServesLines sittings kept out new → ServesLines sittings lines out new
 serves_kept sittings new [] [] out are serves = serves
 serves_kept sittings new [] (k ∷ kept) out are serves = absurd are
@@ -31,7 +31,7 @@ serves_kept sittings new (l ∷ lines) (k ∷ kept) out are serves =
     let step = serves.3 in
     (serves.0, serves.1, serves.2, (step.0, kept_line (length sittings) l k step.0 are.0 step.1, step.2), serves_kept serves.2 new lines kept serves.1 are.1 serves.4, serves.5)
 
--- lines are served behind others
+-- lines are served after others
 pub serves_behind : (sittings mid new : List Sitting) (served lines : List (List ℕ)) (out first : List ℕ) → ServesLines sittings served out mid
     → ServesLines mid lines first new → ServesLines sittings (served ++ lines) (out ++ first) new
 serves_behind sittings mid new [] lines out first h step =
@@ -60,7 +60,7 @@ nexts_of script rest new_rest (k ∷ kept) served taken rests =
       rests = subst (λ (ls : List (List ℕ)). Rests ls script new_rest) (append_assoc served (next.line ∷ []) more.lines) more.rests;
     }
 
--- one line more is taken
+-- one more line is taken
 pub takes_more : (lines : List (List ℕ)) (kept : List ℕ) (bytes mid rest : Option (List ℕ)) → TakesLines lines bytes mid → length kept ≤ MAX_LINE + 1 → TakesLine true mid rest kept
     → TakesLines (lines ++ kept ∷ []) bytes rest
 takes_more [] kept bytes mid rest same short taken = (rest, short, subst (λ (b : Option (List ℕ)). TakesLine true b rest kept) same taken, refl)
@@ -69,7 +69,7 @@ takes_more (l ∷ lines) kept bytes mid rest before short taken = (before.0, bef
 one_line : (sittings new : List Sitting) (line out : List ℕ) → ServesBytes sittings line out new → ServesLines sittings (line ∷ []) out new
 one_line sittings new line out serves = (out, [], new, serves, (refl, refl), sym (append-nil out))
 
--- no line is served, and one line more
+-- no line is served, or one more line is
 pub lines_none : (states : List State) (totals : List Totals) → LinesServed states totals [] [] states totals
 lines_none states totals = λ sittings most all below.
     let same : most ≡ most + 0 = omega arith in

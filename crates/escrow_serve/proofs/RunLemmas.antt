@@ -1,4 +1,4 @@
--- Lines that wait, what they ask of each database, and the replies that are left for them.
+-- Waiting lines, what they request of each database, and the remaining replies.
 use Rattle.std.proofs.Common.{◌≡◌, ◌≢◌, ℕ, ◌+◌, ◌<◌, ◌≤◌, List, [], ◌∷◌, ◌++◌, length, Some, arith, refl, sym, ap, subst, ◌∙◌, append_assoc, inl, inr}
 use Rattle.std.specs.Prelude.{reverse, slice_get, slice_set}
 use Rattle.std.specs.List.{AllByRecursion}
@@ -23,14 +23,14 @@ use Rattle.escrow_serve.specs.declared.task.Task.{Task}
 use Rattle.escrow_serve.specs.declared.task.Task.TheVariants as task
 use Rattle.escrow_serve.proofs.Elements.{get_image, get_set_same, get_set_other, get_within, same_elements}
 
--- WHAT IS ASKED
+-- WHAT LINES REQUEST
 
 events_behind : (place : ℕ) (items : List Item) (bytes : List ℕ) (asked : Task) → events_at place (behind items bytes asked) ≡ events_at place items ++ event_at place asked
 events_behind place [] bytes asked = append-nil (event_at place asked)
 events_behind place (item ∷ items) bytes asked =
     ap (λ (es : List Event). event_at place item.task ++ es) (events_behind place items bytes asked) ∙ sym (append_assoc (event_at place item.task) (events_at place items) (event_at place asked))
 
--- a line that asks no statement waits too
+-- a line that requests no statement waits too
 pub asked_nothing : (parts : List Part) (items : List Item) (bytes : List ℕ) (asked : Task) → ((place : ℕ) → event_at place asked ≡ []) → AreAsked parts items → AreAsked parts (behind items bytes asked)
 asked_nothing parts items bytes asked none are = λ place part found.
     are place part found ∙ sym (events_behind place items bytes asked ∙ ap (λ (es : List Event). events_at place items ++ es) (none place) ∙ append-nil (events_at place items))
@@ -41,7 +41,7 @@ own_event place session asked = rw (eq-eqb place place refl) refl
 other_event : (place other session : ℕ) (asked : Statement) → other ≢ place → event_at other (task.Statement place session asked) ≡ []
 other_event place other session asked apart = rw (ne_eqb place other (λ same. apart (sym same))) refl
 
--- a part that was set has these events, and the others theirs
+-- the part that was set has these events, and the others keep theirs
 asked_set : (parts : List Part) (items others : List Item) (place : ℕ) (after : Part) → place < length parts → after.events.items ≡ events_at place others
     → ((other : ℕ) → other ≢ place → events_at other others ≡ events_at other items) → AreAsked parts items → AreAsked (slice_set parts place after) others
 asked_set parts items others place after within own same are = λ other part found. elim (cases_eq other place) [
@@ -61,7 +61,7 @@ asked_more parts items bytes place session asked old after found more are =
     (λ other apart. events_behind other items bytes (task.Statement place session asked)
     ∙ ap (λ (es : List Event). events_at other items ++ es) (other_event place other session asked apart) ∙ append-nil (events_at other items)) are
 
--- or none more, and what waits is the same
+-- no statement is added, and the same lines wait
 pub asked_still : (parts : List Part) (items : List Item) (place : ℕ) (old after : Part) → slice_get parts place ≡ Some old → after.events.items ≡ old.events.items
     → AreAsked parts items → AreAsked (slice_set parts place after) items
 asked_still parts items place old after found same are =
@@ -71,16 +71,16 @@ asked_still parts items place old after found same are =
 pub asked_none : (parts : List Part) → AllByRecursion (λ (part : Part). part.events.items ≡ []) parts → AreAsked parts []
 asked_none parts all = λ place part found. all-slice_get (λ (p : Part). p.events.items ≡ []) parts place part found all
 
--- THE DATABASES SERVE WHAT IS ASKED
+-- THE DATABASES SERVE THE REQUESTS
 
--- a part was run, and what it was answered is kept from the last on
+-- a part was run, and its answers are kept, the last one first
 pub part_ran : {S : Type 0} (g : Ghosts S) (old new : Database S) (part : Part) (left : List Event) (answers kept : List Reply) → left ≡ [] → kept ≡ reverse answers
     → (HasCleanDisk (state g new.store) → IsRun old.state part.events.items answers new.state)
     → (left ≡ []) × (HasCleanDisk (state g new.store) → IsRun old.state part.events.items (reverse kept) new.state)
 part_ran g old new part left answers kept none is run =
     (none, λ clean. subst (λ (rs : List Reply). IsRun old.state part.events.items rs new.state) (sym (ap reverse is ∙ reverse-reverse answers)) (run clean))
 
--- the parts up to a place were run, and those from there on weren't
+-- the parts before a place were run, and the later ones were not
 pub record RunUpTo {S : Type 0} (g : Ghosts S) (olds news : List (Database S)) (parts afters : List Part) (count : ℕ) : Type 0 where
   pub databases : length news ≡ length olds
   pub same_parts : length afters ≡ length parts
@@ -125,7 +125,7 @@ run_more {S} g olds news parts afters count old new part after found has run up 
 pub run_all : {S : Type 0} (g : Ghosts S) (olds news : List (Database S)) (parts afters : List Part) (count : ℕ) → length olds ≤ count → RunUpTo g olds news parts afters count → HaveRun g olds parts news afters
 run_all g olds news parts afters count all up = λ place old new part after f1. up.ran place old new part after (omega (arith, slice_get_within olds place old f1)) f1
 
--- so no line waits
+-- no line waits then
 pub emptied : {S : Type 0} (g : Ghosts S) (olds news : List (Database S)) (parts afters : List Part) → length news ≡ length olds → length parts ≡ length olds → length afters ≡ length parts
     → HaveRun g olds parts news afters → AreAsked afters []
 emptied g olds news parts afters count parted same ran = λ place after found.
@@ -135,7 +135,7 @@ emptied g olds news parts afters count parted same ran = λ place after found.
     let part = get_within parts place (omega (arith, within)) in
     (ran place old.0 new.0 part.0 after old.1 new.1 part.1 found).0
 
--- and each line has its reply
+-- each line has its reply
 pub runs_all : {S : Type 0} (g : Ghosts S) (olds news : List (Database S)) (parts afters : List Part) (items : List Item) → length news ≡ length olds → length parts ≡ length olds
     → length afters ≡ length parts → AreAsked parts items → HaveRun g olds parts news afters → HaveCleanDisks g news → Runs (states_of olds) (states_of news) items afters
 runs_all {S} g olds news parts afters items count parted same asked ran clean = record {
@@ -151,9 +151,9 @@ runs_all {S} g olds news parts afters items count parted same asked ran clean = 
       (subst (λ (es : List Event). IsRun old.0.state es (reverse part.answers.items) new.0.state) (asked place was.0 was.1) run));
 }
 
--- THE REPLIES THAT ARE LEFT
+-- THE REMAINING REPLIES
 
--- a line that asks no statement has no reply of a database
+-- a line that requests no statement has no reply from a database
 pub runs_without : (states new : List State) (item : Item) (items : List Item) (parts : List Part) → ((place : ℕ) → event_at place item.task ≡ []) → Runs states new (item ∷ items) parts
     → Runs states new items parts
 runs_without states new item items parts none runs = record {
@@ -163,7 +163,7 @@ runs_without states new item items parts none runs = record {
       subst (λ (es : List Event). IsRun before (es ++ events_at place items) (reverse part.answers.items) after) (none place) (runs.each place before after part f1 f2 f3);
 }
 
--- the reply to a statement, which was the last of its part
+-- the reply to a statement is the last of its part
 pub record Answered (states new : List State) (place session : ℕ) (asked : Statement) (items : List Item) (answer : Reply) (parts : List Part) : Type 0 where
   pub before : State
   pub mid : State
@@ -212,7 +212,7 @@ runs_next states new place session asked bytes items parts old left answer has p
       runs = runs_set states new place session asked bytes items parts left run.0 end.0 (omega (arith, within, runs.parted)) end.1 run.2 runs;
     }
 
--- there is one
+-- there is such a reply
 pub runs_some : (states new : List State) (place session : ℕ) (asked : Statement) (bytes : List ℕ) (items : List Item) (parts : List Part) (old : Part)
     → slice_get parts place ≡ Some old → old.answers.items ≡ [] → Runs states new (record { bytes = bytes; task = task.Statement place session asked } ∷ items) parts → ⊥
 runs_some states new place session asked bytes items parts old has none runs =
@@ -227,7 +227,7 @@ unasked : (before after : State) (answers : List Reply) → IsRun before [] answ
 unasked before after [] run = sym run
 unasked before after (answer ∷ answers) run = absurd run
 
--- behind the last line the states are those after all events
+-- after the last line, the states are those after all events
 pub runs_end : (states new : List State) (parts : List Part) → Runs states new [] parts → states ≡ new
 runs_end states new parts runs = same_elements states new (sym runs.count) (λ place before after f1 f2.
     let part = get_within parts place (omega (arith, slice_get_within states place before f1, runs.parted)) in

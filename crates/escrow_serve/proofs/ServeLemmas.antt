@@ -37,8 +37,8 @@ use Rattle.escrow_script.specs.Script.{most_bytes, HasEnded, TakesLine, Spends, 
 abbrev pub Databases : Type 0 → Type 0
 Databases S = List (Database S)
 
--- How a script stands: some of its lines were served, and left such states and totals; what they write was
--- written but for what is gathered; and there were no more of them than the bytes that were spent.
+-- The progress of a script: some of its lines were served, with these states and totals. Their output was written,
+-- except for what is buffered. There were no more lines than bytes read.
 pub record Stood (states new : List State) (totals : List Totals) (script rest old_bytes new_bytes : Option (List ℕ)) (gathered : List ℕ) (budget : ℕ) : Type 0 where
   pub served : List (List ℕ)
   pub written : List ℕ
@@ -49,7 +49,7 @@ pub record Stood (states new : List State) (totals : List Totals) (script rest o
   pub appends : Appends old_bytes new_bytes written
   pub rests : Rests served script rest
 
--- nothing is served: of states that are begun these are the states
+-- no line is served: the states are those at the beginning
 states_begun : (states : List State) → states ≡ map (λ (sitting : Sitting). sitting.state) (map begun states)
 states_begun [] = refl
 states_begun (s ∷ states) = ap (λ (ss : List State). s ∷ ss) (states_begun states)
@@ -72,7 +72,7 @@ pub stopped_at_start : (why : ServeFault) (states : List State) (script bytes : 
 stopped_at_start why states None bytes leaves = tt
 stopped_at_start why states (Some script) bytes leaves = stopped_unserved why states script bytes bytes leaves (appends_none bytes)
 
--- nothing is read and nothing is gathered
+-- nothing is read, and nothing is buffered
 stood_begun : (states : List State) (totals : List Totals) (script bytes : Option (List ℕ)) (unread gathered : List ℕ) (left_bytes : ℕ) → totals ≡ replicate (length states) no_totals
     → unread ≡ [] → gathered ≡ [] → left_bytes ≤ 2 ^ 64 - 1 → Stood states states totals script (left unread script) bytes bytes gathered (left_bytes + length unread)
 stood_begun states totals script bytes unread gathered left_bytes are_none none_unread none_gathered all = record {
@@ -86,8 +86,8 @@ stood_begun states totals script bytes unread gathered left_bytes are_none none_
   rests = subst (λ (u : List ℕ). Rests [] script (left u script)) (sym none_unread) (rests_at_start script);
 }
 
--- A turn of lines: the bytes that were kept of each, the databases and their totals before and after it, and
--- what they write where their stores can be used after it.
+-- A batch of lines: the kept bytes of each line, the databases and totals before and after, and the lines' output, if
+-- the stores can be used afterwards.
 pub record Turn {S : Type 0} (g : Ghosts S) (mid new : Databases S) (totals counted : List Totals) (rest new_rest : Option (List ℕ)) (first : List ℕ) (budget less : ℕ) : Type 0 where
   pub lines : List (List ℕ)
   pub taken : TakesLines lines rest new_rest
@@ -107,7 +107,7 @@ turn_of g found kept first lines mid new totals counted rest mid_rest new_rest b
   spent = omega (arith, spent is_true, fewer);
 }
 
--- How a script stands in databases: as their states tell, where their stores can be used.
+-- The progress of a script in databases, in terms of their states, if their stores can be used.
 pub record Stands {S : Type 0} (g : Ghosts S) (old new : Databases S) (totals : List Totals) (script rest old_bytes new_bytes : Option (List ℕ)) (gathered : List ℕ) (budget : ℕ) : Type 0 where
   pub stood : HaveCleanDisks g new → Stood (states_of old) (states_of new) totals script rest old_bytes new_bytes gathered budget
   pub clean : HaveCleanDisks g new → HaveCleanDisks g old
@@ -119,7 +119,7 @@ stands_begun g databases totals script bytes unread gathered left_bytes are_none
     let are : totals ≡ replicate (length (states_of databases)) no_totals = are_none ∙ ap (λ (n : ℕ). replicate n no_totals) (sym (length-map databases state_in)) in
     record { stood = λ _. stood_begun (states_of databases) totals script bytes unread gathered left_bytes are none_unread none_gathered all; clean = λ used. used }
 
--- lines are served that were taken one after another, and what they write is gathered
+-- lines that were taken in order are served, and their output is buffered
 pub turn_stood : (states mid new : List State) (totals counted : List Totals) (script rest new_rest old_bytes new_bytes : Option (List ℕ)) (lines : List (List ℕ)) (gathered first : List ℕ) (budget less : ℕ)
     → TakesLines lines rest new_rest → LinesServed mid totals lines first new counted → length lines + less ≤ budget
     → Stood states mid totals script rest old_bytes new_bytes gathered budget → Stood states new counted script new_rest old_bytes new_bytes (gathered ++ first) less
@@ -153,7 +153,7 @@ turn_served g old mid new totals counted script rest new_rest old_bytes new_byte
       clean = λ used. stands.clean (turn.clean used);
     }))
 
--- what was gathered is written
+-- the buffered output is written
 stood_written : (states new : List State) (totals : List Totals) (script rest old_bytes mid_bytes new_bytes : Option (List ℕ)) (gathered left_over : List ℕ) (budget : ℕ)
     → Stood states new totals script rest old_bytes mid_bytes gathered budget → Appends mid_bytes new_bytes gathered → left_over ≡ []
     → Stood states new totals script rest old_bytes new_bytes left_over budget
@@ -178,12 +178,12 @@ stands_written g old new totals script rest old_bytes mid_bytes new_bytes gather
   clean = stands.clean;
 }
 
--- what lines write, from states to states
+-- the output of lines from some states to others
 writes_stood : (states new : List State) (totals : List Totals) (sittings : List Sitting) (lines : List (List ℕ)) (out : List ℕ) (most : ℕ)
     → ServesLines (map begun states) lines out sittings → AllSit new totals sittings most → WritesLines states lines out new
 writes_stood states new totals sittings lines out most serves sit = (sittings, serves, all_states new totals sittings most sit)
 
--- a fault, at which what was gathered isn't written
+-- a fault that occurs before the buffered output is written
 pub stopped : (why : ServeFault) (states new : List State) (totals : List Totals) (script rest old_bytes new_bytes : Option (List ℕ)) (gathered : List ℕ) (budget : ℕ) → Leaves why gathered
     → Stood states new totals script rest old_bytes new_bytes gathered budget → IfSome script (λ bytes. StopsWithin why bytes states new old_bytes new_bytes)
 stopped why states new totals None rest old_bytes new_bytes gathered budget leaves stood = tt
@@ -199,7 +199,7 @@ stopped why states new totals (Some bytes) (Some rest) old_bytes new_bytes gathe
   leaves = leaves;
 }
 
--- a prefix of what was gathered is written
+-- a prefix of the buffered output is written
 stood_in_front : (states new : List State) (totals : List Totals) (script rest old_bytes mid_bytes new_bytes : Option (List ℕ)) (front back : List ℕ) (budget : ℕ)
     → Stood states new totals script rest old_bytes mid_bytes (front ++ back) budget → Appends mid_bytes new_bytes front → Stood states new totals script rest old_bytes new_bytes back budget
 stood_in_front states new totals script rest old_bytes mid_bytes new_bytes front back budget stood wrote = record {
@@ -213,7 +213,7 @@ stood_in_front states new totals script rest old_bytes mid_bytes new_bytes front
   rests = stood.rests;
 }
 
--- a fault of the writer, which took a prefix of what was gathered
+-- a fault of the writer, which took a prefix of the buffered output
 pub stopped_writing : (why : ServeFault) (states new : List State) (totals : List Totals) (script rest old_bytes mid_bytes new_bytes : Option (List ℕ)) (gathered : List ℕ) (len budget : ℕ)
     → Leaves why (drop len gathered) → Stood states new totals script rest old_bytes mid_bytes gathered budget → Appends mid_bytes new_bytes (take len gathered)
     → IfSome script (λ bytes. StopsWithin why bytes states new old_bytes new_bytes)
@@ -223,7 +223,7 @@ stopped_writing why states new totals script rest old_bytes mid_bytes new_bytes 
     stopped why states new totals script rest old_bytes new_bytes (drop len gathered) budget leaves
     (stood_in_front states new totals script rest old_bytes mid_bytes new_bytes (take len gathered) (drop len gathered) budget parted wrote)
 
--- and all its lines are served
+-- all of its lines are served
 stood_at_end : (states new : List State) (totals : List Totals) (bytes : List ℕ) (rest more remaining old_bytes new_bytes : Option (List ℕ)) (kept : List ℕ) (most now budget : ℕ)
     → Stood states new totals (Some bytes) rest old_bytes new_bytes [] budget → TakesLine false rest more kept → Spends (Some bytes) remaining most now → IsAtEnd remaining
     → (length bytes ≤ most) × ServesAll bytes states new old_bytes new_bytes
@@ -249,19 +249,19 @@ finished states new totals (Some bytes) rest remaining old_bytes new_bytes found
     let none = subst (λ (f : Bool). TakesLine f rest (left unread remaining) kept) is_false taken in
     stood_at_end states new totals bytes rest (left unread remaining) remaining old_bytes new_bytes kept most now budget stood none spends at_end
 
--- where the reader is at its end, and lines in hand were taken, nothing is left
+-- if the reader is at its end and the lines in hand were taken, nothing remains
 pub still_ended : (old new : Bool) (unread rest : List ℕ) (remaining : Option (List ℕ)) (count : ℕ) → new ≡ old → count + length rest ≤ length unread → (old ≡ true → HasEnded unread remaining)
     → new ≡ true → HasEnded rest remaining
 still_ended old new unread rest remaining count same fewer ended is_true =
     let over = ended (sym same ∙ is_true) in
     (nil_from_length rest (omega (arith, fewer, ap length over.0)), over.1)
 
--- a limit is below what a total counts
+-- a limit does not exceed the greatest count
 pub most_bytes_fit : (l : Limit) → most_bytes l ≤ 2 ^ 64 - 1
 most_bytes_fit limit.Script = lit≤ tt
 most_bytes_fit limit.Stream = lit≤ tt
 
--- what was served of a script, within its limit, is the script whole
+-- the part of a script that was served, within its limit, is the whole script
 pub whole_of : {X Z : Type 0} (r : Result X Z) (script : Option (List ℕ)) (states new : List State) (old_bytes new_bytes : Option (List ℕ))
     → OnOk r (IfSome script (λ bytes. (length bytes ≤ MAX_SCRIPT) × ServesAll bytes states new old_bytes new_bytes))
     → OnOk r (IfSome script (λ bytes. ServesWhole bytes states new old_bytes new_bytes))
@@ -273,28 +273,28 @@ whole_of (Ok x) script states new old_bytes new_bytes serves = IfSome_then scrip
 })
 whole_of (Err z) script states new old_bytes new_bytes serves = tt
 
--- and all of what has no limit that is met
+-- without a limit that is reached, the whole script was served
 pub all_of : {X Z : Type 0} (r : Result X Z) (most : ℕ) (script : Option (List ℕ)) (states new : List State) (old_bytes new_bytes : Option (List ℕ))
     → OnOk r (IfSome script (λ bytes. (length bytes ≤ most) × ServesAll bytes states new old_bytes new_bytes))
     → OnOk r (IfSome script (λ bytes. ServesAll bytes states new old_bytes new_bytes))
 all_of (Ok x) most script states new old_bytes new_bytes serves = IfSome_then script serves (λ bytes all. all.1)
 all_of (Err z) most script states new old_bytes new_bytes serves = tt
 
--- what a line is read as among databases, it is read as among their states
+-- a line is read among databases as it is among their states
 pub reads_states : {S : Type 0} (databases : Databases S) (bytes : List ℕ) (reading : Reading) → Reads (length databases) bytes reading → Reads (length (states_of databases)) bytes reading
 reads_states databases bytes reading reads = subst (λ (n : ℕ). Reads n bytes reading) (sym (length-map databases state_in)) reads
 
--- where a line asks nothing, nothing is written
+-- if a line requests nothing, nothing is written
 pub nothing_served : (states : List State) (totals : List Totals) (bytes : List ℕ) → Reads (length states) bytes nothing ⊎ Reads (length states) bytes join → LineServed states totals bytes [] states totals
 nothing_served states totals bytes (inl reads) = line_of_none states totals bytes [] nothing reads (λ sittings. (refl, refl))
 nothing_served states totals bytes (inr reads) = line_of_none states totals bytes [] join reads (λ sittings. (refl, refl))
 
--- the state of one database, and those after it changes
+-- the state of one database, and the states after it changes
 state_at : {S : Type 0} (databases : Databases S) (place : ℕ) (database : Database S) → slice_get databases place ≡ Some database
     → slice_get (states_of databases) place ≡ Some (state_in database)
 state_at databases place database found = slice_get-map state_in databases place ∙ ap (option_map state_in) found
 
--- the line of a statement is answered by the database at its place
+-- the database at its place answers a statement's line
 pub serves_place : {S : Type 0} (databases : Databases S) (totals : List Totals) (place session : ℕ) (bytes text name out : List ℕ) (old after : Database S) (own counted : Totals)
     → Reads (length databases) bytes (statement place session text) → old ≡ slice_index_or databases place old → own ≡ slice_index_or totals place own → length totals ≡ length databases
     → name ≡ database_name place → TextServed name old.state own session text out after.state counted
@@ -307,7 +307,7 @@ serves_place databases totals place session bytes text name out old after own co
     (line_of_statement (states_of databases) totals place session bytes text name out old.state after.state own counted (reads_states databases bytes (statement place session text) reads)
     (state_at databases place old found) has is_name served)
 
--- so is the line of a restart
+-- so does it answer a restart's line
 pub restarts_place : {S : Type 0} (databases : Databases S) (totals : List Totals) (place : ℕ) (bytes name : List ℕ) (answer : Reply) (old after : Database S) (own counted : Totals)
     → Reads (length databases) bytes (restart place) → old ≡ slice_index_or databases place old → own ≡ slice_index_or totals place own → length totals ≡ length databases
     → name ≡ database_name place → machine.IsServed old.state event.Restart answer after.state → counted ≡ totals_after answer own
@@ -320,7 +320,7 @@ restarts_place databases totals place bytes name answer old after own counted re
     (line_of_restart (states_of databases) totals place bytes name answer old.state after.state own counted (reads_states databases bytes (restart place) reads)
     (state_at databases place old found) has is_name served is_counted)
 
--- a database's name is short enough to stand in front of a short reply
+-- a database's name is short enough as the prefix of a short reply
 pub name_short : (place : ℕ) → place < MAX_DATABASES → length (database_name place) ≤ MAX_FRONT
 name_short place within = elim (cases_Bool (place == 0)) [
   | inl e ↦ rw e (lit≤ tt)

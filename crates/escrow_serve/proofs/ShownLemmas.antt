@@ -1,4 +1,4 @@
--- A query whose reply can't be had is refused for want of memory in its place.
+-- A query whose reply does not fit in memory is refused for lack of memory.
 use Rattle.std.proofs.Common.{◌≡◌, ◌⊎◌, ℕ, Option, None, List, refl, sym, ap₂, subst, inl, inr, true}
 use Rattle.std.specs.Prelude.{Bool, ◌&&◌, is_none, MatchOption, IsTrue}
 use Rattle.std.proofs.lemmas.Bool.{false≢true}
@@ -20,7 +20,7 @@ use Rattle.escrow_machine.proofs.LawsSteps.{step_has}
 use Rattle.escrow_machine.proofs.Refusals.{none_in_front}
 use Rattle.escrow_serve.specs.Output.{Answers}
 
--- a transition that shows something takes memory
+-- a transition that shows something needs memory
 transition_takes : (s : State) (session : ℕ) (asked : Statement) → holds_memory (transition_of s session asked).reply ≡ true → fails_for s session asked failure.Memory ≡ true
 unfolding transition_of
 transition_takes s session statement.Commit holds = absurd (false≢true holds)
@@ -28,7 +28,7 @@ transition_takes s session statement.Rollback holds = absurd (false≢true holds
 transition_takes s session (statement.RollbackTo name) holds = absurd (false≢true holds)
 transition_takes s session _ holds = refl
 
--- so may a step fail for memory that shows something
+-- a step that shows something may fail for lack of memory
 step_may : (s : State) (session : ℕ) (asked : Statement) (answer : Reply) (new : State) → IsStep s session asked answer new → holds_memory answer ≡ true
     → may_fail s session asked failure.Memory ≡ true
 step_may s session asked answer new event holds =
@@ -38,12 +38,12 @@ step_may s session asked answer new event holds =
     (λ accepted h. ap₂ (λ (o : Option Refusal) (takes : Bool). is_none o && takes) (none_in_front transition.early transition.late accepted) (transition_takes s session asked h))
     (subst (λ (p : Reply × State). holds_memory p.0 ≡ true) event.is_step holds)
 
--- what shows something is no failure
+-- a reply that shows something is no failure
 no_failure : (r : Reply) → holds_memory r ≡ true → failure_of r ≡ None
 no_failure (reply.Refused r) holds = absurd (false≢true holds)
 no_failure _ holds = refl
 
--- a step that shows something may be refused for memory in its place
+-- a step that shows something may instead be refused for lack of memory
 step_refused : (s : State) (session : ℕ) (asked : Statement) (answer : Reply) (new : State) → StepOrRefusal s session asked answer new → holds_memory answer ≡ true
     → StepOrRefusal s session asked (reply.Refused refusal.Memory) new
 step_refused s session asked answer new event holds =
@@ -57,13 +57,13 @@ answer_refused : (s : State) (session : ℕ) (text : List ℕ) (answer : Reply) 
 answer_refused s session text answer new (inl served) holds = inl (served.0, served.1, step_refused s session served.0 answer new served.2 holds)
 answer_refused s session text answer new (inr refused) holds = absurd (false≢true (subst (λ (r : Reply). holds_memory r ≡ true) refused.2 holds))
 
--- the reply that was given answers the text: its answer, or that it is refused
+-- the given reply answers the text: it is the text's answer, or the refusal of it
 pub given_answers : (s : State) (session : ℕ) (text : List ℕ) (answer given : Reply) (new : State) → Answers s session text answer new
     → (given ≡ answer) ⊎ ((holds_memory answer ≡ true) × (given ≡ reply.Refused refusal.Memory)) → Answers s session text given new
 given_answers s session text answer given new answers (inl same) = subst (λ (r : Reply). Answers s session text r new) (sym same) answers
 given_answers s session text answer given new answers (inr refused) =
     subst (λ (r : Reply). Answers s session text r new) (sym refused.1) (answer_refused s session text answer new answers refused.0)
 
--- any text may be refused for memory
+-- any text may be refused for lack of memory
 pub refused_answers : (s : State) (session : ℕ) (text : List ℕ) (new : State) → new ≡ s → Answers s session text (reply.Refused refusal.Memory) new
 refused_answers s session text new same = inr (parse_fault.Memory, tt, refl, same)

@@ -1,4 +1,4 @@
--- Totals that are kept of databases, and the sittings that they are of.
+-- Totals kept for databases, and the sittings that they belong to.
 use Rattle.std.proofs.Common.{◌≡◌, ◌≢◌, ℕ, zero, suc, ◌+◌, ◌-◌, ◌^◌, ◌<◌, ◌≤◌, List, [], ◌∷◌, ◌++◌, length, get_or, map, replicate, Some, arith, refl, sym, ap, subst, ◌∙◌, inl, inr}
 use Rattle.std.specs.Prelude.{◌==◌, filter, slice_get, slice_set}
 use Rattle.std.proofs.lemmas.Bool.{cases_eq, eq-eqb, ne_eqb}
@@ -25,26 +25,26 @@ use Rattle.escrow_serve.specs.Output.{Sitting, begun, replies_to, answered_after
 use Rattle.escrow_serve.specs.Totals.{no_totals, totals_after, AreTotals, Sits, AllSit, TextServed, LineServed}
 use Rattle.escrow_serve.proofs.Elements.{get_set_same, get_set_other, get_within, set_same}
 
--- WHAT A SESSION WAS ANSWERED
+-- THE REPLIES TO A SESSION
 
 replies_joined : (session : ℕ) (before after : List (ℕ × Reply)) → replies_to session (before ++ after) ≡ replies_to session before ++ replies_to session after
 replies_joined session before after =
     ap (map (λ (given : ℕ × Reply). given.1)) (filter-append (λ (given : ℕ × Reply). given.0 == session) before after)
     ∙ map-append (λ (given : ℕ × Reply). given.1) (filter (λ given. given.0 == session) before) (filter (λ given. given.0 == session) after)
 
--- a reply to the session is one more
+-- a reply to the session adds one
 replies_with : (session : ℕ) (answered : List (ℕ × Reply)) (r : Reply) → replies_to session (answered ++ (session, r) ∷ []) ≡ replies_to session answered ++ r ∷ []
 replies_with session answered r =
     let one : replies_to session ((session, r) ∷ []) ≡ r ∷ [] = rw (eq-eqb session session refl) refl in
     replies_joined session answered ((session, r) ∷ []) ∙ ap (λ (l : List Reply). replies_to session answered ++ l) one
 
--- and one to another session is none
+-- a reply to another session adds none
 replies_without : (session other : ℕ) (answered : List (ℕ × Reply)) (r : Reply) → session ≢ other → replies_to other (answered ++ (session, r) ∷ []) ≡ replies_to other answered
 replies_without session other answered r apart =
     let none : replies_to other ((session, r) ∷ []) ≡ [] = rw (ne_eqb session other apart) refl in
     replies_joined other answered ((session, r) ∷ []) ∙ ap (λ (l : List Reply). replies_to other answered ++ l) none ∙ append-nil (replies_to other answered)
 
--- no session was answered more than all
+-- no session has more replies than there are in all
 few_replies : (session : ℕ) (answered : List (ℕ × Reply)) → length (replies_to session answered) ≤ length answered
 few_replies session answered =
     omega (
@@ -100,7 +100,7 @@ totals_with old new session place r d now is_session is_place set counts =
     totals_at old new session r d now is_session (set ∙ ap (λ (n : ℕ). slice_set old.tallies n now) is_place)
     (λ replies is few. counts replies (ap (λ (n : ℕ). get_or old.tallies n d) is_place ∙ is) few)
 
--- A DATABASE'S SITTING
+-- THE SITTING OF A DATABASE
 
 sits_more : (state : State) (totals : Totals) (sitting : Sitting) (most : ℕ) → Sits state totals sitting most → Sits state totals sitting (most + 1)
 sits_more state totals sitting most sits = record { is_state = sits.is_state; are_totals = totals_more totals sitting.answered most sits.are_totals }
@@ -123,7 +123,7 @@ text_answered name old new totals counted session text answer answers counts = �
   record { is_state = refl; are_totals = counts sitting.answered most sits.are_totals below },
 )
 
--- and one that asks totals
+-- a text that requests totals
 pub text_totals : (name : List ℕ) (old new : State) (totals : Totals) (session : ℕ) (text : List ℕ) (tally : Tally) → Asks text request.Statistics → new ≡ old
     → ((answered : List (ℕ × Reply)) (most : ℕ) → AreTotals totals answered most → tally ≡ tally_of (replies_to session answered)) → TextServed name old totals session text (rendered_totals name session tally) new totals
 text_totals name old new totals session text tally asks same counted = λ sitting most sits below. (
@@ -159,12 +159,12 @@ all_states (s ∷ states) (t ∷ totals) [] most all = absurd all
 all_states (s ∷ states) (t ∷ totals) (x ∷ sittings) most all =
     let head : s ≡ x.state = sym all.0.is_state in let tail = all_states states totals sittings most all.1 in cc
 
--- as a script begins
+-- at the beginning of a script
 pub all_begun : (states : List State) → AllSit states (replicate (length states) no_totals) (map begun states) 0
 all_begun [] = tt
 all_begun (s ∷ states) = (record { is_state = refl; are_totals = are_none }, all_begun states)
 
--- the sitting of one of them
+-- the sitting of one database
 record IsAt (state : State) (totals : Totals) (sittings : List Sitting) (most place : ℕ) : Type 0 where
   pub sitting : Sitting
   pub found : slice_get sittings place ≡ Some sitting
@@ -182,7 +182,7 @@ sits_at (s ∷ states) (t ∷ totals) (x ∷ sittings) most (suc place) state ow
     let behind = sits_at states totals sittings most place state own all.1 found has in
     record { sitting = behind.sitting; found = behind.found; sits = behind.sits }
 
--- one of them is another
+-- one of the sittings changes
 sits_set : (states : List State) (totals : List Totals) (sittings : List Sitting) (most place : ℕ) (state : State) (own : Totals) (sitting : Sitting) → AllSit states totals sittings most
     → Sits state own sitting (most + 1) → AllSit (slice_set states place state) (slice_set totals place own) (slice_set sittings place sitting) (most + 1)
 sits_set [] [] [] most place state own sitting all sits = tt
@@ -196,7 +196,7 @@ sits_set (s ∷ states) (t ∷ totals) (x ∷ sittings) most (suc place) state o
 
 -- A LINE
 
--- what a line is read as
+-- how a line is read
 line_read : (states new : List State) (totals counted : List Totals) (bytes out : List ℕ) (reading : Reading) → Reads (length states) bytes reading
     → ((sittings : List Sitting) (most : ℕ) → AllSit states totals sittings most → most < 2 ^ 64 - 1 → (after : List Sitting) × ServesLine sittings reading out after × AllSit new counted after (most + 1))
     → LineServed states totals bytes out new counted
@@ -205,13 +205,13 @@ line_read states new totals counted bytes out reading reads serves = λ sittings
     let count = all_length states totals sittings most all in
     (step.0, (reading, subst (λ (n : ℕ). Reads n bytes reading) (sym count) reads, step.1), step.2)
 
--- one that changes nothing
+-- a line that changes nothing
 pub line_of_none : (states : List State) (totals : List Totals) (bytes out : List ℕ) (reading : Reading) → Reads (length states) bytes reading
     → ((sittings : List Sitting) → ServesLine sittings reading out sittings) → LineServed states totals bytes out states totals
 line_of_none states totals bytes out reading reads serves =
     line_read states states totals totals bytes out reading reads (λ sittings most all below. (sittings, serves sittings, all_more states totals sittings most all))
 
--- a statement's line
+-- the line of a statement
 pub line_of_statement : (states : List State) (totals : List Totals) (place session : ℕ) (bytes text name out : List ℕ) (old new : State) (own counted : Totals)
     → Reads (length states) bytes (statement place session text) → slice_get states place ≡ Some old → slice_get totals place ≡ Some own → name ≡ database_name place
     → TextServed name old own session text out new counted → LineServed states totals bytes out (slice_set states place new) (slice_set totals place counted)
@@ -222,7 +222,7 @@ line_of_statement states totals place session bytes text name out old new own co
     let prints = subst (λ (n : List ℕ). PrintsText n at.sitting session text out step.0) is_name step.1 in
     (slice_set sittings place step.0, rw at.found (step.0, prints, refl), sits_set states totals sittings most place new counted step.0 all step.2))
 
--- a restart's line
+-- the line of a restart
 pub line_of_restart : (states : List State) (totals : List Totals) (place : ℕ) (bytes name : List ℕ) (answer : Reply) (old new : State) (own counted : Totals)
     → Reads (length states) bytes (restart place) → slice_get states place ≡ Some old → slice_get totals place ≡ Some own → name ≡ database_name place
     → machine.IsServed old event.Restart answer new → counted ≡ totals_after answer own
@@ -238,7 +238,7 @@ line_of_restart states totals place bytes name answer old new own counted reads 
       sits_set states totals sittings most place new counted after all sits,
     ))
 
--- a statement's line that leaves its state
+-- the line of a statement that leaves the state unchanged
 pub line_unchanged : (states : List State) (totals : List Totals) (place session : ℕ) (bytes text name out : List ℕ) (own counted : Totals)
     → Reads (length states) bytes (statement place session text) → place < length states → slice_get totals place ≡ Some own → name ≡ database_name place
     → ((kept : State) → TextServed name kept own session text out kept counted) → LineServed states totals bytes out states (slice_set totals place counted)

@@ -144,6 +144,7 @@ fn see_left<S: Alter>(databases: &[Database<S>])
     ensures { AllByRecursion (LeavesItsRows S.Store) databases.now }
 {
     for database in databases {
+        // The contract of `next_id` says what a crash leaves.
         let _ = database.next_id();
     }
 }

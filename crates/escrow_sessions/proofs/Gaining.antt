@@ -1,4 +1,4 @@
--- What a pass gains is what was served.
+-- A pass gains exactly what was served.
 use Rattle.std.proofs.Common.{◌≡◌, List, [], ◌∷◌, ◌++◌, refl, sym, ap, ◌∙◌, append_assoc}
 use Rattle.std.proofs.lemmas.List.{append-nil, map-append}
 use Rattle.escrow_statement.specs.declared.statement.Request.{Request}
@@ -6,9 +6,9 @@ use Rattle.escrow_statement.specs.declared.statement.Request.TheVariants as requ
 use Rattle.escrow_statement.specs.declared.statement.Statement.{Statement}
 use Rattle.escrow_machine.specs.declared.reply.Reply.{Reply}
 use Rattle.escrow_shards.specs.Pass.{Pass}
-use Rattle.escrow_shards.specs.declared.answer.Answer.TheVariants.{Served, Unserved}
-use Rattle.escrow_sessions.specs.declared.done.Given.{Given}
-use Rattle.escrow_sessions.specs.declared.done.Given.TheVariants as given
+use Rattle.escrow_shards.specs.declared.pass.Answer.TheVariants.{Served, Unserved}
+use Rattle.escrow_sessions.specs.declared.feed.Given.{Given}
+use Rattle.escrow_sessions.specs.declared.feed.Given.TheVariants as given
 use Rattle.escrow_sessions.specs.Laws.{calls_in, served_in, Gained}
 use Rattle.escrow_sessions.specs.Serving.{Serves}
 

@@ -1,7 +1,7 @@
 pub mod AtOnce
-pub mod Channel
 pub mod Gaining
 pub mod InOrder
+pub mod Keeping
 pub mod Meeting
 pub mod Places
 pub mod Placing

@@ -1,4 +1,4 @@
--- Messages that are sent to places.
+-- Messages sent to the sessions at given indices.
 use Rattle.std.proofs.Common.{◌≡◌, ◌≢◌, ℕ, ◌+◌, ◌<◌, ◌≤◌, ◌⊎◌, Bool, true, false, eqb, if◌then◌else◌, List, [], ◌∷◌, ◌++◌, length, set, get_or, slice_get, slice_index_or, Option, Some, All, refl, sym, ap, ◌∙◌, inl, inr, append_assoc, subst, arith}
 use Rattle.std.specs.Iterator.{Yields, HoldsAlong}
 use Rattle.std.specs.List.{AllZip}
@@ -10,14 +10,14 @@ use Rattle.escrow_shards.specs.Pass.{Pass}
 use Rattle.escrow_sessions.specs.Fed.{of, AreFed}
 use Rattle.escrow_sessions.specs.Serving.{IsDone}
 use Rattle.escrow_sessions.specs.Slots.{IsSlot, messages, JoinsAs, IsNewSlot, AreFurther, IsEnded, AreEnded, AreEndedBefore}
-use Rattle.escrow_sessions.specs.declared.done.Done.{Done}
+use Rattle.escrow_sessions.specs.declared.feed.Done.{Done}
 use Rattle.escrow_sessions.specs.declared.rule.Item.{Item}
 use Rattle.escrow_sessions.specs.declared.rule.Item.TheVariants.{One}
 use Rattle.escrow_sessions.specs.declared.slot.Slot.{Slot}
 use Rattle.escrow_sessions.proofs.Places.{some_same, long_set, set_cases, at_below, below_at, beside, zip_long}
 use Rattle.escrow_sessions.proofs.InOrder.{then_one}
 
--- THE REQUESTS OF A PLACE
+-- THE REQUESTS OF ONE INDEX
 
 if_more : (b : Bool) (x r : Request) (xs ys : List Request) → ys ≡ xs ++ r ∷ [] → (if b then x ∷ ys else ys) ≡ (if b then x ∷ xs else xs) ++ r ∷ []
 if_more true x r xs ys same = ap (λ zs. x ∷ zs) same
@@ -34,11 +34,11 @@ pub of_else : (other place : ℕ) (r : Request) (items : List (ℕ × Request)) 
 of_else other place r [] apart = rw (ne_eqb place other apart) refl
 of_else other place r (item ∷ items) apart = if_same (eqb item.0 other) item.1 (of other items) (of other (items ++ (place, r) ∷ [])) (of_else other place r items apart)
 
--- one message more
+-- one more message
 message_more : (sent : List Item) (requests : List Request) (r : Request) → (sent ++ messages requests) ++ One r ∷ [] ≡ sent ++ messages (requests ++ r ∷ [])
 message_more sent requests r = append_assoc sent (messages requests) (One r ∷ []) ∙ ap (λ ms. sent ++ ms) (sym (map-append One requests (r ∷ [])))
 
--- one item more was sent
+-- one more item was sent
 pub further_one : (items : List (ℕ × Request)) (old now : List Slot) (place : ℕ) (r : Request) (slot next : Slot) → AreFurther items old now → place < length now → slot ≡ get_or now place slot
     → ((pass : Pass) (sent : List Item) → IsSlot pass sent slot → IsSlot pass (sent ++ One r ∷ []) next) → AreFurther (items ++ (place, r) ∷ []) old (set now place next)
 further_one items old now place r slot next before below read sends = record {
@@ -133,11 +133,11 @@ shorter : {A : Type 0} (ys : List A) (y : A) → length ys < length (ys ++ y ∷
 shorter [] y = omega arith
 shorter (z ∷ ys) y = let more = shorter ys y in omega arith
 
--- what holds of all holds of the last
+-- what holds for all holds for the last
 last_of : {A : Type 0} (P : A → Type 0) (xs : List A) (x : A) → All P (xs ++ x ∷ []) → P x
 last_of P xs x all = subst P (index_last xs x) (all (length xs) x (shorter xs x))
 
--- the item that comes names a place, where all that an iterator gives do that is the one that was given
+-- the next item has a valid index, if all items that the iterator gives do
 pub names_place : {I : Type 0} (gives : I → Option (ℕ × Request) → I → Type 0) (n : ℕ) (items : List (ℕ × Request)) (item : ℕ × Request) (given s t u : I)
     → HoldsAlong gives given (All (λ x. x.0 < n)) → s ≡ given → Yields gives s items t → gives t (Some item) u → item.0 < n
 names_place gives n items item given s t u places same came comes =

@@ -3,7 +3,7 @@ use Rattle.std.specs.Prelude.{◌≡◌, ℕ, ◌==◌, if◌then◌else◌, Lis
 use Rattle.escrow_statement.specs.declared.statement.Request.{Request}
 use Rattle.escrow_shards.specs.Pass.{Pass}
 use Rattle.escrow_sessions.specs.Serving.{IsDone}
-use Rattle.escrow_sessions.specs.declared.done.Done.{Done}
+use Rattle.escrow_sessions.specs.declared.feed.Done.{Done}
 
 -- the requests of the items that name a place, in order
 abbrev pub of : ℕ → List (ℕ × Request) → List Request

@@ -3,8 +3,8 @@ use Rattle.std.specs.Prelude.{◌≡◌, List, [], ◌∷◌, Option, IfSome}
 use Rattle.escrow_machine.specs.declared.reply.Reply.{Reply}
 use Rattle.escrow_stats.specs.Tally.{tally_of}
 use Rattle.escrow_stats.specs.declared.tally.Tally.{Tally}
-use Rattle.escrow_shards.specs.declared.answer.Answer.{Answer}
-use Rattle.escrow_shards.specs.declared.answer.Answer.TheVariants.{Served, Unserved}
+use Rattle.escrow_shards.specs.declared.pass.Answer.{Answer}
+use Rattle.escrow_shards.specs.declared.pass.Answer.TheVariants.{Served, Unserved}
 
 -- the reply in an answer, if the statement was served
 abbrev pub reply_of : Answer → List Reply

@@ -5,10 +5,10 @@ use Rattle.escrow_statement.specs.declared.statement.Request.TheVariants as requ
 use Rattle.escrow_statement.specs.declared.statement.Statement.{Statement}
 use Rattle.escrow_machine.specs.declared.reply.Reply.{Reply}
 use Rattle.escrow_shards.specs.Pass.{Pass}
-use Rattle.escrow_shards.specs.declared.answer.Answer.TheVariants.{Served}
-use Rattle.escrow_shards.specs.declared.receipt.Receipt.{Receipt}
-use Rattle.escrow_sessions.specs.declared.done.Given.{Given}
-use Rattle.escrow_sessions.specs.declared.done.Given.TheVariants as given
+use Rattle.escrow_shards.specs.declared.pass.Answer.TheVariants.{Served}
+use Rattle.escrow_shards.specs.declared.pass.Receipt.{Receipt}
+use Rattle.escrow_sessions.specs.declared.feed.Given.{Given}
+use Rattle.escrow_sessions.specs.declared.feed.Given.TheVariants as given
 use Rattle.escrow_sessions.specs.declared.feed.TheConstants.{MAX_WORKERS}
 use Rattle.escrow_sessions.specs.declared.channel.TheConstants.{MAX_WAITING}
 use Rattle.escrow_sessions.specs.Serving.{Serves}

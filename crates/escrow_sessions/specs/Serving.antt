@@ -9,12 +9,12 @@ use Rattle.escrow_stats.specs.declared.tally.Tally.{Tally}
 use Rattle.escrow_shards.specs.Answer.{IsAnswered}
 use Rattle.escrow_shards.specs.Pass.{Pass}
 use Rattle.escrow_shards.specs.Shared.{Shared, HasPass}
-use Rattle.escrow_shards.specs.declared.receipt.Receipt.{Receipt}
-use Rattle.escrow_sessions.specs.declared.done.Done.{Done}
-use Rattle.escrow_sessions.specs.declared.done.Ended.{Ended}
-use Rattle.escrow_sessions.specs.declared.done.Ended.TheVariants.{All, Stopped, NotStarted}
-use Rattle.escrow_sessions.specs.declared.done.Given.{Given}
-use Rattle.escrow_sessions.specs.declared.done.Given.TheVariants as given
+use Rattle.escrow_shards.specs.declared.pass.Receipt.{Receipt}
+use Rattle.escrow_sessions.specs.declared.feed.Done.{Done}
+use Rattle.escrow_sessions.specs.declared.feed.Ended.{Ended}
+use Rattle.escrow_sessions.specs.declared.feed.Ended.TheVariants.{All, Stopped, NotStarted}
+use Rattle.escrow_sessions.specs.declared.feed.Given.{Given}
+use Rattle.escrow_sessions.specs.declared.feed.Given.TheVariants as given
 use Rattle.escrow_sessions.specs.declared.feed.Feed.{Feed}
 
 -- the replies of receipts

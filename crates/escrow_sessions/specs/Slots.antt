@@ -6,8 +6,8 @@ use Rattle.escrow_sessions.specs.Fed.{of}
 use Rattle.escrow_sessions.specs.Ends.{sent_on}
 use Rattle.escrow_sessions.specs.Serving.{IsDone}
 use Rattle.escrow_sessions.specs.Work.{IsAbsent}
-use Rattle.escrow_sessions.specs.declared.done.Done.{Done}
-use Rattle.escrow_sessions.specs.declared.fed_worker.FedWorker.{FedWorker}
+use Rattle.escrow_sessions.specs.declared.feed.Done.{Done}
+use Rattle.escrow_sessions.specs.declared.slot.FedWorker.{FedWorker}
 use Rattle.escrow_sessions.specs.declared.rule.Item.{Item}
 use Rattle.escrow_sessions.specs.declared.rule.Item.TheVariants.{One, End}
 use Rattle.escrow_sessions.specs.declared.slot.Slot.{Slot}

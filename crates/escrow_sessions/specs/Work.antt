@@ -5,11 +5,11 @@ use Rattle.std.specs.Vec.Iter.{into_iter_items}
 use Rattle.escrow_statement.specs.declared.statement.Request.{Request}
 use Rattle.escrow_shards.specs.Pass.{Pass}
 use Rattle.escrow_sessions.specs.Serving.{Serves, IsDone}
-use Rattle.escrow_sessions.specs.declared.done.Done.{Done}
-use Rattle.escrow_sessions.specs.declared.done.Ended.TheVariants.{NotStarted}
-use Rattle.escrow_sessions.specs.declared.done.Given.{Given}
+use Rattle.escrow_sessions.specs.declared.feed.Done.{Done}
+use Rattle.escrow_sessions.specs.declared.feed.Ended.TheVariants.{NotStarted}
+use Rattle.escrow_sessions.specs.declared.feed.Given.{Given}
 use Rattle.escrow_sessions.specs.declared.feed.Feed.{Feed}
-use Rattle.escrow_sessions.specs.declared.lists.Listed.{Listed}
+use Rattle.escrow_sessions.specs.declared.source.Listed.{Listed}
 use Rattle.escrow_sessions.specs.declared.team.Worked.{Worked}
 use Rattle.escrow_sessions.specs.declared.team.Worker.{Worker}
 use Rattle.escrow_sessions.specs.declared.team.Worker.TheVariants.{Started, Absent}

@@ -1,9 +1,7 @@
 //! The channel to a worker: its two ends, and what is done at them.
-ghost use Rattle.std.specs.Prelude.{◌≡◌, true, IfOk, ◌++◌, List};
+ghost use Rattle.std.specs.Prelude.{◌≡◌, true};
 ghost use Rattle.crossbeam_channel.specs.Claims.{view, IsSeatAt};
 ghost use Rattle.crossbeam_channel.specs.Ends.{sends_on, receives_on};
-ghost use Rattle.escrow_sessions.specs.declared.rule.Item.{Item};
-ghost use Rattle.escrow_sessions.specs.Ends.{sent_on, taken_on, AreNew, IsSent};
 
 use crate::rule::{Ends, InOrder, Item, Log, Sends, Takes, Whole};
 use crate::source::Source;
@@ -34,25 +32,30 @@ pub(crate) struct Receiver {
 /// The most messages that wait in a channel.
 pub const MAX_WAITING: usize = 16;
 
-/// Returns the two ends of a new channel, on which nothing was sent. Fails only if memory is
-/// refused.
-pub(crate) fn open(alloc: Global) -> Result<(Sender, Receiver), AllocError>
-    ensures { IfOk result (λ ends. AreNew ends.0 ends.1) }
-{
-    let (sender, receiver, mut pass) = bounded_with::<Item, Log, InOrder, Global>(
-        alloc,
-        MAX_WAITING,
-    )?;
-    let taking = sender.another::<Ends>(&mut pass);
-    let sender_end = Sender { sender, pass };
-    let receiver_end = Receiver {
-        receiver,
-        pass: taking,
-    };
-    Ok((sender_end, receiver_end))
-}
-
 impl Sender {
+    ghost use Rattle.std.specs.Prelude.{◌≡◌, ◌++◌, List, IfOk};
+    ghost use Rattle.crossbeam_channel.specs.Ends.{sends_on, receives_on};
+    ghost use Rattle.escrow_sessions.specs.declared.rule.Item.{Item};
+    ghost use Rattle.escrow_sessions.specs.Ends.{sent_on, taken_on, AreNew, IsSent};
+
+    /// Returns the two ends of a new channel, on which nothing was sent. Fails only if memory is
+    /// refused.
+    pub(crate) fn open(alloc: Global) -> Result<(Self, Receiver), AllocError>
+        ensures { IfOk result (λ ends. AreNew ends.0 ends.1) }
+    {
+        let (sender, receiver, mut pass) = bounded_with::<Item, Log, InOrder, Global>(
+            alloc,
+            MAX_WAITING,
+        )?;
+        let taking = sender.another::<Ends>(&mut pass);
+        let sender_end = Sender { sender, pass };
+        let receiver_end = Receiver {
+            receiver,
+            pass: taking,
+        };
+        Ok((sender_end, receiver_end))
+    }
+
     /// Sends a message. May wait until there is room.
     pub(crate) fn send<R: Wait>(&mut self, rt: &R, mut item: Item)
         ensures { IsSent self.old item self.new }

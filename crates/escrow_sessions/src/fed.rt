@@ -8,14 +8,12 @@ ghost use Rattle.escrow_sessions.specs.declared.feed.TheConstants.{MAX_WORKERS};
 ghost use Rattle.escrow_sessions.specs.Fed.{AreFed};
 ghost use Rattle.escrow_sessions.specs.Slots.{AreFurther, AreEnded, IsNewSlot, JoinsAs};
 
-use crate::context::WorkerContext;
-use crate::done::Done;
-use crate::feed::{Cause, MAX_WORKERS};
+use crate::feed::{Cause, Done, MAX_WORKERS, NotFed};
 use crate::filling::fill;
-use crate::not_fed::NotFed;
 use crate::rule::Item;
 use crate::service::Service;
-use crate::slot::{Slot, start_fed};
+use crate::slot::Slot;
+use crate::team::WorkerContext;
 use escrow_shards::{Gate, Pass, Shared, UnderLock};
 use escrow_statement::Request;
 use sqlite::Alter;
@@ -145,7 +143,7 @@ fn start_all<E, H: Service + Sync, R: Wait + Sync, G: Gate + Sync>(
         slots,
         |place, pass|
             requires { H.has_pass context.now.service.now pass }
-        { start_fed(context, place, pass) },
+        { Slot::start_fed(context, place, pass) },
     )
 }
 

@@ -9,16 +9,10 @@
 #![tactic(auto)]
 
 mod channel;
-mod context;
-mod done;
 mod fed;
-mod fed_worker;
 mod feed;
 mod filling;
-mod giving;
 pub mod laws;
-mod lists;
-mod not_fed;
 mod rule;
 mod run;
 mod service;
@@ -28,9 +22,7 @@ mod team;
 mod worker;
 
 pub use channel::MAX_WAITING;
-pub use done::{Done, Ended, Given};
 pub use fed::run_fed;
-pub use feed::{Cause, Feed, MAX_WORKERS, NotRun};
+pub use feed::{Cause, Done, Ended, Feed, Given, MAX_WORKERS, NotFed, NotRun};
 pub use filling::fill;
-pub use not_fed::NotFed;
 pub use run::run_sessions;

@@ -5,13 +5,11 @@ ghost use Rattle.escrow_sessions.specs.declared.feed.TheConstants.{MAX_WORKERS};
 ghost use Rattle.escrow_sessions.specs.Serving.{AreDone, HasItsPass, IsDone};
 ghost use Rattle.escrow_sessions.specs.Work.{IsWorkerOf, CameOf};
 
-use crate::context::WorkerContext;
-use crate::done::Done;
-use crate::feed::{Cause, Feed, MAX_WORKERS, NotRun};
+use crate::feed::{Cause, Done, Feed, MAX_WORKERS, NotRun};
 use crate::filling::fill;
-use crate::lists::Listed;
 use crate::service::Service;
-use crate::team::{Worker, start};
+use crate::source::Listed;
+use crate::team::{Worker, WorkerContext, start};
 use crate::worker::serve;
 use escrow_shards::{Gate, Shared, UnderLock};
 use sqlite::Alter;

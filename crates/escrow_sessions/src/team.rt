@@ -1,10 +1,8 @@
 //! Workers, each on a thread of its own.
-ghost use Rattle.std.specs.Prelude.{◌≡◌};
 ghost use Rattle.escrow_shards.specs.Pass.{Pass};
 ghost use Rattle.escrow_sessions.specs.Work.{IsWorked, IsWorker};
 
-use crate::context::WorkerContext;
-use crate::done::{Done, Ended};
+use crate::feed::{Done, Ended};
 use crate::service::Service;
 use crate::source::Source;
 use crate::worker::serve;
@@ -13,7 +11,43 @@ use std::alloc::Global;
 use std::snapshot::Snapshot;
 use std::sync::Wait;
 use std::sync::atomic::{AtomicU64, Ordering};
-use std::thread::{Promise, PromisedHandle, Threads};
+use std::thread::{Promise, PromisedHandle, Scope, Threads};
+
+/// What a run needs to start its workers: a scope for their threads, and what the workers share.
+#[derive(Drop)]
+pub(crate) struct WorkerContext<'a, 's, E, H, R, G> {
+    pub(crate) scope: &'a Scope<'s, E>,
+    pub(crate) rt: &'s R,
+    pub(crate) alloc: Global,
+    pub(crate) service: &'s H,
+    pub(crate) gate: &'s G,
+    // The place of a worker whose thread can't be started, while it is called on this thread.
+    pub(crate) absent: &'s AtomicU64,
+}
+
+impl<'a, 's, E, H, R, G> WorkerContext<'a, 's, E, H, R, G> {
+    ghost use Rattle.std.specs.Prelude.{◌≡◌};
+
+    pub(crate) fn new(
+        scope: &'a Scope<'s, E>,
+        rt: &'s R,
+        alloc: Global,
+        service: &'s H,
+        gate: &'s G,
+        absent: &'s AtomicU64,
+    ) -> Self
+        ensures { result.service.now ≡ service.now }
+    {
+        WorkerContext {
+            scope,
+            rt,
+            alloc,
+            service,
+            gate,
+            absent,
+        }
+    }
+}
 
 /// What a worker returns: what it did, and its source as it left it.
 #[derive(Drop)]
@@ -27,6 +61,15 @@ pub(crate) struct Worked<Q> {
 pub(crate) struct Work<Q> {
     pub(crate) pass: Snapshot<Pass>,
     pub(crate) source: Snapshot<Q>,
+}
+
+/// What a worker is to do: serve what its source returns, by its pass. The place is its own among
+/// the workers of its run.
+#[derive(Drop)]
+struct Task<Q> {
+    place: u64,
+    pass: Pass,
+    source: Q,
 }
 
 impl<Q: Source> Promise<Worked<Q>> for Work<Q> {
@@ -62,7 +105,12 @@ pub(crate) fn start<
     };
     let (rt, alloc, service) = (context.rt, context.alloc, context.service);
     let (gate, absent) = (context.gate, context.absent);
-    let run = move || attend(rt, alloc, service, gate, absent, place, pass, source);
+    let task = Task {
+        place,
+        pass,
+        source,
+    };
+    let run = move || attend(rt, alloc, service, gate, absent, task);
     match context.scope.spawn_with(work, run) {
         Ok(handle) => Worker::Started(handle),
         Err(refused) => {
@@ -79,13 +127,16 @@ fn attend<H: Service, R: Wait, G: Gate, Q: Source>(
     service: &H,
     gate: &G,
     absent: &AtomicU64,
-    place: u64,
-    pass: Pass,
-    mut source: Q,
+    task: Task<Q>,
 ) -> Worked<Q>
-    requires { H.has_pass service.now pass }
-    ensures { IsWorked Q.gives pass source result }
+    requires { H.has_pass service.now task.pass }
+    ensures { IsWorked Q.gives task.pass task.source result }
 {
+    let Task {
+        place,
+        pass,
+        mut source,
+    } = task;
     if absent.load(Ordering::SeqCst) == place {
         let answers = Vec::new(alloc);
         let ended = Ended::NotStarted;

@@ -1,4 +1,4 @@
--- Outcomes that are left in places; and what a COMMIT that was served is replied.
+-- Outcomes left in their places, and the reply to a COMMIT that was served.
 use Rattle.std.proofs.Common.{◌≡◌, ◌⊎◌, ℕ, List, [], ◌∷◌, length, inl, inr, refl, sym, ap, ◌∙◌}
 use Rattle.std.specs.Prelude.{Result}
 use Rattle.std.proofs.lemmas.List.{nil_from_length}
@@ -21,7 +21,7 @@ no_more_answers sessions outcomes places all (inl none) left =
 no_more_answers sessions outcomes places all (inr none) left =
     sym (no_outcome_left sessions outcomes places (nil_from_length outcomes none)) ∙ left
 
--- what a COMMIT that was served is replied is an answer
+-- the reply to a COMMIT that was served is an answer
 pub is_answer : (count : ℕ) → IsAnswer (reply.Committed count)
 is_answer count = record {
   of_memory = λ is. absurd (cc);

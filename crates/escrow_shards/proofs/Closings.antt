@@ -1,8 +1,8 @@
--- What was found of databases out of their locks, as a close says it.
+-- What was found of databases taken out of their locks, in the words of a close.
 use Rattle.std.proofs.Common.{◌≡◌, ℕ, List, length, map, sym, ap, ◌∙◌, subst}
 use Rattle.std.proofs.lemmas.List.{length-map}
 use Rattle.sqlite_trees.specs.declared.store.Store.{Ghosts}
-use Rattle.escrow_shards.specs.declared.cause.Cause.{Cause}
+use Rattle.escrow_shards.specs.declared.close.Cause.{Cause}
 use Rattle.escrow_shards.specs.Opening.{Opening}
 use Rattle.escrow_shards.specs.Closed.{Closed, opening_of}
 use Rattle.escrow_shards.specs.Found.{AreFound}
@@ -11,7 +11,7 @@ use Rattle.escrow_shards.specs.Part.{Part}
 use Rattle.escrow_shards.specs.Pass.{Pass, AreAllPasses}
 use Rattle.escrow_shards.specs.Whole.{AreWhole, IsTrueOf}
 
--- databases that have these openings
+-- databases with these openings
 abbrev pub sharing_of : {S : Type 0} → List (Opening S) → ℕ → Shared S
 sharing_of openings sessions = record { openings = openings; sessions = sessions }
 

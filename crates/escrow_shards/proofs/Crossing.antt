@@ -1,5 +1,5 @@
--- Databases that threads share may be used by all of these, if a store may go from thread to thread: what is under a
--- lock goes there, and what is beside it is only read.
+-- All threads may use the databases they share, if a store may move between threads: the part under a lock moves, and
+-- the rest is only read.
 use denote.RattleType.{RattleType}
 use denote.Param.Send.{IsSend, IsSync, recorded_send, sendable, struct_send}
 use denote.Struct.Declared.{shape}
@@ -14,10 +14,10 @@ use Rattle.escrow_transcript.specs.contracts.entry.Entry as entry
 use Rattle.escrow_core.proofs.Crossing.{database_send}
 use Rattle.escrow_history.specs.contracts.audited.Audited as Audited
 use Rattle.escrow_stats.proofs.Crossing.{board_send}
-use Rattle.escrow_shards.specs.contracts.closed.Closed as Closed
-use Rattle.escrow_shards.specs.contracts.locked.Locked as Locked
+use Rattle.escrow_shards.specs.contracts.close.Closed as Closed
+use Rattle.escrow_shards.specs.contracts.under_lock.Locked as Locked
 use Rattle.escrow_shards.specs.contracts.opening.Opening as Opening
-use Rattle.escrow_shards.specs.contracts.room.Room as Room
+use Rattle.escrow_shards.specs.contracts.close.room.Room as Room
 use Rattle.escrow_shards.specs.contracts.shard.Shard as Shard
 use Rattle.escrow_shards.specs.contracts.shared.Shared as Shared
 use Rattle.escrow_shards.specs.contracts.commit_queue.CommitQueue as CommitQueue
@@ -33,7 +33,7 @@ base_sync = Base.the_sync
 entry_send : IsSend entry.the_row
 entry_send = Entry.the_send
 
--- the COMMITs that wait
+-- the waiting COMMITs
 queue_send : IsSend CommitQueue.the_row
 queue_send = search (sendable, crosses) depth 80 fits 20000
 
@@ -41,7 +41,7 @@ module _ (S : RattleType) (g : Ghosts S.Denot) (store : IsSend S) where
   audited : IsSend (Audited.the_row S g)
   audited = search (database_send, base_send, entry_send, sendable, crosses) depth 80 fits 20000
 
-  -- what lies under a lock
+  -- the contents of a lock
   pub locked_send : IsSend (Locked.the_row S g)
   locked_send = search (audited, sendable, crosses) depth 20
 
@@ -67,7 +67,7 @@ module _ (S : RattleType) (g : Ghosts S.Denot) (store : IsSend S) where
     pub shared_sync : IsSync (Shared.the_row S L g)
     shared_sync = search (shard, room, sendable, crosses) depth 20
 
-  -- so may what lies under a lock where a database is watched
+  -- the contents of a lock may move too, if the database is watched
   inside : (R : RattleType) (alter : Alter S.Denot) → IsSend R → IsSend (Inside.the_row S R alter g)
   inside R alter rt =
       let T = Inside.the_type S R alter g in

@@ -1,25 +1,27 @@
--- The parts of a database among all, as they are walked.
+-- The parts of one database among all parts, visited in order.
 use Rattle.std.proofs.Common.{◌≡◌, ◌↔◌, ◌==◌, ℕ, ◌+◌, ◌<◌, ◌≤◌, true, false, Bool, cond, List, ◌∷◌, length, get_or, drop, sym, ap, ◌∙◌, subst}
 use Rattle.std.proofs.lemmas.List.{drop_all}
+use Rattle.std.specs.List.{AllByRecursion}
+use Rattle.sqlite_trees.specs.declared.store.Store.{Ghosts}
 use Rattle.escrow_transcript.specs.declared.base.Base.{Base}
 use Rattle.escrow_shards.specs.Closed.{Follow}
-use Rattle.escrow_shards.specs.Part.{Part, parts_of}
+use Rattle.escrow_shards.specs.Part.{Part, IsSound, parts_of}
 use Rattle.escrow_shards.proofs.Rest.{rest_at}
 
--- what is left of a database's parts begins with a part of it
+-- at a part of the database, the remaining parts begin with it
 pub parts_here : {S : Type 0} (d : ℕ) (parts : List (Part S)) (i : ℕ) (p : Part S) → i < length parts → p ≡ get_or parts i p → (p.database == d) ≡ true
     → parts_of d (drop i parts) ≡ p ∷ parts_of d (drop (i + 1) parts)
 parts_here d parts i p below at of =
     ap (parts_of d) (rest_at parts i p below at) ∙ ap (λ (b : Bool). cond b (p ∷ parts_of d (drop (i + 1) parts)) (parts_of d (drop (i + 1) parts))) of
 
--- and a part of another isn't in it
+-- a part of another database is not among them
 pub parts_past : {S : Type 0} (d : ℕ) (parts : List (Part S)) (i : ℕ) (p : Part S) → i < length parts → p ≡ get_or parts i p → (p.database == d) ≡ false
     → parts_of d (drop i parts) ≡ parts_of d (drop (i + 1) parts)
 parts_past d parts i p below at of =
     ap (parts_of d) (rest_at parts i p below at) ∙ ap (λ (b : Bool). cond b (p ∷ parts_of d (drop (i + 1) parts)) (parts_of d (drop (i + 1) parts))) of
 
 module _ {S : Type 0} (d : ℕ) (parts : List (Part S)) (first last : Base) (count : ℕ) where
-  -- what is left follows exactly where all do
+  -- the remaining parts follow one another exactly if all do
   abbrev pub Left : ℕ → ℕ → Base → Type 0
   Left i number base = Follow number base (parts_of d (drop i parts)) count last ↔ Follow 0 first (parts_of d parts) count last
 
@@ -46,3 +48,19 @@ module _ {S : Type 0} (d : ℕ) (parts : List (Part S)) (first last : Base) (cou
   pub left_end : (i number : ℕ) (base : Base) → length parts ≤ i → Left i number base → ((number ≡ count) × (base ≡ last)) ↔ Follow 0 first (parts_of d parts) count last
   left_end i number base past left =
       subst (λ (ps : List (Part S)). Follow number base (parts_of d ps) count last ↔ Follow 0 first (parts_of d parts) count last) (drop_all i parts past) left
+
+module _ {S : Type 0} (g : Ghosts S) (d : ℕ) (parts : List (Part S)) where
+  -- all parts of a database are sound if the remaining ones are
+  abbrev pub Told : ℕ → Type 0
+  Told i = AllByRecursion (IsSound g) (parts_of d (drop i parts)) → AllByRecursion (IsSound g) (parts_of d parts)
+
+  pub told_past : (i : ℕ) (p : Part S) → i < length parts → p ≡ get_or parts i p → (p.database == d) ≡ false → Told i → Told (i + 1)
+  told_past i p below at of told =
+      subst (λ (ps : List (Part S)). AllByRecursion (IsSound g) ps → AllByRecursion (IsSound g) (parts_of d parts)) (parts_past d parts i p below at of) told
+
+  pub told_here : (i : ℕ) (p : Part S) → i < length parts → p ≡ get_or parts i p → (p.database == d) ≡ true → IsSound g p → Told i → Told (i + 1)
+  told_here i p below at of sound told rest =
+      told (subst (λ (ps : List (Part S)). AllByRecursion (IsSound g) ps) (sym (parts_here d parts i p below at of)) (sound, rest))
+
+  pub told_end : (i : ℕ) → length parts ≤ i → Told i → AllByRecursion (IsSound g) (parts_of d parts)
+  told_end i past told = told (subst (λ (ps : List (Part S)). AllByRecursion (IsSound g) (parts_of d ps)) (sym (drop_all i parts past)) tt)

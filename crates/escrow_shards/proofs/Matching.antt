@@ -1,15 +1,15 @@
--- The entries of a session, as its receipts are compared with them.
+-- The entries of a session, compared with its receipts.
 use Rattle.std.specs.Prelude.{map, filter}
 use Rattle.std.proofs.Common.{◌≡◌, ◌↔◌, ◌==◌, ℕ, ◌+◌, ◌<◌, ◌≤◌, true, false, Bool, cond, List, [], ◌∷◌, ◌++◌, length, get_or, drop, refl, sym, ap, ◌∙◌, subst, append_assoc}
 use Rattle.std.proofs.lemmas.List.{drop_all, append_cancel_left}
 use Rattle.escrow_transcript.specs.declared.entry.Entry.{Entry}
-use Rattle.escrow_shards.specs.declared.receipt.Receipt.{Receipt}
+use Rattle.escrow_shards.specs.declared.pass.Receipt.{Receipt}
 use Rattle.escrow_shards.specs.Part.{Part, parts_of, entries_of}
 use Rattle.escrow_shards.specs.Receipts.{receipt_of, receipts_of}
 use Rattle.escrow_shards.proofs.Following.{parts_here, parts_past}
 use Rattle.escrow_shards.proofs.Rest.{rest_at, same_when}
 
--- what the entry of a session adds, and that of another
+-- what an entry adds, for this session or another
 abbrev pub beside : Bool → Entry → List Receipt → List Receipt
 beside b e rest = cond b (receipt_of e ∷ rest) rest
 
@@ -18,7 +18,7 @@ receipts_cons session e es =
     let among = filter (λ (x : Entry). x.session == session) es in
     elim (e.session == session) as (λ (b : Bool). map receipt_of (cond b (e ∷ among) among) ≡ beside b e (map receipt_of among)) [ true ↦ refl | false ↦ refl ]
 
--- the receipts of entries, one list behind another
+-- the receipts of concatenated entries are the concatenated receipts
 pub receipts_append : (session : ℕ) (xs ys : List Entry) → receipts_of session (xs ++ ys) ≡ receipts_of session xs ++ receipts_of session ys
 receipts_append session [] ys = refl
 receipts_append session (x ∷ xs) ys =
@@ -30,7 +30,7 @@ receipts_append session (x ∷ xs) ys =
     ])
     ∙ ap (λ (rest : List Receipt). rest ++ receipts_of session ys) (sym (receipts_cons session x xs))
 
--- what is left of a session's receipts at an entry of it, and at one of another
+-- the remaining receipts of a session, at one of its entries and at another's
 pub entries_here : (session : ℕ) (entries : List Entry) (i : ℕ) (e : Entry) → i < length entries → e ≡ get_or entries i e → (e.session == session) ≡ true
     → receipts_of session (drop i entries) ≡ receipt_of e ∷ receipts_of session (drop (i + 1) entries)
 entries_here session entries i e below at of =
@@ -43,12 +43,12 @@ entries_past session entries i e below at of =
     ap (receipts_of session) (rest_at entries i e below at) ∙ receipts_cons session e (drop (i + 1) entries)
     ∙ ap (λ (b : Bool). beside b e (receipts_of session (drop (i + 1) entries))) of
 
--- a list begins with another, and goes on with a rest
+-- a list begins with another and continues with a rest
 abbrev pub Begins : List Receipt → List Receipt → List Receipt → Type 0
 Begins all front rest = all ≡ front ++ rest
 
 module _ (session : ℕ) (receipts : List Receipt) (entries : List Entry) (from : ℕ) where
-  -- what is left fits exactly where all does, whatever comes behind it
+  -- the remaining receipts fit exactly if all do, whatever follows them
   abbrev pub Fits : ℕ → ℕ → Type 0
   Fits i next =
       (rest : List Receipt)
@@ -83,7 +83,7 @@ module _ (session : ℕ) (receipts : List Receipt) (entries : List Entry) (from 
       sym (drop_all next receipts past) ∙ (fits rest).0 all ∙ ap (λ (l : List Receipt). l ++ rest) (entries_here session entries i e below at of) in
       cc
 
-  -- the next receipt is another
+  -- the next receipt differs
   pub fits_other : (i next : ℕ) (e : Entry) (r : Receipt) → i < length entries → e ≡ get_or entries i e → (e.session == session) ≡ true
       → next < length receipts → r ≡ get_or receipts next r → (r ≡ receipt_of e → ⊥) → Fits i next
       → (rest : List Receipt) → Begins (drop from receipts) (receipts_of session entries) rest → ⊥
@@ -105,7 +105,7 @@ receipts_here {S} d session parts i p below at of =
     ∙ receipts_append session p.entries (entries_of (parts_of d (drop (i + 1) parts)))
 
 module _ {S : Type 0} (d session : ℕ) (receipts : List Receipt) (parts : List (Part S)) where
-  -- the receipts of what is left of the parts
+  -- the receipts of the remaining parts
   abbrev pub left_of : ℕ → List Receipt
   left_of i = receipts_of session (entries_of (parts_of d (drop i parts)))
 
@@ -143,7 +143,7 @@ module _ {S : Type 0} (d session : ℕ) (receipts : List Receipt) (parts : List 
   fit_parts_end i next past fits =
       (fits (drop next receipts)).1 (sym (ap (λ (ps : List (Part S)). receipts_of session (entries_of (parts_of d ps)) ++ drop next receipts) (drop_all i parts past)))
 
--- what comes behind the receipts of the parts is just that of the last transcript
+-- the receipts that follow those of the parts are those of the last transcript
 pub last_fits : {S : Type 0} (session : ℕ) (receipts left : List Receipt) (parts : List (Part S)) (last : List Entry)
     → Begins receipts (receipts_of session (entries_of parts)) left → receipts ≡ receipts_of session (entries_of parts ++ last) → left ≡ receipts_of session last
 last_fits session receipts left parts last front all =

@@ -1,4 +1,4 @@
--- The passes that are made: each pass once, and at its place.
+-- The new passes: each pass occurs once, at its place.
 use Rattle.std.proofs.Common.{◌≡◌, ℕ, zero, suc, ◌+◌, ◌*◌, ◌<◌, ◌≤◌, ◌⊎◌, Bool, true, false, ◌&&◌, ◌==◌, Some, List, [], ◌∷◌, ◌++◌, length, refl, sym, ap, ◌∙◌, subst, arith, inl, inr, add-one}
 use Rattle.std.specs.Prelude.{cond}
 use Rattle.std.specs.List.{All, AllByRecursion, slice_get}
@@ -11,7 +11,7 @@ use Rattle.escrow_machine.proofs.Choices.{append_all}
 use Rattle.escrow_shards.specs.Pass.{Pass, is_at, passes_at, IsPassOf, AreAllPasses, new_pass, new_passes_of, new_passes}
 use Rattle.escrow_shards.specs.Shared.{Shared, HasPass}
 
--- TWO LISTS, ONE BEHIND THE OTHER
+-- TWO CONCATENATED LISTS
 
 front : {X : Type 0} (xs ys : List X) (i : ℕ) (x : X) → slice_get xs i ≡ Some x → slice_get (xs ++ ys) i ≡ Some x
 front [] ys i x at = absurd (cc)
@@ -22,7 +22,7 @@ behind : {X : Type 0} (xs ys : List X) (i : ℕ) → slice_get (xs ++ ys) (lengt
 behind [] ys i = ap (λ (n : ℕ). slice_get ys n) (omega arith)
 behind (x ∷ xs) ys i = let e : length (x ∷ xs) + i ≡ suc (length xs + i) = omega arith in ap (λ (n : ℕ). slice_get (x ∷ (xs ++ ys)) n) e ∙ behind xs ys i
 
--- a number below the next one
+-- a number below the successor of another
 below_next : (i k : ℕ) → i < suc k → (i ≡ k) ⊎ (i < k)
 below_next i k below = eq-or-lt_of_le (omega arith)
 
@@ -36,11 +36,11 @@ as_many : (databases sessions : ℕ) → length (new_passes databases sessions) 
 as_many zero sessions = omega arith
 as_many (suc d) sessions = let a = as_many d sessions in let b = as_many_of d sessions in length-append (new_passes d sessions) (new_passes_of d sessions) ∙ (grind arith)
 
--- the pass behind others
+-- the pass appended to others
 next_place : (xs : List Pass) (x : Pass) (i : ℕ) → i ≡ length xs → slice_get (xs ++ x ∷ []) i ≡ Some x
 next_place xs x i is = ap (λ (n : ℕ). slice_get (xs ++ x ∷ []) n) (let e : i ≡ length xs + 0 = omega arith in e) ∙ behind xs (x ∷ []) 0
 
--- the pass of a session at its place among those of its database
+-- the place of a session's pass among those of its database
 place_of : (d sessions before : ℕ) → before < sessions → slice_get (new_passes_of d sessions) before ≡ Some (new_pass d (before + 1))
 place_of d zero before below = absurd (omega arith)
 place_of d (suc k) before below =
@@ -49,7 +49,7 @@ place_of d (suc k) before below =
       | inr earlier ↦ front (new_passes_of d k) (new_pass d (k + 1) ∷ []) before (new_pass d (before + 1)) (place_of d k before earlier)
     ]
 
--- and among all
+-- and among all passes
 pub passes_have_places : (databases sessions database before : ℕ) → database < databases → before < sessions
     → slice_get (new_passes databases sessions) (database * sessions + before) ≡ Some (new_pass database (before + 1))
 passes_have_places zero sessions database before below among = absurd (omega arith)
@@ -73,11 +73,11 @@ same n = grind arith
 other : (n m : ℕ) → (n ≡ m → ⊥) → (n == m) ≡ false
 other n m apart = grind arith
 
--- how often a pass is the one of a session of a database
+-- how often a pass is that of a session of a database
 abbrev times : ℕ → ℕ → Pass → ℕ
 times d k pass = cond (is_at d k pass) 1 0
 
--- another one added counts what it is
+-- one more pass adds its own count
 one_more : (d k : ℕ) (passes : List Pass) (pass : Pass) → passes_at d k (passes ++ pass ∷ []) ≡ passes_at d k passes + times d k pass
 one_more d k passes pass =
     let both : passes_at d k (passes ++ pass ∷ []) ≡ passes_at d k passes + (0 + times d k pass) = sum_by-append (times d k) passes (pass ∷ []) in
@@ -92,7 +92,7 @@ another d k s apart = ap (λ (b : Bool). cond (b && (s == k)) 1 0) (same d) ∙ 
 itself : (d s : ℕ) → times d s (new_pass d s) ≡ 1
 itself d s = ap (λ (b : Bool). cond (b && (s == s)) 1 0) (same d) ∙ ap (λ (b : Bool). cond b 1 0) (same s)
 
--- among the passes of another database
+-- the passes of another database do not contain it
 none_of_others : (d k e sessions : ℕ) → (e ≡ d → ⊥) → passes_at d k (new_passes_of e sessions) ≡ 0
 none_of_others d k e zero apart = refl
 none_of_others d k e (suc s) apart =
@@ -101,7 +101,7 @@ none_of_others d k e (suc s) apart =
     let both = one_more d k (new_passes_of e s) (new_pass e (s + 1)) in
     omega arith
 
--- before its session comes
+-- it does not occur before its session
 none_yet : (d k sessions : ℕ) → sessions < k → passes_at d k (new_passes_of d sessions) ≡ 0
 none_yet d k zero below = refl
 none_yet d k (suc s) below =
@@ -170,7 +170,7 @@ new_passes_are_all databases sessions = record {
   none_else = seats_all databases sessions databases (omega arith);
 }
 
--- so each pass that is made is for one of the databases and sessions that are shared
+-- each new pass belongs to one of the shared databases and sessions
 have_seats : {S : Type 0} (sharing : Shared S) (databases sessions : ℕ) → length sharing.openings ≡ databases → sharing.sessions ≡ sessions
     → (passes : List Pass) → AllByRecursion (IsPassOf databases sessions) passes → AllByRecursion (HasPass sharing) passes
 have_seats sharing databases sessions long as_many [] all = tt

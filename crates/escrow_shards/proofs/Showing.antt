@@ -1,4 +1,4 @@
--- What is kept under the lock of a database that is watched.
+-- What the lock of a watched database keeps.
 use Rattle.std.proofs.Common.{◌≡◌, ℕ, zero, suc, ◌+◌, ◌-◌, ◌≤◌, Bool, true, false, List, [], ◌∷◌, ◌++◌, length, refl, sym, ap, subst, ◌∙◌, append_assoc, arith}
 use Rattle.std.specs.Prelude.{Result, Ok, Err, Some, IfOk, OnErr, get_or}
 use Rattle.std.specs.List.{slice_get}
@@ -31,14 +31,14 @@ last_of : (front : List Entry) (e d : Entry) → get_or (front ++ e ∷ []) (len
 last_of [] e d = refl
 last_of (x ∷ front) e d = last_of front e d
 
--- the entry that stands last is the one that was added
+-- the last entry is the one that was added
 pub last_is : (all front : List Entry) (e x : Entry) → all ≡ front ++ e ∷ [] → slice_get all (length all - 1) ≡ Some x → x ≡ e
 last_is all front e x is found =
     let place : length all - 1 ≡ length front = (let n = ap length is ∙ length-append front (e ∷ []) in omega (arith, n)) in
     sym (get_or_from_slice_get all (length all - 1) x e found) ∙ ap (λ (i : ℕ). get_or all i e) place ∙ ap (λ (es : List Entry). get_or es (length front) e) is ∙ last_of front e e
 
 module _ {S : Type 0} (g : Ghosts S) where
-  -- a disk that is clean only if it was before is no less in doubt
+  -- if a clean disk was clean before, there is no less doubt than before
   pub doubts_rise : (old new : Held S) → (HasCleanDisk (state g new) → HasCleanDisk (state g old)) → doubts_of g old ≤ doubts_of g new
   doubts_rise old new clean = go (doubts_of g new) (doubts_of g old) (doubt_few (state g old).is_clean) clean
     where
@@ -97,7 +97,7 @@ module _ {S : Type 0} (g : Ghosts S) where
       fewer = fewer;
     }
 
-  -- a part was handed out, or not
+  -- a part was handed out, or none was
   pub drained_shown : (r : Result (Part S) Refusal) (old new : Audited S) (b : Board) (parts : Part S → Type 0) (same : Type 0) → IsShown g old b
       → IfOk r (λ p. (new.base ≡ p.end) × ((new.entries ≡ []) × parts p))
       → IfOk r (λ p. p.end.before ≡ old.base.before + length old.entries) → new.state ≡ old.state → OnErr r (Stays g old new × same)

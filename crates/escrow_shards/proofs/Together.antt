@@ -1,5 +1,5 @@
--- COMMITs that share a write, where a database is watched.
-use Rattle.std.proofs.Common.{◌≡◌, ℕ, ◌+◌, ◌-◌, ◌≤◌, List, [], ◌∷◌, ◌++◌, length, take, drop, refl, sym, ap, subst, ◌∙◌, append_assoc, arith}
+-- COMMITs that share a write, if the database is watched.
+use Rattle.std.proofs.Common.{◌≡◌, ℕ, ◌+◌, ◌-◌, ◌≤◌, List, [], ◌∷◌, ◌++◌, length, take, drop, sym, ap, subst, ◌∙◌, append_assoc, arith}
 use Rattle.std.specs.Prelude.{Result}
 use Rattle.std.proofs.lemmas.List.{drop_at, length-append, take_rest}
 use Rattle.sqlite.specs.Held.{state}
@@ -9,7 +9,7 @@ use Rattle.escrow_num.specs.declared.failure.Failure.{Failure}
 use Rattle.escrow_machine.specs.State.{State}
 use Rattle.escrow_transcript.specs.declared.base.Base.{Base}
 use Rattle.escrow_transcript.specs.declared.entry.Entry.{Entry}
-use Rattle.escrow_transcript.specs.declared.transcript.TheConstants.Transcript.{MAX_ENTRIES, MAX_NUMBER}
+use Rattle.escrow_transcript.specs.declared.transcript.TheConstants.Transcript.{MAX_NUMBER}
 use Rattle.escrow_transcript.specs.Image.{started}
 use Rattle.escrow_transcript.specs.Legal.{AreNumbered, IsLegal}
 use Rattle.escrow_transcript.proofs.Legals.{legals_part}
@@ -19,16 +19,16 @@ use Rattle.escrow_history.specs.declared.committed.Committed.{Committed}
 use Rattle.escrow_history.specs.Commits.{Commits, commits_of}
 use Rattle.escrow_history.specs.Audited.{Audited, IsKept}
 use Rattle.escrow_stats.specs.Watching.{Board, IsLegalFrom, IsPrefix}
-use Rattle.escrow_shards.specs.Shown.{doubts_of, EndsWith, IsShown}
+use Rattle.escrow_shards.specs.Shown.{doubts_of, IsShown}
 
--- the front of a legal transcript, up to an entry, is legal
+-- if a transcript is legal, so is the part before any of its entries
 pub legal_front : (base : Base) (front rest all : List Entry) (e : Entry) (end : State) → front ++ e ∷ rest ≡ all → IsLegal base all end → IsLegalFrom base (front ++ e ∷ [])
 legal_front base front rest all e end is legal =
     let whole : (front ++ e ∷ []) ++ rest ≡ all = append_assoc front (e ∷ []) rest ∙ is in
     let part = legals_part base (front ++ e ∷ []) rest end (subst (λ (es : List Entry). IsLegal base es end) (sym whole) legal) in
     (part.0, part.1.0)
 
--- what stands behind the entries that were there before is what was added
+-- the entries after the old ones are the added ones
 pub part_is : (all front more : List Entry) (before : ℕ) → all ≡ front ++ more → length front ≡ before → take (length all - before) (drop before all) ≡ more
 part_is all front more before is long = take_rest all before ∙ ap (drop before) is ∙ drop_at front more before long
 
@@ -37,7 +37,7 @@ within_all all front more before is long = let n = ap length is ∙ length-appen
 
 module _ {S : Type 0} (g : Ghosts S) (old new : Audited S) (b : Board) (sessions : List ℕ) (outcomes : List (Result Committed Failure))
     (shown : IsShown g old b) (commits : Commits g old sessions outcomes new) (clean : HasCleanDisk (state g new.store) → HasCleanDisk (state g old.store)) where
-  -- the entries more
+  -- the added entries
   abbrev pub more : List Entry
   more = commits_of sessions outcomes
 

@@ -1,11 +1,10 @@
--- Parts that follow one another, and a last transcript, are one run.
-use Rattle.std.proofs.Common.{ℕ, ◌+◌, ◌==◌, List, [], ◌∷◌, ◌++◌, sym, subst, append_assoc}
+-- Consecutive parts and a last transcript are one run.
+use Rattle.std.proofs.Common.{ℕ, ◌+◌, List, [], ◌∷◌, ◌++◌, sym, subst, append_assoc}
 use Rattle.std.specs.List.{AllByRecursion}
 use Rattle.sqlite.specs.Held.{state}
 use Rattle.sqlite.specs.State.{HasCleanDisk}
 use Rattle.sqlite_trees.specs.declared.store.Store.{Ghosts}
 use Rattle.sqlite_trees.proofs.ListLemmas.{all_of}
-use Rattle.escrow_num.proofs.Items.{all_filter}
 use Rattle.escrow_machine.specs.State.{State}
 use Rattle.escrow_transcript.specs.declared.base.Base.{Base}
 use Rattle.escrow_transcript.specs.declared.entry.Entry.{Entry}
@@ -16,7 +15,7 @@ use Rattle.escrow_shards.specs.Found.{IsSettled}
 use Rattle.escrow_shards.specs.Laws.{IsAlwaysClean, CloseHasNoPremise}
 use Rattle.escrow_shards.specs.Part.{Part, IsSound, parts_of, entries_of}
 
--- sound parts that follow one another, each handed out by a clean disk, are legal with a last transcript
+-- consecutive sound parts, each handed out with a clean disk, are legal together with a last transcript
 pub joined : {S : Type 0} (g : Ghosts S) (number : ℕ) (base : Base) (ps : List (Part S)) (count : ℕ) (last : Base) (entries : List Entry) (end : State)
     → Follow number base ps count last → AllByRecursion (IsSound g) ps → AllByRecursion (λ (p : Part S). HasCleanDisk (state g p.store)) ps
     → IsLegal last entries end → IsLegal base (entries_of ps ++ entries) end
@@ -28,20 +27,20 @@ joined g number base (p ∷ ps) count last entries end follow sound clean legal 
     subst (λ (b : Base). IsLegal b ((p.entries ++ entries_of ps) ++ entries) end) follow.1.0
     (subst (λ (es : List Entry). IsLegal p.base es end) (sym (append_assoc p.entries (entries_of ps) entries)) whole)
 
--- so all entries of a database are one run, from the state at its opening
-pub one_run : {S : Type 0} (g : Ghosts S) (d : ℕ) (parts : List (Part S)) (c : Closed S) → IsSettled g d parts c → AllByRecursion (IsSound g) parts
+-- all entries of a database are one run from the state at its opening
+pub one_run : {S : Type 0} (g : Ghosts S) (d : ℕ) (parts : List (Part S)) (c : Closed S) → IsSettled g d parts c
     → WasClean g d parts c → IsOneRun d parts c
-one_run {S} g d parts c settled sound clean =
+one_run {S} g d parts c settled clean =
     let legal : IsLegal c.opening.base (all_entries d parts c) c.history.state =
     joined g 0 c.opening.base (parts_of d parts) c.parts c.history.base c.history.entries c.history.state settled.whole
-    (all_filter (IsSound g) (λ (p : Part S). p.database == d) parts sound) clean.at_parts (settled.kept.legal clean.at_close) in
+    settled.sound clean.at_parts (settled.kept.legal clean.at_close) in
     record {
       run = subst (λ (s : State). AreSteps s (all_entries d parts c) c.history.state) (sym (settled.begun.whole clean.at_opening)) legal.run;
       numbered = subst (λ (n : ℕ). AreNumbered n (all_entries d parts c)) settled.begun.first legal.numbered;
     }
 
-pub whole_from : {S : Type 0} (g : Ghosts S) (d : ℕ) (parts : List (Part S)) (c : Closed S) → IsSettled g d parts c → AllByRecursion (IsSound g) parts → IsWhole g d parts c
-whole_from g d parts c settled sound = record { whole = settled.whole; run = one_run g d parts c settled sound }
+pub whole_from : {S : Type 0} (g : Ghosts S) (d : ℕ) (parts : List (Part S)) (c : Closed S) → IsSettled g d parts c → IsWhole g d parts c
+whole_from g d parts c settled = record { whole = settled.whole; run = one_run g d parts c settled }
 
 -- a store that is always clean was clean at each moment
 pub close_has_no_premise : {S : Type 0} (g : Ghosts S) → IsAlwaysClean g → CloseHasNoPremise g

@@ -4,8 +4,8 @@ use Rattle.escrow_num.specs.declared.refusal.Refusal.{Refusal}
 use Rattle.escrow_num.specs.declared.refusal.Refusal.TheVariants as refusal
 use Rattle.escrow_statement.specs.declared.statement.Statement.{Statement}
 use Rattle.escrow_history.specs.Calls.{IsAnswer, IsFailed}
-use Rattle.escrow_shards.specs.declared.answer.Answer.{Answer}
-use Rattle.escrow_shards.specs.declared.answer.Answer.TheVariants.{Served, Unserved}
+use Rattle.escrow_shards.specs.declared.pass.Answer.{Answer}
+use Rattle.escrow_shards.specs.declared.pass.Answer.TheVariants.{Served, Unserved}
 use Rattle.escrow_shards.specs.Pass.{Pass}
 
 -- why a statement isn't served: 51, 52 or 60

@@ -3,11 +3,11 @@ use Rattle.std.specs.Prelude.{◌≡◌, ℕ, ◌<◌, List, length, slice_get, 
 use Rattle.std.specs.List.{AllByRecursion}
 use Rattle.sqlite_trees.specs.declared.store.Store.{Ghosts}
 use Rattle.escrow_history.specs.Audited.{IsKept}
-use Rattle.escrow_shards.specs.declared.cause.Cause.{Cause}
-use Rattle.escrow_shards.specs.declared.cause.Cause.TheVariants as cause
+use Rattle.escrow_shards.specs.declared.close.Cause.{Cause}
+use Rattle.escrow_shards.specs.declared.close.Cause.TheVariants as cause
 use Rattle.escrow_shards.specs.Opening.{IsOpening}
 use Rattle.escrow_shards.specs.Closed.{Closed, HasAllParts, IsWhole}
-use Rattle.escrow_shards.specs.Part.{Part}
+use Rattle.escrow_shards.specs.Part.{Part, IsSound, parts_of}
 use Rattle.escrow_shards.specs.Pass.{Pass, AreAllPasses}
 use Rattle.escrow_shards.specs.Whole.{AreOfSessions, HasItsReceipts, LacksPass}
 
@@ -18,6 +18,7 @@ IsAmong databases pass = pass.database < databases
 -- all parts of a database are there, and what its types keep holds
 pub record IsSettled {S : Type 0} (g : Ghosts S) (d : ℕ) (parts : List (Part S)) (c : Closed S) : Type 0 where
   pub whole : HasAllParts d parts c
+  pub sound : AllByRecursion (IsSound g) (parts_of d parts)
   pub begun : IsOpening g c.opening
   pub kept : IsKept g c.history
 

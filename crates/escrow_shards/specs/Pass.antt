@@ -1,7 +1,7 @@
 -- Believed: what contracts see of a pass, and what it means that each pass was handed in once.
 use Rattle.std.specs.Prelude.{◌≡◌, ℕ, zero, suc, ◌+◌, ◌<◌, ◌≤◌, Bool, ◌&&◌, ◌==◌, List, [], ◌∷◌, ◌++◌, count_by}
 use Rattle.std.specs.List.{AllByRecursion}
-use Rattle.escrow_shards.specs.declared.receipt.Receipt.{Receipt}
+use Rattle.escrow_shards.specs.declared.pass.Receipt.{Receipt}
 
 -- what contracts see of a pass: its database, counted from 0, its session, and its receipts, in order
 pub record Pass : Type 0 where

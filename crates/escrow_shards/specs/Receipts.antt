@@ -1,7 +1,7 @@
 -- Believed: the receipts of entries.
 use Rattle.std.specs.Prelude.{ℕ, ◌==◌, List, map, filter}
 use Rattle.escrow_transcript.specs.declared.entry.Entry.{Entry}
-use Rattle.escrow_shards.specs.declared.receipt.Receipt.{Receipt}
+use Rattle.escrow_shards.specs.declared.pass.Receipt.{Receipt}
 
 -- the receipt of an entry
 abbrev pub receipt_of : Entry → Receipt

@@ -4,8 +4,8 @@ use Rattle.escrow_num.specs.declared.refusal.Refusal.TheVariants as refusal
 use Rattle.escrow_history.specs.Calls.{IsNotBegun}
 use Rattle.escrow_stats.specs.Watching.{Board, Watcher, IsNewWatcher}
 use Rattle.escrow_shards.specs.Opening.{Opening}
-use Rattle.escrow_shards.specs.declared.cause.Unshared.{Unshared}
-use Rattle.escrow_shards.specs.declared.cause.Unshared.TheVariants as unshared
+use Rattle.escrow_shards.specs.declared.make.Unshared.{Unshared}
+use Rattle.escrow_shards.specs.declared.make.Unshared.TheVariants as unshared
 
 -- the board of an opening, before anything was served
 abbrev pub new_board : {S : Type 0} → Opening S → Board

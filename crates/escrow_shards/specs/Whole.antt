@@ -3,8 +3,8 @@ use Rattle.std.specs.Prelude.{◌≡◌, ◌⊎◌, ℕ, ◌<◌, ◌≤◌, Lis
 use Rattle.std.specs.List.{AllByRecursion}
 use Rattle.sqlite_trees.specs.declared.store.Store.{Ghosts}
 use Rattle.escrow_transcript.specs.declared.entry.Entry.{Entry}
-use Rattle.escrow_shards.specs.declared.cause.Cause.{Cause}
-use Rattle.escrow_shards.specs.declared.cause.Cause.TheVariants as cause
+use Rattle.escrow_shards.specs.declared.close.Cause.{Cause}
+use Rattle.escrow_shards.specs.declared.close.Cause.TheVariants as cause
 use Rattle.escrow_shards.specs.Closed.{Closed, HasAllParts, IsWhole, all_entries, opening_of}
 use Rattle.escrow_shards.specs.Shared.{Shared}
 use Rattle.escrow_shards.specs.Part.{Part}

@@ -11,38 +11,25 @@
 //! watchers, which read totals while calls are served.
 #![tactic(auto)]
 
-mod answer;
-mod beyond;
-mod cause;
-mod closed;
+mod close;
 mod commit_queue;
-mod findings;
-mod follow;
 mod gate;
 pub mod laws;
-mod locked;
-mod matched;
+mod make;
 mod opening;
 mod part;
 mod pass;
-mod passes;
-mod receipt;
-mod room;
 mod shard;
 mod shared;
-mod start;
 mod under_lock;
 mod watched;
 
-pub use answer::Answer;
-pub use cause::{Audit, Cause, MakeFault, Mismatch, Unshared};
-pub use closed::Closed;
+pub use close::{Audit, Cause, Closed, Mismatch};
 pub use gate::{Gate, NoGate};
-pub use locked::Locked;
+pub use make::{MakeFault, Unshared};
 pub use opening::Opening;
 pub use part::Part;
-pub use pass::Pass;
-pub use receipt::Receipt;
+pub use pass::{Answer, Pass, Receipt};
 pub use shared::{MAX_DATABASES, Shared};
-pub use under_lock::UnderLock;
+pub use under_lock::{Locked, UnderLock};
 pub use watched::Watched;

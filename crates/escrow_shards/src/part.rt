@@ -112,7 +112,8 @@ impl<S: Alter> Part<S> {
 
     /// Returns whether it comes right after a part with this number that ends at this base.
     pub(crate) fn is_next(&self, number: u64, base: &Base) -> bool
-        ensures { IsTrue result ↔ ((self.now.number ≡ number + 1) × (self.now.base ≡ base.now)) }
+        ensures sound { IsSound S.Store self.now }
+        ensures next { IsTrue result ↔ ((self.now.number ≡ number + 1) × (self.now.base ≡ base.now)) }
     {
         number < self.number && self.number - 1 == number && self.transcript.base.is_same(base)
     }

@@ -1,6 +1,12 @@
-use crate::receipt::Receipt;
-use escrow_num::Session;
-use std::alloc::{AllocError, Global};
+//! The pass of a session, its receipts, and the answers to its calls.
+ghost use Rattle.std.specs.Prelude.{◌≡◌, ◌↔◌, IsTrue};
+ghost use Rattle.escrow_shards.specs.Receipts.{receipt_of};
+
+use escrow_machine::Reply;
+use escrow_num::{Refusal, Session};
+use escrow_statement::Statement;
+use escrow_transcript::Entry;
+use std::alloc::Global;
 use std::marker::Model;
 
 /// The pass of a session of a database: its token for calls, with a receipt for each of its calls
@@ -59,7 +65,7 @@ impl Pass {
         ensures session { result ≡ self.now.session }
         ensures within { IsSession result }
     {
-        let _ = self.session.get();
+        prove!(self.session.get() >= 1);
         self.session
     }
 
@@ -84,4 +90,33 @@ impl Pass {
     {
         self.database < databases && self.session.get() <= sessions
     }
+}
+
+/// What a session keeps of a call that was served.
+#[derive(Debug, Drop)]
+pub struct Receipt {
+    /// The number of its entry.
+    pub number: u64,
+    /// The statement.
+    pub statement: Statement,
+    /// The reply to it.
+    pub reply: Reply,
+}
+
+/// Returns whether a receipt is that of an entry: it has the entry's number, statement and reply.
+pub(crate) fn is_receipt_of(receipt: &Receipt, entry: &Entry) -> bool
+    ensures { IsTrue result ↔ (receipt.now ≡ receipt_of entry.now) }
+{
+    receipt.number == entry.number
+        && receipt.statement.is_same(&entry.statement)
+        && receipt.reply.is_same(&entry.reply)
+}
+
+/// The answer to a call.
+#[derive(Debug, Drop)]
+pub enum Answer {
+    /// The statement was served. This is the machine's reply, which may be a refusal.
+    Served(Reply),
+    /// It wasn't served, and nothing changed: 51, 52 or 60.
+    Unserved(Refusal),
 }

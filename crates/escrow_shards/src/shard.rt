@@ -1,18 +1,31 @@
-mod commit;
+ghost use Rattle.std.specs.Prelude.{◌≡◌, None, IfOk};
+ghost use Rattle.escrow_machine.specs.Reply.{failure_of};
+ghost use Rattle.escrow_history.specs.Calls.{IsAnswer};
 
-use crate::closed::Closed;
-use crate::commit_queue::CommitQueue;
+use crate::close::Closed;
+use crate::commit_queue::{CommitQueue, Turn};
 use crate::gate::Gate;
 use crate::opening::Opening;
 use crate::part::Part;
 use crate::under_lock::UnderLock;
-use escrow_history::{Served, Unserved};
-use escrow_num::{Refusal, Session};
+use escrow_history::{Committed, Served, Unserved};
+use escrow_machine::Reply;
+use escrow_num::{Failure, Refusal, Session};
 use escrow_statement::Statement;
 use sqlite::Alter;
 use std::alloc::Global;
 use std::marker::Model;
 use std::sync::{Condvar, Mutex, Wait};
+
+/// A call of a session, as its gate sees it: `n` is one more than the number of receipts of the
+/// pass.
+#[derive(Drop)]
+pub(crate) struct Call<'a> {
+    pub(crate) database: usize,
+    pub(crate) session: Session,
+    pub(crate) n: u64,
+    pub(crate) statement: &'a Statement,
+}
 
 /// A database under its lock, with its opening beside it. Contracts see only the opening.
 #[derive(Drop)]
@@ -37,9 +50,9 @@ impl<S: Alter, L> Model for Shard<S, L> {
 }
 
 impl<S: Alter, L: UnderLock<S>> Shard<S, L> {
-    ghost use Rattle.std.specs.Prelude.{◌≡◌, None, IfOk, IfErr};
-    ghost use Rattle.escrow_history.specs.Calls.{IsAnswer, IsNotDrained};
+    ghost use Rattle.std.specs.Prelude.{◌≡◌, ◌≤◌, None, IfOk, IfErr, IfSome, vec_len};
     ghost use Rattle.escrow_machine.specs.Reply.{failure_of};
+    ghost use Rattle.escrow_history.specs.Calls.{IsAnswer, IsNotDrained};
 
     /// Puts a database under its lock.
     pub(crate) fn new(locked: L, opening: Opening<S>) -> Self
@@ -53,29 +66,26 @@ impl<S: Alter, L: UnderLock<S>> Shard<S, L> {
         }
     }
 
-    /// Serves one statement of a session under the lock. May wait.
+    /// Serves the statement of a call under the lock. May wait.
     pub(crate) fn serve<R: Wait, G: Gate>(
         &self,
         rt: &R,
         alloc: Global,
         gate: &G,
-        database: usize,
-        session: Session,
-        n: u64,
-        statement: &Statement,
+        call: &Call<'_>,
     ) -> Result<Served, Unserved>
         ensures kept { IfOk result (λ r. r.kept ≡ r.reply) }
         ensures succeeds { IfOk result (λ r. failure_of r.reply ≡ None) }
         ensures answers { IfOk result (λ r. IsAnswer r.reply) }
     {
         if gate.is_idle() {
-            if let Statement::Commit = statement {
-                return self.commit(rt, alloc, session);
+            if let Statement::Commit = call.statement {
+                return self.commit(rt, alloc, call.session);
             }
         }
         let mut locked = self.lock.lock(rt);
-        gate.inside(rt, database, session, n);
-        locked.serve_locked(rt, alloc, session, statement)
+        gate.inside(rt, call.database, call.session, call.n);
+        locked.serve_locked(rt, alloc, call.session, call.statement)
     }
 
     /// Hands out the next part of the history under the lock. May wait.
@@ -97,4 +107,131 @@ impl<S: Alter, L: UnderLock<S>> Shard<S, L> {
     {
         self.lock.into_inner().into_locked().close(self.opening)
     }
+
+    /// Serves the COMMIT of a session. If another call is serving one, this call waits, and that
+    /// call or the next serves the COMMIT together with its own. May wait.
+    fn commit<R: Wait>(&self, rt: &R, alloc: Global, session: Session) -> Result<Served, Unserved>
+        ensures kept { IfOk result (λ r. r.kept ≡ r.reply) }
+        ensures succeeds { IfOk result (λ r. failure_of r.reply ≡ None) }
+        ensures answers { IfOk result (λ r. IsAnswer r.reply) }
+    {
+        match self.turn(rt, session) {
+            Turn::Leads => self.lead(rt, alloc, session),
+            Turn::Answered(outcome) => served(outcome),
+            Turn::Waits | Turn::Alone => self.commit_alone(rt, alloc, session),
+        }
+    }
+
+    /// Enters the COMMIT of a session, and waits until this call leads or the COMMIT was served.
+    fn turn<R: Wait>(&self, rt: &R, session: Session) -> Turn {
+        let mut queue = self.queue.lock(rt);
+        let turn = queue.ask(session);
+        if !matches!(turn, Turn::Waits) {
+            return turn;
+        }
+        let mut queue = self
+            .told
+            .wait_while(rt, queue, |queue| queue.waits(session));
+        queue.take(session)
+    }
+
+    /// Serves the COMMIT of a session, together with those that wait. Then makes another call lead,
+    /// if one waits.
+    fn lead<R: Wait>(&self, rt: &R, alloc: Global, session: Session) -> Result<Served, Unserved>
+        ensures kept { IfOk result (λ r. r.kept ≡ r.reply) }
+        ensures succeeds { IfOk result (λ r. failure_of r.reply ≡ None) }
+        ensures answers { IfOk result (λ r. IsAnswer r.reply) }
+    {
+        let mut locked = self.lock.lock(rt);
+        let answer = self.commit_with_those(rt, alloc, &mut *locked, session);
+        drop(locked);
+        self.queue.lock(rt).pass_on(session);
+        self.told.notify_all();
+        answer
+    }
+
+    /// Serves the COMMIT of a session under the lock, as any other statement.
+    fn commit_alone<R: Wait>(
+        &self,
+        rt: &R,
+        alloc: Global,
+        session: Session,
+    ) -> Result<Served, Unserved>
+        ensures kept { IfOk result (λ r. r.kept ≡ r.reply) }
+        ensures succeeds { IfOk result (λ r. failure_of r.reply ≡ None) }
+        ensures answers { IfOk result (λ r. IsAnswer r.reply) }
+    {
+        let mut locked = self.lock.lock(rt);
+        locked.serve_locked(rt, alloc, session, &Statement::Commit)
+    }
+
+    /// Serves the COMMIT of a session under the lock, together with those that wait if possible.
+    fn commit_with_those<R: Wait>(
+        &self,
+        rt: &R,
+        alloc: Global,
+        locked: &mut L,
+        session: Session,
+    ) -> Result<Served, Unserved>
+        ensures kept { IfOk result (λ r. r.kept ≡ r.reply) }
+        ensures succeeds { IfOk result (λ r. failure_of r.reply ≡ None) }
+        ensures answers { IfOk result (λ r. IsAnswer r.reply) }
+    {
+        match self.commit_together(rt, alloc, locked, session) {
+            Some(outcome) => served(outcome),
+            None => locked.serve_locked(rt, alloc, session, &Statement::Commit),
+        }
+    }
+
+    /// Serves the COMMITs that wait, together with that of a session, and leaves the outcomes in
+    /// their places. Returns the outcome of the session's own. Returns `None` if none waits, or if
+    /// they can't be served together because memory or room in the transcript is refused. Then none
+    /// was served.
+    fn commit_together<R: Wait>(
+        &self,
+        rt: &R,
+        alloc: Global,
+        locked: &mut L,
+        session: Session,
+    ) -> Option<Result<Committed, Failure>> {
+        let sessions = self.those_with(rt, alloc, session)?;
+        let Ok(outcomes) = locked.commit_locked(rt, alloc, &sessions) else {
+            return None;
+        };
+        let Some((own, others)) = outcomes.split_first() else {
+            unreachable!();
+        };
+        self.queue.lock(rt).answer(&sessions[1..], others);
+        Some(*own)
+    }
+
+    /// Returns a session, and then those whose COMMITs wait. Returns `None` if none waits or memory
+    /// is refused.
+    fn those_with<R: Wait>(&self, rt: &R, alloc: Global, session: Session) -> Option<Vec<Session>>
+        ensures { IfSome result (λ sessions. 2 ≤ vec_len sessions) }
+    {
+        let queue = self.queue.lock(rt);
+        if queue.is_empty() {
+            return None;
+        }
+        let sessions = queue.with_those(alloc, session).ok()?;
+        if sessions.len() < 2 {
+            return None;
+        }
+        Some(sessions)
+    }
+}
+
+/// Returns the answer to a COMMIT, by its outcome.
+fn served(outcome: Result<Committed, Failure>) -> Result<Served, Unserved>
+    ensures kept { IfOk result (λ r. r.kept ≡ r.reply) }
+    ensures succeeds { IfOk result (λ r. failure_of r.reply ≡ None) }
+    ensures answers { IfOk result (λ r. IsAnswer r.reply) }
+{
+    let Committed { number, count } = outcome?;
+    Ok(Served {
+        number,
+        reply: Reply::Committed { count },
+        kept: Reply::Committed { count },
+    })
 }

@@ -1,8 +1,11 @@
-use crate::locked::Locked;
+//! What is under the lock of a database.
+use crate::close::Closed;
+use crate::opening::Opening;
 use crate::part::Part;
-use escrow_history::{Committed, Served, Unserved};
+use escrow_history::{Audited, Committed, Served, Unserved};
 use escrow_num::{Failure, Refusal, Session};
 use escrow_statement::Statement;
+use escrow_transcript::Transcript;
 use sqlite::Alter;
 use std::alloc::Global;
 use std::sync::Wait;
@@ -45,4 +48,125 @@ pub trait UnderLock<S: Alter> {
 
     /// Returns the database and its transcript out of their lock.
     fn into_locked(self) -> Locked<S>;
+}
+
+/// A database with its transcript, and the number of parts of its history
+/// that were handed out. Whenever the lock is taken, the transcript is legal up to the state found,
+/// as long as the disk returned what was written.
+#[derive(Drop)]
+pub struct Locked<S: Alter> {
+    pub(crate) audited: Audited<S>,
+    parts: u64,
+}
+
+impl<S: Alter> Locked<S> {
+    ghost use Rattle.std.specs.Prelude.{◌≡◌, ◌↔◌, ◌⊎◌, ◌+◌, ◌<◌, ◌≤◌, [], length, true, IfOk, IfErr, IsErrOf, OnErr};
+    ghost use Rattle.sqlite.specs.Held.{state};
+    ghost use Rattle.sqlite.specs.State.{HasCleanDisk};
+    ghost use Rattle.escrow_machine.specs.State.{has_open};
+    ghost use Rattle.escrow_transcript.specs.declared.transcript.TheConstants.Transcript.{MAX_ENTRIES, MAX_NUMBER};
+    ghost use Rattle.escrow_history.specs.Calls.{Appends, Stays, IsNotDrained};
+    ghost use Rattle.escrow_history.specs.Commits.{Commits};
+
+    /// Returns a database with its transcript, before any part was handed out.
+    pub(crate) fn new(audited: Audited<S>) -> Self
+        ensures { result ≡ record { audited = audited; parts = 0 } }
+    {
+        Locked { audited, parts: 0 }
+    }
+
+    /// Serves one statement of a session, and adds its entry to the transcript.
+    pub(crate) fn serve(
+        &mut self,
+        alloc: Global,
+        session: Session,
+        statement: &Statement,
+    ) -> Result<Served, Unserved>
+        ensures served { IfOk result (λ r. Appends S.Store self.old.audited session statement.now r.number r.reply self.new.audited) }
+        ensures kept { IfOk result (λ r. r.kept ≡ r.reply) }
+        ensures unserved { OnErr result (Stays S.Store self.old.audited self.new.audited) }
+        ensures full { IsErrOf result Unserved.Full ↔ (length self.old.audited.entries ≡ MAX_ENTRIES) }
+        ensures parts { self.new.parts ≡ self.old.parts }
+        ensures clean { HasCleanDisk (state S.Store self.new.audited.store) → HasCleanDisk (state S.Store self.old.audited.store) }
+    {
+        self.audited.serve(alloc, session, statement)
+    }
+
+    /// Serves COMMITs of sessions together, and adds the entries of those that are served to the transcript.
+    pub(crate) fn commit_all(
+        &mut self,
+        alloc: Global,
+        sessions: &[Session],
+    ) -> Result<Vec<Result<Committed, Failure>>, Unserved>
+        ensures served { IfOk result (λ outcomes. Commits S.Store self.old.audited sessions.now outcomes.items self.new.audited) }
+        ensures unserved { OnErr result (Stays S.Store self.old.audited self.new.audited) }
+        ensures parts { self.new.parts ≡ self.old.parts }
+        ensures clean { HasCleanDisk (state S.Store self.new.audited.store) → HasCleanDisk (state S.Store self.old.audited.store) }
+    {
+        self.audited.commit_all(alloc, sessions)
+    }
+
+    /// Hands out the next part of the history: the transcript. A new transcript begins where the
+    /// part ends.
+    ///
+    /// # Errors
+    ///
+    /// Fails with [`Refusal::TranscriptFull`] if the last part has the greatest number. Otherwise
+    /// fails as [`Audited::drain`] does: with [`Refusal::TransactionOpen`] exactly if something is
+    /// open. After an error nothing has changed.
+    pub(crate) fn drain(&mut self, alloc: Global, database: usize) -> Result<Part<S>, Refusal>
+        ensures part { IfOk result (λ p. (p.database ≡ database) × ((p.number ≡ self.old.parts + 1) × ((p.base ≡ self.old.audited.base) × (p.entries ≡ self.old.audited.entries)))) }
+        ensures begun { IfOk result (λ p. (self.new.audited.base ≡ p.end) × ((self.new.audited.entries ≡ []) × (self.new.parts ≡ p.number))) }
+        ensures counts { IfOk result (λ p. p.end.before ≡ self.old.audited.base.before + length self.old.audited.entries) }
+        ensures state { self.new.audited.state ≡ self.old.audited.state }
+        ensures refused { OnErr result (Stays S.Store self.old.audited self.new.audited × (self.new.parts ≡ self.old.parts)) }
+        ensures only { IfErr result IsNotDrained }
+        ensures last { MAX_NUMBER ≤ self.old.parts → IsErrOf result Refusal.TranscriptFull }
+        ensures open { self.old.parts < MAX_NUMBER → (IsErrOf result Refusal.TransactionOpen ↔ (has_open self.old.audited.state ≡ true)) }
+        ensures full { IsErrOf result Refusal.TranscriptFull → (MAX_NUMBER ≤ self.old.parts) ⊎ (MAX_NUMBER < self.old.audited.base.before + length self.old.audited.entries + MAX_ENTRIES) }
+        ensures clean { HasCleanDisk (state S.Store self.new.audited.store) → HasCleanDisk (state S.Store self.old.audited.store) }
+    {
+        if self.parts >= Transcript::MAX_NUMBER {
+            return Err(Refusal::TranscriptFull);
+        }
+        let (transcript, end) = self.audited.drain(alloc)?;
+        self.parts += 1;
+        Ok(Part::new(database, self.parts, transcript, end, &self.audited))
+    }
+
+    /// Returns the database out of its lock.
+    pub(crate) fn close(self, opening: Opening<S>) -> Closed<S>
+        ensures { result ≡ record { opening = opening; history = self.audited; parts = self.parts } }
+    {
+        Closed::new(opening, self.audited, self.parts)
+    }
+}
+
+impl<S: Alter> UnderLock<S> for Locked<S> {
+    fn serve_locked<R: Wait>(
+        &mut self,
+        _rt: &R,
+        alloc: Global,
+        session: Session,
+        statement: &Statement,
+    ) -> Result<Served, Unserved> {
+        self.serve(alloc, session, statement)
+    }
+
+    fn commit_locked<R: Wait>(
+        &mut self,
+        _rt: &R,
+        alloc: Global,
+        sessions: &[Session],
+    ) -> Result<Vec<Result<Committed, Failure>>, Unserved> {
+        self.commit_all(alloc, sessions)
+    }
+
+    fn drain_locked(&mut self, alloc: Global, database: usize) -> Result<Part<S>, Refusal> {
+        self.drain(alloc, database)
+    }
+
+    fn into_locked(self) -> Locked<S> {
+        self
+    }
 }

@@ -6,9 +6,8 @@ ghost use Rattle.escrow_transcript.specs.Legal.{AreNumbered, IsLegal};
 ghost use Rattle.escrow_stats.specs.Watching.{IsLegalFrom, IsPrefix};
 ghost use Rattle.escrow_shards.specs.Shown.{doubts_of};
 
-use crate::locked::Locked;
 use crate::part::Part;
-use crate::under_lock::UnderLock;
+use crate::under_lock::{Locked, UnderLock};
 use escrow_history::{Audited, Committed, Served, Unserved};
 use escrow_num::{Failure, Refusal, Session};
 use escrow_statement::Statement;
@@ -51,8 +50,7 @@ impl<S: Alter, R: Wait + Drop> Watched<S, R> {
         requires unserved { audited.entries ≡ [] }
         requires board { IsNewBoard audited.base board }
     {
-        // The contract of `base` says what the type of transcripts keeps.
-        let _ = audited.base();
+        prove!(audited.base().before == 0);
         Watched {
             locked: Locked::new(audited),
             board,

@@ -1,4 +1,4 @@
--- A board and its watchers may go from thread to thread.
+-- A board and its watchers may move between threads.
 use denote.RattleType.{RattleType}
 use denote.Param.Send.{IsSend, IsSync, recorded_send, sendable, struct_send}
 use denote.Struct.Declared.{shape}
@@ -48,7 +48,7 @@ deed_send : IsSend (Deed.the_row Shown.the_row Heap.the_row ghosts)
 deed_send = DeedSend.the_send Shown.the_row Heap.the_row ghosts shown_send send (record { frees = λ a τ p. frees.frees a τ p })
 
 module _ (V F St : RattleType) (rule : Protocol F.Denot Shown.the_row.Denot V.Denot) (absorbs : Absorb Shown.the_row.Denot Post.the_row.Denot St.Denot) where
-  -- the two copies that a board has, and its end that writes, as fields of what holds them
+  -- the two copies that a board has, and its writing end, as fields of the struct that holds them
   desk_send : IsSend (Struct (shape (Desk.the_type Shown.the_row V F Heap.the_row rule ghosts)))
   desk_send =
       struct_send (shape (Desk.the_type Shown.the_row V F Heap.the_row rule ghosts)) (

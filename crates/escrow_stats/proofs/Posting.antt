@@ -17,7 +17,7 @@ use Rattle.escrow_stats.specs.Watching.{Board, IsAlwaysClean, IsPrefix, IsLegalF
 use Rattle.escrow_stats.specs.Prefixes.{IsBoard, IsNamed, IsPosted, IsPostOf, MayShow, newcomer}
 use Rattle.escrow_stats.proofs.Rule.{last_post, whole_front}
 
--- the totals with one entry more
+-- the totals with one more entry
 pub tallied_more : (totals new : Tally) (all : List Entry) (e : Entry) (number : ℕ) → number ≡ length all + 1 → number ≤ MAX_NUMBER → totals ≡ tally_of (replies_of all)
     → ((replies : List Reply) → totals ≡ tally_of replies → length replies < 2 ^ 64 - 1 → new ≡ tally_of (replies ++ e.reply ∷ []))
     → new ≡ tally_of (replies_of (all ++ e ∷ []))
@@ -25,17 +25,17 @@ tallied_more totals new all e number is fits tallied with_one =
     let few : length (replies_of all) < 2 ^ 64 - 1 = let long = length-map all (λ (e : Entry). e.reply) in omega (arith, long, is, fits) in
     with_one (replies_of all) tallied few ∙ ap tally_of (sym (map_push (λ (e : Entry). e.reply) all e))
 
--- what waits to be shown, where room for it was had or not
+-- the posts that wait to be shown, whether there was room for one more or not
 pub waits : {E : Type 0} (r : Result E Post) (old new : List Post) (p : Post) (start : Base) (all : List Entry)
     → MatchResult r (λ _. new ≡ old ++ p ∷ []) (λ x. (x ≡ p) × (new ≡ old)) → old ≡ [] → IsPostOf start all p → IsPosted start all new
 waits (Ok done) old new p start all is idle posted = inr (p, (is ∙ ap (λ (ps : List Post). ps ++ p ∷ []) idle, posted))
 waits (Err back) old new p start all is idle posted = inl (is.1 ∙ idle)
 
--- what a board is, by what is known at its end that writes
+-- the board, from what its writing end knows
 abbrev pub boarded : Base → Known → Board
 boarded start v = record { base = start; entries = v.entries; shown = v.shown; doubts = v.doubts }
 
--- what its caller says of an entry more
+-- what its caller says about one more entry
 pub may_show : {S : Type 0} (g : Ghosts S) (named start : Base) (v : Known) (old : Board) (e more : Entry) (doubts : ℕ) → boarded start v ≡ old → named ≡ start → e ≡ more
     → (doubts ≡ 0 → IsLegalFrom old.base (old.entries ++ e ∷ [])) → (IsAlwaysClean g → doubts ≡ 0) → old.doubts ≤ doubts → MayShow g named (v.entries ++ more ∷ []) doubts v
 may_show g named start v old e more doubts is same picked legal always fewer = record {
@@ -47,7 +47,7 @@ may_show g named start v old e more doubts is same picked legal always fewer = r
   more = subst (λ (b : Board). b.doubts ≤ doubts) (sym is) fewer;
 }
 
--- what never fails tells what it tells of success
+-- what a result says if it never fails
 pub of_ok : {T E : Type 0} (r : Result T E) (P : Type 0) (Q : E → Type 0) → IsOk r → MatchResult r (λ _. P) Q → P
 of_ok (Ok x) P Q ok said = said
 of_ok (Err e) P Q ok said = absurd (false≢true ok)

@@ -18,7 +18,7 @@ use Rattle.escrow_stats.specs.declared.tally.Tally.{Tally}
 use Rattle.escrow_stats.specs.Watching.{IsPrefix, IsLegalFrom}
 use Rattle.escrow_stats.specs.Prefixes.{newcomer, IsPostOf, Holds, Keeps, IsNamed, IsPublished, IsRead, introduced, acquainted, Writes, IsPosted, MayShow}
 
--- FRONTS
+-- PREFIXES
 
 pub no_front : (entries : List Entry) → IsPrefix [] entries
 no_front entries = (entries, refl)
@@ -29,19 +29,19 @@ whole_front entries = ([], sym (append-nil entries))
 pub front_of_more : (front entries more : List Entry) → IsPrefix front entries → IsPrefix front (entries ++ more)
 front_of_more front entries more (rest, is) = (rest ++ more, ap (λ (es : List Entry). es ++ more) is ∙ append_assoc front rest more)
 
--- a front as long as the whole is the whole
+-- a prefix as long as the whole list is the whole list
 long_front : (front entries : List Entry) → IsPrefix front entries → length front ≡ length entries → front ≡ entries
 long_front front entries (rest, is) long =
     let none : rest ≡ [] = nil_from_length rest (let n : length entries ≡ length front + length rest = ap length is ∙ length-append front rest in omega (arith, n, long)) in
     sym (append-nil front) ∙ ap (λ (es : List Entry). front ++ es) (sym none) ∙ sym is
 
--- of what is known where the base is, that is the base
+-- if the base is known, it is this one
 base_of : (o : Option Base) (b start : Base) → o ≡ Some b → IfSome o (λ (c : Base). c ≡ start) → b ≡ start
 base_of o b start is named = let P : Option Base → Type 0 = λ (o : Option Base). IfSome o (λ (c : Base). c ≡ start) in subst P is named
 
 -- NEW ENDS
 
--- what is known at a new end is true
+-- what a new end knows is true
 new_holds : (start : Base) (all : List Entry) (doubts : ℕ) → (all ≡ [] → doubts ≡ 0) → Holds start all doubts newcomer
 new_holds start all doubts fresh = record {
   named = tt;
@@ -50,25 +50,25 @@ new_holds start all doubts fresh = record {
   last = λ long. let none = fresh (nil_from_length all (sym long)) in omega (arith, none);
 }
 
--- where one end knows something else that is true, so it is at each end
+-- if one end learns something else that is true, each end still knows true facts
 set_holds : (start : Base) (all : List Entry) (doubts : ℕ) (views : List Known) (seat : ℕ) (w : Known)
     → ((j : ℕ) (u : Known) → get_elem? views j ≡ some u → Holds start all doubts u) → Holds start all doubts w
     → (j : ℕ) (u : Known) → get_elem? (set views seat w) j ≡ some u → Holds start all doubts u
 set_holds start all doubts views seat w each holds j u at =
     ⊎_elim (λ (t : (j ≡ seat) × (w ≡ u)). subst (Holds start all doubts) t.1 holds) (λ (t : (j ≢ seat) × (get_elem? views j ≡ some u)). each j u t.1) (at_set views seat j w u at)
 
--- and where one end is new
+-- the same with a new end
 snoc_holds : (start : Base) (all : List Entry) (doubts : ℕ) (views : List Known) (w : Known)
     → ((j : ℕ) (u : Known) → get_elem? views j ≡ some u → Holds start all doubts u) → Holds start all doubts w
     → (j : ℕ) (u : Known) → get_elem? (views ++ w ∷ []) j ≡ some u → Holds start all doubts u
 snoc_holds start all doubts views w each holds j u at = ⊎_elim (each j u) (λ (e : w ≡ u). subst (Holds start all doubts) e holds) (at_snoc views w u j at)
 
--- what is shown is what was posted last
+-- the post shown is the last one posted
 abbrev pub last_post : Tally × Post → List Post → Tally × Post
 last_post shown posts = fold (λ (_ : Tally × Post) (p : Post). (p.totals, p)) shown posts
 
 module _ {S : Type 0} (g : Ghosts S) where
-  -- the same is shown, and what is known at the ends is true
+  -- the same is shown, and what the ends know is true
   with_views : (x y : Shown) (views others : List Known) (kept : Keeps g x views) → y.totals ≡ x.totals → y.post.value ≡ x.post.value
       → ((seat : ℕ) (v : Known) → get_elem? others seat ≡ some v → Holds kept.base kept.entries kept.doubts v) → Keeps g y others
   with_views x y views others kept totals post each = record {
@@ -104,7 +104,7 @@ module _ {S : Type 0} (g : Ghosts S) where
 
   -- STEPS OF ONE END
 
-  -- what is shown is read
+  -- the totals shown are read
   pub reads : (seat : ℕ) (v : Known) (x : Shown) → TurnsAt (Keeps g) seat v x x (IsRead g)
   reads seat v x views kept at =
       let known = kept.each seat v at in
@@ -122,7 +122,7 @@ module _ {S : Type 0} (g : Ghosts S) where
         },
       )
 
-  -- the same is shown, and where the history begins is known
+  -- the same is shown, and the beginning of the history becomes known
   pub names : (seat : ℕ) (v : Known) (x y : Shown) → y.totals ≡ x.totals → y.post.value ≡ x.post.value → TurnsAt (Keeps g) seat v x y IsNamed
   names seat v x y totals post views kept at =
       let known = kept.each seat v at in
@@ -131,7 +131,7 @@ module _ {S : Type 0} (g : Ghosts S) where
       let holds : Holds kept.base kept.entries kept.doubts w = record { named = named; seen = known.seen; fewer = known.fewer; last = known.last } in
       (w, with_views x y views (set views seat w) kept totals post (set_holds kept.base kept.entries kept.doubts views seat w kept.each holds), refl)
 
-  -- TO PUBLISH
+  -- PUBLISHING
 
   -- nothing else is shown
   same_shown : (seat : ℕ) (v : Known) (x y : Shown) (start : Base) (more : Entry) (next : ℕ) → Writes start x v → v.doubts ≤ next
@@ -151,7 +151,7 @@ module _ {S : Type 0} (g : Ghosts S) where
         },
       )
 
-  -- what was true of a prefix is true of a longer list, with no fewer doubts
+  -- what was true of a prefix is true of a longer list with no fewer doubts
   still_holds : (start : Base) (all rest : List Entry) (more : Entry) (doubts next : ℕ) (u : Known) → doubts ≤ next
       → Holds start all doubts u → Holds start ((all ++ rest) ++ more ∷ []) next u
   still_holds start all rest more doubts next u fewer known = record {
@@ -165,7 +165,7 @@ module _ {S : Type 0} (g : Ghosts S) where
         absurd (omega (arith, long, shorter, longer));
   }
 
-  -- the totals of all entries with one more are shown
+  -- the totals of all entries and one more are shown
   one_more : (seat : ℕ) (v : Known) (x y : Shown) (start : Base) (more : Entry) (next : ℕ) (p : Post) → Writes start x v
       → IsPostOf start (v.entries ++ more ∷ []) p → MayShow g start (v.entries ++ more ∷ []) next v → y.totals ≡ p.totals → y.post.value ≡ p
       → TurnsAt (Keeps g) seat v x y (IsPublished more next)
@@ -207,7 +207,7 @@ module _ {S : Type 0} (g : Ghosts S) where
       let same : (y.totals, y.post.value) ≡ (p.totals, p) = is ∙ ap (last_post (x.totals, x.post.value)) one in
       one_more seat v x y start more next p writes posted may (ap (λ (t : Tally × Post). t.0) same) (ap (λ (t : Tally × Post). t.1) same)
 
-  -- A NEW END IS TOLD WHERE THE HISTORY BEGINS
+  -- A NEW END LEARNS WHERE THE HISTORY BEGINS
 
   pub forks : (seat : ℕ) (v : Known) → Forks (Keeps g) seat v v (introduced v)
   forks seat v x views kept at =

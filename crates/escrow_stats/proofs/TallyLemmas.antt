@@ -13,9 +13,9 @@ pub nothing_is_zero : NothingIsZero
 unfolding tally_of
 nothing_is_zero = refl
 
--- LISTS ADD
+-- JOINED LISTS
 
--- two lists, one behind the other, have as many replies that pass as both
+-- two joined lists have as many passing replies as both together
 count_joined : (test : Kind → Bool) (before after : List Reply) → count_of test (before ++ after) ≡ count_of test before + count_of test after
 count_joined test before after = sum_by-append _ before after
 
@@ -49,13 +49,13 @@ one_is : (r : Reply) → tally_of (r ∷ []) ≡ one_of (kind_of r)
 unfolding tally_of
 one_is r = simp zero-add
 
--- PARTS ARE WITHIN
+-- PARTS ARE AT MOST THE WHOLE
 
--- all totals but served
+-- the sum of all totals except served
 abbrev parts : Tally → ℕ
 parts t = t.granted + t.broken + t.refused + t.commits + t.rollbacks + t.writes + t.queries
 
--- a reply counts in one of them at most, and only where it is served
+-- a reply counts in at most one of them, and only if it is served
 one_is_within : (k : Kind) → parts (one_of k) ≤ (one_of k).served
 one_is_within kind.Unserved = omega arith
 one_is_within kind.ServedAlone = omega arith
@@ -67,7 +67,7 @@ one_is_within kind.Rollback = omega arith
 one_is_within kind.Write = omega arith
 one_is_within kind.Query = omega arith
 
--- so do two tallies together
+-- two tallies together keep this
 sum_is_within : (a b : Tally) → parts a ≤ a.served → parts b ≤ b.served → parts (sum_of a b) ≤ (sum_of a b).served
 sum_is_within a b a_within b_within = omega arith
 
@@ -86,7 +86,7 @@ served_is_within replies = count_by-le-length (λ (r : Reply). is_served (kind_o
 pub parts_are_within : PartsAreWithin
 parts_are_within = record { parts = others_are_within; served = served_is_within }
 
--- ONE MORE
+-- ONE MORE REPLY
 
 -- no total is at its maximum
 record HasRoom (t : Tally) : Type 0 where
@@ -117,7 +117,7 @@ few_have_room replies few =
 next_is : (n : ℕ) → n < 2 ^ 64 - 1 → next_total n ≡ n + 1
 next_is n room = min-eq_left (omega arith)
 
--- to add one of a kind is to count one more
+-- adding a tally of one reply counts one more of its kind
 sum_with_one : (t : Tally) (k : Kind) → HasRoom t → sum_of t (one_of k) ≡ with_one t k
 sum_with_one t kind.Unserved room = simp add-zero
 sum_with_one t kind.ServedAlone room = simp (add-zero, next_is t.served room.served)
@@ -134,7 +134,7 @@ one_more_is_with_one replies r few =
     lists_add replies (r ∷ []) ∙ ap (sum_of (tally_of replies)) (one_is r)
     ∙ sum_with_one (tally_of replies) (kind_of r) (few_have_room replies few)
 
--- so the tally of a list with one more of a reply's kind is that of the list with the reply
+-- counting one more of a reply's kind gives the tally of the list with that reply
 pub with_one_is : (t : Tally) (replies : List Reply) (r : Reply) → t ≡ tally_of replies → length replies < 2 ^ 64 - 1
     → with_one t (kind_of r) ≡ tally_of (replies ++ r ∷ [])
 with_one_is t replies r is few = ap (λ (t : Tally). with_one t (kind_of r)) is ∙ sym (one_more_is_with_one replies r few)

@@ -5,7 +5,7 @@ use Rattle.escrow_memory.proofs.Splicing.{flat_map_parts}
 use Rattle.escrow_memory.proofs.branch.add_next.Goals as goal
 use Rattle.escrow_memory.proofs.branch.add_next.Goals.{in_default-via-in-Some+else-len-gt0, in_default-via-in_default}
 
--- a second part that isn't put in has no rows
+-- a second part that is not inserted has no rows
 pub returns-in_default-clause-rows : goal.returns-in_default-clause-rows
 returns-in_default-clause-rows g c =
     let rows = g.N.Node.rows in

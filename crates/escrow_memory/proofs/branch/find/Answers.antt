@@ -2,7 +2,7 @@ use Rattle.std.proofs.Common.{refl, arith, length}
 use Rattle.std.proofs.lemmas.Option.{slice_get_read}
 use Rattle.escrow_memory.proofs.branch.find.Goals as goal
 
--- the place is in the child, or right behind its last entry
+-- the place is in the child or right after its last entry
 pub returns-then-left-len-clause-inside : goal.returns-then-left-len-clause-inside
 returns-then-left-len-clause-inside g c =
     let child = c.index-children-place in

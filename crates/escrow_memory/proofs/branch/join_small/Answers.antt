@@ -14,7 +14,7 @@ returns-in_ok-join-clause-rows g c =
     rw removed.items
     (flat_map-joined (λ child. rows child.node.value) c.args.children.now.items c.args.place c.join.new.self first.result.now c.remove-next.result (omega arith) read removed.value both)
 
--- it has more than the second, which isn't empty
+-- it has more rows than the second child, which is not empty
 pub returns-in_ok-join-clause-counted : goal.returns-in_ok-join-clause-counted
 returns-in_ok-join-clause-counted g c =
     let rows = g.N.Node.rows in

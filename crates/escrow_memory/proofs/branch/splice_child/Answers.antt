@@ -19,11 +19,11 @@ rows_edited g c =
     rw c.in_ok-add_next.ensures.rows
     (flat_map-spliced (λ child. rows child.node.value) children c.args.place c.splice.new.self old (next_rows rows c.in_ok-next.next) (entry_rows c.args.new) c.args.at c.args.cut c.requires.place read within c.in_ok-next.ensures.ok)
 
--- the child that is looked at is the edited one
+-- the child that is read is the edited one
 edited_read : (g : _) (c : After-index g) → c.index.result.now ≡ c.splice.new.self
 edited_read g c = c.index.ensures ∙ edited_at c.args.children.now.items c.add_next.new.children.items c.args.place c.splice.new.self c.requires.place c.in_ok-add_next.ensures.front c.index.result.now
 
--- a child that still has entries stays
+-- a child that still has entries is kept
 pub returns-else-index-eq0-clause-rows : goal.returns-else-index-eq0-clause-rows
 returns-else-index-eq0-clause-rows g c = rows_edited g (goal.at.returns-else-index-eq0-clause-rows g c).After-index
 
@@ -36,7 +36,7 @@ returns-else-index-eq0-clause-counted g c =
     let added = c.in_ok-add_next.ensures in
     All-edited before after c.args.place c.splice.new.self c.requires.place added.front (IsCounted g.N.Node.rows) c.requires.counted added.back (c.in_ok-next.ensures.len, some)
 
--- a child of no entries is taken out
+-- a child without entries is removed
 pub returns-then-index-eq0-clause-rows : goal.returns-then-index-eq0-clause-rows
 returns-then-index-eq0-clause-rows g c =
     let rows = g.N.Node.rows in

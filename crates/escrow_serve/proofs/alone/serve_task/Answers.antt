@@ -19,7 +19,7 @@ use Rattle.escrow_serve.proofs.ServeLemmas.{name_short, nothing_served, restarts
 use Rattle.escrow_serve.proofs.TotalsLemmas.{line_of_none, line_unchanged}
 use Rattle.escrow_serve.proofs.alone.serve_task.Goals as goal
 
--- what a task is among so many databases
+-- a task among this many databases
 among : (databases others : ℕ) (bytes : List ℕ) (asked is : Task) → databases ≡ others → asked ≡ is → IsTask databases bytes asked → IsTask others bytes is
 among databases others bytes asked is same found holds = subst (λ (n : ℕ). IsTask n bytes is) same (subst (λ (t : Task). IsTask databases bytes t) found holds)
 

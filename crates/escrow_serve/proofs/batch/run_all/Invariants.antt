@@ -3,7 +3,7 @@ use Rattle.escrow_serve.specs.Output.{HaveCleanDisks}
 use Rattle.escrow_serve.proofs.RunLemmas.{RunUpTo}
 use Rattle.escrow_serve.proofs.batch.run_all.Given as goal
 
--- the parts that were passed were run
+-- the parts visited so far were run
 abbrev pub invariant-loop-place : goal.invariant-loop-place
 invariant-loop-place g l = record {
   up : RunUpTo g.S.Store l.fn.databases.items l.databases.items l.fn.parts.items l.parts.items l.place;

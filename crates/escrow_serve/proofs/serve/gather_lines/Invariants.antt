@@ -3,7 +3,7 @@ use Rattle.std.specs.Prelude.{vec_capacity}
 use Rattle.escrow_serve.specs.Batch.{GathersLines, HasRoom}
 use Rattle.escrow_serve.proofs.serve.gather_lines.Given as goal
 
--- the lines that were taken wait, but for the last one where it may not, and there is room for a short reply to each
+-- the lines taken so far wait, except for a last one that may not; there is room for a short reply to each
 abbrev pub invariant-loop-script : goal.invariant-loop-script
 invariant-loop-script l = record {
   lines : GathersLines l.databases l.fn.script.line.items l.fn.script.unread l.script.unread l.batch.waiting.items l.batch.parts.items l.alone;

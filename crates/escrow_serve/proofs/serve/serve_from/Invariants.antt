@@ -4,9 +4,9 @@ use Rattle.escrow_serve.specs.Batch.{Gathers}
 use Rattle.escrow_serve.proofs.ServeLemmas.{Stands}
 use Rattle.escrow_serve.proofs.serve.serve_from.Given as goal
 
--- some lines were served, what they write was written or is gathered, and each database has its
--- totals, where the stores can be used, and their bytes were counted; nothing is gathered unless the next line is
--- in hand; and behind the script's end nothing is left
+-- some lines were served: their output was written or is buffered, and their bytes were counted; if the stores can be
+-- used, each database has its totals; nothing is buffered unless the next line is in hand; after the end of the
+-- script, nothing remains
 abbrev pub invariant-loop-replies : goal.invariant-loop-replies
 invariant-loop-replies g l = record {
   count : vec_len l.databases ≡ vec_len l.fn.databases;

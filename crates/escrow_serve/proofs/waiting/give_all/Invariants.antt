@@ -7,7 +7,7 @@ use Rattle.escrow_serve.specs.Batch.{waiting_of, AreAsked, IsItem, Item, Runs}
 use Rattle.escrow_serve.proofs.GiveLemmas.{Given}
 use Rattle.escrow_serve.proofs.waiting.give_all.Given as goal
 
--- the lines that were passed have their replies, in order, and the parts those that are left
+-- the lines visited so far have their replies, in order, and the parts have the remaining replies
 abbrev pub invariant-loop-waits : goal.invariant-loop-waits
 invariant-loop-waits l = record {
   parts : vec_len l.parts ≡ vec_len l.fn.parts;

@@ -6,7 +6,7 @@ use Rattle.escrow_free.specs.Planning.{PlansBytes}
 use Rattle.escrow_free.specs.declared.plan.Plan.{Plan}
 use Rattle.escrow_free.proofs.plan.Plan.add.Goals as goal
 
--- a line that plans nothing adds nothing
+-- a line without a plan adds nothing
 adds_none : (databases : ℕ) (bytes : List ℕ) (plan : Plan) → PlansBytes databases bytes [] [] → Adds databases bytes plan plan
 adds_none databases bytes plan plans = record {
   more_lines = [];

@@ -13,14 +13,14 @@ child_has g c =
     let here : c.find-place.result.0 < length children = found.found (omega arith) in
     rw (slice_get_read children (length children) c.find-place.result.0 c.index.result.now refl here c.index.ensures) at found.inside
 
--- `find` answers the place of a child
+-- `find` returns the place of a child
 pub index-requires : goal.index-requires
 index-requires g c = omega (arith, c.find-place.ensures.found (omega arith), c.as_slice.ensures.len)
 
 pub entry-requires : goal.entry-requires
 entry-requires g c = rw c.deref.ensures (omega (arith, child_has g c))
 
--- the entry at the place in the child that `find` answers is the branch's
+-- the entry at the place that `find` returns in the child is the branch's
 pub returns : goal.returns
 returns g c =
     let rows = g.N.Node.rows in

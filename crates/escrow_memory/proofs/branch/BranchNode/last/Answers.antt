@@ -2,7 +2,7 @@ use Rattle.std.proofs.Common.{◌≡◌, ◌-◌, ◌<◌, [], length, get_or, s
 use Rattle.escrow_memory.proofs.Splicing.{IsCounted, flat_map_some, flat_map-last, All-read}
 use Rattle.escrow_memory.proofs.branch.BranchNode.last.Goals as goal
 
--- the last child isn't empty, so its last entry is the branch's
+-- the last child is not empty, so its last entry is the branch's
 pub returns : goal.returns
 returns g c =
     let rows = g.N.Node.rows in

@@ -35,7 +35,7 @@ pub seek-within-requires : goal.seek-within-requires
 seek-within-requires g c =
     rw c.deref-2.ensures (cut_of_child (passes c.args.probe) g.N.Node.rows c.args.self.now.children.items c.requires c.loop-low.low c.index-2.result.now (omega arith) c.index-2.ensures)
 
--- the place in the child, behind the rows of those before it, is the place in the branch
+-- the place in the child, added to the number of earlier rows, is the place in the branch
 place_in_branch : (g : Over) (c : goal.After-found-1 g) → c.len_before-before.result + c.seek-within.result.0 ≡ count_by (passes c.args.probe) (children_rows g.N.Node.rows c.args.self.now.children.items)
 place_in_branch g c =
     let at_end : c.loop-low.low ≡ c.loop-low.high = omega arith in
@@ -55,7 +55,7 @@ returns-clause-some g c =
     rw (c.len_before-before.ensures, c.as_slice.ensures.value)
     (entry_there g.N.Node.rows c.args.self.now.children.items c.loop-low.low c.index-2.result.now (omega arith) c.index-2.ensures c.seek-within.result.0 c.seek-within.result.1 some)
 
--- where the child gives no entry it is the last
+-- a child that returns no entry is the last one
 pub returns-clause-none : goal.returns-clause-none
 returns-clause-none g c = λ none.
     let at_end : c.loop-low.low ≡ c.loop-low.high = omega arith in

@@ -3,7 +3,7 @@ use Rattle.escrow_memory.specs.Children.{children_rows}
 use Rattle.escrow_memory.specs.Probe.{passes}
 use Rattle.escrow_memory.proofs.branch.BranchNode.seek.Given as goal
 
--- the place stands in the children from `low` up to `high`, and before the end of that one unless it is the last
+-- the place is in the children from `low` to `high`, and before the end of `high` unless that is the last child
 abbrev pub invariant-loop-low : goal.invariant-loop-low
 invariant-loop-low g l = record {
   low : length (children_rows g.N.Node.rows (take l.low l.self.children.items)) ≤ count_by (passes l.probe) (children_rows g.N.Node.rows l.self.children.items);

@@ -1,4 +1,4 @@
--- The rows are kept, and the new slot's is the entry's.
+-- The old rows are unchanged, and the new slot's row is the entry's.
 use Rattle.escrow_memory.proofs.LeafLemmas.{row_pushed}
 use Rattle.escrow_memory.proofs.leaf.Leaf.with.Goals as goal
 

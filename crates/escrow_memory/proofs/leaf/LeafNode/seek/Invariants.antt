@@ -3,7 +3,7 @@ use Rattle.escrow_memory.specs.Probe.{passes}
 use Rattle.escrow_memory.specs.Leaf.{leaf_rows}
 use Rattle.escrow_memory.proofs.leaf.LeafNode.seek.Given as goal
 
--- the place stands from `low` up to `high`
+-- the place is between `low` and `high`
 abbrev pub invariant-loop-low : goal.invariant-loop-low
 invariant-loop-low l = record {
   low : l.low ≤ count_by (passes l.probe) (leaf_rows l.self);

@@ -14,7 +14,7 @@ use Rattle.escrow_memory.proofs.store.BlockStore.new.Goals as goal
 abbrev given : Object → Heading
 given o = (o.shape, o.reals, description o)
 
--- one object more gives one heading more
+-- one more object gives one more heading
 heads_more : (schema : List Object) (i : ℕ) (d : Object) (made : List Heading) → i < length schema → made ≡ map given (take i schema)
     → made ++ given (get_or schema i d) ∷ [] ≡ map given (take (i + 1) schema)
 heads_more schema i d made within is = rw (is, take_more schema i d within, map-append)

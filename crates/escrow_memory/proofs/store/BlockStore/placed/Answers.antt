@@ -11,7 +11,7 @@ use Rattle.escrow_memory.proofs.Forests.{found_there, none_there}
 use Rattle.escrow_memory.proofs.Searches.{cut_below_key, cut_up_to_key}
 use Rattle.escrow_memory.proofs.store.BlockStore.placed.Goals as goal
 
--- no tree has no rows to seek in
+-- without a tree there are no rows to search
 empty_sought : (direction : Direction) (order : Order) (key : Row) → left_from direction 0 [] ≡ sought order direction key []
 empty_sought Forward order key = refl
 empty_sought Backward order key = refl

@@ -7,7 +7,7 @@ use Rattle.escrow_memory.proofs.Searches.{none_from, none_before, next_from, nex
 use Rattle.escrow_memory.proofs.store.BlockStore.step.Goals.{in-Forward, in-Backward}
 use Rattle.escrow_memory.proofs.store.BlockStore.step.Goals as goal
 
--- no tree has no rows left
+-- without a tree no rows remain
 empty_left : (direction : Direction) (at : ℕ) → left_from direction at [] ≡ []
 empty_left Forward at = none_from [] at (omega arith)
 empty_left Backward at = none_before [] at (omega arith)

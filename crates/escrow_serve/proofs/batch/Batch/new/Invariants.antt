@@ -4,7 +4,7 @@ use Rattle.std.specs.List.{AllByRecursion}
 use Rattle.escrow_serve.specs.declared.part.Part.{Part}
 use Rattle.escrow_serve.proofs.batch.Batch.new.Given as goal
 
--- there is room for the others, and nothing is asked
+-- there is room for the other parts, and nothing is requested
 abbrev pub invariant-loop-parts : goal.invariant-loop-parts
 invariant-loop-parts l = record {
   room : l.databases ≤ vec_capacity l.parts;

@@ -1,6 +1,6 @@
 use Rattle.std.proofs.Common.{refl}
 use Rattle.crossbeam_channel.specs.Claims.{view}
-use Rattle.escrow_sessions.proofs.Channel.{keeps_taken}
+use Rattle.escrow_sessions.proofs.Keeping.{keeps_taken}
 use Rattle.escrow_sessions.specs.Rule.{with_taken}
 use Rattle.escrow_sessions.proofs.channel.ReceiverSource.next.Goals as goal
 

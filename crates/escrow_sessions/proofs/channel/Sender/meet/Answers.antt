@@ -1,6 +1,6 @@
 use Rattle.std.proofs.Common.{ap, ◌∙◌}
 use Rattle.crossbeam_channel.specs.Claims.{view}
-use Rattle.escrow_sessions.proofs.Channel.{keeps_together, keeps_whole}
+use Rattle.escrow_sessions.proofs.Keeping.{keeps_together, keeps_whole}
 use Rattle.escrow_sessions.proofs.channel.Sender.meet.Goals as goal
 
 pub absorb-requires-clause-rule : goal.absorb-requires-clause-rule

@@ -1,6 +1,6 @@
 use Rattle.std.proofs.Common.{refl}
 use Rattle.crossbeam_channel.specs.Claims.{view}
-use Rattle.escrow_sessions.proofs.Channel.{keeps_sent}
+use Rattle.escrow_sessions.proofs.Keeping.{keeps_sent}
 use Rattle.escrow_sessions.specs.Rule.{with_sent}
 use Rattle.escrow_sessions.proofs.channel.Sender.send.Goals as goal
 

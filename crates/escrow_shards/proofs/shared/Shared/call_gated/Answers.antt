@@ -1,6 +1,6 @@
 use Rattle.std.proofs.Common.{◌≡◌, [], ◌∷◌, ◌++◌, ap, subst}
 use Rattle.std.specs.Prelude.{List}
-use Rattle.escrow_shards.specs.declared.receipt.Receipt.{Receipt}
+use Rattle.escrow_shards.specs.declared.pass.Receipt.{Receipt}
 use Rattle.escrow_shards.specs.Pass.{Pass}
 use Rattle.escrow_shards.proofs.Kept.{kept_last}
 use Rattle.escrow_shards.proofs.shared.Shared.call_gated.Goals as goal

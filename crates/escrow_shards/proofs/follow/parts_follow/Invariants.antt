@@ -1,5 +1,0 @@
-use Rattle.escrow_shards.proofs.Following.{Left}
-use Rattle.escrow_shards.proofs.follow.parts_follow.Given as goal
-
-abbrev pub invariant-loop-part : goal.invariant-loop-part
-invariant-loop-part g l = Left l.database l.parts l.first l.last l.count l.part-index l.number l.base
