@@ -15,28 +15,28 @@ const NAME_LIMIT: usize = 63;
 
 /// What `--help` says behind the options.
 const AFTER_HELP: &str = "\
-Each database is served by a program of its own, `escrowd serve`. The gateway looks for it at
+The gateway starts one program, `escrowd serve`, for each database. It looks for the program at
 --program, then in the environment variable ESCROWD, then beside its own executable.
 
-Clients connect to the Unix socket FOLDER/.s.PGSQL.PORT, for example by
-`psql -h FOLDER -p PORT NAME`. The socket appears as soon as all stores are open. Its mode is the
-only access control: whoever may write to it is served.
+Clients connect to the Unix socket DIRECTORY/.s.PGSQL.PORT, for example by
+`psql -h DIRECTORY -p PORT NAME`. The socket appears as soon as all stores are open. The permissions
+of the socket and its directory are the only access control.
 
 Exit status:
-  0  it was ended by SIGTERM or SIGINT, and all programs ended well
-  1  the system refused something, or a program did not end well
-  2  the arguments cannot be used
+  0  SIGTERM or SIGINT stopped it, and all programs exited without an error
+  1  a system call failed, or a program exited with an error
+  2  wrong arguments
   3  a program cannot be started, or a store cannot be opened
-  4  the socket cannot be made, or another process answers there
+  4  the socket cannot be created, or another process listens on it
   5  a program ended while it was in use
-  6  a reply of a program did not belong to the statement before it";
+  6  a program's reply does not match its statement";
 
 /// PostgreSQL's protocol in front of `escrowd serve`.
 #[derive(Debug, Parser)]
 #[command(name = "escrowd-pg", version, after_help = AFTER_HELP)]
 pub struct Args {
-    /// The folder of the socket. It must exist
-    #[arg(long, value_name = "FOLDER")]
+    /// The directory of the socket. It must exist
+    #[arg(long, value_name = "DIRECTORY")]
     pub listen: PathBuf,
 
     /// The number in the socket's name
@@ -47,7 +47,7 @@ pub struct Args {
     #[arg(long, default_value = "0600", value_parser = mode)]
     pub mode: u32,
 
-    /// A database and the file of its store. Without a path it is kept in memory. May be repeated
+    /// A database and the file that stores it. Without a file it is in memory. May be repeated
     #[arg(
         long = "database",
         value_name = "NAME[=PATH]",
@@ -56,15 +56,15 @@ pub struct Args {
     )]
     pub databases: Vec<Database>,
 
-    /// The program that serves a database
+    /// The program that serves each database
     #[arg(long, value_name = "PATH")]
     pub program: Option<PathBuf>,
 
-    /// Ends connections that are idle inside a transaction for longer. 0: never
+    /// Ends connections that are idle inside a transaction for longer than this. 0 means never
     #[arg(long, value_name = "SECONDS", default_value_t = 0)]
     idle_in_transaction_timeout: u32,
 
-    /// Writes metrics there every ten seconds, for the textfile collector of node_exporter
+    /// Writes metrics to FILE every ten seconds, for the textfile collector of node_exporter
     #[arg(long, value_name = "FILE")]
     pub metrics: Option<PathBuf>,
 }
@@ -95,7 +95,7 @@ impl Args {
         {
             None => Ok(args),
             Some(twice) => {
-                let text = format!("there are two databases called {}", twice.name);
+                let text = format!("two databases are named {}", twice.name);
                 Err(Args::command().error(ErrorKind::ValueValidation, text))
             }
         }
@@ -114,7 +114,7 @@ impl Args {
 fn mode(text: &str) -> Result<u32, String> {
     match u32::from_str_radix(text, 8) {
         Ok(mode) if mode <= 0o777 => Ok(mode),
-        _ => Err("a mode is an octal number of at most 0777".to_owned()),
+        _ => Err("the mode must be an octal number, at most 0777".to_owned()),
     }
 }
 
@@ -122,15 +122,15 @@ fn mode(text: &str) -> Result<u32, String> {
 fn database(value: &OsString) -> Result<Database, String> {
     let mut parts = value.as_bytes().splitn(2, |&byte| byte == b'=');
     let name = parts.next().unwrap_or_default();
-    let name = std::str::from_utf8(name).map_err(|_| "its name is not in UTF-8".to_owned())?;
+    let name = std::str::from_utf8(name).map_err(|_| "the name must be UTF-8".to_owned())?;
     if name.is_empty() || name.len() > NAME_LIMIT || name.chars().any(char::is_control) {
         return Err(format!(
-            "a name has 1 to {NAME_LIMIT} bytes, and no control characters"
+            "the name must have 1 to {NAME_LIMIT} bytes and no control characters"
         ));
     }
     let store = match parts.next() {
         None => None,
-        Some(b"") => return Err("no path follows the `=`".to_owned()),
+        Some(b"") => return Err("a path must follow the `=`".to_owned()),
         Some(path) => Some(OsString::from_vec(path.to_vec()).into()),
     };
     Ok(Database {

@@ -56,7 +56,7 @@ pub enum Failure {
         how: String,
     },
     /// A program's output doesn't fit what it was asked.
-    #[error("the program of {database} wrote {line:?} where {expected}")]
+    #[error("the program of {database} wrote {line:?}, but {expected}")]
     OutOfStep {
         /// The database it served.
         database: String,

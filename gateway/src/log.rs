@@ -37,9 +37,10 @@ impl Queue {
     fn next(&mut self) -> Option<Vec<u8>> {
         match std::mem::take(&mut self.dropped) {
             0 => self.lines.pop_front(),
-            dropped => {
-                Some(format!("{dropped} lines were dropped: nobody read them\n").into_bytes())
-            }
+            dropped => Some(
+                format!("{dropped} lines were dropped: standard error was not read in time\n")
+                    .into_bytes(),
+            ),
         }
     }
 }
@@ -179,7 +180,8 @@ mod tests {
         let written: Vec<_> = written.try_iter().collect();
         let lines = written.iter().filter(|line| *line == b"line\n").count();
         assert_eq!(lines as u64, 2 * WAITING as u64 - dropped);
-        let told = format!("{dropped} lines were dropped: nobody read them\n").into_bytes();
+        let told = format!("{dropped} lines were dropped: standard error was not read in time\n")
+            .into_bytes();
         assert!(written.contains(&told));
     }
 }

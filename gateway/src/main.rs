@@ -25,7 +25,7 @@ fn main() -> ExitCode {
     let log = match Log::start() {
         Ok(log) => log,
         Err(error) => {
-            eprintln!("escrowd-pg: its log cannot be started: {error}");
+            eprintln!("escrowd-pg: the log cannot be started: {error}");
             return ExitCode::FAILURE;
         }
     };

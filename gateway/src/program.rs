@@ -334,7 +334,7 @@ fn check_rolled_back(lines: &[u8]) -> Result<(), Wrong> {
     }
     Err(Wrong {
         line: String::from_utf8_lossy(lines).trim_end().to_owned(),
-        expected: "a ROLLBACK was to be answered".to_owned(),
+        expected: "a reply to ROLLBACK was expected".to_owned(),
     })
 }
 

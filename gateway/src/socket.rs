@@ -15,13 +15,13 @@ const ATTEMPTS: u32 = 100;
 #[derive(Debug, Error)]
 pub enum SocketError {
     /// A process accepts connections at this path.
-    #[error("another process answers at {}", .0.display())]
+    #[error("another process listens on {}", .0.display())]
     Answered(PathBuf),
     /// The path has another kind of file.
-    #[error("{} exists and is no socket", .0.display())]
+    #[error("{} exists and is not a socket", .0.display())]
     NoSocket(PathBuf),
     /// The system refused it.
-    #[error("the socket {} cannot be made: {error}", path.display())]
+    #[error("the socket {} cannot be created: {error}", path.display())]
     System {
         /// The path of the socket.
         path: PathBuf,

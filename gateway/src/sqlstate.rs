@@ -305,16 +305,16 @@ pub fn refusal(refusal: &Refusal<'_>, refused: Refused<'_>) -> Failure {
                 "invalid assignment in UPDATE",
             )
             .hint(
-                "A RESERVABLE column takes itself plus or minus a number, a plain column takes a \
-                 value, and one UPDATE has only one of the two kinds. The key cannot be changed.",
+                "Set a RESERVABLE column to itself plus or minus a number, and a plain column to a \
+                 value. One UPDATE cannot change both kinds. The key cannot be changed.",
             ),
         ),
         25 => of_table(
             Report::error(
                 SqlState::FEATURE_NOT_SUPPORTED,
-                "the column of WHERE is not the primary key",
+                "the column in WHERE is not the primary key",
             )
-            .hint("WHERE compares the primary key with one value."),
+            .hint("WHERE must compare the primary key with one value."),
         ),
         26 => of_table(commits_by_itself(refused.verb)),
         27 => of_table(undefined_constraint(name, refused.constraint)),
@@ -367,20 +367,20 @@ pub fn refusal(refusal: &Refusal<'_>, refused: Refused<'_>) -> Failure {
         .detail("A transaction holds at most 64 savepoints."),
         45 => Report::error(
             SqlState::LIMIT_EXCEEDED,
-            "the numbers of reservations are used up",
+            "no ids of reservations are left",
         )
         .hint("Restart the server."),
         51 => Report::error(SqlState::OUT_OF_MEMORY, "out of memory").hint("Try again later."),
         60 => Report::error(SqlState::IO_ERROR, "the store could not be read or written")
-            .detail("Nobody can tell whether the disk has kept the write that was refused.")
+            .detail("It is unknown whether the disk has kept the write that failed.")
             .hint(
                 "Try again once. If it fails again, the disk is full or failed: look at the \
-                 server's disk, restart it, and read the row before you repeat the write.",
+                 disk, restart the server, and read the row before you repeat the write.",
             ),
         12 => Report::error(SqlState::LIMIT_EXCEEDED, "the statement is too long"),
         number => Report::error(
             SqlState::INTERNAL_ERROR,
-            format!("the server refused the statement with {}", number),
+            format!("the server refused the statement with error {}", number),
         ),
     }
 }
@@ -393,7 +393,7 @@ pub fn commits_by_itself(verb: &str) -> Failure {
     )
     .hint(
         "INSERT, DELETE, UPDATE of plain columns and definitions commit by themselves: send them \
-         alone and outside of a block (autocommit).",
+         alone, outside a block (autocommit).",
     )
 }
 
@@ -445,7 +445,7 @@ fn broken_check(refusal: &Refusal<'_>, refused: Refused<'_>) -> Failure {
     let detail = match refused.verb {
         "INSERT" => format!("The value is {}, {} {}.", broken.worst, side, broken.limit),
         _ => format!(
-            "The value could come to {}, {} {}, if some of the open transactions commit.",
+            "The value could become {}, {} {}, if some of the open transactions commit.",
             broken.worst, side, broken.limit
         ),
     };

@@ -321,25 +321,9 @@ pub fn classify(text: &str, tokens: &[Token]) -> Result<Command, Failure> {
     } else if is("SELECT") {
         select(cursor)
     } else if is("INSERT") {
-        let table = if cursor.keyword("INTO") {
-            cursor.table()
-        } else {
-            None
-        };
-        Ok(Command::Program {
-            verb: Verb::Insert,
-            table,
-        })
+        Ok(row_of_table(Verb::Insert, "INTO", &mut cursor))
     } else if is("DELETE") {
-        let table = if cursor.keyword("FROM") {
-            cursor.table()
-        } else {
-            None
-        };
-        Ok(Command::Program {
-            verb: Verb::Delete,
-            table,
-        })
+        Ok(row_of_table(Verb::Delete, "FROM", &mut cursor))
     } else if is("ROLLBACK") || is("ABORT") {
         rollback(cursor)
     } else if is("SHOW") {
@@ -347,6 +331,16 @@ pub fn classify(text: &str, tokens: &[Token]) -> Result<Command, Failure> {
     } else {
         other(first, cursor)
     }
+}
+
+/// Returns the command of a verb whose table follows a preposition.
+fn row_of_table(verb: Verb, preposition: &str, cursor: &mut Cursor<'_>) -> Command {
+    let table = if cursor.keyword(preposition) {
+        cursor.table()
+    } else {
+        None
+    };
+    Command::Program { verb, table }
 }
 
 fn other(first: &str, mut cursor: Cursor<'_>) -> Result<Command, Failure> {
@@ -411,12 +405,13 @@ fn other(first: &str, mut cursor: Cursor<'_>) -> Result<Command, Failure> {
 /// Makes the report of a first word that begins no statement that is served.
 fn missing(word: &str, cursor: &Cursor<'_>) -> Failure {
     match word {
-        "COPY" => Report::missing("COPY")
-            .hint("Load rows by INSERT, each outside of a block (autocommit)."),
+        "COPY" => {
+            Report::missing("COPY").hint("Load rows by INSERT, each outside a block (autocommit).")
+        }
         "DECLARE" | "FETCH" | "MOVE" | "CLOSE" => Report::missing("a cursor")
             .hint("Let the driver read rows in steps: Execute with a limit is served."),
         "LISTEN" | "NOTIFY" => Report::missing(word)
-            .hint("Nothing tells of a change; SHOW BOUNDS tells what may still be asked."),
+            .hint("There are no notifications. SHOW BOUNDS shows how much can still be reserved."),
         "PREPARE" if cursor.at_keyword("TRANSACTION") => two_phases(),
         "PREPARE" | "EXECUTE" => Report::missing(word)
             .hint("Let the driver prepare statements: the protocol's own are served."),
@@ -434,7 +429,7 @@ fn missing(word: &str, cursor: &Cursor<'_>) -> Failure {
 }
 
 fn two_phases() -> Failure {
-    Report::missing("a commit in two phases").hint("COMMIT ends a transaction at once.")
+    Report::missing("a two-phase commit").hint("COMMIT ends a transaction at once.")
 }
 
 fn update(cursor: &mut Cursor<'_>) -> Command {
@@ -538,9 +533,9 @@ fn select(mut cursor: Cursor<'_>) -> Result<Command, Failure> {
 pub fn null_value() -> Failure {
     Report::error(
         SqlState::NOT_NULL_VIOLATION,
-        "NULL is not a value of any column",
+        "NULL is not allowed in any column",
     )
-    .hint("Each column has a value.")
+    .hint("Every column is NOT NULL.")
 }
 
 #[cfg(test)]

@@ -266,7 +266,7 @@ pub fn parameter(
         ))
         .hint(
             "Send smallint, integer, bigint, numeric, text or character varying, or leave the \
-             type open.",
+             type unspecified.",
         )
     })?;
     let bytes = match bytes {
@@ -379,7 +379,7 @@ pub fn out_of_range(text: &str) -> Failure {
         SqlState::NUMBER_OUT_OF_RANGE,
         format!("value \"{}\" is out of range", text),
     )
-    .detail("A number has at most 15 digits, of which at most 6 are behind the point.")
+    .detail("A number has at most 15 digits, at most 6 of them after the decimal point.")
 }
 
 /// Appends a value that is written as text in the format and the type of its column, with its length.

@@ -53,10 +53,8 @@ const fn known(name: &'static str, default: &'static str, domain: Domain) -> Kno
 
 const fn reported(name: &'static str, default: &'static str, domain: Domain) -> Known {
     Known {
-        name,
-        default,
-        domain,
         reported: true,
+        ..known(name, default, domain)
     }
 }
 
@@ -282,7 +280,7 @@ fn canonical(known: &Known, value: &str) -> Result<String, Failure> {
             let style = value.to_ascii_uppercase();
             match style.split(',').next().map(str::trim) {
                 Some("ISO") => Ok("ISO, MDY".to_owned()),
-                _ => Err(bad().hint("ISO is the one style of dates.")),
+                _ => Err(bad().hint("ISO is the only date style.")),
             }
         }
         Domain::On => match boolean(value) {

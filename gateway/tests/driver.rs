@@ -23,6 +23,14 @@ async fn make_stock(client: &Client) {
         .expect("INSERT");
 }
 
+/// Starts the gateway over a database that has the table, and connects to it.
+async fn stocked() -> (Gateway, Client) {
+    let gateway = Gateway::start(&[OsStr::new("shop")]);
+    let client = gateway.connect("shop").await.expect("a connection");
+    make_stock(&client).await;
+    (gateway, client)
+}
+
 /// Returns the pieces of the row.
 async fn pieces(client: &Client) -> i64 {
     let row = client
@@ -44,9 +52,7 @@ async fn simple_queries_have_tags_rows_and_refusals() {
     if !has_program("simple queries") {
         return;
     }
-    let gateway = Gateway::start(&[OsStr::new("shop")]);
-    let client = gateway.connect("shop").await.expect("a connection");
-    make_stock(&client).await;
+    let (_gateway, client) = stocked().await;
     let messages = client
         .simple_query("SELECT * FROM stock")
         .await
@@ -84,9 +90,7 @@ async fn prepared_statements_take_and_give_binary_values() {
     if !has_program("prepared statements") {
         return;
     }
-    let gateway = Gateway::start(&[OsStr::new("shop")]);
-    let client = gateway.connect("shop").await.expect("a connection");
-    make_stock(&client).await;
+    let (_gateway, client) = stocked().await;
     let insert = client
         .prepare_typed(
             "INSERT INTO stock VALUES ($1, $2, $3)",

@@ -51,7 +51,7 @@ def expected_errors(job: Job, part: Part, seen: List[str]) -> bytes:
     store = job.scenario.store_of(part)
     is_old = job.is_in_files and store not in seen and any(os.path.basename(it) == store for it in job.scenario.beside)
     seen.append(store)
-    return f"escrowd: {store} was of format 1 and is now of format 2\n".encode() if is_old else b""
+    return f"escrowd: {store} was migrated from format 1 to format 2\n".encode() if is_old else b""
 
 
 def difference(expected: bytes, got: bytes) -> str:

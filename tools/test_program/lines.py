@@ -8,50 +8,49 @@ SCRIPT = "bank.1: COMMIT\nbank2.1: COMMIT\nbank3.1: COMMIT\n"
 ONE_OF_THREE = "bank.1> OK committed 0\nscript> ERR 12 line\nscript> ERR 12 line\n"
 ONE = "bank.1: COMMIT\n"
 COMMITTED = "bank.1> OK committed 0\n"
-HELP = """A server of tables whose RESERVABLE columns many sessions change at once.
+HELP = """A server of tables whose RESERVABLE columns many sessions can change at once.
 
-It reads statements from standard input, one a line, and writes the replies to
+It reads statements from standard input, one per line, and writes the replies to
 standard output.
 
 Usage: escrowd <MODE> [--store <PATH>] [--databases <N>]
 
 Arguments:
-  <MODE>  `serve` and `run` serve line after line, `free` the sessions of a phase at the same time
+  <MODE>  `serve` and `run` serve one line after another; `free` serves the sessions of a phase at the same time
 
 Options:
-      --store <PATH>   The file that keeps bank; bank2 is kept in PATH.2 and so on [default: all in memory]
-      --databases <N>  How many databases there are, 1 to 16: bank, bank2, bank3 and so on [default: 1]
+      --store <PATH>   The file that stores bank; bank2 is stored in PATH.2 and so on [default: in memory]
+      --databases <N>  The number of databases, 1 to 16: bank, bank2, bank3 and so on [default: 1]
   -h, --help           Print help
   -V, --version        Print version
 
-A line is a database, a point, a session from 1 to 64, a colon
-and a statement:
+A line is a database, a dot, a session from 1 to 64, a colon and a statement:
 
   bank.1: CREATE TABLE ACCOUNT (ID INTEGER PRIMARY KEY, BALANCE INTEGER RESERVABLE CHECK (BALANCE >= 50))
   bank.1: INSERT INTO ACCOUNT VALUES (1, 100)
   bank.1: UPDATE ACCOUNT SET BALANCE = BALANCE - 30 WHERE ID = 1
   bank.1: COMMIT
 
-The line `@restart bank` restarts that database: what is open in it is dropped.
-Empty lines and lines that begin with -- are passed over.
+The line `@restart bank` restarts that database, which drops its open transactions.
+Empty lines and lines that begin with -- are ignored.
 
 `serve` serves one line after another until its input ends, and writes each reply
-before it asks for more input. `run` does the same with a script, which has at
-most 16777216 bytes. `free` serves the lines up to `@join` in one phase: its sessions, at most
-64, run at the same time, and the replies are written after it, in the order of
-the lines. At the end it looks whether what the sessions were answered fits one
-history of each database. `@restart` is refused there.
+before it reads more input. `run` does the same with a script of at most 16777216
+bytes. `free` serves the lines up to `@join` as one phase. The phase's sessions, at
+most 64, run at the same time. After the phase, `free` writes the replies in the
+order of the lines. At the end it checks that the replies match one history of each
+database. It refuses `@restart`.
 
-A store's file is made where there is none, and what was committed there is found
-again by the next run. Without --store everything is gone at the end.
+If a store's file doesn't exist, it is created. The next run finds what was
+committed. Without --store, data is lost when the program exits.
 
-Exit status: 0 when all was served and written, 1 when the input can't be read,
-a reply can't be written, memory is short, a phase has too many sessions or a
-history doesn't fit, 2 for wrong arguments, 3 when a store can't be opened, in
-which case nothing was read.
+Exit status: 0 if everything was served and written; 1 if the input can't be read,
+a reply can't be written, memory runs out, a phase has more than 64 sessions or the
+replies don't match the histories; 2 for wrong arguments; 3 if a store can't be
+opened, and then nothing was read.
 
-Later versions add statements, answer those of this one as it does, and read the
-stores that it wrote. --version prints which one this is.
+Later versions add statements, answer the statements of this version as it does,
+and read its stores. --version prints the version.
 """
 
 # In each phase one session of a database asks. The last line has no line feed.
@@ -155,7 +154,7 @@ BAD = [
 ]
 BAD_NUMBERS = ["0", "17", "x", "", "-1", "1.0", " 2", "256", "18446744073709551617"]
 # An empty path is taken as one, and refused.
-EMPTY_PATH = "escrowd: the store of bank, ``, can't be opened: a path may not be empty, nor be `:memory:`, nor begin with `file:`\n"
+EMPTY_PATH = "escrowd: the store of bank, ``, can't be opened: the path is empty, is `:memory:`, or begins with `file:`\n"
 
 
 def bad_cases() -> Iterator[Case]:

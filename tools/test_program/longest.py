@@ -69,7 +69,7 @@ def sessions() -> List[Case]:
     words = ("free", "--databases", "2")
     return [
         Case("64 sessions", words, script, replies, reads=True),
-        Case("65 sessions", words, f"{script}bank.33: COMMIT\n", BEFORE[1], "escrowd: too many sessions in a phase\n", status=1),
+        Case("65 sessions", words, f"{script}bank.33: COMMIT\n", BEFORE[1], "escrowd: a phase has more than 64 sessions\n", status=1),
     ]
 
 

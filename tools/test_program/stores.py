@@ -33,12 +33,12 @@ COMMIT: Talk = ("bank.1: COMMIT\n", "bank.1> OK committed 0\n")
 NOTHING: Talk = ("", "")
 
 # Why stores aren't opened.
-WORD = "a path may not be empty, nor be `:memory:`, nor begin with `file:`"
+WORD = "the path is empty, is `:memory:`, or begins with `file:`"
 IN_USE = "another program has it open"
 OTHER_VERSION = "it was made by another version of escrowd"
-JOURNAL = "SQLite was stopped while it wrote there: open it with sqlite3 once, then here"
+JOURNAL = "SQLite was stopped during a write: open the file with sqlite3 once, then try again"
 NO_FOLDER = "Not a directory (os error 20)"
-DENIED = "permission denied: the file has to be readable and writable, and its folder too, where a log is made beside it"
+DENIED = "permission denied: the file must be readable and writable, and so must its directory, where the log is made"
 # What isn't a database.
 NOTE = "this is no database, but a note of some length that was put here\n"
 BANK = ("run", "--store", "stores/bank.db")
@@ -292,7 +292,7 @@ KILLED = Story("killed", [
 
 # Two stores of the format before: each run that migrates one says so, once, and serves all the same.
 OLD = f"{TOP}/scenarios/store_of_the_format_before-1.db"
-MIGRATED = "escrowd: stores/{} was of format 1 and is now of format 2\n"
+MIGRATED = "escrowd: stores/{} was migrated from format 1 to format 2\n"
 MIGRATIONS = Story("migrations", [
     Folder("stores"),
     Copy(OLD, "stores/bank.db"),
@@ -423,7 +423,7 @@ def stopped() -> Story:
 
 def unclosed_line(name: str, file: str) -> str:
     """The line of a store that can't be closed."""
-    return (f"escrowd: the store of {name}, `stores/{file}`, can't be closed, and what was committed last stands in `stores/{file}-wal`:"
+    return (f"escrowd: the store of {name}, `stores/{file}`, can't be closed (the last commits are in `stores/{file}-wal`):"
             " it can't be read or written\n")
 
 
@@ -447,15 +447,19 @@ def unclosed_and_unwritten() -> Story:
     ])
 
 
-def several_unclosed() -> Story:
-    """Of 16 stores the second and the last can't be closed: both are reported, in order, and the others are closed."""
+def several_unclosed() -> List[Story]:
+    """Of 16 stores the second and the last can't be closed: both are reported, in order, and the others are closed. Behind a fault it is the same."""
     errors = unclosed_line("bank2", "bank.db.2") + unclosed_line(NAMES[-1], LAST)
     cut = [Write("stores/bank.db.2-wal", ""), Write(f"stores/{LAST}-wal", "")]
-    return Story("several unclosed", [
-        Folder("stores"),
-        Meanwhile(sixteen("run"), NOTHING, cut, COMMIT, errors),
-        Stand("stores", [*FILES, "bank.db.2-wal", f"{LAST}-wal"]),
-    ])
+    left = Stand("stores", [*FILES, "bank.db.2-wal", f"{LAST}-wal"])
+    return [
+        Story("several unclosed", [Folder("stores"), Meanwhile(sixteen("run"), NOTHING, cut, COMMIT, errors), left]),
+        Story("several unclosed behind a fault", [
+            Folder("stores"),
+            Meanwhile(sixteen("run"), NOTHING, cut, (COMMIT[0], ""), unanswered(Reason.FULL) + errors, 1, Output.FULL),
+            left,
+        ]),
+    ]
 
 
 def stories() -> List[Story]:
@@ -468,4 +472,4 @@ def stories() -> List[Story]:
 
 def stories_of_many() -> List[Story]:
     """Stories of as many databases as there may be."""
-    return [all_but_the_last(), ALL_MIGRATIONS, *map(behind_a_fault, MODES), several_unclosed()]
+    return [all_but_the_last(), ALL_MIGRATIONS, *map(behind_a_fault, MODES), *several_unclosed()]

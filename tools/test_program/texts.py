@@ -4,16 +4,16 @@ import enum
 MODES = ("run", "free", "serve")
 
 READ = "escrowd: the script can't be read: Input/output error (os error 5)\n"
-FOLDER_INPUT = "escrowd: the script can't be read: standard input is a folder\n"
+FOLDER_INPUT = "escrowd: the script can't be read: standard input is a directory\n"
 TOO_LONG = "escrowd: the script can't be read: it is longer than 16777216 bytes\n"
-NOT_UTF8 = "escrowd: the arguments have to be UTF-8\n"
-NO_FILE = "it is no plain file, or it has several names"
-FOREIGN = "it is no store of escrowd's: something else is in it, or it was damaged"
+NOT_UTF8 = "escrowd: the arguments must be UTF-8\n"
+NO_FILE = "it is not a regular file, or it has several hard links"
+FOREIGN = "it is not a store of escrowd: it holds something else, or it is damaged"
 CLOSED_INPUT = "escrowd: the script can't be read: standard input is closed or isn't open for reading\n"
-BAD_MODE = "escrowd: the mode has to be `run`, `free` or `serve`\n"
-MISSING_FOLDER = "its folder doesn't exist"
-LOST_LINK = "it is a link to a file that doesn't exist"
-DATABASES = "escrowd: --databases has to be a number from 1 to 16\n"
+BAD_MODE = "escrowd: the mode must be `run`, `free` or `serve`\n"
+MISSING_FOLDER = "its directory doesn't exist"
+LOST_LINK = "it is a symbolic link to a file that doesn't exist"
+DATABASES = "escrowd: --databases must be a number from 1 to 16\n"
 
 
 class Reason(enum.Enum):

@@ -1,4 +1,4 @@
--- Words have one fault at most, as the command has none below it.
+-- Words have at most one fault, since the command has no subcommands.
 use Rattle.std.proofs.Common.{◌&&◌, ◌||◌, ◌==◌, not, Bool, true, false, ℕ, zero, suc, Option, Some, None, List, [], ◌∷◌, length, is_some, if◌then◌else◌}
 use Rattle.std.specs.Prelude.{⊤, slice_get, drop, encode_utf8, nat_lt}
 use Rattle.std.specs.Str.{bytes_eq, chars}

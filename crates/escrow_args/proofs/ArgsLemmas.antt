@@ -1,5 +1,5 @@
--- What the arguments' functions need: what values ask, read one after another, and which status an
--- error has.
+-- Lemmas for reading arguments: what values ask for, read one after another, and the exit status
+-- of an error.
 use Rattle.std.proofs.Common.{◌≡◌, ◌⊎◌, ◌<◌, ◌≤◌, arith, true, false, inl, inr, ℕ, Some, None, List, [], ◌∷◌, refl, ap, ◌∙◌}
 use Rattle.clap.specs.Walk.{Row, first_of}
 use Rattle.clap.specs.Kinds.{IsAmong, Kinds}
@@ -13,16 +13,16 @@ use Rattle.escrow_args.proofs.ArgsFaults.{IsOne}
 use Rattle.escrow_script.specs.declared.limits.TheConstants.{MAX_DATABASES}
 use Rattle.escrow_args.specs.Args.{status_at, allowed, databases_of, mode_of, no_memory, status_of, values_ask}
 
--- without a mode, values ask nothing
+-- values without a mode ask for nothing
 pub no_mode : (rows : List Row) → mode_of (first_of (codes "mode") rows) ≡ None → values_ask rows ≡ None
 no_mode rows none = rw none refl
 
--- nor without a number
+-- values without a number ask for nothing
 pub no_number : (rows : List Row) (mode : Mode) → mode_of (first_of (codes "mode") rows) ≡ Some mode
     → databases_of (first_of (codes "databases") rows) ≡ None → values_ask rows ≡ None
 no_number rows mode found none = rw (found, none) refl
 
--- with both, they ask these
+-- values with both ask for these
 pub both_asked : (rows : List Row) (mode : Mode) (count : ℕ) → mode_of (first_of (codes "mode") rows) ≡ Some mode
     → databases_of (first_of (codes "databases") rows) ≡ Some count → values_ask rows ≡ Some (record { mode = mode; path = first_of (codes "store") rows; databases = count })
 both_asked rows mode count found counted = rw (found, counted) refl
@@ -34,7 +34,7 @@ within n least most =
     let high : nat_le n MAX_DATABASES ≡ true = grind (arith, nat_tests) in
     rw (low, high) refl
 
--- and one out of them isn't
+-- a number outside the bounds is not allowed
 pub below : (n : ℕ) → n < 1 → None ≡ allowed n
 below n less =
     let low : nat_le 1 n ≡ false = grind (arith, nat_tests) in
@@ -46,7 +46,7 @@ above n least more =
     let high : nat_le n MAX_DATABASES ≡ false = grind (arith, nat_tests) in
     rw (low, high) refl
 
--- the status of an error of the one kind, or of memory
+-- the status of an error of this kind, or of memory
 pub status_among : (kinds : Kinds) (k : ErrorKind) (fault : ArgFault) → IsOne kinds → (fault ≡ no_memory) ⊎ (fault.status ≡ status_of k)
     → (k ≡ kind.OutOfMemory) ⊎ IsAmong k kinds → (k ≡ kind.OutOfMemory → fault ≡ no_memory)
     → (fault ≡ no_memory) ⊎ (fault.status ≡ status_at kinds)
@@ -57,7 +57,7 @@ status_among (x ∷ []) k fault one (inr same) (inr (inl this)) is = inr (same �
 status_among (x ∷ []) k fault one (inr same) (inr (inr none)) is = elim none [ ]
 status_among (x ∷ y ∷ kinds) k fault one (inr same) (inr among) is = elim one [ ]
 
--- values that ask nothing are refused by a mistake, or by want of memory
+-- values that ask for nothing are refused as a mistake, or for memory
 pub wrong_value : (rows : List Row) (fault : ArgFault) → values_ask rows ≡ None → (fault ≡ no_memory) ⊎ (fault.status ≡ 2)
     → (fault ≡ no_memory) ⊎ ((values_ask rows ≡ None) × (fault.status ≡ 2))
 wrong_value rows fault none (inl memory) = inl memory

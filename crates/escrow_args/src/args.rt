@@ -111,7 +111,7 @@ fn mode_arg<'a>(alloc: Global) -> Arg<'a>
         .action(ArgAction::Set)
         .value_name("MODE")
         .help(
-            "`serve` and `run` serve line after line, `free` the sessions of a phase at the same time",
+            "`serve` and `run` serve one line after another; `free` serves the sessions of a phase at the same time",
         )
 }
 
@@ -124,9 +124,7 @@ fn store_arg<'a>(alloc: Global) -> Arg<'a>
         .long("store")
         .action(ArgAction::Set)
         .value_name("PATH")
-        .help(
-            "The file that keeps bank; bank2 is kept in PATH.2 and so on [default: all in memory]",
-        )
+        .help("The file that stores bank; bank2 is stored in PATH.2 and so on [default: in memory]")
 }
 
 /// Returns `--databases N`.
@@ -138,45 +136,45 @@ fn databases_arg<'a>(alloc: Global) -> Arg<'a>
         .long("databases")
         .action(ArgAction::Set)
         .value_name("N")
-        .help("How many databases there are, 1 to 16: bank, bank2, bank3 and so on [default: 1]")
+        .help("The number of databases, 1 to 16: bank, bank2, bank3 and so on [default: 1]")
 }
 
 /// The version of the program.
 const VERSION: &str = "1.1";
 
-const ABOUT: &str = "A server of tables whose RESERVABLE columns many sessions change at once.
+const ABOUT: &str = "A server of tables whose RESERVABLE columns many sessions can change at once.
 
-It reads statements from standard input, one a line, and writes the replies to
+It reads statements from standard input, one per line, and writes the replies to
 standard output.";
 
-const AFTER_HELP: &str = "A line is a database, a point, a session from 1 to 64, a colon
-and a statement:
+const AFTER_HELP: &str =
+    "A line is a database, a dot, a session from 1 to 64, a colon and a statement:
 
   bank.1: CREATE TABLE ACCOUNT (ID INTEGER PRIMARY KEY, BALANCE INTEGER RESERVABLE CHECK (BALANCE >= 50))
   bank.1: INSERT INTO ACCOUNT VALUES (1, 100)
   bank.1: UPDATE ACCOUNT SET BALANCE = BALANCE - 30 WHERE ID = 1
   bank.1: COMMIT
 
-The line `@restart bank` restarts that database: what is open in it is dropped.
-Empty lines and lines that begin with -- are passed over.
+The line `@restart bank` restarts that database, which drops its open transactions.
+Empty lines and lines that begin with -- are ignored.
 
 `serve` serves one line after another until its input ends, and writes each reply
-before it asks for more input. `run` does the same with a script, which has at
-most 16777216 bytes. `free` serves the lines up to `@join` in one phase: its sessions, at most
-64, run at the same time, and the replies are written after it, in the order of
-the lines. At the end it looks whether what the sessions were answered fits one
-history of each database. `@restart` is refused there.
+before it reads more input. `run` does the same with a script of at most 16777216
+bytes. `free` serves the lines up to `@join` as one phase. The phase's sessions, at
+most 64, run at the same time. After the phase, `free` writes the replies in the
+order of the lines. At the end it checks that the replies match one history of each
+database. It refuses `@restart`.
 
-A store's file is made where there is none, and what was committed there is found
-again by the next run. Without --store everything is gone at the end.
+If a store's file doesn't exist, it is created. The next run finds what was
+committed. Without --store, data is lost when the program exits.
 
-Exit status: 0 when all was served and written, 1 when the input can't be read,
-a reply can't be written, memory is short, a phase has too many sessions or a
-history doesn't fit, 2 for wrong arguments, 3 when a store can't be opened, in
-which case nothing was read.
+Exit status: 0 if everything was served and written; 1 if the input can't be read,
+a reply can't be written, memory runs out, a phase has more than 64 sessions or the
+replies don't match the histories; 2 for wrong arguments; 3 if a store can't be
+opened, and then nothing was read.
 
-Later versions add statements, answer those of this one as it does, and read the
-stores that it wrote. --version prints which one this is.";
+Later versions add statements, answer the statements of this version as it does,
+and read its stores. --version prints the version.";
 
 /// Returns the arguments of the values, or what is wrong with a value.
 fn asked(alloc: Global, matches: &ArgMatches<'_>) -> Result<Args, ArgFault>
@@ -185,10 +183,10 @@ fn asked(alloc: Global, matches: &ArgMatches<'_>) -> Result<Args, ArgFault>
     ensures databases { IfOk result (λ args. (1 ≤ args.databases) × (args.databases ≤ MAX_DATABASES)) }
 {
     let Some(mode) = mode_of(matches.get_str("mode")) else {
-        return Err(wrong(alloc, "the mode has to be `run`, `free` or `serve`\n"));
+        return Err(wrong(alloc, "the mode must be `run`, `free` or `serve`\n"));
     };
     let Some(databases) = databases_of(matches.get_str("databases")) else {
-        return Err(wrong(alloc, "--databases has to be a number from 1 to 16\n"));
+        return Err(wrong(alloc, "--databases must be a number from 1 to 16\n"));
     };
     match path_of(alloc, matches.get_str("store")) {
         Ok(path) => Ok(Args {

@@ -23,19 +23,19 @@ pub enum OpenFault {
     #[error("out of memory")]
     Memory,
     /// A store may not have this path.
-    #[error("a path may not be empty, nor be `:memory:`, nor begin with `file:`")]
+    #[error("the path is empty, is `:memory:`, or begins with `file:`")]
     Path,
     /// The path is that of a folder or a device, or of a file with several names.
-    #[error("it is no plain file, or it has several names")]
+    #[error("it is not a regular file, or it has several hard links")]
     NoFile,
     /// The path is a link that leads nowhere.
-    #[error("it is a link to a file that doesn't exist")]
+    #[error("it is a symbolic link to a file that doesn't exist")]
     Dangling,
     /// A folder of the path doesn't exist.
-    #[error("its folder doesn't exist")]
+    #[error("its directory doesn't exist")]
     NoFolder,
     /// The system denies permission.
-    #[error("permission denied: the file has to be readable and writable, and its folder too, where a log is made beside it")]
+    #[error("permission denied: the file must be readable and writable, and so must its directory, where the log is made")]
     Denied,
     /// The system can't open it.
     #[error("{0}")]
@@ -45,10 +45,10 @@ pub enum OpenFault {
     InUse,
     /// SQLite stopped in the middle of a write, and left a rollback journal, which only SQLite can
     /// play back.
-    #[error("SQLite was stopped while it wrote there: open it with sqlite3 once, then here")]
+    #[error("SQLite was stopped during a write: open the file with sqlite3 once, then try again")]
     Journal,
     /// It holds something else, or it was damaged.
-    #[error("it is no store of escrowd's: something else is in it, or it was damaged")]
+    #[error("it is not a store of escrowd: it holds something else, or it is damaged")]
     Foreign,
     /// It is a store of another format.
     #[error("it was made by another version of escrowd")]

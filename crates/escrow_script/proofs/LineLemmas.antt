@@ -1,4 +1,4 @@
--- Where a line may be cut, and what it is made of.
+-- Where a line may be cut, and its parts.
 use Rattle.std.proofs.Common.{◌≡◌, ◌≢◌, ◌⊎◌, ◌==◌, ◌&&◌, ◌||◌, not, if◌then◌else◌, ℕ, zero, suc, ◌+◌, ◌-◌, ◌*◌, ◌^◌, ◌/◌, ◌%◌, ◌<◌, ◌≤◌, Bool, true, false, List, [], ◌∷◌, ◌++◌, length, take, drop, get_or, get_or-take, take-append-drop, Option, Some, None, arith, refl, sym, ap, subst, ◌∙◌, append_assoc, Bor, inl, inr, add-one}
 use Rattle.std.specs.Bool.{Decides}
 use Rattle.std.specs.Prelude.{nat_eq, nat_le, codes, decimal, bytes_eq, MatchOption, IfNone}
@@ -27,7 +27,7 @@ use Rattle.escrow_script.specs.Reading.{is_nothing, is_join, is_first_digit, nam
 blank_is_ascii : (c : ℕ) → is_blank c ≡ true → c < 128
 blank_is_ascii c h = grind (arith, nat_tests)
 
--- a text may be cut behind its blanks
+-- a text may be cut after its blanks
 pub boundary_after_blanks : (line : List ℕ) (n : ℕ) → IsUtf8 line → n ≡ prefix_len is_blank line → IsCharBoundary line n
 boundary_after_blanks line zero utf8 e = IsCharBoundary-start line utf8
 boundary_after_blanks line (suc m) utf8 e =
@@ -39,7 +39,7 @@ boundary_after_blanks line (suc m) utf8 e =
 
 -- THE PARTS OF A STATEMENT
 
--- a byte that is no digit isn't in digits
+-- a byte that is no digit does not occur in digits
 digits_lack : (c : ℕ) (ds : List ℕ) → (c < 48) ⊎ (57 < c) → AllDigits 10 ds → Lacks c ds
 digits_lack c [] none digits i within = absurd (omega arith)
 digits_lack c (d ∷ ds) none digits zero within = λ same. let range = digit_from_value d digits.0 in omega (arith, range.0, range.1, none)
@@ -82,7 +82,7 @@ parts_of databases content place session text few is = record {
   whole = is.parts ∙ statement_parts (database_name place) (decimal session) text;
 }
 
--- a content that is cut at its first point, and what is behind that at its first colon
+-- a content cut at its first point, and the rest cut at its first colon
 abbrev pub Cut : Type 0
 Cut = Option (Bor (List ℕ) × Bor (List ℕ))
 
@@ -96,7 +96,7 @@ no_point databases content at_point few cut none place session text is =
     let found = split_after 46 content (database_name place) (decimal session ++ 58 ∷ text) at_point cut (omega arith) parts.whole parts.name_lacks in
     subst (λ (r : Cut). MatchOption r ⊥ (λ x. (x.0.now ≡ database_name place) × (x.1.now ≡ decimal session ++ 58 ∷ text))) none found
 
--- the two parts of a content that is cut at its point are those of the statement
+-- the two parts of a content cut at its point are those of the statement
 at_point_of : (databases : ℕ) (content : List ℕ) (at_point : Cut) (x : Bor (List ℕ) × Bor (List ℕ)) (place session : ℕ) (text : List ℕ) → databases ≤ MAX_DATABASES
     → IsSplitOnceResult 46 content at_point → at_point ≡ Some x → IsStatement databases content place session text
     → (x.0.now ≡ database_name place) × (x.1.now ≡ decimal session ++ 58 ∷ text)
@@ -133,7 +133,7 @@ no_number databases content at_point at_colon x y few cut some cut_again some_ag
     let again = subst (λ (r : Cut). MatchOption r ⊥ (λ y. (y.0.now ≡ decimal session) × (y.1.now ≡ text))) some_again found in
     unknown session (is.is_session, again.0)
 
--- and a statement that is found is one
+-- a statement that is found is one
 pub statement_found : (databases : ℕ) (content : List ℕ) (at_point at_colon : Cut) (x y : Bor (List ℕ) × Bor (List ℕ)) (place session : ℕ)
     → IsSplitOnceResult 46 content at_point → at_point ≡ Some x → IsSplitOnceResult 58 x.1.now at_colon → at_colon ≡ Some y
     → (place < databases) × (x.0.now ≡ database_name place) → Spell y.0.now session → IsStatement databases content place session y.1.now
@@ -148,7 +148,7 @@ statement_found databases content at_point at_colon x y place session cut some c
           ∙ sym (statement_parts (database_name place) (decimal session) y.1.now);
     }
 
--- THE PLACE OF A NAME
+-- THE INDEX OF A NAME
 
 place_of_more : (n : ℕ) (name : List ℕ) (found : Option ℕ) → (name ≡ database_name n → ⊥)
     → MatchOption found ((place : ℕ) → place < n → name ≡ database_name place → ⊥) (λ place. (place < n) × (name ≡ database_name place))
@@ -165,7 +165,7 @@ place_of_step : (n : ℕ) (name : List ℕ) (same : Bool) → bytes_eq (database
 place_of_step n name true same rest = rw same (omega arith, sym ((bytes_eq-Decides (database_name n) name).0 same))
 place_of_step n name false same rest = rw same (place_of_more n name (database_place n name) (λ e. true≢false (sym ((bytes_eq-Decides (database_name n) name).1 (sym e)) ∙ same)) rest)
 
--- a place that is found has the name, and where none is found no place has it
+-- an index that is found has the name, and if none is found, no index has it
 pub place_of_is : (databases : ℕ) (name : List ℕ)
     → MatchOption (database_place databases name) ((place : ℕ) → place < databases → name ≡ database_name place → ⊥) (λ place. (place < databases) × (name ≡ database_name place))
 place_of_is zero name = λ place within. absurd (omega arith)
@@ -198,7 +198,7 @@ session_digits session is = elim (cases_lt session 10) [
   | inr above ↦ inr (above, decimal_step session above (omega (arith, is.1)) ∙ ap (λ (d : List ℕ). d ++ ((48 + session % 10) ∷ [])) (decimal_digit (session / 10) (omega (arith, is.1))))
 ]
 
--- a session that digits spell has as many digits
+-- a session spelled by digits has as many digits
 empty_spells : (session : ℕ) → Spell [] session → ⊥
 empty_spells session spell = elim (session_digits session spell.0) [
   | inl one ↦ omega (arith, ap length (spell.1 ∙ one.1))
@@ -258,14 +258,14 @@ session_of_two a b true is =
     rw is (two_digits a b range.0 range.1 (leb-true 48 b digit.0) (leb-true b 57 digit.1) (leb-true ((a - 48) * 10 + (b - 48)) 64 more.1))
 session_of_two a b false is = rw is (λ session spell. true≢false (sym (two_spell a b session spell) ∙ is))
 
--- a session that is found is spelled, and where none is found none is
+-- a session that is found is spelled by the digits; if none is found, they spell none
 pub session_of_is : (digits : List ℕ) → MatchOption (session_of digits) ((session : ℕ) → Spell digits session → ⊥) (Spell digits)
 session_of_is [] = empty_spells
 session_of_is (a ∷ []) = session_of_one a (is_first_digit a) refl
 session_of_is (a ∷ b ∷ []) = session_of_two a b (is_first_digit a && (is_ascii_digit b && nat_le ((a - 48) * 10 + (b - 48)) 64)) refl
 session_of_is (a ∷ b ∷ c ∷ digits) = λ session. more_spell a b c session digits
 
--- WHAT A CONTENT IS MADE OF
+-- WHAT A CONTENT IS
 
 same_byte : (a b : ℕ) → Decides (nat_eq a b) (a ≡ b)
 same_byte a b = Decides-eqb a b
@@ -309,13 +309,13 @@ made_of_none databases content something no_join no_restarts no_statement (resta
 made_of_none databases content something no_join no_restarts no_statement (statement place session text) made = no_statement place session text made
 made_of_none databases content something no_join no_restarts no_statement no_line made = made
 
--- WHAT A LINE IS READ AS
+-- HOW A LINE IS READ
 
--- what holds where there is nothing
+-- what holds for an empty option
 pub at_none : {X : Type 0} (P : Type 0) (r : Option X) → r ≡ None → P → IfNone r P
 at_none {X} P r none p = subst (λ (r : Option X). IfNone r P) (sym none) p
 
--- a name that isn't found is no database's
+-- a name that is not found belongs to no database
 pub no_place : (databases : ℕ) (name : List ℕ) (found : Option ℕ) → found ≡ database_place databases name → found ≡ None
     → (place : ℕ) → place < databases → name ≡ database_name place → ⊥
 no_place databases name found is none =
@@ -328,7 +328,7 @@ this_place databases name found place is some =
     subst (λ (r : Option ℕ). MatchOption r ((place : ℕ) → place < databases → name ≡ database_name place → ⊥) (λ place. (place < databases) × (name ≡ database_name place)))
     (sym is ∙ some) (place_of_is databases name)
 
--- digits of which no session is found spell none
+-- if no session is found, the digits spell none
 pub no_session : (digits : List ℕ) (found : Option ℕ) → found ≡ session_of digits → found ≡ None → (session : ℕ) → Spell digits session → ⊥
 no_session digits found is none =
     subst (λ (r : Option ℕ). MatchOption r ((session : ℕ) → Spell digits session → ⊥) (Spell digits)) (sym is ∙ none) (session_of_is digits)
@@ -339,7 +339,7 @@ this_session digits found session is some =
 
 -- THE PARTS OF A RESTART
 
--- what passes a test, in front of what doesn't begin so
+-- items that pass a test, followed by a list whose first item fails
 prefix_before : (p : ℕ → Bool) (xs ys : List ℕ) → list_all p xs ≡ true → prefix_len p ys ≡ 0 → prefix_len p (xs ++ ys) ≡ length xs
 prefix_before p [] ys all stops = stops
 prefix_before p (x ∷ xs) ys all stops =
@@ -383,11 +383,11 @@ blanks_end (b ∷ back) blank =
     let is : is_blank b ≡ true = blank 0 0 (omega arith) in
     rw is refl
 
--- the place of a name, by how many blanks stand before it and how long it is
+-- the index of a name, from the number of blanks before it and its length
 abbrev pick : ℕ → List ℕ → ℕ → ℕ → Option ℕ
 pick databases named front len = if front == 0 || not (list_all is_blank (drop len named)) then None else database_place databases (take len named)
 
--- what stands behind `@restart`, by its parts
+-- the parts of the text after `@restart`
 module _ (front back : List ℕ) (place : ℕ) (few : place < MAX_DATABASES) (front_blank : AllPass is_blank front) (back_blank : AllPass is_blank back) where
   blanks_before : prefix_len is_blank (front ++ (database_name place ++ back)) ≡ length front
   blanks_before = prefix_before is_blank front (database_name place ++ back) (list_all-from_AllPass is_blank front front_blank) (name_begins place back)
@@ -413,11 +413,11 @@ module _ (front back : List ℕ) (place : ℕ) (few : place < MAX_DATABASES) (fr
       ∙ ap (λ (n : ℕ). pick databases (database_name place ++ back) (length front) n) name_len
       ∙ rw (some, rest, blank, name) refl
 
--- the word that stands behind `@restart`
+-- the word after `@restart`
 abbrev pub word_of : List ℕ → List ℕ
 word_of content = take (word_len (after_blanks (drop 8 content))) (after_blanks (drop 8 content))
 
--- is the name of the database that is restarted
+-- that word is the name of the database to restart
 pub restart_names : (databases : ℕ) (content : List ℕ) (place : ℕ) → databases ≤ MAX_DATABASES → IsRestart databases content place → word_of content ≡ database_name place
 restart_names databases content place few is =
     let small : place < MAX_DATABASES = omega (arith, is.within) in
@@ -434,13 +434,13 @@ restart_found databases content place few is =
     ap (λ (b : Bool). if b then named_place databases (drop 8 content) else None) starts ∙ ap (named_place databases) behind
     ∙ named_found is.front is.back place small is.front_blank is.back_blank databases is.apart
 
--- `@restart`: where no place is found it is none, and a place that is found is that
+-- `@restart`: if no database has this name, the content is no restart; otherwise it is that database's
 pub no_restart : (databases : ℕ) (content : List ℕ) (found : Option ℕ) → databases ≤ MAX_DATABASES → found ≡ restart_of databases content → found ≡ None
     → (place : ℕ) → IsRestart databases content place → ⊥
 no_restart databases content found few is none place restarts =
     no_place databases (database_name place) found (is ∙ restart_found databases content place few restarts) none place restarts.within refl
 
--- the parts that are found behind `@restart`
+-- the parts found after `@restart`
 named_made : (databases : ℕ) (bytes : List ℕ) (place : ℕ) (none : Bool)
     → (prefix_len is_blank bytes == 0 || not (list_all is_blank (drop (word_len (after_blanks bytes)) (after_blanks bytes)))) ≡ none
     → (if none then None else database_place databases (take (word_len (after_blanks bytes)) (after_blanks bytes))) ≡ Some place → IsRestart databases (codes "@restart" ++ bytes) place
@@ -487,7 +487,7 @@ pub names_one : (databases : ℕ) (bytes : List ℕ) (place session : ℕ) (text
 names_one databases bytes place session text (inl good) = good.1.within
 names_one databases bytes place session text (inr bad) = absurd (is_line place session text bad.1)
 
--- so does a restart's
+-- so does the line of a restart
 is_restart : (place : ℕ) → restart place ≡ no_line → ⊥
 is_restart place e = cc
 

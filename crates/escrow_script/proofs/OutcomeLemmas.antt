@@ -1,8 +1,8 @@
--- What holds of the result of a call that ends well or not.
+-- What holds of the result of a call, whether it succeeds or fails.
 use Rattle.std.proofs.Common.{◌≡◌, sym, subst}
 use Rattle.std.specs.Prelude.{Result, Ok, Err, OnErr, IfOk, IfErr, IsErrAnd}
 
--- what holds however a call ends
+-- what holds in every case
 pub at_err : {X Z P : Type 0} (r : Result X Z) → P → OnErr r P
 at_err (Ok x) p = tt
 at_err (Err z) p = p

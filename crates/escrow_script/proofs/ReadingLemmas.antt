@@ -1,4 +1,4 @@
--- A line has one reading at most.
+-- A line has at most one reading.
 use Rattle.std.proofs.Common.{◌≡◌, ◌⊎◌, ◌==◌, ℕ, zero, suc, ◌+◌, ◌<◌, ◌≤◌, false, List, [], ◌∷◌, ◌++◌, length, get_or, arith, refl, sym, ap, ◌∙◌, inl, inr}
 use Rattle.std.specs.Prelude.{codes, decimal}
 use Rattle.std.specs.List.{before_first, after_first}
@@ -11,7 +11,7 @@ use Rattle.escrow_script.specs.Laws.{HasOneReading}
 use Rattle.escrow_script.specs.declared.limits.TheConstants.{MAX_DATABASES}
 use Rattle.escrow_script.proofs.LineLemmas.{parts_of, restart_names}
 
--- the name of a further database
+-- the name of each database after the first
 further_name : (place : ℕ) → database_name (suc place) ≡ codes "bank" ++ decimal (suc place + 1)
 further_name place =
     let further : (suc place == 0) ≡ false = grind (arith, nat_tests) in
@@ -20,7 +20,7 @@ further_name place =
 longer_name : (place : ℕ) → place < MAX_DATABASES → codes "bank" ≡ database_name (suc place) → ⊥
 longer_name place few same = omega (arith, ap length (same ∙ further_name place), decimal_nonempty (suc place + 1) (omega arith))
 
--- a name is of one place
+-- a name belongs to one place
 same_place : (place other : ℕ) → place < MAX_DATABASES → other < MAX_DATABASES → database_name place ≡ database_name other → place ≡ other
 same_place zero zero few few' same = refl
 same_place zero (suc other) few few' same = absurd (longer_name other (omega arith) same)
@@ -29,7 +29,7 @@ same_place (suc place) (suc other) few few' same =
     let number = append_cancel_left (codes "bank") (decimal (suc place + 1)) (decimal (suc other + 1)) (sym (further_name place) ∙ same ∙ further_name other) in
     omega (arith, decimal_injective (suc place + 1) (suc other + 1) (omega arith) (omega arith) number)
 
--- two statements of one content are the same
+-- two statements of the same content are equal
 cut_once : (c : ℕ) (front back front' back' : List ℕ) → Lacks c front → Lacks c front' → front ++ c ∷ back ≡ front' ++ c ∷ back' → (front ≡ front') × (back ≡ back')
 cut_once c front back front' back' lacks lacks' same = (
   sym (before_first-at c front back lacks) ∙ ap (before_first (λ b. b == c)) same ∙ before_first-at c front' back' lacks',
@@ -49,14 +49,14 @@ same_statement databases content place session place' session' text text' few is
     let same_session : session ≡ session' = decimal_injective session session' (omega (arith, is.is_session.1)) (omega (arith, is'.is_session.1)) at_colon.0 in
     ap (λ (p : ℕ). statement p session text) this_place ∙ ap (λ (s : ℕ). statement place' s text) same_session ∙ ap (statement place' session') at_colon.1
 
--- two restarts of one content are the same
+-- two restarts of the same content are equal
 same_restart : (databases : ℕ) (content : List ℕ) (place place' : ℕ) → databases ≤ MAX_DATABASES → IsRestart databases content place → IsRestart databases content place'
     → restart place ≡ restart place'
 same_restart databases content place place' few is is' =
     ap restart (same_place place place' (omega (arith, is.within)) (omega (arith, is'.within))
     (sym (restart_names databases content place few is) ∙ restart_names databases content place' few is'))
 
--- the first byte of a content, or the second, tells which reading it may have
+-- the first byte of a content, or the second, decides which reading it may have
 abbrev first_byte : List ℕ → ℕ
 first_byte content = get_or content 0 0
 
@@ -70,7 +70,7 @@ join_first content is = ap first_byte is.2
 restart_first : (databases : ℕ) (content : List ℕ) (place : ℕ) → IsRestart databases content place → first_byte content ≡ 64
 restart_first databases content place is = ap first_byte is.parts
 
--- after the `@`
+-- the byte after the `@`
 abbrev second_byte : List ℕ → ℕ
 second_byte content = get_or content 1 0
 
@@ -89,7 +89,7 @@ statement_first databases content place session text few is =
     let parts = parts_of databases content place session text few is in
     ap first_byte parts.whole ∙ name_first place (46 ∷ (decimal session ++ 58 ∷ text))
 
--- what a content is made of, it is made of in one way
+-- a content is composed in only one way
 made_once : (databases : ℕ) (content : List ℕ) (one other : Reading) → databases ≤ MAX_DATABASES → IsMadeOf databases content one → IsMadeOf databases content other → one ≡ other
 made_once databases content nothing nothing few is is' = refl
 made_once databases content nothing join few is is' = absurd (omega (arith, nothing_first content is, join_first content is'))
@@ -145,7 +145,7 @@ content_once databases content (statement place session text) join few is is' = 
 content_once databases content (statement place session text) (statement place' session' text') few is is' =
     made_once databases content (statement place session text) (statement place' session' text') few is is'
 
--- a line has one reading at most
+-- a line has at most one reading
 pub has_one_reading : HasOneReading
 has_one_reading databases bytes one other few (inl good) (inl good') = content_once databases (content_of bytes) one other few good.1 good'.1
 has_one_reading databases bytes one other few (inl good) (inr bad) = absurd (bad.0 good.0)

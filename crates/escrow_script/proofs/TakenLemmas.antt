@@ -1,4 +1,4 @@
--- Lines of a script that are taken one after another.
+-- The lines of a script are taken one after another.
 use Rattle.std.proofs.Common.{◌≡◌, ℕ, ◌+◌, ◌<◌, ◌≤◌, List, [], ◌∷◌, ◌++◌, length, take, Option, Some, None, arith, refl, sym, ap, subst, ◌∙◌, append_assoc, inl, inr}
 use Rattle.std.specs.Prelude.{IfSome, Bool, true, false, ⊤}
 use Rattle.std.specs.Io.KnownBytes.{IsAtEnd}
@@ -8,7 +8,7 @@ use Rattle.escrow_script.specs.declared.limits.TheConstants.{MAX_LINE}
 use Rattle.escrow_script.specs.Line.{Reading, no_line, Reads, lines_of}
 use Rattle.escrow_script.specs.Script.{TakesLine, Spends, left}
 
--- of a longer line so much is kept that it is no line
+-- of a longer line, enough is kept to see that it is no line
 kept_long : (databases : ℕ) (line kept : List ℕ) (reading : Reading) → kept ≡ take (MAX_LINE + 1) line → MAX_LINE < length line → Reads databases kept reading → reading ≡ no_line
 kept_long databases line kept reading e long (inl good) = absurd (omega (arith, good.0.0, ap length e, length-take (MAX_LINE + 1) line))
 kept_long databases line kept reading e long (inr bad) = bad.1
@@ -20,7 +20,7 @@ kept_line databases line kept reading e reads = elim (cases_lt MAX_LINE (length 
   | inr short ↦ subst (λ (bytes : List ℕ). Reads databases bytes reading) (e ∙ take_all (MAX_LINE + 1) line (omega arith)) reads
 ]
 
--- the lines that were served and those that are left are the script's, where its bytes are known
+-- the lines that were served and those that remain are those of the script, if its bytes are known
 abbrev pub Rests : List (List ℕ) → Option (List ℕ) → Option (List ℕ) → Type 0
 Rests served None rest = ⊤
 Rests served (Some bytes) None = ⊥
@@ -30,7 +30,7 @@ pub rests_at_start : (script : Option (List ℕ)) → Rests [] script (left [] s
 rests_at_start None = tt
 rests_at_start (Some bytes) = refl
 
--- the next line of a script, of which 4,097 bytes are kept
+-- the next line of a script; at most 4,097 bytes of it are kept
 pub record Next (script rest new_rest : Option (List ℕ)) (kept : List ℕ) (served : List (List ℕ)) : Type 0 where
   pub line : List ℕ
   pub is_kept : kept ≡ take (MAX_LINE + 1) line
@@ -51,12 +51,12 @@ nothing_behind : (xs ys : List ℕ) → xs ++ ys ≡ [] → ys ≡ []
 nothing_behind [] ys e = e
 nothing_behind (x ∷ xs) ys e = cc
 
--- a script that was read whole had no more bytes than a script may have
+-- a script that was read to its end had at most the greatest number of bytes
 pub within_limit : (bytes : List ℕ) (remaining : Option (List ℕ)) (old new : ℕ) → Spends (Some bytes) remaining old new → IsAtEnd remaining → length bytes ≤ old
 within_limit bytes None old new spends ended = absurd spends
 within_limit bytes (Some rest) old new spends ended = omega (arith, spends, ap length ended)
 
--- at the script's end its reader is at its end
+-- at the end of the script, its reader is at its end
 pub ended : (script was remaining : Option (List ℕ)) (found : Bool) (was_unread kept unread : List ℕ) (limit now : ℕ) → found ≡ false → Spends script was limit now
     → TakesLine found (left was_unread was) (left unread remaining) kept → IfSome script (λ bytes. IsAtEnd remaining)
 ended None was remaining found was_unread kept unread limit now is_false spends taken = tt
@@ -66,6 +66,6 @@ ended (Some bytes) (Some rest) (Some more) found was_unread kept unread limit no
     let none = subst (λ (f : Bool). TakesLine f (left was_unread (Some rest)) (left unread (Some more)) kept) is_false taken in
     nothing_behind unread more none.1
 
--- a test tells that a line is in hand
+-- the test says that a line is in hand
 pub read_without : (tested in_hand : Bool) → tested ≡ in_hand → tested ≡ true → in_hand ≡ false → ⊥
 read_without tested in_hand same found none = let e : true ≡ false = sym found ∙ same ∙ none in cc

@@ -1,4 +1,4 @@
--- What is gathered and written piece by piece, and what a fault leaves of it.
+-- What is buffered and written piece by piece, and what remains after a fault.
 use Rattle.std.proofs.Common.{◌≡◌, ℕ, ◌<◌, List, [], ◌++◌, length, drop, Option, Some, None, arith, refl, sym, ap, ◌∙◌, append_assoc}
 use Rattle.std.specs.Prelude.{Bool, true, false}
 use Rattle.std.specs.Io.KnownBytes.{Appends}
@@ -6,7 +6,7 @@ use Rattle.std.proofs.lemmas.List.{append-nil, length-drop}
 use Rattle.escrow_script.specs.declared.fault.ServeFault.{ServeFault}
 use Rattle.escrow_script.specs.Written.{IsOfWriter, Leaves}
 
--- what is written after what was written
+-- one piece is written after another
 pub appends_more : (old mid new : Option (List ℕ)) (xs ys : List ℕ) → Appends old mid xs → Appends mid new ys → Appends old new (xs ++ ys)
 appends_more None mid new xs ys a b = tt
 appends_more (Some bs) None new xs ys a b = absurd a
@@ -17,13 +17,13 @@ pub appends_none : (bytes : Option (List ℕ)) → Appends bytes bytes []
 appends_none None = tt
 appends_none (Some bs) = sym (append-nil bs)
 
--- what is left at a fault of the writer
+-- what remains after a fault of the writer
 pub leaves_some : (why : ServeFault) (bytes : List ℕ) (len : ℕ) → IsOfWriter why → len < length bytes → Leaves why (drop len bytes)
 leaves_some why bytes len write short =
     let some : 0 < length (drop len bytes) = omega (arith, length-drop len bytes) in
     rw write.1 some
 
--- where there was no next line, none was in hand
+-- if there was no next line, none was in hand
 pub nothing_waits : (found in_hand : Bool) (gathered : List ℕ) → found ≡ false → (in_hand ≡ true → found ≡ true) → (in_hand ≡ false → gathered ≡ []) → gathered ≡ []
 nothing_waits found true gathered is_false taken waits = absurd (let e = sym is_false ∙ taken refl in cc)
 nothing_waits found false gathered is_false taken waits = waits refl

@@ -22,7 +22,7 @@ pub enum ReadFault {
     #[error("standard input is closed or isn't open for reading")]
     Closed,
     /// Its input is a folder.
-    #[error("standard input is a folder")]
+    #[error("standard input is a directory")]
     Folder,
     /// The system fails with another error.
     #[error("{0}")]
@@ -51,7 +51,7 @@ pub enum WriteFault {
     #[error("standard output is closed or isn't open for writing")]
     Closed,
     /// The writer accepted none of the bytes, and reported no error.
-    #[error("standard output takes nothing")]
+    #[error("standard output accepts no data")]
     TakesNothing,
     /// The system fails with another error.
     #[error("{0}")]

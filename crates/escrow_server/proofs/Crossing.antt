@@ -1,4 +1,4 @@
--- What tells a thread how far a script is may be shared with it.
+-- Threads may share what reports the progress of a script.
 use denote.RattleType.{RattleType}
 use denote.Param.Send.{IsSend}
 use Rattle.std.proofs.Crossing.{Arc-send}

@@ -1,4 +1,4 @@
--- The states in which databases begin, by what their stores hold.
+-- The states in which databases begin, by the contents of their stores.
 use Rattle.std.proofs.Common.{◌≡◌, ◌≢◌, ◌⊎◌, ℕ, Bool, true, zero, suc, ◌+◌, List, [], ◌∷◌, ◌++◌, length, Some, arith, refl, sym, ap, ap₂, subst, ◌∙◌, inl, inr}
 use Rattle.std.specs.Prelude.{Result, Ok, Err, IsTrue, OnOk, is_ok, is_err, if◌then◌else◌, false, slice_get, replicate}
 use Rattle.std.proofs.lemmas.Bool.{true≢false}
@@ -21,13 +21,13 @@ use Rattle.escrow_server.specs.Opened.{IsOpened}
 use Rattle.escrow_serve.specs.Output.{HaveCleanDisks, states_of}
 use Rattle.escrow_server.specs.Program.{empty_states, AreFound, IsFound, StartsAs}
 
--- what is held was held before it was opened, in the known format or in the one before
+-- a store held the same before it was opened, in the known format or in the previous one
 pub held_either : (s : State) (old new : Stored) (migrated : Bool) → Holds s.catalog s.rows new → (migrated ≡ false → new ≡ old)
     → (IsTrue migrated → HoldsInFormat1 s.catalog s.rows old) → Holds s.catalog s.rows old ⊎ HoldsInFormat1 s.catalog s.rows old
 held_either s old new false holds same before = inl (subst (Holds s.catalog s.rows) (same refl) holds)
 held_either s old new true holds same before = inr (before refl)
 
--- a schema has no object, or it has
+-- a schema is empty or not
 pub bare_or : (schema : Schema) → (schema ≡ no_schema) ⊎ (schema ≢ no_schema)
 bare_or schema = by schema.tables schema.indexes schema.views refl refl refl
   where
@@ -40,9 +40,9 @@ bare_or schema = by schema.tables schema.indexes schema.views refl refl refl
     by [] (x ∷ indexes) views t i v = inr (λ none. let e : [] ≡ x ∷ indexes = sym (ap (λ (s : Schema). s.indexes) none) ∙ i in cc)
     by [] [] (x ∷ views) t i v = inr (λ none. let e : [] ≡ x ∷ views = sym (ap (λ (s : Schema). s.views) none) ∙ v in cc)
 
--- ONE DATABASE MORE
+-- ONE MORE DATABASE
 
--- what a push makes where it has room
+-- what a successful push makes
 pub if_pushed : {A X Z : Type 0} (r : Result X Z) (new more old : A) → is_err r ≡ false → new ≡ (if is_ok r then more else old) → new ≡ more
 if_pushed (Ok x) new more old ok e = e
 if_pushed (Err z) new more old ok e = absurd (true≢false ok)
@@ -100,13 +100,13 @@ all_empty [] each = refl
 all_empty (s ∷ states) each =
     ap₂ (λ (first : State) (rest : List State). first ∷ rest) (each zero s refl) (all_empty states (λ place t found. each (suc place) t found))
 
--- stores without objects make databases without tables
+-- stores without objects give databases without tables
 pub found_empty : (count : ℕ) (states : List State) → AreFound (λ _ db. db.schema ≡ no_schema) count states → states ≡ empty_states count
 found_empty count states found =
     all_empty states (λ place s at. let is = found.each place s at in begins_empty is.0 s is.1 is.2)
     ∙ ap (λ (n : ℕ). replicate n empty) found.length_is
 
--- and so they do where all of them were opened
+-- they do so too if all of them were opened
 pub opened_empty : {S : Type 0} (g : Ghosts S) (result : Result (Unit {0}) RunFault) (databases : List (Database S)) (count : ℕ)
     → (HaveCleanDisks g databases → OnOk result (AreFound (λ _ db. db.schema ≡ no_schema) count (states_of databases)))
     → (states : List State) → IsOpened g result databases states → states ≡ empty_states count

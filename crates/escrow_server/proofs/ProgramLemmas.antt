@@ -1,4 +1,4 @@
--- What is said before the program ends.
+-- What is written before the program ends.
 use Rattle.std.proofs.Common.{◌≡◌, ◌≢◌, ◌⊎◌, ℕ, ◌+◌, ◌<◌, List, [], ◌∷◌, ◌++◌, length, map, take, Option, Some, None, true, false, if◌then◌else◌, arith, refl, sym, ap, ap₂, subst, ◌∙◌, inl, inr}
 use Rattle.std.specs.Prelude.{Result, Ok, Err, OnOk, OnErr, IfErr, IfSome, is_ok, option_and_then}
 use Rattle.std.specs.Io.KnownBytes.{Appends, IsAtEnd, Keeps}
@@ -34,40 +34,40 @@ pub writes_of : {X Z : Type 0} (old new : Option (List ℕ)) (bytes : List ℕ) 
 writes_of old new bytes (Ok x) ok err = ok
 writes_of old new bytes (Err z) ok err = err
 
--- a prefix was written, however the call ended
+-- a prefix was written, whether the call succeeded or not
 pub front_of : {X Z : Type 0} (old new : Option (List ℕ)) (bytes : List ℕ) (r : Result X Z) → Writes old new bytes r → WritesPrefix old new bytes
 front_of old new bytes (Ok x) wrote = (length bytes, subst (λ (b : List ℕ). Appends old new b) (sym (take_all (length bytes) bytes (omega arith))) wrote)
 front_of old new bytes (Err z) wrote = (wrote.0, wrote.2)
 
--- a prefix of what stands first is one of the whole
+-- a prefix of the first part is a prefix of the whole
 pub front_first : {X Z : Type 0} (old new : Option (List ℕ)) (first second : List ℕ) (r : Result X Z) → Writes old new first r → is_ok r ≡ false → WritesPrefix old new (first ++ second)
 front_first old new first second (Ok x) wrote failed = absurd (true≢false failed)
 front_first old new first second (Err z) wrote failed =
     (wrote.0, subst (λ (b : List ℕ). Appends old new b) (sym (take-append-le wrote.0 first second (omega (arith, wrote.1)))) wrote.2)
 
--- and so is a prefix of what stands second, behind the first
+-- the first part followed by a prefix of the second is a prefix of the whole
 pub front_second : {X Z : Type 0} (old mid new : Option (List ℕ)) (first second : List ℕ) (r : Result X Z) → Writes old mid first r → is_ok r ≡ true
     → WritesPrefix mid new second → WritesPrefix old new (first ++ second)
 front_second old mid new first second (Ok x) wrote went more =
     (length first + more.0, subst (λ (b : List ℕ). Appends old new b) (sym (take-append-add first second more.0)) (appends_more old mid new first (take more.0 second) wrote more.1))
 front_second old mid new first second (Err z) wrote went more = absurd (true≢false (sym went))
 
--- LINES OF STORES THAT WERE MIGRATED
+-- LINES ABOUT MIGRATED STORES
 
--- none
+-- there are none
 tells_none : (path bytes : Option (List ℕ)) → TellsOfMigrated path bytes bytes
 tells_none None bytes = appends_none bytes
 tells_none (Some path) bytes = ([], inl ([], refl), (0, appends_none bytes))
 
--- without them a reason alone is said
+-- without such lines, only a reason is written
 pub says_why : (path old new : Option (List ℕ)) → SaysReason old new → SaysWhy path old new
 says_why path old new says = (old, tells_none path old, says)
 
--- or nothing
+-- or nothing is written
 pub is_quiet : (path old new : Option (List ℕ)) → TellsOfStoresAlone old new → IsQuiet path old new
 is_quiet path old new tells = (old, tells_none path old, tells)
 
--- where the words were read, the path that they ask is that of their arguments
+-- if the words were read, the path is that of their arguments
 pub path_asked : (asked : Option Args) (args : Args) → ((other : Args) → asked ≡ Some other → args ≡ other) → (asked ≡ None → ⊥)
     → args.path ≡ option_and_then (λ (a : Args). a.path) asked
 path_asked None args same there = absurd (there refl)
@@ -79,15 +79,15 @@ lines_more path lines more place are is =
     let all = ap (flat_map migrated_line) (map-append (file_of path) are.0 (place ∷ [])) ∙ flat_map-append migrated_line (map (file_of path) are.0) (map (file_of path) (place ∷ [])) in
     (are.0 ++ place ∷ [], ap₂ (λ (a b : List ℕ). a ++ b) are.1 one ∙ sym all)
 
--- a line more, where there was room for it
+-- one more line, if there was room for it
 pub lines_pushed : {X Z : Type 0} (pushed : Result X Z) (path old new more : List ℕ) (place : ℕ) → AreLinesOf path old → more ≡ migrated_line (file_of path place)
     → new ≡ (if is_ok pushed then old ++ more else old) → OnOk pushed (AreLinesOf path new)
 lines_pushed (Ok x) path old new more place are is same = subst (AreLinesOf path) (sym same) (lines_more path old more place are is)
 lines_pushed (Err z) path old new more place are is same = tt
 
--- WITHOUT A LINE SERVED
+-- NO LINE SERVED
 
--- nor where the words couldn't be read for want of memory
+-- nothing was served if there was no memory to read the words
 pub ends_unserved : (asked : Mode) (count status : ℕ) (script rest old_bytes new_bytes : Option (List ℕ)) → status ≡ 1 → Appends old_bytes new_bytes []
     → IfSome script (λ bytes. EndsInMemory asked count status bytes rest old_bytes new_bytes)
 ends_unserved asked count status None rest old_bytes new_bytes failed wrote = tt
@@ -97,21 +97,21 @@ ends_unserved mode.Run count status (Some bytes) rest old_bytes new_bytes failed
 ends_unserved mode.Serve count status (Some bytes) rest old_bytes new_bytes failed wrote =
     inr (inl (failed, fault.Memory, empty_states count, stopped_unserved fault.Memory (empty_states count) bytes old_bytes new_bytes refl wrote))
 
--- the status where words are refused
+-- the exit status if the words are refused
 pub status_refused : (status expected : ℕ) (fault : ArgFault) → (status ≡ 1) ⊎ (status ≡ fault.status) → (fault ≡ no_memory) ⊎ (fault.status ≡ expected)
     → (status ≡ 1) ⊎ (status ≡ expected)
 status_refused status expected fault (inl one) is = inl one
 status_refused status expected fault (inr same) (inl memory) = inl (same ∙ ap (λ (f : ArgFault). f.status) memory)
 status_refused status expected fault (inr same) (inr is) = inr (same ∙ is)
 
--- words that don't ask for help aren't given it
+-- words that do not ask for help get none
 pub not_helped : (expected : ℕ) (fault : ArgFault) → (fault ≡ no_memory) ⊎ (fault.status ≡ expected) → expected ≢ 0 → fault.status ≢ 0
 not_helped expected fault (inl memory) some = λ helped. let one : fault.status ≡ 1 = ap (λ (f : ArgFault). f.status) memory in omega (arith, one, helped)
 not_helped expected fault (inr is) some = λ helped. some (sym is ∙ helped)
 
 -- HOW A RUN ENDS
 
--- in memory, line after line
+-- in memory, one line after another
 at_stop : (Serves : List ℕ → List State → List State → Option (List ℕ) → Option (List ℕ) → Type 0) (why : RunFault) (status count : ℕ) (starts : List State → Type 0) (new : List State) (script rest old_bytes new_bytes : Option (List ℕ))
     → ((old : List State) → starts old → old ≡ empty_states count) → status ≡ run_status why → IfSome script (λ s. Stops why starts new s rest old_bytes new_bytes)
     → IfSome script (λ s. EndsInTurn Serves count status s rest old_bytes new_bytes)
@@ -149,7 +149,7 @@ ends_free (Ok x) status count starts script rest old_bytes new_bytes are_empty o
 ends_free (Err why) status count starts script rest old_bytes new_bytes are_empty ok err runs unopened =
     at_free_stop why status count script rest old_bytes new_bytes err unopened
 
--- as the mode asks
+-- in memory, in the mode that was asked for
 pub ends_in_memory : {X : Type 0} (asked : Mode) (served : Result X RunFault) (status count : ℕ) (starts : List State → Type 0) (new : List State) (script rest old_bytes new_bytes : Option (List ℕ))
     → ((old : List State) → starts old → old ≡ empty_states count) → OnOk served (status ≡ 0) → IfErr served (λ why. status ≡ run_status why)
     → (asked ≡ mode.Run → OnOk served (IfSome script (λ s. (from : List State) × starts from × ServesWhole s from new old_bytes new_bytes)))
@@ -181,7 +181,7 @@ pub ends_over_files : {X : Type 0} (served : Result X RunFault) (status : ℕ) (
 ends_over_files (Ok x) status script rest old_bytes new_bytes ok err end unopened = IfSome_then script end (λ s at_end. inl (ok, at_end))
 ends_over_files (Err why) status script rest old_bytes new_bytes ok err end unopened = at_file_stop why status script rest old_bytes new_bytes err unopened
 
--- nor where the words couldn't be read for want of memory
+-- nothing was served if there was no memory to read the words
 pub file_unserved : (status : ℕ) (script rest old_bytes new_bytes : Option (List ℕ)) → status ≡ 1 → IfSome script (λ s. EndsOverFiles status s rest old_bytes new_bytes)
 file_unserved status None rest old_bytes new_bytes failed = tt
 file_unserved status (Some script) rest old_bytes new_bytes failed = inr (inl failed)

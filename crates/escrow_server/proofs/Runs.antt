@@ -1,4 +1,4 @@
--- Histories that are runs of the machine, where disks always return what was written.
+-- Histories are runs of the machine if disks always return what was written.
 use Rattle.std.proofs.Common.{◌≡◌, ℕ, zero, suc, ◌+◌, Some, List, [], ◌∷◌, slice_get, refl, sym, ap, subst, ◌∙◌, arith}
 use Rattle.std.specs.List.{AllByRecursion}
 use Rattle.std.specs.Prelude.{Option, IfSome}
@@ -17,12 +17,12 @@ use Rattle.escrow_free.proofs.Closing.{history_at, long_histories}
 use Rattle.escrow_server.specs.Free.{AreRuns, HoldCleanDisks, RunsFree, RunsFrom}
 use Rattle.escrow_serve.specs.Output.{state_in, states_of}
 
--- what holds of all holds of the elements of a list
+-- what holds for everything holds for the items of a list
 everywhere : {A : Type 0} (P : A → Type 0) (xs : List A) → ((x : A) → P x) → AllByRecursion P xs
 everywhere P [] each = tt
 everywhere P (x ∷ xs) each = (each x, everywhere P xs each)
 
--- the state at a place is that of the database there
+-- the state at an index is that of the database there
 state_at : {S : Type 0} (databases : List (Database S)) (place : ℕ) (s : State) → slice_get (states_of databases) place ≡ Some s
     → (d : Database S) × (slice_get databases place ≡ Some d) × (d.state ≡ s)
 state_at [] place s at = absurd (cc)
@@ -56,7 +56,7 @@ are_runs g databases parts closed clean are = record {
   each = λ place s entries at there. run_of g databases parts closed place s entries clean are at there;
 }
 
--- so the output is that of such runs
+-- the output is therefore that of such runs
 pub runs_free : {S : Type 0} (g : Ghosts S) (databases : List (Database S)) (parts : List (Part S)) (closed : List (Closed S)) (script old_bytes new_bytes : Option (List ℕ))
     → HoldCleanDisks g → AreHistories g databases parts closed → IfSome script (λ bytes. ServesFree bytes (histories parts closed) old_bytes new_bytes)
     → IfSome script (λ bytes. RunsFree bytes (states_of databases) old_bytes new_bytes)

@@ -50,7 +50,7 @@ WritesNothing old_bytes new_bytes = Appends old_bytes new_bytes []
 
 -- the line about a file whose store was migrated to the known format
 abbrev pub migrated_line : List ℕ → List ℕ
-migrated_line file = codes "escrowd: " ++ (file ++ codes " was of format 1 and is now of format 2\n")
+migrated_line file = codes "escrowd: " ++ (file ++ codes " was migrated from format 1 to format 2\n")
 
 -- a text is the lines about the files at some places of a path, one after another, if there are any
 abbrev pub AreLinesOf : List ℕ → List ℕ → Type 0

@@ -93,7 +93,7 @@ fn without_words<F: Write>(errors: &mut F, error: ErrorKind) -> u8
 {
     match error {
         ErrorKind::InvalidData => {
-            say_why(errors, "the arguments have to be UTF-8\n");
+            say_why(errors, "the arguments must be UTF-8\n");
             2
         }
         _ => {
@@ -285,7 +285,7 @@ fn tell_migrated<F: Write>(alloc: Global, errors: &mut F, path: &str, sites: &[O
 }
 
 /// The line if memory for the name of a file is refused.
-const MIGRATED: &str = "escrowd: a store was of format 1 and is now of format 2\n";
+const MIGRATED: &str = "escrowd: a store was migrated from format 1 to format 2\n";
 
 /// Returns a line for each store that had the previous format.
 fn migrated_text(alloc: Global, path: &str, sites: &[Option<Site>]) -> Result<String, AllocError>
@@ -316,7 +316,7 @@ fn migrated_line(alloc: Global, path: &str, place: u8) -> Result<String, AllocEr
     ensures { IfOk result (λ line. string_bytes line ≡ migrated_line (file_of path.now place)) }
 {
     let file = file_of(alloc, path, place)?;
-    format!(in alloc; "escrowd: {file} was of format 1 and is now of format 2\n")
+    format!(in alloc; "escrowd: {file} was migrated from format 1 to format 2\n")
 }
 
 /// Prints help or the version if it was asked for, or else says what is wrong. Returns the exit
@@ -503,7 +503,7 @@ fn unclosed_line(
     let database = database_name(usize::from(place));
     let file = file_of(alloc, path, place)?;
     format!(in alloc;
-        "{STORE}{database}, `{file}`, can't be closed, and what was committed last stands in `{file}-wal`: {cause}\n"
+        "{STORE}{database}, `{file}`, can't be closed (the last commits are in `{file}-wal`): {cause}\n"
     )
 }
 

@@ -387,7 +387,7 @@ fn give_rows(portal: &mut Portal, limit: u32, out: &mut Vec<u8>) -> Result<(), F
     let count = rows.take_rows(most, portal.format(), out).map_err(|_| {
         Report::error(
             SqlState::INTERNAL_ERROR,
-            "a value is not of its column's type",
+            "a value does not have the type of its column",
         )
     })?;
     if count == most {

@@ -77,22 +77,13 @@ impl Connection {
     /// Returns the columns of a statement's rows, as far as no table's definition tells them. None: it has no rows.
     pub(super) fn columns(&self, command: &Command) -> Result<Option<Rc<[Column]>>, Failure> {
         let rows = match command {
-            Command::Program {
-                verb: Verb::ShowTable,
-                ..
-            } => rows::definition_text(""),
-            Command::Program {
-                verb: Verb::ShowBounds,
-                ..
-            } => rows::bounds(""),
-            Command::Program {
-                verb: Verb::ShowJournal,
-                ..
-            } => rows::journal(""),
-            Command::Program {
-                verb: Verb::ShowStatistics,
-                ..
-            } => rows::statistics(""),
+            Command::Program { verb, .. } => match verb {
+                Verb::ShowTable => rows::definition_text(""),
+                Verb::ShowBounds => rows::bounds(""),
+                Verb::ShowJournal => rows::journal(""),
+                Verb::ShowStatistics => rows::statistics(""),
+                _ => None,
+            },
             Command::ShowSetting(_)
             | Command::ShowAll
             | Command::Constant(_)

@@ -217,10 +217,7 @@ fn table_name(source: Source<'_>) -> Option<String> {
 }
 
 fn not_understood() -> Failure {
-    Report::error(
-        SqlState::INTERNAL_ERROR,
-        "the server's reply is not understood",
-    )
+    Report::error(SqlState::INTERNAL_ERROR, "the server's reply is not valid")
 }
 
 impl Connection {
@@ -740,12 +737,8 @@ impl Connection {
         if self.transaction.block == Block::Failed {
             return self.roll_back_block(chain, target, subject);
         }
-        if self.transaction.block == Block::None {
-            if chain {
-                let report = outside_of_block("COMMIT AND CHAIN");
-                return self.finish(target, subject, Err(report));
-            }
-            self.warn_no_transaction();
+        if let Err(report) = self.expect_block(chain, "COMMIT AND CHAIN") {
+            return self.finish(target, subject, Err(report));
         }
         if self.transaction.dirty {
             return self.commit(AfterCommit::Command { target, chain });
@@ -755,12 +748,8 @@ impl Connection {
     }
 
     fn roll_back_block(&mut self, chain: bool, target: Target, subject: &Subject) {
-        if self.transaction.block == Block::None {
-            if chain {
-                let report = outside_of_block("ROLLBACK AND CHAIN");
-                return self.finish(target, subject, Err(report));
-            }
-            self.warn_no_transaction();
+        if let Err(report) = self.expect_block(chain, "ROLLBACK AND CHAIN") {
+            return self.finish(target, subject, Err(report));
         }
         if self.transaction.dirty {
             self.requests.push(&["ROLLBACK"]);
@@ -772,10 +761,18 @@ impl Connection {
         self.finish(target, subject, Ok(Completed::plain("ROLLBACK")));
     }
 
-    fn warn_no_transaction(&mut self) {
+    /// Warns if no block is there to be ended, or refuses a statement that needs one to chain the next to it.
+    fn expect_block(&mut self, chain: bool, statement: &str) -> Result<(), Failure> {
+        if self.transaction.block != Block::None {
+            return Ok(());
+        }
+        if chain {
+            return Err(outside_of_block(statement));
+        }
         let text = "there is no transaction in progress";
         let report = Report::warning(SqlState::NO_ACTIVE_TRANSACTION, text);
         self.report(&report, None);
+        Ok(())
     }
 
     fn savepoint(&mut self, name: usize, target: Target, subject: &Subject) {

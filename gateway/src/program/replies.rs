@@ -62,7 +62,7 @@ impl Replies {
     pub fn check_unasked(&self) -> Result<(), Wrong> {
         match &self.output[self.next..] {
             [] => Ok(()),
-            rest => Err(wrong(rest, "no statement is unanswered")),
+            rest => Err(wrong(rest, "no statement was waiting for a reply")),
         }
     }
 
@@ -112,7 +112,7 @@ fn misplaced(line: &[u8], prefix: &[u8]) -> Wrong {
     wrong(
         line,
         &format!(
-            "a line that begins with {:?} was due",
+            "a line that begins with {:?} was expected",
             String::from_utf8_lossy(prefix)
         ),
     )

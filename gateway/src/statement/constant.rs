@@ -223,7 +223,7 @@ fn function(cursor: &mut Cursor<'_>) -> Result<Item, Failure> {
     if !cursor.symbol(b'(') {
         return Err(Report::error(
             crate::sqlstate::SqlState::FEATURE_NOT_SUPPORTED,
-            format!("column \"{}\" is not of a table", name),
+            format!("column \"{}\" does not belong to a table", name),
         )
         .hint("The form is SELECT * FROM table [WHERE key = value]."));
     }
@@ -238,7 +238,7 @@ fn function(cursor: &mut Cursor<'_>) -> Result<Item, Failure> {
                 Some(token) if matches!(token.kind, TokenKind::Text | TokenKind::EscapedText) => {
                     literal::text_value(text, token)?
                 }
-                _ => return Err(Report::missing("a name of a setting that is no text")),
+                _ => return Err(Report::missing("a name of a setting that is not a text")),
             };
             (oid::TEXT, Expression::Setting(setting))
         }

@@ -167,7 +167,7 @@ fn no_value(column: &DefinedColumn, definition: &Definition) -> Failure {
         column.name, definition.table
     );
     Report::error(SqlState::NOT_NULL_VIOLATION, text)
-        .hint("An INSERT gives each column a value.")
+        .hint("An INSERT must give each column a value.")
         .column(column.name.as_str())
 }
 
@@ -194,7 +194,7 @@ fn misfit(assigned: &Assigned<'_>, line: &str) -> Option<Failure> {
 /// Makes the report of a text that a column of so many bytes doesn't hold.
 fn no_text_of(written: &str, bytes: i32) -> Option<Failure> {
     if written.is_empty() {
-        let text = "a text may not be empty";
+        let text = "a text must not be empty";
         Some(Report::error(SqlState::INVALID_PARAMETER_VALUE, text))
     } else if i32::try_from(written.len()).map_or(true, |length| length > bytes) {
         let text = format!("value too long for type character varying({})", bytes);
@@ -232,9 +232,12 @@ fn no_number_of(
         );
         Some(Report::error(SqlState::NUMBER_OUT_OF_RANGE, text).detail(detail))
     } else if fraction.len() as i32 > scale {
-        let text = format!("value {} has too many digits behind the point", written);
+        let text = format!(
+            "value {} has too many digits after the decimal point",
+            written
+        );
         let detail = format!(
-            "Column \"{}\" has {} digits behind the point, and nothing is rounded.",
+            "Column \"{}\" has {} digits after the decimal point, and values are not rounded.",
             column.name, scale
         );
         Some(Report::error(SqlState::INVALID_PARAMETER_VALUE, text).detail(detail))

@@ -178,9 +178,9 @@ pub fn append_text(out: &mut Vec<u8>, value: &str) -> Result<(), Failure> {
         if byte < 0x20 || byte == 0x7f {
             return Err(Report::error(
                 SqlState::CHARACTER_NOT_IN_REPERTOIRE,
-                format!("a text has the control character 0x{:02x}", byte),
+                format!("a text contains the control character 0x{:02x}", byte),
             )
-            .detail("Texts are kept without control characters (0 to 31 and 127)."));
+            .detail("A text must not contain control characters (0 to 31 and 127)."));
         }
         if byte == b'\'' {
             out.push(b'\'');

@@ -7,7 +7,7 @@ const READ: &str = "escrowd: the script can't be read: Input/output error (os er
 /// accepts nothing more, and at an odd one it fails.
 fn write_fault(room: usize) -> &'static str {
     if room % 2 == 0 {
-        "escrowd: a reply can't be written: standard output takes nothing\n"
+        "escrowd: a reply can't be written: standard output accepts no data\n"
     } else {
         "escrowd: a reply can't be written: No space left on device (os error 28)\n"
     }

@@ -10,15 +10,15 @@ use std::io;
 const SYSTEM: [(i32, &str); 6] = [
     (
         13,
-        "permission denied: the file has to be readable and writable, and its folder too, where a log is made beside it",
+        "permission denied: the file must be readable and writable, and so must its directory, where the log is made",
     ),
     (
         30,
-        "permission denied: the file has to be readable and writable, and its folder too, where a log is made beside it",
+        "permission denied: the file must be readable and writable, and so must its directory, where the log is made",
     ),
     (28, "the disk is full"),
     (12, "out of memory"),
-    (95, "it is no plain file, or it has several names"),
+    (95, "it is not a regular file, or it has several hard links"),
     (5, "Input/output error (os error 5)"),
 ];
 
@@ -29,7 +29,7 @@ const SQLITE: [(ErrorCode, &str, &str); 4] = [
     (ErrorCode::DiskFull, "the disk is full", "the disk is full"),
     (
         ErrorCode::DatabaseCorrupt,
-        "it is no store of escrowd's: something else is in it, or it was damaged",
+        "it is not a store of escrowd: it holds something else, or it is damaged",
         "it can't be read or written",
     ),
     (
@@ -44,7 +44,7 @@ const SERVED: [(ServeFault, &str); 2] = [
     (ServeFault::Memory, "out of memory"),
     (
         ServeFault::Write(WriteFault::TakesNothing),
-        "a reply can't be written: standard output takes nothing",
+        "a reply can't be written: standard output accepts no data",
     ),
 ];
 
@@ -53,11 +53,14 @@ const FREE: [(FreeFault, &str); 5] = [
     (FreeFault::Memory, "out of memory"),
     (
         FreeFault::Write(WriteFault::TakesNothing),
-        "a reply can't be written: standard output takes nothing",
+        "a reply can't be written: standard output accepts no data",
     ),
     (FreeFault::Store, "a store can't be read"),
-    (FreeFault::Open, "a transaction is open"),
-    (FreeFault::Mismatch, "the histories don't fit the replies"),
+    (FreeFault::Open, "a database has an open transaction"),
+    (
+        FreeFault::Mismatch,
+        "the replies don't match the histories of the databases",
+    ),
 ];
 
 #[test]

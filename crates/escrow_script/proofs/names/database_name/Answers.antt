@@ -1,4 +1,4 @@
--- Each arm names its place.
+-- Each arm has the name of its index.
 use Rattle.std.proofs.Common.{refl}
 use Rattle.std.specs.Fmt.{digits}
 use Rattle.escrow_script.proofs.names.database_name.Goals as goal

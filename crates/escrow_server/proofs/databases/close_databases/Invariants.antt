@@ -1,7 +1,7 @@
 use Rattle.std.specs.Prelude.{⊤}
 use Rattle.escrow_server.proofs.databases.close_databases.Given as goal
 
--- one database fewer is left at each turn
+-- each turn leaves one database fewer
 abbrev pub invariant-loop-database : goal.invariant-loop-database
 invariant-loop-database l = ⊤
 

@@ -3,7 +3,7 @@ use Rattle.escrow_serve.specs.Output.{states_of, HaveCleanDisks}
 use Rattle.escrow_server.specs.Program.{AreFound}
 use Rattle.escrow_server.proofs.databases.open_databases.Given as goal
 
--- so many databases were opened, each as its store was found
+-- the databases opened so far, each as its store was found
 abbrev pub invariant-loop-place : goal.invariant-loop-place
 invariant-loop-place g l = record {
   len : vec_len l.databases ≡ l.place;

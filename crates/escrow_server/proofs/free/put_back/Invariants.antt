@@ -5,7 +5,7 @@ use Rattle.escrow_script.specs.declared.limits.TheConstants.{MAX_DATABASES}
 use Rattle.escrow_server.specs.Free.{ended_of}
 use Rattle.escrow_server.proofs.free.put_back.Given as goal
 
--- those that were put back are the first ones, and there is room for those that are left
+-- the first databases were put back, and there is room for the others
 abbrev pub invariant-loop-ended : goal.invariant-loop-ended
 invariant-loop-ended g l = record {
   rest : l.yielded ++ into_iter_items l.ended-iterator ≡ into_iter_items l.initial.ended-iterator;

@@ -22,7 +22,7 @@ returns-in-None-clause-memory g c = λ none.
     (λ run. served.served run (memory_are_clean new)) (λ run. served.stopped run (memory_are_clean new))
     (λ serve. served.lines serve (memory_are_clean new)) (λ serve. served.cut serve (memory_are_clean new)) (λ free. served.free free memory_is_clean) served.unopened
 
--- in memory no store was written before
+-- in memory there is no migrated store
 pub returns-in-None-clause-quiet : goal.returns-in-None-clause-quiet
 returns-in-None-clause-quiet g c = λ ended.
     is_quiet c.args.args.now.path (g.F.Write.contents c.args.errors.now) (g.F.Write.contents c.status_in_memory.new.errors) (inl (c.status_in_memory.ensures.silent ended))
@@ -31,7 +31,7 @@ pub returns-in-None-clause-said : goal.returns-in-None-clause-said
 returns-in-None-clause-said g c = λ failed.
     says_why c.args.args.now.path (g.F.Write.contents c.args.errors.now) (g.F.Write.contents c.status_in_memory.new.errors) (c.status_in_memory.ensures.said failed)
 
--- in files the lines of those that were migrated stand in front
+-- over files, the lines about migrated stores come first
 pub returns-clause-quiet : goal.returns-clause-quiet
 returns-clause-quiet g c = λ ended.
     let old = g.F.Write.contents c.args.errors.now in

@@ -7,6 +7,6 @@ returns-in-Ok g c =
     let lines = c.in-Ok.ensures in
     (c.as_str.result.now, inl (lines.0, c.as_str.ensures.value ∙ lines.1), c.print.ensures)
 
--- where no memory is left for the name of a file
+-- there is no memory for the name of a file
 pub returns-in-Err : goal.returns-in-Err
-returns-in-Err g c = (codes "escrowd: a store was of format 1 and is now of format 2\n", inr refl, c.print-in-Err.ensures)
+returns-in-Err g c = (codes "escrowd: a store was migrated from format 1 to format 2\n", inr refl, c.print-in-Err.ensures)

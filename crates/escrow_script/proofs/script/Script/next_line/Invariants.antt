@@ -4,8 +4,8 @@ use Rattle.escrow_script.proofs.ScriptLemmas.{Continues}
 use Rattle.escrow_script.specs.declared.limits.TheConstants.{MAX_LINE}
 use Rattle.escrow_script.proofs.script.Script.next_line.Given as goal
 
--- the line's bytes so far, and what is left of the script; each byte that was read was counted, and no
--- byte comes from nowhere; the reader hasn't said that it is at its end; a line that was in hand still is
+-- the line's bytes so far, and the rest of the script; each byte that was read was counted; no byte was
+-- invented; the reader has not reported its end; a line that was in hand still is
 abbrev pub invariant-loop-self : goal.invariant-loop-self
 invariant-loop-self g l = record {
   so_far : (seen : List ℕ) × (l.self.line.items ≡ take (MAX_LINE + 1) seen)
