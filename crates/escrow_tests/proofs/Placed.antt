@@ -1,4 +1,4 @@
--- What calls make of a row's place.
+-- What calls do with a row's place.
 use Rattle.std.specs.Prelude.{◌≡◌, ◌<◌, ℤ, List, [], ◌∷◌, length}
 use Rattle.std.proofs.Common.{ap, arith}
 use Rattle.std.proofs.lemmas.List.{length-map}

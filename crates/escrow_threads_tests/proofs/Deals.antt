@@ -1,4 +1,4 @@
--- Items that are dealt out name places that there are.
+-- Items that are dealt out name existing places.
 use Rattle.std.proofs.Common.{ℕ, ◌<◌, List, [], ◌∷◌, ◌≡◌, All, subst, ◌∙◌}
 use Rattle.std.specs.Iterator.{Yields, HoldsAlong}
 use Rattle.std.specs.List.{AllByRecursion}
@@ -11,6 +11,6 @@ module _ {Q : Type 0} (places : Q → ℕ) where
   each n [] s t same came = tt
   each n (x ∷ xs) s t same came = (subst (λ m. x.0 < m) same came.1.1, each n xs came.0 t (came.1.0 ∙ same) came.2)
 
-  -- whatever comes names one of the places
+  -- each next item names one of the places
   pub all_dealt : (n : ℕ) (s : Q) → places s ≡ n → HoldsAlong (λ s item t. Deals (places s) item (places t)) s (All (λ x. x.0 < n))
   all_dealt n s same xs t came = All-from_recursion (λ x. x.0 < n) xs (each n xs s t same came)

@@ -78,7 +78,7 @@ fn close_small(rt: HostRuntime) {
         match count {
             1 => {
                 let refusal = refused(&rt, drain(&rt, &shared, 0), "open");
-                assert!(rt; refusal.is_same(&Refusal::TransactionOpen));
+                assert!(rt; refusal == Refusal::TransactionOpen);
             }
             3 => push(&rt, &mut parts, made(&rt, drain(&rt, &shared, 0), "a part")),
             _ => {}

@@ -132,7 +132,7 @@ fn gate_inside(rt: HostRuntime) {
         let answer = shared.call_gated(&rt, rt.alloc(), pass, &statement(&rt, text), &watch);
         let is_right = match &answer {
             Answer::Served(_) => *is_served,
-            Answer::Unserved(refusal) => !*is_served && refusal.is_same(&Refusal::Store),
+            Answer::Unserved(refusal) => !*is_served && *refusal == Refusal::Store,
         };
         assert!(rt; is_right, "{text}: {answer:?}");
         let more = usize::from(*is_served);

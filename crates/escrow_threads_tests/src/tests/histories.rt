@@ -106,7 +106,7 @@ fn room_ahead(rt: HostRuntime) {
         assert!(rt; audited.room() >= left);
     }
     let refusal = refused(&rt, audited.make_room(65_534), "room");
-    assert!(rt; refusal.is_same(&Refusal::TranscriptFull));
+    assert!(rt; refusal == Refusal::TranscriptFull);
     made(&rt, audited.make_room(65_533), "room");
     assert_eq!(rt; audited.room(), 65_533);
     assert_eq!(rt; audited.entries().len(), 3);
@@ -117,7 +117,7 @@ fn room_ahead(rt: HostRuntime) {
 fn open_transaction(rt: HostRuntime) {
     let open = database(&rt, &[CREATE, INSERT, TAKE]);
     let (mut database, refusal) = refused(&rt, Audited::make(rt.alloc(), open), "open");
-    assert!(rt; refusal.is_same(&Refusal::TransactionOpen));
+    assert!(rt; refusal == Refusal::TransactionOpen);
     check_reply(&rt, &mut database, "COMMIT", "bank.1> OK committed 1\n");
     let mut audited = audited(&rt, database);
     serve(
@@ -128,7 +128,7 @@ fn open_transaction(rt: HostRuntime) {
         "bank.1> OK savepoint A\n",
     );
     let refusal = refused(&rt, audited.drain(rt.alloc()), "open");
-    assert!(rt; refusal.is_same(&Refusal::TransactionOpen));
+    assert!(rt; refusal == Refusal::TransactionOpen);
     serve(
         &rt,
         &mut audited,
