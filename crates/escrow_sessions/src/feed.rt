@@ -60,7 +60,7 @@ pub struct NotRun {
 pub struct NotFed<I> {
     /// The passes, as they were.
     pub passes: Vec<Pass>,
-    /// The items, none of which was taken.
+    /// The items. None of them was taken.
     pub items: I,
     /// The cause.
     pub cause: Cause,

@@ -1,5 +1,5 @@
-//! What a close returns, and the databases out of their locks. What it looks for is in the modules
-//! below, of which `findings` calls the others.
+//! What a close returns, and the databases out of their locks. The modules below have what it looks
+//! for: `findings` calls the others.
 mod beyond;
 pub(crate) mod findings;
 mod follow;
