@@ -11,6 +11,7 @@ mod Making
 mod Matches
 mod Migrating
 mod Numbering
+pub mod Pairs
 pub mod Reading
 pub mod ReadTexts
 pub mod Recognising

@@ -21,13 +21,13 @@ use Rattle.escrow_cells.specs.Store.{NumbersDiffer}
 
 -- ---- distinct rowids
 
-abbrev tied : Row → Row → Bool
+abbrev pub tied : Row → Row → Bool
 tied a b = is_eq (value_cmp (rowid a) (rowid b))
 
 abbrev AreApartFrom : Row → List Row → Type 0
 AreApartFrom a = AllByRecursion (λ b. tied a b ≡ false)
 
-abbrev AreApart : List Row → Type 0
+abbrev pub AreApart : List Row → Type 0
 AreApart = IsAscending (λ a b. tied a b ≡ false)
 
 reversed_eq : (o : Ordering) → is_eq (ordering_reverse o) ≡ is_eq o
@@ -35,7 +35,7 @@ reversed_eq Less = refl
 reversed_eq Equal = refl
 reversed_eq Greater = refl
 
-tied_turn : (a b : Row) → tied a b ≡ tied b a
+pub tied_turn : (a b : Row) → tied a b ≡ tied b a
 tied_turn a b = ap is_eq (value_cmp_total.antisymm (rowid a) (rowid b)) ∙ reversed_eq (value_cmp (rowid b) (rowid a))
 
 -- among rows with distinct rowids, two with the same rowid are one row

@@ -147,5 +147,5 @@ numbers_tell rows answer ids rise is = (λ h. there (sym is ∙ h), λ numbered.
 
 -- the same for the answer to a query
 pub rise_tells : {E : Type 0} (text : List ℕ) {tree : ℕ} (old new : State) (r : Result Bool E) → ((rows : List Row) → Shown text [] old new rows → HasTables old.now.schema → AreIds (old.now.trees tree) rows)
-    → IfOk r (λ rise. (rows : List Row) × Shown text [] old new rows × (rise ≡ (with_numbers (rising None) rows).rise)) → IfOk r (λ are. HasTables old.now.schema → (IsTrue are ↔ NumbersDiffer (old.now.trees tree)))
-rise_tells text {tree = tree} old new r shown = IfOk-weaker r _ _ (λ rise h has. numbers_tell (old.now.trees tree) h.0 (shown h.0 h.1 has) rise h.2)
+    → IfOk r (λ rise. HasTables old.now.schema → (rows : List Row) × Shown text [] old new rows × (rise ≡ (with_numbers (rising None) rows).rise)) → IfOk r (λ are. HasTables old.now.schema → (IsTrue are ↔ NumbersDiffer (old.now.trees tree)))
+rise_tells text {tree = tree} old new r shown = IfOk-weaker r _ _ (λ rise h has. let told = h has in numbers_tell (old.now.trees tree) told.0 (shown told.0 told.1 has) rise told.2)

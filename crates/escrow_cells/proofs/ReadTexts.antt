@@ -1,5 +1,5 @@
 -- What each SELECT means, whatever objects the schema lists after the three tables.
-use Rattle.std.proofs.Common.{◌≡◌, ℕ, pos, negsuc, List, [], ◌∷◌, false, codes, None, refl}
+use Rattle.std.proofs.Common.{◌≡◌, ℕ, pos, negsuc, List, [], ◌∷◌, false, codes, None, refl, sym, ap, ◌∙◌}
 use Rattle.sqlite_value.specs.declared.value.Value.TheVariants.{Int}
 use Rattle.sqlite_value.specs.declared.keys.Collation.TheVariants.{Binary}
 use Rattle.sqlite_value.specs.declared.keys.Key.{Key}
@@ -17,7 +17,7 @@ use Rattle.sqlite_resolve.specs.Compile.{first}
 use Rattle.sqlite_tied.specs.Compute.{everything}
 use Rattle.sqlite.specs.Listing.{understood, reads_listing}
 use Rattle.sqlite.proofs.Callers.{IsPlain, command_of}
-use Rattle.escrow_cells.specs.Query.{IsReading}
+use Rattle.escrow_cells.specs.Query.{IsReading, IsSelecting}
 use Rattle.escrow_cells.specs.Tables.{beside, meta_tree, tab_tree, cell_tree}
 use Rattle.escrow_cells.proofs.Bare.{IsBareRead, is_reading}
 
@@ -32,6 +32,9 @@ span_text = codes "SELECT C, V FROM CELL WHERE TAB = ?1 AND K = ?2 AND C >= ?3 A
 
 abbrev pub table_text : List ℕ
 table_text = codes "SELECT K, C, V FROM CELL WHERE TAB = ?1 ORDER BY K, C"
+
+abbrev pub spans_text : List ℕ
+spans_text = codes "SELECT a.K, a.C, b.V FROM CELL a JOIN CELL b ON b.rowid = a.rowid WHERE a.TAB = ?1 AND a.C <= ?3 AND a.C >= ?2 ORDER BY a.K, a.C"
 
 abbrev pub keys_text : List ℕ
 keys_text = codes "SELECT K FROM CELL WHERE TAB = ?1 AND C = ?2"
@@ -68,6 +71,14 @@ selection tree tests shown order = record {
   offset = lit (Int (pos 0));
 }
 
+-- the second row of a pair has the rowid of the first
+abbrev pub by_number : Term
+by_number = op2 (Compare Eq Binary) (col 2 0) (col 1 0)
+
+-- the rows of one tree that pass the tests, each with the row of the same rowid, in an order
+abbrev pub pairing : ℕ → List Term → List Term → List (Term × Key) → Query
+pairing tree tests shown order = record (selection tree (by_number ∷ tests) shown order) { from = inner tree (inner tree end) }
+
 abbrev pub selects : Query → List (List ℕ) → Command
 selects q names = Select (record { lets = []; body = q }) names
 
@@ -89,6 +100,9 @@ span_query = selection cell_tree (is_given 1 0 ∷ is_given 2 1 ∷ op2 (Compare
 
 abbrev pub table_query : Query
 table_query = selection cell_tree (is_given 1 0 ∷ []) (col 1 2 ∷ col 1 3 ∷ col 1 4 ∷ []) (by_column 2 ∷ by_column 3 ∷ [])
+
+abbrev pub spans_query : Query
+spans_query = pairing cell_tree (is_given 1 0 ∷ op2 (Compare Le Binary) (col 1 3) (col 0 2) ∷ op2 (Compare Ge Binary) (col 1 3) (col 0 1) ∷ []) (col 1 2 ∷ col 1 3 ∷ col 2 4 ∷ []) (by_column 2 ∷ by_column 3 ∷ [])
 
 abbrev pub keys_query : Query
 keys_query = selection cell_tree (is_given 1 0 ∷ is_given 3 1 ∷ []) (col 1 2 ∷ []) []
@@ -117,6 +131,10 @@ pub record IsSelect (text : List ℕ) (query : Query) (names : List (List ℕ)) 
 pub reads : {text : List ℕ} {query : Query} {names : List (List ℕ)} → IsSelect text query names → IsReading text
 reads it = is_reading _ it.bare
 
+-- rows that begin an answer are the first rows of a whole one
+pub selecting : {text : List ℕ} {query : Query} {names : List (List ℕ)} → IsSelect text query names → IsSelecting text
+selecting it = record { reads = reads it; selects = λ more indexes views c is. (_, _, ap command_of (sym is) ∙ it.command more indexes views) }
+
 pub tabs_select : IsSelect tabs_text tabs_query (codes "ID" ∷ codes "NAME" ∷ codes "DDL" ∷ [])
 unfolding understood everything
 tabs_select = record { command = λ _ _ _. refl; plain = λ _ _ _. (refl, refl); unlisted = λ _ _ _. refl; bare = λ _ _. refl }
@@ -132,6 +150,10 @@ span_select = record { command = λ _ _ _. refl; plain = λ _ _ _. (refl, refl);
 pub table_select : IsSelect table_text table_query (codes "K" ∷ codes "C" ∷ codes "V" ∷ [])
 unfolding understood everything
 table_select = record { command = λ _ _ _. refl; plain = λ _ _ _. (refl, refl); unlisted = λ _ _ _. refl; bare = λ _ _. refl }
+
+pub spans_select : IsSelect spans_text spans_query (codes "K" ∷ codes "C" ∷ codes "V" ∷ [])
+unfolding understood everything
+spans_select = record { command = λ _ _ _. refl; plain = λ _ _ _. (refl, refl); unlisted = λ _ _ _. refl; bare = λ _ _. refl }
 
 pub keys_select : IsSelect keys_text keys_query (codes "K" ∷ [])
 unfolding understood everything

@@ -18,10 +18,11 @@ use Rattle.escrow_cells.specs.Numbered.{AreIds}
 use Rattle.escrow_cells.specs.Store.{IsStore, HasTables, metas, cells, tabs}
 use Rattle.escrow_cells.specs.Step.{same, is_in, is_of, is_at}
 use Rattle.escrow_cells.specs.Read.{AreOfRow, AreOfTable, AreKeys, AreTabs, AreTablesOfCells}
-use Rattle.escrow_cells.specs.Span.{AreOfSpan, is_from, is_up_to, is_within}
+use Rattle.escrow_cells.specs.Span.{AreOfSpan, AreOfSpans, is_from, is_up_to, is_within}
 use Rattle.escrow_cells.specs.Tables.{beside, meta_tree, tab_tree, cell_tree}
+use Rattle.escrow_cells.proofs.Pairs.{paired}
 use Rattle.escrow_cells.proofs.Selects.{selected, then_equal, sorted_same}
-use Rattle.escrow_cells.proofs.ReadTexts.{IsSelect, ids_query, tabs_text, tabs_select, row_text, row_select, span_text, span_select, table_text, table_select, keys_text, keys_select, place_text, place_select, metas_text, metas_select, owners_text, owners_select}
+use Rattle.escrow_cells.proofs.ReadTexts.{IsSelect, ids_query, tabs_text, tabs_select, row_text, row_select, span_text, span_select, table_text, table_select, spans_text, spans_select, keys_text, keys_select, place_text, place_select, metas_text, metas_select, owners_text, owners_select}
 
 abbrev cell_of : Row → Row
 cell_of r = column r 1 ∷ column r 2 ∷ column r 3 ∷ column r 4 ∷ []
@@ -122,6 +123,30 @@ table_shown table old new rows h store =
     record {
       same_cells = subst (IsPermutation (map pick (filter (is_in table) (cells old.now)))) (sym a.shows)
           (permuted (old.now.trees cell_tree) a.taken _ (is_in table) pick (λ r. and_true _) a.same);
+      in_order = subst (IsSorted by_two) (sym a.shows) (IsSorted-map by_two (λ r. pick (cell_of r)) a.taken by_both);
+    }
+
+first_three : (a b c : Bool) → (a && (b && (c && true))) ≡ (a && (c && b))
+first_three true true c = and_true c ∙ sym (and_true c)
+first_three true false true = refl
+first_three true false false = refl
+first_three false b c = refl
+
+pub spans_shown : (first last : ℤ) (table : Value) (old new : State) (rows : List Row) → Shown spans_text (table ∷ Int first ∷ Int last ∷ []) old new rows → IsStore old.now
+    → AreOfSpans first last table (cells old.now) rows
+spans_shown first last table old new rows h store =
+    let has = store.tables in
+    let passes : Row → Bool = λ r. is_in table (cell_of r) && (is_up_to last (column r 3) && (is_from first (column r 3) && true)) in
+    let a = paired _ _ _ _ _ _ passes (λ r s. refl) store.cells_numbered _ (answer_of spans_select (table ∷ Int first ∷ Int last ∷ []) old new rows has h) in
+    let pick : Row → Row = λ c. column c 1 ∷ column c 2 ∷ column c 3 ∷ [] in
+    let within : Row → Bool = λ r. is_within first last (column r 1) in
+    let mine = filter (is_in table) (cells old.now) in
+    let by_both = sorted_same _ (λ x y. ordering_then (value_cmp (column x 2) (column y 2)) (value_cmp (column x 3) (column y 3))) (λ x y. ap (ordering_then (value_cmp (column x 2) (column y 2))) (then_equal (value_cmp (column x 3) (column y 3)))) a.taken a.sorted in
+    let tested = permuted (old.now.trees cell_tree) a.taken passes (λ c. is_in table c && within (pick c)) pick (λ r. first_three (is_in table (cell_of r)) (is_up_to last (column r 3)) (is_from first (column r 3))) a.same in
+    let outside : map pick (filter (λ c. is_in table c && within (pick c)) (cells old.now)) ≡ filter within (map pick mine) =
+    ap (map pick) (filter_twice (is_in table) (λ c. within (pick c)) (cells old.now)) ∙ sym (filter-map within pick mine) in
+    record {
+      same_cells = subst (IsPermutation (filter within (map pick mine))) (sym a.shows) (subst (λ l. IsPermutation l (map (λ r. pick (cell_of r)) a.taken)) outside tested);
       in_order = subst (IsSorted by_two) (sym a.shows) (IsSorted-map by_two (λ r. pick (cell_of r)) a.taken by_both);
     }
 

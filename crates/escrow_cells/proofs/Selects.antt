@@ -11,7 +11,7 @@ use Rattle.sqlite_sql.specs.Query.{Output, output, output_cmp, sort_cmp, page, I
 use Rattle.sqlite_exec.proofs.PartitionLemmas.{IsSorted-from_map}
 use Rattle.escrow_cells.proofs.ReadTexts.{selection}
 
-filtered : {X Y : Type 0} (p : X → Bool) (f : X → Y) (xs : List X) → flat_map (λ x. cond (p x) (f x ∷ []) []) xs ≡ map f (filter p xs)
+pub filtered : {X Y : Type 0} (p : X → Bool) (f : X → Y) (xs : List X) → flat_map (λ x. cond (p x) (f x ∷ []) []) xs ≡ map f (filter p xs)
 filtered p f [] = refl
 filtered p f (x ∷ xs) = ap (λ l. cond (p x) (f x ∷ []) [] ++ l) (filtered p f xs)
     ∙ (elim (p x) as (λ b. cond b (f x ∷ []) [] ++ map f (filter p xs) ≡ map f (cond b (x ∷ filter p xs) (filter p xs))) [ true ↦ refl | false ↦ refl ])

@@ -1,13 +1,26 @@
 -- A running query whose rows are taken one at a time.
-use Rattle.std.proofs.Common.{◌≡◌, inl, inr, false, ℕ, List, [], ◌∷◌, ◌++◌, None, Some, Result, Ok, Err, OnOk, IsTrue, arith, sym, subst, ◌∙◌, append_assoc, append-nil}
+use Rattle.std.proofs.Common.{◌≡◌, inl, inr, false, ℕ, List, [], ◌∷◌, ◌++◌, None, Some, Result, Ok, Err, OnOk, IsTrue, arith, sym, ap, subst, ◌∙◌, append_assoc, append-nil}
 use Rattle.sqlite_value.specs.Order.{Row}
 use Rattle.sqlite_trees.specs.declared.store.Store.{Ghosts}
+use Rattle.sqlite_sql.specs.Query.{Query}
+use Rattle.sqlite_schema.specs.declared.command.Command.{Command}
+use Rattle.sqlite_schema.specs.declared.command.Command.TheVariants.{Select}
+use Rattle.sqlite_schema.specs.declared.schema.Schema.{Schema}
+use Rattle.sqlite_schema.specs.declared.schema.Table.{Table}
+use Rattle.sqlite_schema.specs.declared.schema.Index.{Index}
+use Rattle.sqlite_schema.specs.declared.schema.View.{View}
+use Rattle.sqlite_resolve.specs.declared.compiled.Compiled.{Compiled}
+use Rattle.sqlite.specs.Clock.{timed}
+use Rattle.sqlite.specs.Effect.{Database}
+use Rattle.sqlite.specs.Listing.{understood}
 use Rattle.sqlite.specs.Given.{HasGiven, HasBegun, Advances}
 use Rattle.sqlite.specs.Held.{Held, state}
 use Rattle.sqlite.specs.State.{State, HasCleanDisk, Survives, IsUnchanged, IsRolledBack, Shown, CommitsShowing}
-use Rattle.sqlite.proofs.StateLemmas.{survives_then}
-use Rattle.sqlite.proofs.Callers.{unchanged_then}
+use Rattle.sqlite.proofs.StateLemmas.{survives_then, unchanged}
+use Rattle.sqlite.proofs.Callers.{EndsIn, begins_shown, given_begin, unchanged_then}
 use Rattle.escrow_cells.specs.Query.{IsReading}
+use Rattle.escrow_cells.specs.Store.{HasTables}
+use Rattle.escrow_cells.specs.Tables.{beside}
 use Rattle.escrow_cells.specs.Read.{LeavesIdle, Takes}
 use Rattle.escrow_cells.proofs.Resting.{IsKept, begun_reading, survives_reading, shown_from, idle_from}
 
@@ -72,14 +85,30 @@ module _ {S K : Type 0} (g : Ghosts S) (HasTaken : K → K → List Row → Type
         → (HasCleanDisk (state g next) → IsKept (state g now) (state g next)) → first.in_transaction ≡ false → LeavesIdle g first next
     taking_leaves_idle settled mode kept outside = idle_from g first next settled (mode (so_far.mode outside)) survives_both (λ clean. kept_then _ (state g now) _ (so_far.unchanged (early clean)) (kept clean))
 
+  -- a sink that is done has taken a whole answer, whatever further rows it has
+  pub stops_taking : ((more : List Table) (indexes : List Index) (views : List View) (c : Compiled) → understood (beside more indexes views) sql ≡ Ok c
+      → (body : Query) × (names : List (List ℕ)) × (c.command ≡ Select (record { lets = []; body = body }) names)) → HasTables (state g first).now.schema → (now : Held S) (sink : K) → Taking now sink
+      → HasCleanDisk (state g now) → IsTrue (state g now).is_open → ((begun : K) (rows more : List Row) → HasTaken begun sink rows → HasTaken begun sink (rows ++ more))
+      → Takes HasTaken (Shown sql params (state g first) (state g now)) fresh sink
+  stops_taking selects has now sink so_far clean opened done begun before h =
+      let was = so_far.given clean in
+      let same = so_far.unchanged clean in
+      let tables : (state g now).now.schema ≡ beside has.more has.indexes has.views = ap (λ (db : Database). db.schema) same.0.now_is ∙ has.is in
+      let all = begins_shown sql params (state g now) (state g now) was.0 (given_begin g sql params now was.0 was.1) (unchanged (state g now) opened)
+      (λ c db it source.
+      let command = selects has.more has.indexes has.views c (subst (λ (s : Schema). understood s sql ≡ Ok c) tables it.is) in
+      subst (λ (k : Command). EndsIn k db (timed params c.formats it.now)) (sym command.2) tt) in
+      (was.0 ++ all.0, shown_from sql params (state g first) (state g now) (state g now) (was.0 ++ all.0) only same all.1, subst (HasTaken begun sink) (append_assoc before was.0 all.0) (done begun (before ++ was.0) all.0 (was.2 begun before h)))
+
   -- the sink fails, or the query returns rows without end
   pub stopped_leaves_idle : (now : Held S) (sink : K) → Taking now sink → (IsTrue (state g first).is_open → (state g first).now ≡ (state g first).committed) → first.in_transaction ≡ false → LeavesIdle g first now
   stopped_leaves_idle now sink so_far settled outside = idle_from g first now settled (so_far.mode outside) so_far.survives (λ clean. inl (so_far.unchanged clean))
 
 -- What is known of each answer holds of the rows that were taken. Its parameters are equal to those it speaks of.
 pub taken_answers : {X E K : Type 0} (HasTaken : K → K → List Row → Type 0) (sql : List ℕ) {ps qs : Row} (old new : State) (fresh last : K) {Premise : Type 0} {Answers : List Row → Type 0} (r : Result X E)
-    → ((rows : List Row) → Shown sql qs old new rows → Premise → Answers rows) → OnOk r (Takes HasTaken (Shown sql ps old new) fresh last) → ps ≡ qs → OnOk r (Premise → Takes HasTaken Answers fresh last)
-taken_answers HasTaken sql old new fresh last (Ok x) answers h e = λ given begun before taken.
-    let it = h begun before taken in
+    → ((rows : List Row) → Shown sql qs old new rows → Premise → Answers rows) → (Premise → HasTables old.now.schema) → OnOk r (HasTables old.now.schema → Takes HasTaken (Shown sql ps old new) fresh last) → ps ≡ qs
+    → OnOk r (Premise → Takes HasTaken Answers fresh last)
+taken_answers HasTaken sql old new fresh last (Ok x) answers tables h e = λ given begun before taken.
+    let it = h (tables given) begun before taken in
     (it.0, answers it.0 (subst (λ params. Shown sql params old new it.0) e it.1) given, it.2)
-taken_answers HasTaken sql old new fresh last (Err error) answers h e = tt
+taken_answers HasTaken sql old new fresh last (Err error) answers tables h e = tt

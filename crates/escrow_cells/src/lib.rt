@@ -30,8 +30,8 @@ pub use failure::failure_of;
 pub use formats::{FORMAT, FORMAT_1, Format};
 pub use numbered::are_numbered;
 pub use read::{
-    cell_tables, count_cells, count_keys, key_cells, metas, row_cells, span_cells, table_cells,
-    tabs,
+    cell_tables, count_cells, count_keys, key_cells, metas, row_cells, span_cells, spans_cells,
+    table_cells, tabs,
 };
 pub use recognise::is_store_schema;
 pub use sink::Sink;

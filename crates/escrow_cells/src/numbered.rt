@@ -5,7 +5,7 @@ ghost use Rattle.sqlite_value.specs.Value.{owned};
 ghost use Rattle.sqlite.specs.Held.{state};
 ghost use Rattle.sqlite.specs.State.{HasCleanDisk, Shown};
 ghost use Rattle.escrow_cells.specs.Numbered.{is_above, with_number, with_numbers};
-ghost use Rattle.escrow_cells.specs.Query.{IsReading};
+ghost use Rattle.escrow_cells.specs.Query.{IsSelecting};
 ghost use Rattle.escrow_cells.specs.Read.{LeavesIdle};
 ghost use Rattle.escrow_cells.specs.Store.{HasTables, NumbersDiffer, AreAllNumbered};
 ghost use Rattle.escrow_cells.specs.Tables.{meta_tree, tab_tree, cell_tree};
@@ -103,8 +103,8 @@ fn are_cells_numbered<S: Alter>(conn: &mut Connection<S>) -> Result<bool, Failur
 
 /// Returns whether the first values in the rows of a query are whole numbers that rise.
 fn numbers_rise<S: Alter>(conn: &mut Connection<S>, sql: &str) -> Result<bool, Failure>
-    requires { IsReading sql.now }
-    ensures rise { HasCleanDisk (state S.Store conn.new) → IfOk result (λ rise. (rows : List Cells) × Shown sql.now [] (state S.Store conn.old) (state S.Store conn.new) rows × (rise ≡ (with_numbers (record { last = None; rise = true }) rows).rise)) }
+    requires { IsSelecting sql.now }
+    ensures rise { HasCleanDisk (state S.Store conn.new) → IfOk result (λ rise. HasTables (state S.Store conn.old).now.schema → (rows : List Cells) × Shown sql.now [] (state S.Store conn.old) (state S.Store conn.new) rows × (rise ≡ (with_numbers (record { last = None; rise = true }) rows).rise)) }
     ensures leaves_idle { conn.old.in_transaction ≡ false → LeavesIdle S.Store conn.old conn.new }
     ensures is_open { HasCleanDisk (state S.Store conn.new) → OnOk result (IsTrue (state S.Store conn.new).is_open) }
 {

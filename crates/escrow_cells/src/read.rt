@@ -8,8 +8,8 @@ ghost use Rattle.sqlite.specs.Values.{bound};
 ghost use Rattle.escrow_cells.specs.Step.{kept, same, is_in, is_at};
 ghost use Rattle.escrow_cells.specs.Store.{HasTables, IsStore, cells, metas, tabs};
 ghost use Rattle.escrow_cells.specs.Read.{AreOfRow, AreOfTable, AreKeys, AreTablesOfCells, AreTabs, LeavesIdle, Takes};
-ghost use Rattle.escrow_cells.specs.Span.{AreOfSpan};
-ghost use Rattle.escrow_cells.specs.Query.{IsReading};
+ghost use Rattle.escrow_cells.specs.Span.{AreOfSpan, AreOfSpans};
+ghost use Rattle.escrow_cells.specs.Query.{IsReading, IsSelecting};
 
 use crate::datum::Datum;
 use crate::failure::failure_of;
@@ -38,15 +38,15 @@ fn read_all<S: Alter>(
     }
 }
 
-/// Gives each row of a query to a sink as it is read.
+/// Gives each row of a query to a sink as it is read, until the sink is done.
 pub(crate) fn read_each<S: Alter, K: Sink>(
     conn: &mut Connection<S>,
     sql: &str,
     params: &[ValueRef<'_>],
     sink: &mut K,
 ) -> Result<(), Failure>
-    requires { IsReading sql.now }
-    ensures taken { HasCleanDisk (state S.Store conn.new) → OnOk result (Takes K.has_taken (Shown sql.now (bound params.now) (state S.Store conn.old) (state S.Store conn.new)) sink.old sink.new) }
+    requires { IsSelecting sql.now }
+    ensures taken { HasCleanDisk (state S.Store conn.new) → OnOk result (HasTables (state S.Store conn.old).now.schema → Takes K.has_taken (Shown sql.now (bound params.now) (state S.Store conn.old) (state S.Store conn.new)) sink.old sink.new) }
     ensures leaves_idle { conn.old.in_transaction ≡ false → LeavesIdle S.Store conn.old conn.new }
     ensures is_open { HasCleanDisk (state S.Store conn.new) → OnOk result (IsTrue (state S.Store conn.new).is_open) }
 {
@@ -66,6 +66,9 @@ pub(crate) fn read_each<S: Alter, K: Sink>(
             return Ok(());
         };
         sink.take(row)?;
+        if sink.is_done() {
+            return Ok(());
+        }
     }
     Err(Failure::Store)
 }
@@ -125,8 +128,8 @@ pub fn span_cells<S: Alter>(
     )
 }
 
-/// Gives the cells of a table to a sink, in order of key and place. Each has its key, its place and
-/// its value.
+/// Gives the cells of a table to a sink, in order of key and place, until the sink is done. Each
+/// has its key, its place and its value.
 pub fn table_cells<S: Alter, K: Sink>(
     conn: &mut Connection<S>,
     table: i64,
@@ -140,6 +143,30 @@ pub fn table_cells<S: Alter, K: Sink>(
         conn,
         "SELECT K, C, V FROM CELL WHERE TAB = ?1 ORDER BY K, C",
         params![table],
+        sink,
+    )
+}
+
+/// Gives the cells of a table from one place to another to a sink, in order of key and place, until
+/// the sink is done. Each has its key, its place and its value.
+///
+/// The index alone tells which cells these are, and no other cell is read. Whole rows are cheaper to
+/// read by [`table_cells`].
+pub fn spans_cells<S: Alter, K: Sink>(
+    conn: &mut Connection<S>,
+    table: i64,
+    first: i64,
+    last: i64,
+    sink: &mut K,
+) -> Result<(), Failure>
+    ensures rows { HasCleanDisk (state S.Store conn.new) → OnOk result (IsStore (state S.Store conn.old).now → Takes K.has_taken (AreOfSpans first last (Int table) (cells (state S.Store conn.old).now)) sink.old sink.new) }
+    ensures leaves_idle { conn.old.in_transaction ≡ false → LeavesIdle S.Store conn.old conn.new }
+    ensures is_open { HasCleanDisk (state S.Store conn.new) → OnOk result (IsTrue (state S.Store conn.new).is_open) }
+{
+    read_each(
+        conn,
+        "SELECT a.K, a.C, b.V FROM CELL a JOIN CELL b ON b.rowid = a.rowid WHERE a.TAB = ?1 AND a.C <= ?3 AND a.C >= ?2 ORDER BY a.K, a.C",
+        params![table, first, last],
         sink,
     )
 }

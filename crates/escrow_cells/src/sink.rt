@@ -1,5 +1,5 @@
 //! Sinks, which take rows as they are read.
-ghost use Rattle.std.specs.Prelude.{List, [], ◌∷◌, ◌++◌, OnOk};
+ghost use Rattle.std.specs.Prelude.{List, [], ◌∷◌, ◌++◌, IsTrue, OnOk};
 ghost use Rattle.sqlite_value.specs.Order.{Row as Cells};
 
 use escrow_num::Failure;
@@ -14,6 +14,13 @@ pub trait Sink {
     /// Takes one more row.
     fn take(&mut self, row: &Row) -> Result<(), Failure>
         ensures { OnOk result ((first : Self) (rows : List Cells) → has_taken first self.old rows → has_taken first self.new (rows ++ row.now ∷ [])) };
+
+    /// Returns whether no further row changes it. A read stops once it is done.
+    fn is_done(&self) -> bool
+        ensures { IsTrue result → (first : Self) (rows more : List Cells) → has_taken first self.now rows → has_taken first self.now (rows ++ more) }
+    {
+        false
+    }
 }
 
 /// Counts the rows that it takes.

@@ -126,12 +126,12 @@ module _ (s : StoredTable) (db : Database) (is_table : IsTable s.table) (answer 
       }
 
   -- if no whole rows have these cells, the table has no rows
-  pub none_read : ((read : List KeyedRow) → AllByRecursion (IsWhole (length s.table.columns)) read → answer ≢ flat_map row_cells read) → (rows : List Row) → AreRowsIn s rows db → ⊥
+  pub none_read : ((read : List KeyedRow) → AllByRecursion (IsWhole (length s.table.columns)) read → answer ≢ flat_map (row_cells 0) read) → (rows : List Row) → AreRowsIn s rows db → ⊥
   none_read none rows are =
       none (map (keyed_row s.table) rows) (all-map (IsWhole (length s.table.columns)) (keyed_row s.table) rows (all_weaker (IsSoundRow s.table) _ (λ row sound. whole_row s.table row is_table sound) rows are.sound))
       (answer_is s db rows answer are of ∙ cells_same s.table rows)
 
-  module _ (fresh last : RowCounter) (table_is : fresh.table ≡ s.table) (sound : IsTrue fresh.sound) (none : fresh.rows ≡ 0) (taken : AreTaken HasTaken (length s.table.columns) fresh answer last) where
+  module _ (fresh last : RowCounter) (table_is : fresh.table ≡ s.table) (sound : IsTrue fresh.sound) (none : fresh.rows ≡ 0) (taken : AreTaken HasTaken 0 (length s.table.columns) fresh answer last) where
     begun : HasTaken fresh fresh []
     begun = record {
       same_table = refl;
@@ -150,7 +150,7 @@ module _ (s : StoredTable) (db : Database) (is_table : IsTable s.table) (answer 
         let own = made s.table (length s.table.columns) taken.rows taken.whole may.each in
         let many : length taken.rows ≡ length own.rows = ap length own.same ∙ length-map own.rows (keyed_row s.table) in (
           own.rows,
-          are_rows own.rows own.sound (omega (arith, may.few)) (taken.cells_are ∙ ap (flat_map row_cells) own.same ∙ sym (cells_same s.table own.rows)),
+          are_rows own.rows own.sound (omega (arith, may.few)) (taken.cells_are ∙ ap (flat_map (row_cells 0)) own.same ∙ sym (cells_same s.table own.rows)),
           counted.1 ∙ many,
         )
 

@@ -26,7 +26,9 @@ pub mod RowRead
 pub mod RowsRead
 pub mod Runs
 pub mod Same
+pub mod SpanCells
 pub mod Spans
+pub mod SpansRead
 pub mod TableRead
 pub mod ViewLemmas
 pub mod WholeRows

@@ -1,5 +1,5 @@
 //! The values of each row of a table.
-ghost use Rattle.std.specs.Prelude.{◌≡◌, map};
+ghost use Rattle.std.specs.Prelude.{◌≡◌, false, map};
 
 use crate::keyed_row::KeyedRow;
 use crate::store::RowStore;
@@ -38,7 +38,13 @@ impl<S: Alter> RowStore<S> {
 impl RowTaker for Seq<Seq<Value>> {
     ghost has_taken = { λ _ rows taken. rows ≡ map (λ row. row.values) taken };
 
+    ghost is_enough = { λ _. false };
+
     fn take(&mut self, row: KeyedRow) -> Result<(), Failure> {
         Ok(self.push(row.values)?)
+    }
+
+    fn is_done(&self) -> bool {
+        false
     }
 }

@@ -38,11 +38,16 @@ impl KeyedRow {
         }
     }
 
-    /// Takes the next cell. The first cell gives the key. Returns whether the cell is one of this
-    /// row, at the next place.
-    pub(crate) fn take_cell(&mut self, alloc: Global, cell: &Row) -> Result<bool, AllocError>
-        ensures next { IfOk result (λ next. IsTrue next → Extends self.old cell.now self.new) }
-        ensures other { result ≡ Ok false → CanBeHeld self.old.key → (new : Keyed) → Extends self.old cell.now new → ⊥ }
+    /// Takes the next cell. The first cell gives the key, and comes after this many columns. Returns
+    /// whether the cell is one of this row, at the next place.
+    pub(crate) fn take_cell(
+        &mut self,
+        alloc: Global,
+        start: usize,
+        cell: &Row,
+    ) -> Result<bool, AllocError>
+        ensures next { IfOk result (λ next. IsTrue next → Extends start self.old cell.now self.new) }
+        ensures other { result ≡ Ok false → CanBeHeld self.old.key → (new : Keyed) → Extends start self.old cell.now new → ⊥ }
     {
         if self.values.is_empty() {
             let Some(key) = value_at(alloc, cell, 0)? else {
@@ -50,7 +55,7 @@ impl KeyedRow {
             };
             self.key = key;
         }
-        if !is_cell(cell, &self.key, self.values.len()) {
+        if !is_cell(cell, &self.key, start, self.values.len()) {
             return Ok(false);
         }
         let Some(value) = value_at(alloc, cell, 2)? else {
@@ -107,13 +112,15 @@ fn number_of(value: &Value) -> Result<Amount, Failure>
     }
 }
 
-/// Returns whether a cell is the next of the row of a key, after this many. If it is the first, it
-/// must have the key.
-fn is_cell(cell: &Row, key: &Value, before: usize) -> bool
+/// Returns whether a cell is the next of the row of a key, after this many columns and this many
+/// other cells. If it is the first cell, it must have the key.
+fn is_cell(cell: &Row, key: &Value, start: usize, before: usize) -> bool
     requires { before ≡ 0 → column cell.now 0 ≡ stored key.now }
-    ensures { IsTrue result ↔ (cell.now ≡ cell_at key.now (before + 1) (column cell.now 2)) }
+    ensures { IsTrue result ↔ (cell.now ≡ cell_at key.now (start + before + 1) (column cell.now 2)) }
 {
-    cell.column_count() == 3 && (before == 0 || has_key(cell, key)) && is_behind(cell, before)
+    cell.column_count() == 3
+        && (before == 0 || has_key(cell, key))
+        && is_behind(cell, start, before)
 }
 
 /// Returns whether a cell has a key. Copies nothing.
@@ -127,14 +134,21 @@ fn has_key(cell: &Row, key: &Value) -> bool
     }
 }
 
-/// Returns whether a cell comes right after this many others of its row.
-fn is_behind(cell: &Row, before: usize) -> bool
-    ensures { IsTrue result ↔ (column cell.now 1 ≡ Int (pos (before + 1))) }
+/// Returns whether a cell comes right after this many columns and this many other cells of its row.
+fn is_behind(cell: &Row, start: usize, before: usize) -> bool
+    ensures { IsTrue result ↔ (column cell.now 1 ≡ Int (pos (start + before + 1))) }
 {
     match cell.get_ref(1) {
-        Ok(ValueRef::Int(place)) => place > 0 && (place - 1) as u64 == before as u64,
+        Ok(ValueRef::Int(place)) => place > 0 && is_sum((place - 1) as u64, start, before),
         _ => false,
     }
+}
+
+/// Returns whether a number is the sum of two others. The sum itself might be too large.
+fn is_sum(number: u64, start: usize, before: usize) -> bool
+    ensures { IsTrue result ↔ (number ≡ start + before) }
+{
+    number >= start as u64 && number - start as u64 == before as u64
 }
 
 /// Returns the value in a column of an answer, or `None` if no column of a table can hold it.

@@ -32,6 +32,7 @@ mod whole_row;
 pub use amounts::NewAmounts;
 pub use keyed_row::KeyedRow;
 pub use listed::ListedTable;
+pub use span::{Span, reservable_span};
 pub use store::RowStore;
 pub use taker::RowTaker;
 pub use whole_row::made_row;

@@ -1,4 +1,4 @@
-//! The columns that a read of a row's amounts covers.
+//! The columns that a read of amounts covers, of a row or of all rows.
 ghost use Rattle.std.specs.Prelude.{◌≡◌, ◌≢◌, ◌<◌, ◌≤◌, ◌+◌, ◌^◌, [], length, take, drop};
 ghost use Rattle.escrow_schema.specs.Column.{reservables};
 
@@ -6,11 +6,11 @@ use escrow_schema::Column;
 
 /// Adjacent columns of a table.
 #[derive(Clone, Copy, Debug)]
-pub(crate) struct Span {
+pub struct Span {
     /// How many columns come before them.
-    pub(crate) start: usize,
+    pub start: usize,
     /// How many columns there are.
-    pub(crate) len: usize,
+    pub len: usize,
 }
 
 impl Span {
@@ -33,7 +33,7 @@ impl Span {
 
 /// Returns the columns from the first RESERVABLE one to the last, or the first column if none is
 /// RESERVABLE.
-pub(crate) fn reservable_span(columns: &[Column]) -> Span
+pub fn reservable_span(columns: &[Column]) -> Span
     requires { 0 < length columns.now }
     ensures some { 0 < result.len }
     ensures within { result.start + result.len ≤ length columns.now }

@@ -1,5 +1,5 @@
 //! Takers, which take the rows of a table as they are read.
-ghost use Rattle.std.specs.Prelude.{List, [], ◌∷◌, ◌++◌, OnOk};
+ghost use Rattle.std.specs.Prelude.{◌≡◌, Bool, List, [], ◌∷◌, ◌++◌, IsTrue, OnOk};
 ghost use Rattle.escrow_rows.specs.declared.keyed_row.KeyedRow.{KeyedRow as Keyed};
 
 use crate::keyed_row::KeyedRow;
@@ -11,7 +11,15 @@ pub trait RowTaker: Drop {
     // rows.
     ghost has_taken: { Self → Self → List Keyed → Type 0 };
 
+    // Whether a taker wants no more rows.
+    ghost is_enough: { Self → Bool };
+
     /// Takes one more row.
     fn take(&mut self, row: KeyedRow) -> Result<(), Failure>
         ensures { OnOk result ((first : Self) (rows : List Keyed) → has_taken first self.old rows → has_taken first self.new (rows ++ row ∷ [])) };
+
+    /// Returns whether no further row changes it. A read stops once it is done.
+    fn is_done(&self) -> bool
+        ensures enough { result ≡ is_enough self.now }
+        ensures done { IsTrue result → (first : Self) (rows more : List Keyed) → has_taken first self.now rows → has_taken first self.now (rows ++ more) };
 }

@@ -47,11 +47,17 @@ impl RowTaker for RowCounter<'_> {
 
     ghost has_taken = { HasTaken };
 
+    ghost is_enough = { λ _. false };
+
     fn take(&mut self, row: KeyedRow) -> Result<(), Failure> {
         if self.sound {
             self.sound = self.count(&row)?;
         }
         Ok(())
+    }
+
+    fn is_done(&self) -> bool {
+        false
     }
 }
 

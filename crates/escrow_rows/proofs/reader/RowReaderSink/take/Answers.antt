@@ -5,4 +5,4 @@ use Rattle.escrow_rows.proofs.reader.RowReaderSink.take.Goals as goal
 pub returns-in_ok-self : goal.returns-in_ok-self
 returns-in_ok-self g c = λ first rows taken.
     let told = c.in_ok-self.ensures in
-    taken_cell g.T.RowTaker.has_taken first c.args.self.now c.take_cell.new.self c.in_ok-self.field-0 rows c.args.row.now taken c.if-self.true told.same told.more (λ bad. told.other (ap Ok bad))
+    taken_cell g.T.RowTaker.has_taken g.T.RowTaker.is_enough first c.args.self.now c.take_cell.new.self c.in_ok-self.field-0 rows c.args.row.now taken c.if-self.true c.if-not-self.true told.same told.enough told.more (λ bad. told.other (ap Ok bad))
