@@ -113,7 +113,7 @@ impl<S: Alter> Audited<S> {
         ensures valid { HasCleanDisk (state S.Store self.now.store) → IsValid self.now.state }
     {
         // The contract of `next_id` says that the state is valid.
-        let _ = self.database.next_id();
+        prove!(self.database.next_id() != Some(0));
         &self.base
     }
 
@@ -135,7 +135,7 @@ impl<S: Alter> Audited<S> {
         ensures valid { HasCleanDisk (state S.Store self.store) → IsValid self.state }
     {
         // The contract of `next_id` says that the state is valid.
-        let _ = self.database.next_id();
+        prove!(self.database.next_id() != Some(0));
         let Audited {
             database,
             base,

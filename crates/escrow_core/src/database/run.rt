@@ -5,7 +5,7 @@ ghost use Rattle.std.specs.Vec.{vec_len, vec_capacity};
 use crate::database::Database;
 use crate::database::held::HeldBack;
 use escrow_machine::{Event, Reply};
-use escrow_num::{Refusal, Session};
+use escrow_num::Session;
 use sqlite::Alter;
 use std::alloc::{AllocError, Global};
 
@@ -105,15 +105,13 @@ impl<S: Alter> Database<S> {
     }
 }
 
-/// Adds a reply, for which there must be room. A reply can hold a refusal, whose type the prover
-/// finds here only by its name.
+/// Adds a reply, for which there must be room.
 fn keep(replies: &mut Vec<Reply>, reply: Reply)
     requires { vec_len replies.old < vec_capacity replies.old }
     ensures items { replies.new.items ≡ replies.old.items ++ reply ∷ [] }
     ensures len { vec_len replies.new ≡ vec_len replies.old + 1 }
     ensures capacity { vec_capacity replies.new ≡ vec_capacity replies.old }
 {
-    let _: Option<Refusal> = None;
     replies.push_reserved(reply);
 }
 

@@ -35,7 +35,7 @@ impl<S: Alter> Database<S> {
         ensures crash { Survives (state S.Store self.old.store) (state S.Store self.new.store) (λ trees. IsTrue (state S.Store self.old.store).is_open × AreAfterEnds plan.now self.old.state trees) }
     {
         // The contract of `next_id` says that no more reservations are open than can be counted.
-        let _ = self.next_id();
+        prove!(self.next_id() != Some(0));
         let mut settled = Settled {
             committed: 0,
             released: 0,
@@ -89,7 +89,7 @@ impl<S: Alter> Database<S> {
         ensures { Settles S.Store plan.now self.old result self.new }
     {
         // The contract of `next_id` says that no more reservations are open than can be counted.
-        let _ = self.next_id();
+        prove!(self.next_id() != Some(0));
         let mut settled = Settled {
             committed: 0,
             released: 0,
