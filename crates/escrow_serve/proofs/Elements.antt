@@ -1,7 +1,8 @@
 -- Facts about each element of a list, when one element is set and when elements are visited in turn.
-use Rattle.std.proofs.Common.{◌≡◌, ◌≢◌, ℕ, zero, suc, ◌+◌, ◌<◌, List, [], ◌∷◌, ◌++◌, length, map, take, get_or, Some, arith, refl, sym, ap, ap₂, subst}
+use Rattle.std.proofs.Common.{◌≡◌, ◌≢◌, ℕ, zero, suc, ◌+◌, ◌<◌, List, [], ◌∷◌, ◌++◌, length, map, take, get_or, Some, arith, refl, sym, ap, ap₂, subst, ◌∙◌}
 use Rattle.std.specs.Prelude.{slice_get, slice_set}
 use Rattle.std.specs.List.{AllByRecursion}
+use Rattle.std.proofs.lemmas.Option.{slice_get-get_or}
 
 -- what holds of each element after a change holds of the changed one
 pub all_after : {A : Type 0} (P : A → Type 0) (xs : List A) (place : ℕ) (x : A) → place < length xs → AllByRecursion P (slice_set xs place x) → P x
@@ -14,6 +15,11 @@ pub all_before : {A : Type 0} (P : A → Type 0) (xs : List A) (place : ℕ) (ol
 all_before P [] place old x found held all = all
 all_before P (y ∷ xs) zero old x found held all = let same : old ≡ y = cc in (subst P same held, all.1)
 all_before P (y ∷ xs) (suc place) old x found held all = (all.0, all_before P xs place old x found held all.1)
+
+-- what holds of each element after a change held of each before, if it held of the changed one whenever it does now
+pub all_back : {A : Type 0} (P : A → Type 0) (xs : List A) (place : ℕ) (old x : A) → place < length xs → old ≡ get_or xs place old → (P x → P old) → AllByRecursion P (slice_set xs place x) → AllByRecursion P xs
+all_back P xs place old x within is held all =
+    all_before P xs place old x (slice_get-get_or xs place old within ∙ ap Some (sym is)) (held (all_after P xs place x within all)) all
 
 -- what holds of the first n elements and of the next one holds of one more
 all_next : {A : Type 0} (P : A → Type 0) (xs : List A) (n : ℕ) (x : A) → n < length xs → get_or xs n x ≡ x → P x → AllByRecursion P (take n xs) → AllByRecursion P (take (suc n) xs)

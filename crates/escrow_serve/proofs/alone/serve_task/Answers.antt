@@ -1,19 +1,19 @@
-use Rattle.std.proofs.Common.{◌≡◌, ◌≤◌, ℕ, List, [], length, Some, arith, rules, ap, refl, subst, ◌∙◌, sym, vec_len}
-use Rattle.std.specs.Prelude.{slice_get}
+use Rattle.std.proofs.Common.{◌≡◌, ◌≤◌, ◌<◌, ℕ, List, [], length, arith, rules, refl, subst, ◌∙◌, sym, vec_len}
 use Rattle.std.proofs.lemmas.List.{append-nil, length-map}
-use Rattle.std.proofs.lemmas.Option.{slice_get-get_or, slice_get_read}
+use Rattle.std.proofs.lemmas.Option.{slice_get_read}
 use Rattle.sqlite.specs.Held.{state}
 use Rattle.sqlite.specs.State.{HasCleanDisk}
 use Rattle.escrow_reply.specs.Text.{rendered_whole}
 use Rattle.escrow_reply.specs.declared.short.TheConstants.{MAX_FRONT}
-use Rattle.escrow_script.specs.Line.{Reads, no_line, statement}
+use Rattle.escrow_script.specs.Line.{Reads, database_name, no_line, statement}
+use Rattle.escrow_script.specs.declared.limits.TheConstants.{MAX_DATABASES}
 use Rattle.escrow_script.specs.Written.{no_line_text}
 use Rattle.escrow_script.proofs.LineLemmas.{names_one, restarts_one}
 use Rattle.escrow_serve.specs.Output.{state_in, states_of}
 use Rattle.escrow_serve.specs.Task.{IsTask}
 use Rattle.escrow_serve.specs.declared.task.Task.{Task}
 use Rattle.escrow_serve.specs.declared.task.Task.TheVariants as task
-use Rattle.escrow_serve.proofs.Elements.{all_after, all_before}
+use Rattle.escrow_serve.proofs.Elements.{all_after, all_back}
 use Rattle.escrow_serve.proofs.GiveLemmas.{refused_line}
 use Rattle.escrow_serve.proofs.ServeLemmas.{name_short, nothing_served, restarts_place, serves_place}
 use Rattle.escrow_serve.proofs.TotalsLemmas.{line_of_none, line_unchanged}
@@ -23,40 +23,40 @@ use Rattle.escrow_serve.proofs.alone.serve_task.Goals as goal
 among : (databases others : ℕ) (bytes : List ℕ) (asked is : Task) → databases ≡ others → asked ≡ is → IsTask databases bytes asked → IsTask others bytes is
 among databases others bytes asked is same found holds = subst (λ (n : ℕ). IsTask n bytes is) same (subst (λ (t : Task). IsTask databases bytes t) found holds)
 
+-- the name of one of the databases is short
+front_fits : (databases place : ℕ) (name : List ℕ) → name ≡ database_name place → databases ≤ MAX_DATABASES → place < databases → length name ≤ MAX_FRONT
+front_fits databases place name is few within = subst (λ (name : List ℕ). length name ≤ MAX_FRONT) (sym is) (name_short place (omega (arith, within, few)))
+
 pub push_short_whole-requires-clause-front : goal.push_short_whole-requires-clause-front
 push_short_whole-requires-clause-front g c =
-    let databases = c.args.databases.now in
+    let count = vec_len c.args.databases.now in
     let place = c.in-Restart.database in
     let asked = c.requires.asked in
-    let within = restarts_one (vec_len databases) asked.0 place (among (vec_len databases) (vec_len databases) asked.0 c.args.task (task.Restart place) refl c.in-Restart.is asked.1) in
-    subst (λ (name : List ℕ). length name ≤ MAX_FRONT) (sym c.database_name.ensures) (name_short place (omega (arith, within, c.requires.few)))
+    let reads = among count count asked.0 c.args.task (task.Restart place) refl c.in-Restart.is asked.1 in
+    front_fits count place c.database_name.result.now c.database_name.ensures c.requires.few (restarts_one count asked.0 place reads)
 
 pub give_short-requires-clause-front : goal.give_short-requires-clause-front
 give_short-requires-clause-front g c =
-    let databases = c.args.databases.now in
-    let place = c.in-Refuse.database in
-    let asked = c.requires.asked in
-    let is = among (vec_len databases) (vec_len databases) asked.0 c.args.task (task.Refuse place c.in-Refuse.session c.in-Refuse.refusal) refl c.in-Refuse.is asked.1 in
-    let within = names_one (vec_len databases) asked.0 place c.in-Refuse.session is.0 is.2 in
-    subst (λ (name : List ℕ). length name ≤ MAX_FRONT) (sym c.database_name-name.ensures) (name_short place (omega (arith, within, c.requires.few)))
+    let count = vec_len c.args.databases.now in
+    let at = c.in-Refuse in
+    let is = among count count c.requires.asked.0 c.args.task (task.Refuse at.database at.session at.refusal) refl at.is c.requires.asked.1 in
+    front_fits count at.database c.database_name-name.result.now c.database_name-name.ensures c.requires.few (names_one count c.requires.asked.0 at.database at.session is.0 is.2)
 
 pub serve_statement-requires-clause-front : goal.serve_statement-requires-clause-front
 serve_statement-requires-clause-front g c =
-    let databases = c.args.databases.now in
-    let place = c.in-Statement.database in
-    let asked = c.requires.asked in
-    let is = among (vec_len databases) (vec_len databases) asked.0 c.args.task (task.Statement place c.in-Statement.session c.in-Statement.statement) refl c.in-Statement.is asked.1 in
-    let within = names_one (vec_len databases) asked.0 place c.in-Statement.session is.0 is.1 in
-    subst (λ (name : List ℕ). length name ≤ MAX_FRONT) (sym c.database_name-name-in-Statement.ensures) (name_short place (omega (arith, within, c.requires.few)))
+    let count = vec_len c.args.databases.now in
+    let at = c.in-Statement in
+    let is = among count count c.requires.asked.0 c.args.task (task.Statement at.database at.session at.statement) refl at.is c.requires.asked.1 in
+    let name = c.database_name-name-in-Statement in
+    front_fits count at.database name.result.now name.ensures c.requires.few (names_one count c.requires.asked.0 at.database at.session is.0 is.1)
 
 pub show_totals-requires-clause-front : goal.show_totals-requires-clause-front
 show_totals-requires-clause-front g c =
-    let databases = c.args.databases.now in
-    let place = c.in-Statistics.database in
-    let asked = c.requires.asked in
-    let is = among (vec_len databases) (vec_len databases) asked.0 c.args.task (task.Statistics place c.in-Statistics.session) refl c.in-Statistics.is asked.1 in
-    let within = names_one (vec_len databases) asked.0 place c.in-Statistics.session is.0 is.1 in
-    subst (λ (name : List ℕ). length name ≤ MAX_FRONT) (sym c.database_name-name-in-Statistics.ensures) (name_short place (omega (arith, within, c.requires.few)))
+    let count = vec_len c.args.databases.now in
+    let at = c.in-Statistics in
+    let is = among count count c.requires.asked.0 c.args.task (task.Statistics at.database at.session) refl at.is c.requires.asked.1 in
+    let name = c.database_name-name-in-Statistics in
+    front_fits count at.database name.result.now name.ensures c.requires.few (names_one count c.requires.asked.0 at.database at.session is.0 is.1)
 
 pub returns-in-Nothing-clause-served : goal.returns-in-Nothing-clause-served
 returns-in-Nothing-clause-served g c =
@@ -99,11 +99,7 @@ returns-in-Restart-clause-clean g c = λ used.
     let place = c.in-Restart.database in
     let asked = c.requires.asked in
     let within = restarts_one (length databases.items) asked.0 place (among (vec_len databases) (length databases.items) asked.0 c.args.task (task.Restart place) databases.ok.0 c.in-Restart.is asked.1) in
-    let old = c.index_mut.result.now in
-    let found : slice_get databases.items place ≡ Some old = slice_get-get_or databases.items place old within ∙ ap Some (sym c.index_mut.ensures.value) in
-    let after = c.restart-reply.new.database in
-    let before = c.restart-reply.ensures.clean (all_after (λ d. HasCleanDisk (state g.S.Store d.store)) databases.items place after within used) in
-    all_before (λ d. HasCleanDisk (state g.S.Store d.store)) databases.items place old after found before used
+    all_back (λ d. HasCleanDisk (state g.S.Store d.store)) databases.items place c.index_mut.result.now c.restart-reply.new.database within c.index_mut.ensures.value c.restart-reply.ensures.clean used
 
 pub returns-in-Refuse-clause-served : goal.returns-in-Refuse-clause-served
 returns-in-Refuse-clause-served g c =
@@ -146,11 +142,7 @@ returns-in-Statement-clause-clean g c = λ used.
     let asked = c.requires.asked in
     let reads = among (vec_len databases) (length databases.items) asked.0 c.args.task (task.Statement place session c.in-Statement.statement) databases.ok.0 c.in-Statement.is asked.1 in
     let within = names_one (length databases.items) asked.0 place session reads.0 reads.1 in
-    let old = c.index_mut-in-Statement.result.now in
-    let found : slice_get databases.items place ≡ Some old = slice_get-get_or databases.items place old within ∙ ap Some (sym c.index_mut-in-Statement.ensures.value) in
-    let after = c.serve_statement.new.database in
-    let before = c.serve_statement.ensures.clean (all_after (λ d. HasCleanDisk (state g.S.Store d.store)) databases.items place after within used) in
-    all_before (λ d. HasCleanDisk (state g.S.Store d.store)) databases.items place old after found before used
+    all_back (λ d. HasCleanDisk (state g.S.Store d.store)) databases.items place c.index_mut-in-Statement.result.now c.serve_statement.new.database within c.index_mut-in-Statement.ensures.value c.serve_statement.ensures.clean used
 
 pub returns-in-Statistics-clause-served : goal.returns-in-Statistics-clause-served
 returns-in-Statistics-clause-served g c =

@@ -1,17 +1,60 @@
-use Rattle.std.proofs.Common.{◌≡◌, ◌≤◌, ℕ, ◌+◌, ◌-◌, ◌^◌, Option, List, [], length, replicate, vec_len, arith, rules, ap, subst, refl, sym, ◌∙◌}
+use Rattle.std.proofs.Common.{◌≡◌, ◌≤◌, ℕ, ◌+◌, ◌-◌, ◌^◌, Option, List, [], true, length, replicate, vec_len, arith, rules, ap, subst, refl, sym, ◌∙◌}
 use Rattle.std.proofs.lemmas.List.{length-replicate}
 use Rattle.std.proofs.lemmas.Bool.{true≢false}
 use Rattle.escrow_script.specs.declared.fault.ServeFault.TheVariants as fault
 use Rattle.escrow_serve.specs.Output.{states_of}
-use Rattle.escrow_script.specs.Script.{left, has_line, most_bytes, Spends}
+use Rattle.escrow_script.specs.Script.{left, has_line, most_bytes, HasEnded, Spends}
 use Rattle.escrow_serve.specs.Batch.{Gathers}
 use Rattle.escrow_serve.specs.Totals.{no_totals}
 use Rattle.escrow_script.proofs.OutcomeLemmas.{at_fault}
 use Rattle.escrow_script.proofs.TakenLemmas.{ended, read_without}
 use Rattle.escrow_script.proofs.WrittenLemmas.{leaves_some, nothing_waits}
-use Rattle.escrow_serve.proofs.ServeLemmas.{Stood, most_bytes_fit, stands_begun, stands_written, stopped_at_start, stopped_writing, finished, still_ended, turn_of, turn_served}
+use Rattle.escrow_serve.proofs.ServeLemmas.{Stands, Stood, most_bytes_fit, stands_begun, stands_written, stopped_at_start, stopped_writing, finished, still_ended, turn_of, turn_served}
 use Rattle.escrow_script.proofs.ScriptLemmas.{spends_more, spends_none}
+use Rattle.escrow_serve.proofs.serve.serve_from.Given.{Over}
 use Rattle.escrow_serve.proofs.serve.serve_from.Goals as goal
+use Rattle.escrow_serve.proofs.serve.serve_from.Goals.{After-serve_in_hand}
+
+-- what a turn serves stands with what was served before
+served : (g : Over) (c : After-serve_in_hand g)
+    → Stands g.S.Store c.args.databases.now.items c.serve_in_hand.new.databases.items c.serve_in_hand.new.totals.items (g.R.Read.remaining c.args.reader.now)
+    (left c.serve_in_hand.new.script.unread (g.R.Read.remaining c.take_line.new.reader)) (g.W.Write.contents c.args.writer.now) (g.W.Write.contents c.take_line.new.writer)
+    c.serve_in_hand.new.replies.items (c.serve_in_hand.new.script.bytes_left + length c.serve_in_hand.new.script.unread)
+served g c =
+    let next = c.in_ok-take_line.ensures in
+    let served = c.serve_in_hand.ensures in
+    let out = served.served in
+    let mid = c.loop-replies.databases.items in
+    let new = c.serve_in_hand.new.databases.items in
+    let taken = c.take_line.new.script in
+    let script = c.serve_in_hand.new.script in
+    let remaining = g.R.Read.remaining c.take_line.new.reader in
+    let turn = turn_of g.S.Store c.in_ok-take_line.field-0 taken.line.items out.1 out.0 mid new c.loop-replies.totals.items c.serve_in_hand.new.totals.items
+    (left c.loop-replies.script.unread (g.R.Read.remaining c.loop-replies.reader)) (left taken.unread remaining) (left script.unread remaining)
+    (c.loop-replies.script.bytes_left + length c.loop-replies.script.unread) (taken.bytes_left + length taken.unread) (script.bytes_left + length script.unread)
+    c.if-branch.true served.short next.taken next.less (out.2 remaining) (omega (arith, out.3, served.bytes)) out.5 served.clean in
+    turn_served g.S.Store c.args.databases.now.items mid new c.loop-replies.totals.items c.serve_in_hand.new.totals.items (g.R.Read.remaining c.args.reader.now)
+    (left c.loop-replies.script.unread (g.R.Read.remaining c.loop-replies.reader)) (left script.unread remaining)
+    (g.W.Write.contents c.args.writer.now) (g.W.Write.contents c.loop-replies.writer) (g.W.Write.contents c.take_line.new.writer)
+    c.loop-replies.replies.items c.take_line.new.replies.items out.1 c.serve_in_hand.new.replies.items
+    (c.loop-replies.script.bytes_left + length c.loop-replies.script.unread) (script.bytes_left + length script.unread)
+    turn next.unwritten next.gathered out.4 c.loop-replies.invariant.stands
+
+-- behind the script's end nothing is left after it
+over : (g : Over) (c : After-serve_in_hand g) → c.serve_in_hand.new.script.has_ended ≡ true
+    → HasEnded c.serve_in_hand.new.script.unread (g.R.Read.remaining c.take_line.new.reader)
+over g c =
+    let served = c.serve_in_hand.ensures in
+    still_ended c.take_line.new.script.has_ended c.serve_in_hand.new.script.has_ended c.take_line.new.script.unread c.serve_in_hand.new.script.unread (g.R.Read.remaining c.take_line.new.reader)
+    (length served.served.0) served.ended served.served.3 c.in_ok-take_line.ensures.ended
+
+-- its bytes are counted
+spent : (g : Over) (c : After-serve_in_hand g)
+    → Spends (g.R.Read.remaining c.args.reader.now) (g.R.Read.remaining c.take_line.new.reader) (most_bytes c.args.limit) c.serve_in_hand.new.script.bytes_left
+spent g c =
+    spends_more _ _ _ (most_bytes c.args.limit) c.loop-replies.script.bytes_left c.serve_in_hand.new.script.bytes_left c.loop-replies.invariant.spent
+    (subst (λ (n : ℕ). Spends (g.R.Read.remaining c.loop-replies.reader) (g.R.Read.remaining c.take_line.new.reader) c.loop-replies.script.bytes_left n)
+    (sym c.serve_in_hand.ensures.bytes) c.in_ok-take_line.ensures.spent)
 
 pub returns-in_err-script-clause-fault : goal.returns-in_err-script-clause-fault
 returns-in_err-script-clause-fault g c = λ used.
@@ -61,94 +104,43 @@ pub returns-in_err-write_gathered-clause-fault : goal.returns-in_err-write_gathe
 returns-in_err-write_gathered-clause-fault g c = λ used.
     let why = c.in_err-write_gathered.field-0.0 in
     let wrote = c.in_err-write_gathered.ensures in
-    let next = c.in_ok-take_line.ensures in
-    let served = c.serve_in_hand.ensures in
-    let out = served.served in
-    let mid = c.loop-replies.databases.items in
     let new = c.serve_in_hand.new.databases.items in
-    let taken = c.take_line.new.script in
     let script = c.serve_in_hand.new.script in
-    let remaining = g.R.Read.remaining c.take_line.new.reader in
-    let turn = turn_of g.S.Store c.in_ok-take_line.field-0 taken.line.items out.1 out.0 mid new c.loop-replies.totals.items c.serve_in_hand.new.totals.items
-    (left c.loop-replies.script.unread (g.R.Read.remaining c.loop-replies.reader)) (left taken.unread remaining) (left script.unread remaining)
-    (c.loop-replies.script.bytes_left + length c.loop-replies.script.unread) (taken.bytes_left + length taken.unread) (script.bytes_left + length script.unread)
-    c.if-branch.true served.short next.taken next.less (out.2 remaining) (omega (arith, out.3, served.bytes)) out.5 served.clean in
-    let stands = turn_served g.S.Store c.args.databases.now.items mid new c.loop-replies.totals.items c.serve_in_hand.new.totals.items (g.R.Read.remaining c.args.reader.now)
-    (left c.loop-replies.script.unread (g.R.Read.remaining c.loop-replies.reader)) (left script.unread remaining)
-    (g.W.Write.contents c.args.writer.now) (g.W.Write.contents c.loop-replies.writer) (g.W.Write.contents c.take_line.new.writer)
-    c.loop-replies.replies.items c.take_line.new.replies.items out.1 c.serve_in_hand.new.replies.items
-    (c.loop-replies.script.bytes_left + length c.loop-replies.script.unread) (script.bytes_left + length script.unread)
-    turn next.unwritten next.gathered out.4 c.loop-replies.invariant.stands in
     at_fault c.from_residual-in_err-write_gathered.result why _ c.from_residual-in_err-write_gathered.ensures.1
     (stopped_writing why (states_of c.args.databases.now.items) (states_of new) c.serve_in_hand.new.totals.items (g.R.Read.remaining c.args.reader.now) _
     (g.W.Write.contents c.args.writer.now) (g.W.Write.contents c.take_line.new.writer) (g.W.Write.contents c.write_gathered.new.writer) c.serve_in_hand.new.replies.items wrote.err.0
     (script.bytes_left + length script.unread)
-    (leaves_some why c.serve_in_hand.new.replies.items wrote.err.0 wrote.kind wrote.err.1) (stands.stood used) wrote.err.2)
+    (leaves_some why c.serve_in_hand.new.replies.items wrote.err.0 wrote.kind wrote.err.1) ((served g (goal.at.returns-in_err-write_gathered-clause-fault g c).After-serve_in_hand).stood used) wrote.err.2)
 
 pub loop-replies-preserved-in-loop-replies : goal.loop-replies-preserved-in-loop-replies
 loop-replies-preserved-in-loop-replies g c =
     let wrote = c.in_ok-write_gathered.ensures in
-    let next = c.in_ok-take_line.ensures in
-    let served = c.serve_in_hand.ensures in
-    let out = served.served in
-    let mid = c.loop-replies.databases.items in
-    let new = c.serve_in_hand.new.databases.items in
-    let taken = c.take_line.new.script in
+    let turn = c.serve_in_hand.ensures in
     let script = c.serve_in_hand.new.script in
-    let remaining = g.R.Read.remaining c.take_line.new.reader in
-    let turn = turn_of g.S.Store c.in_ok-take_line.field-0 taken.line.items out.1 out.0 mid new c.loop-replies.totals.items c.serve_in_hand.new.totals.items
-    (left c.loop-replies.script.unread (g.R.Read.remaining c.loop-replies.reader)) (left taken.unread remaining) (left script.unread remaining)
-    (c.loop-replies.script.bytes_left + length c.loop-replies.script.unread) (taken.bytes_left + length taken.unread) (script.bytes_left + length script.unread)
-    c.if-branch.true served.short next.taken next.less (out.2 remaining) (omega (arith, out.3, served.bytes)) out.5 served.clean in
-    let stands = turn_served g.S.Store c.args.databases.now.items mid new c.loop-replies.totals.items c.serve_in_hand.new.totals.items (g.R.Read.remaining c.args.reader.now)
-    (left c.loop-replies.script.unread (g.R.Read.remaining c.loop-replies.reader)) (left script.unread remaining)
-    (g.W.Write.contents c.args.writer.now) (g.W.Write.contents c.loop-replies.writer) (g.W.Write.contents c.take_line.new.writer)
-    c.loop-replies.replies.items c.take_line.new.replies.items out.1 c.serve_in_hand.new.replies.items
-    (c.loop-replies.script.bytes_left + length c.loop-replies.script.unread) (script.bytes_left + length script.unread)
-    turn next.unwritten next.gathered out.4 c.loop-replies.invariant.stands in
-    let written = stands_written g.S.Store c.args.databases.now.items new c.serve_in_hand.new.totals.items (g.R.Read.remaining c.args.reader.now) _
-    (g.W.Write.contents c.args.writer.now) (g.W.Write.contents c.take_line.new.writer) (g.W.Write.contents c.write_gathered.new.writer) c.serve_in_hand.new.replies.items c.write_gathered.new.replies.items
-    (script.bytes_left + length script.unread) stands wrote.ok wrote.none in
     record {
-      count = served.len ∙ c.loop-replies.invariant.count;
-      each = served.each ∙ c.loop-replies.invariant.each ∙ sym served.len;
-      stands = written;
+      count = turn.len ∙ c.loop-replies.invariant.count;
+      each = turn.each ∙ c.loop-replies.invariant.each ∙ sym turn.len;
+      stands = stands_written g.S.Store c.args.databases.now.items c.serve_in_hand.new.databases.items c.serve_in_hand.new.totals.items (g.R.Read.remaining c.args.reader.now) _
+          (g.W.Write.contents c.args.writer.now) (g.W.Write.contents c.take_line.new.writer) (g.W.Write.contents c.write_gathered.new.writer) c.serve_in_hand.new.replies.items c.write_gathered.new.replies.items
+          (script.bytes_left + length script.unread) (served g (goal.at.loop-replies-preserved-in-loop-replies g c).After-serve_in_hand) wrote.ok wrote.none;
       waits = λ _. wrote.none;
-      empty = served.empty;
-      ended = still_ended taken.has_ended script.has_ended taken.unread script.unread remaining (length out.0) served.ended out.3 next.ended;
-      spent = spends_more _ _ _ (most_bytes c.args.limit) c.loop-replies.script.bytes_left script.bytes_left c.loop-replies.invariant.spent
-          (subst (λ (n : ℕ). Spends (g.R.Read.remaining c.loop-replies.reader) remaining c.loop-replies.script.bytes_left n) (sym served.bytes) next.spent);
+      empty = turn.empty;
+      ended = over g (goal.at.loop-replies-preserved-in-loop-replies g c).After-serve_in_hand;
+      spent = spent g (goal.at.loop-replies-preserved-in-loop-replies g c).After-serve_in_hand;
     }
 
 pub loop-replies-preserved : goal.loop-replies-preserved
 loop-replies-preserved g c =
-    let next = c.in_ok-take_line.ensures in
-    let served = c.serve_in_hand.ensures in
-    let out = served.served in
-    let mid = c.loop-replies.databases.items in
-    let new = c.serve_in_hand.new.databases.items in
-    let taken = c.take_line.new.script in
+    let turn = c.serve_in_hand.ensures in
     let script = c.serve_in_hand.new.script in
-    let remaining = g.R.Read.remaining c.take_line.new.reader in
-    let turn = turn_of g.S.Store c.in_ok-take_line.field-0 taken.line.items out.1 out.0 mid new c.loop-replies.totals.items c.serve_in_hand.new.totals.items
-    (left c.loop-replies.script.unread (g.R.Read.remaining c.loop-replies.reader)) (left taken.unread remaining) (left script.unread remaining)
-    (c.loop-replies.script.bytes_left + length c.loop-replies.script.unread) (taken.bytes_left + length taken.unread) (script.bytes_left + length script.unread)
-    c.if-branch.true served.short next.taken next.less (out.2 remaining) (omega (arith, out.3, served.bytes)) out.5 served.clean in
-    let stands = turn_served g.S.Store c.args.databases.now.items mid new c.loop-replies.totals.items c.serve_in_hand.new.totals.items (g.R.Read.remaining c.args.reader.now)
-    (left c.loop-replies.script.unread (g.R.Read.remaining c.loop-replies.reader)) (left script.unread remaining)
-    (g.W.Write.contents c.args.writer.now) (g.W.Write.contents c.loop-replies.writer) (g.W.Write.contents c.take_line.new.writer)
-    c.loop-replies.replies.items c.take_line.new.replies.items out.1 c.serve_in_hand.new.replies.items
-    (c.loop-replies.script.bytes_left + length c.loop-replies.script.unread) (script.bytes_left + length script.unread)
-    turn next.unwritten next.gathered out.4 c.loop-replies.invariant.stands in
     record {
-      count = served.len ∙ c.loop-replies.invariant.count;
-      each = served.each ∙ c.loop-replies.invariant.each ∙ sym served.len;
-      stands = stands;
+      count = turn.len ∙ c.loop-replies.invariant.count;
+      each = turn.each ∙ c.loop-replies.invariant.each ∙ sym turn.len;
+      stands = served g (goal.at.loop-replies-preserved g c).After-serve_in_hand;
       waits = λ none. absurd (read_without c.has_line.result (has_line script.reads_left script.unread) c.has_line.ensures c.if-not-has_line.false none);
-      empty = served.empty;
-      ended = still_ended taken.has_ended script.has_ended taken.unread script.unread remaining (length out.0) served.ended out.3 next.ended;
-      spent = spends_more _ _ _ (most_bytes c.args.limit) c.loop-replies.script.bytes_left script.bytes_left c.loop-replies.invariant.spent
-          (subst (λ (n : ℕ). Spends (g.R.Read.remaining c.loop-replies.reader) remaining c.loop-replies.script.bytes_left n) (sym served.bytes) next.spent);
+      empty = turn.empty;
+      ended = over g (goal.at.loop-replies-preserved g c).After-serve_in_hand;
+      spent = spent g (goal.at.loop-replies-preserved g c).After-serve_in_hand;
     }
 
 pub returns-clause-output : goal.returns-clause-output

@@ -4,12 +4,13 @@ use Rattle.std.proofs.lemmas.List.{append-nil}
 use Rattle.std.proofs.lemmas.Option.{slice_get_read}
 use Rattle.escrow_reply.specs.declared.short.TheConstants.{MAX_FRONT}
 use Rattle.escrow_script.specs.Written.{no_line_text}
-use Rattle.escrow_serve.specs.Batch.{IsWithin}
+use Rattle.escrow_serve.specs.Batch.{Item, AreAsked, IsWithin}
 use Rattle.escrow_serve.specs.declared.waiting.Waiting.{Waiting}
 use Rattle.escrow_serve.proofs.GiveLemmas.{Gives, gives_nothing, gives_no_line, gives_refused, gives_asked, gives_none}
 use Rattle.escrow_serve.proofs.RunLemmas.{asked_still}
 use Rattle.escrow_serve.proofs.ServeLemmas.{name_short}
 use Rattle.escrow_serve.proofs.waiting.give.Goals as goal
+use Rattle.escrow_serve.proofs.waiting.give.Goals.{After-next}
 
 pub give_short-requires-clause-front : goal.give_short-requires-clause-front
 give_short-requires-clause-front c =
@@ -70,13 +71,17 @@ returns-in-Some-clause-given c =
           c.in-Some.reply parts.ok.0 (sym totals.ok.0 ∙ c.requires.each) c.index_mut-in-Some.ensures.value c.index_mut-in-Asked.ensures.value c.in-Some.ensures.some c.database_name-in-Some.ensures given.2),
     )
 
-pub returns-in-Some-clause-asked : goal.returns-in-Some-clause-asked
-returns-in-Some-clause-asked c = λ items.
+-- what waits in the parts is the same
+asked : (c : After-next) (items : List Item) → AreAsked c.args.parts.now.items items → AreAsked (slice_set c.args.parts.now.items c.in-Asked.database c.next.new.self) items
+asked c items =
     let parts = c.args.parts.now in
     let place = c.in-Asked.database in
     let within : place < vec_len parts = subst (λ (w : Waiting). IsWithin (vec_len parts) w) c.in-Asked.is c.requires.within in
     asked_still parts.items items place c.index_mut-in-Asked.result.now c.next.new.self (slice_get_read parts.items (vec_len parts) place c.index_mut-in-Asked.result.now parts.ok.0 within c.index_mut-in-Asked.ensures.value)
-    (ap (λ v. v.items) c.in-Some.ensures.events)
+    (ap (λ v. v.items) c.next.ensures.events)
+
+pub returns-in-Some-clause-asked : goal.returns-in-Some-clause-asked
+returns-in-Some-clause-asked c = asked (goal.at.returns-in-Some-clause-asked c).After-next
 
 pub returns-in-None-clause-given : goal.returns-in-None-clause-given
 returns-in-None-clause-given c =
@@ -91,9 +96,4 @@ returns-in-None-clause-given c =
     )
 
 pub returns-in-None-clause-asked : goal.returns-in-None-clause-asked
-returns-in-None-clause-asked c = λ items.
-    let parts = c.args.parts.now in
-    let place = c.in-Asked.database in
-    let within : place < vec_len parts = subst (λ (w : Waiting). IsWithin (vec_len parts) w) c.in-Asked.is c.requires.within in
-    asked_still parts.items items place c.index_mut-in-Asked.result.now c.next.new.self (slice_get_read parts.items (vec_len parts) place c.index_mut-in-Asked.result.now parts.ok.0 within c.index_mut-in-Asked.ensures.value)
-    (ap (λ v. v.items) c.in-None.ensures.events)
+returns-in-None-clause-asked c = asked (goal.at.returns-in-None-clause-asked c).After-next

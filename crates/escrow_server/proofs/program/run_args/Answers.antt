@@ -7,7 +7,9 @@ use Rattle.escrow_server.proofs.FoundLemmas.{opened_empty}
 use Rattle.escrow_server.proofs.ProgramLemmas.{ends_in_memory, is_quiet, says_why}
 use Rattle.escrow_memory.proofs.Clean.{memory_is_clean}
 use Rattle.escrow_server.proofs.CleanDisks.{memory_are_clean}
+use Rattle.escrow_server.proofs.program.run_args.Given.{Over}
 use Rattle.escrow_server.proofs.program.run_args.Goals as goal
+use Rattle.escrow_server.proofs.program.run_args.Goals.{After-tell_migrated}
 
 pub returns-in-None-clause-memory : goal.returns-in-None-clause-memory
 returns-in-None-clause-memory g c = λ none.
@@ -32,20 +34,15 @@ returns-in-None-clause-said g c = λ failed.
     says_why c.args.args.now.path (g.F.Write.contents c.args.errors.now) (g.F.Write.contents c.status_in_memory.new.errors) (c.status_in_memory.ensures.said failed)
 
 -- over files, the lines about migrated stores come first
-pub returns-clause-quiet : goal.returns-clause-quiet
-returns-clause-quiet g c = λ ended.
-    let old = g.F.Write.contents c.args.errors.now in
-    let told = g.F.Write.contents c.tell_migrated.new.errors in
+migrated : (g : Over) (c : After-tell_migrated g) → TellsOfMigrated c.args.args.now.path (g.F.Write.contents c.args.errors.now) (g.F.Write.contents c.tell_migrated.new.errors)
+migrated g c =
     let is = c.in-Some.is in
     let value = c.as_str-path.ensures.value in
     let path : c.args.args.now.path ≡ Some c.as_str-path.result.now = cc in
-    (told, subst (λ (p : Option (List ℕ)). TellsOfMigrated p old told) (sym path) c.tell_migrated.ensures, c.status_over_files.ensures.quiet ended)
+    subst (λ (p : Option (List ℕ)). TellsOfMigrated p (g.F.Write.contents c.args.errors.now) (g.F.Write.contents c.tell_migrated.new.errors)) (sym path) c.tell_migrated.ensures
+
+pub returns-clause-quiet : goal.returns-clause-quiet
+returns-clause-quiet g c = λ ended. (g.F.Write.contents c.tell_migrated.new.errors, migrated g (goal.at.returns-clause-quiet g c).After-tell_migrated, c.status_over_files.ensures.quiet ended)
 
 pub returns-clause-said : goal.returns-clause-said
-returns-clause-said g c = λ failed.
-    let old = g.F.Write.contents c.args.errors.now in
-    let told = g.F.Write.contents c.tell_migrated.new.errors in
-    let is = c.in-Some.is in
-    let value = c.as_str-path.ensures.value in
-    let path : c.args.args.now.path ≡ Some c.as_str-path.result.now = cc in
-    (told, subst (λ (p : Option (List ℕ)). TellsOfMigrated p old told) (sym path) c.tell_migrated.ensures, c.status_over_files.ensures.said failed)
+returns-clause-said g c = λ failed. (g.F.Write.contents c.tell_migrated.new.errors, migrated g (goal.at.returns-clause-said g c).After-tell_migrated, c.status_over_files.ensures.said failed)

@@ -3,7 +3,9 @@ use Rattle.escrow_args.specs.Args.{asked_by, asked_path, refused_status}
 use Rattle.escrow_args.specs.declared.args.ArgFault.{ArgFault}
 use Rattle.escrow_server.specs.Program.{IsQuiet, SaysWhy}
 use Rattle.escrow_server.proofs.ProgramLemmas.{ends_unserved, file_unserved, is_quiet, not_helped, path_asked, says_why, status_refused}
+use Rattle.escrow_server.proofs.program.run_words.Given.{Over}
 use Rattle.escrow_server.proofs.program.run_words.Goals as goal
+use Rattle.escrow_server.proofs.program.run_words.Goals.{In-Ok}
 
 pub returns-in-Err-clause-asked : goal.returns-in-Err-clause-asked
 returns-in-Err-clause-asked g c = λ args asked _.
@@ -26,12 +28,13 @@ pub returns-in-Err-clause-unserved : goal.returns-in-Err-clause-unserved
 returns-in-Err-clause-unserved g c = λ none some.
     c.refuse.ensures.unserved (not_helped (refused_status (map g.S.AsStr.text c.args.words.now)) c.in-Err.fault (c.in-Err.ensures.refused none) some)
 
+-- the path of the arguments is the one that the words ask for
+path : (g : Over) (c : In-Ok g) → c.in-Ok.args.path ≡ asked_path (map g.S.AsStr.text c.args.words.now)
+path g c = path_asked (asked_by (map g.S.AsStr.text c.args.words.now)) c.in-Ok.args c.in-Ok.ensures.asked c.in-Ok.ensures.refused
+
 pub returns-in-Ok-clause-quiet : goal.returns-in-Ok-clause-quiet
 returns-in-Ok-clause-quiet g c = λ ended.
-    let old = g.F.Write.contents c.args.errors.now in
-    let new = g.F.Write.contents c.run_args.new.errors in
-    subst (λ (p : Option (List ℕ)). IsQuiet p old new) (path_asked (asked_by (map g.S.AsStr.text c.args.words.now)) c.in-Ok.args c.in-Ok.ensures.asked c.in-Ok.ensures.refused)
-    (c.run_args.ensures.quiet ended)
+    subst (λ (p : Option (List ℕ)). IsQuiet p (g.F.Write.contents c.args.errors.now) (g.F.Write.contents c.run_args.new.errors)) (path g (goal.at.returns-in-Ok-clause-quiet g c).In-Ok) (c.run_args.ensures.quiet ended)
 
 pub returns-in-Err-clause-quiet : goal.returns-in-Err-clause-quiet
 returns-in-Err-clause-quiet g c = λ ended.
@@ -39,10 +42,7 @@ returns-in-Err-clause-quiet g c = λ ended.
 
 pub returns-in-Ok-clause-said : goal.returns-in-Ok-clause-said
 returns-in-Ok-clause-said g c = λ failed.
-    let old = g.F.Write.contents c.args.errors.now in
-    let new = g.F.Write.contents c.run_args.new.errors in
-    subst (λ (p : Option (List ℕ)). SaysWhy p old new) (path_asked (asked_by (map g.S.AsStr.text c.args.words.now)) c.in-Ok.args c.in-Ok.ensures.asked c.in-Ok.ensures.refused)
-    (c.run_args.ensures.said failed)
+    subst (λ (p : Option (List ℕ)). SaysWhy p (g.F.Write.contents c.args.errors.now) (g.F.Write.contents c.run_args.new.errors)) (path g (goal.at.returns-in-Ok-clause-said g c).In-Ok) (c.run_args.ensures.said failed)
 
 pub returns-in-Err-clause-said : goal.returns-in-Err-clause-said
 returns-in-Err-clause-said g c = λ failed.
