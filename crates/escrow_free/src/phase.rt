@@ -19,6 +19,13 @@ use std::alloc::Global;
 use std::sync::Wait;
 use std::thread::Threads;
 
+/// The threads that may be started for workers, and the gate that workers pass.
+#[derive(Drop)]
+pub(crate) struct Workers<'a, T, G> {
+    pub(crate) rt: &'a T,
+    pub(crate) gate: &'a G,
+}
+
 /// Serves the requests of a phase: each in its session, those of one session in order, and the
 /// sessions at the same time. An audience watches meanwhile. May wait.
 ///
@@ -33,12 +40,11 @@ pub(crate) fn run_phase<
     G: Gate + Sync,
     A: Audience<Watcher<S>>,
 >(
-    rt: &R,
+    workers: &Workers<R, G>,
     alloc: Global,
     shared: &Shared<S, L>,
     desks: Vec<Desk>,
     items: Vec<(usize, Request)>,
-    gate: &G,
     audience: &mut A,
 ) -> Result<Vec<Desk>, FreeFault>
     requires seats { AllByRecursion (HasDesk shared.now) desks.items }
@@ -46,7 +52,7 @@ pub(crate) fn run_phase<
     ensures { MatchResult result (λ new. AreServed desks.items items.items new.items) (λ fault. fault ≢ FreeFault.Open) }
 {
     audience.begin(items.len());
-    let served = serve_requests(rt, alloc, shared, desks, items, gate);
+    let served = serve_requests(workers, alloc, shared, desks, items);
     audience.end();
     served
 }
@@ -58,12 +64,11 @@ fn serve_requests<
     R: Threads + Wait + Sync,
     G: Gate + Sync,
 >(
-    rt: &R,
+    workers: &Workers<R, G>,
     alloc: Global,
     shared: &Shared<S, L>,
     desks: Vec<Desk>,
     mut items: Vec<(usize, Request)>,
-    gate: &G,
 ) -> Result<Vec<Desk>, FreeFault>
     requires seats { AllByRecursion (HasDesk shared.now) desks.items }
     requires places { All (λ x. x.0 < length desks.items) items.items }
@@ -74,7 +79,7 @@ fn serve_requests<
     }
     let marks = rank_desks(alloc, desks.len(), &mut items)?;
     let (passes, idle) = part(alloc, marks.as_slice(), desks)?;
-    let served = serve_passes(rt, alloc, shared, passes, items, gate)?;
+    let served = serve_passes(workers, alloc, shared, passes, items)?;
     let desks = merge(alloc, marks.as_slice(), served, idle)?;
     Ok(desks)
 }
@@ -82,19 +87,18 @@ fn serve_requests<
 /// Serves items by the workers of the passes that they name by place. If memory is refused before a
 /// worker is started, nothing is served.
 fn serve_passes<S: Alter + Send, L: UnderLock<S> + Send, R: Threads + Wait + Sync, G: Gate + Sync>(
-    rt: &R,
+    workers: &Workers<R, G>,
     alloc: Global,
     shared: &Shared<S, L>,
     passes: Vec<Pass>,
     items: Vec<(usize, Request)>,
-    gate: &G,
 ) -> Result<Vec<Desk>, FreeFault>
     requires seats { AllByRecursion (HasPass shared.now) passes.items }
     requires places { All (λ x. x.0 < length passes.items) items.items }
     ensures { MatchResult result (λ served. ArePassesServed passes.items items.items served.items) (λ fault. fault ≢ FreeFault.Open) }
 {
     let feeds = deal(alloc, passes, items)?;
-    match run_sessions(rt, alloc, shared, feeds, gate) {
+    match run_sessions(workers.rt, alloc, shared, feeds, workers.gate) {
         Ok(done) => Ok(served_desks(alloc, done)?),
         Err(NotRun { feeds, cause }) => match cause {
             Cause::TooMany => Err(FreeFault::Sessions),

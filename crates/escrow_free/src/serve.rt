@@ -14,7 +14,7 @@ use crate::audience::{Audience, Nobody};
 use crate::desk::{Desk, desks_of, passes_of};
 use crate::drains::Drains;
 use crate::fault::FreeFault;
-use crate::phase::run_phase;
+use crate::phase::{Workers, run_phase};
 use crate::plan::Plan;
 use crate::printing::print_phase;
 use crate::reading::{Phase, read_phase};
@@ -160,7 +160,8 @@ fn serve_stage<
     } = stage;
     let desks = desks_of(alloc, passes)?;
     audience.watch(alloc, watchers);
-    let served = serve_phases(rt, alloc, &shared, desks, reader, writer, gate, audience)?;
+    let workers = Workers { rt, gate };
+    let served = serve_phases(&workers, alloc, &shared, desks, reader, writer, audience)?;
     let passes = passes_of(alloc, served.desks)?;
     let audit = close(shared, passes, served.parts)?;
     Ok(audit)
@@ -184,13 +185,12 @@ fn serve_phases<
     G: Gate + Sync,
     A: Audience<Watcher<S>>,
 >(
-    rt: &T,
+    workers: &Workers<T, G>,
     alloc: Global,
     shared: &Shared<S, L>,
     mut desks: Vec<Desk>,
     reader: &mut R,
     writer: &mut W,
-    gate: &G,
     audience: &mut A,
 ) -> Result<Served<S>, FreeFault>
     requires few { length shared.now.openings ≤ MAX_DATABASES }
@@ -209,9 +209,9 @@ fn serve_phases<
         let Phase { plan, has_more } = read_phase(alloc, databases, &mut script, reader)?;
         let Plan { lines, items } = plan;
         let had_statements = !items.is_empty();
-        desks = run_phase(rt, alloc, shared, desks, items, gate, audience)?;
+        desks = run_phase(workers, alloc, shared, desks, items, audience)?;
         print_phase(alloc, &mut desks, &mut totals, lines, writer)?;
-        drains.drain_long(rt, alloc, shared, desks.as_slice(), had_statements);
+        drains.drain_long(workers.rt, alloc, shared, desks.as_slice(), had_statements);
         if !has_more {
             let parts = drains.parts;
             return Ok(Served { desks, parts });
