@@ -28,6 +28,7 @@ impl Model for HeldBack {
 impl HeldBack {
     ghost use Rattle.std.specs.Prelude.{OnSome, IfNone};
     ghost use Rattle.escrow_core.specs.Beside.{none_held, with_held};
+    ghost use Rattle.escrow_core.specs.declared.database.held.TheConstants.HeldBack.{MAX};
 
     /// The most COMMITs that are held back: one of each session.
     pub const MAX: usize = Session::MAX as usize;
@@ -69,7 +70,8 @@ impl HeldBack {
     /// is no room, and then nothing changes.
     pub fn push(&mut self, session: Session, place: usize) -> Option<()>
         ensures held { OnSome result (self.new ≡ with_held self.old session place) }
-        ensures full { IfNone result (self.new ≡ self.old) }
+        ensures full { IfNone result (length self.old.plan ≡ MAX) }
+        ensures same { IfNone result (self.new ≡ self.old) }
     {
         if self.count == Self::MAX {
             return None;
