@@ -1,11 +1,11 @@
 -- INSERT: what its row says about its transition.
-use Rattle.std.specs.Prelude.{◌≡◌, ◌<◌, ℕ, ℤ, true, false, nat_le, is_some, if◌then◌else◌, option_map, option_and_then, unwrap_or, Option, Some, None, List, [], ◌∷◌, length, bytes_eq}
+use Rattle.std.specs.Prelude.{◌≡◌, ◌<◌, Bool, ℕ, ℤ, true, false, find, nat_le, is_some, if◌then◌else◌, option_map, option_and_then, unwrap_or, Option, Some, None, List, [], ◌∷◌, length, bytes_eq}
 use Rattle.std.proofs.Common.{inl, inr, refl, sym, ap, subst, ◌∙◌}
 use Rattle.std.proofs.lemmas.Option.{option_and_then_some}
 use Rattle.sqlite.specs.Held.{state}
 use Rattle.sqlite.specs.State.{HasCleanDisk}
 use Rattle.sqlite_trees.specs.declared.store.Store.{Ghosts}
-use Rattle.std.proofs.lemmas.Bool.{cases_Bool, lt-leb}
+use Rattle.std.proofs.lemmas.Bool.{cases_Bool, cond_both, cond-false, cond-true, lt-leb}
 use Rattle.escrow_num.specs.declared.failure.Failure.TheVariants as failure
 use Rattle.escrow_num.specs.declared.refusal.Violation.{Violation}
 use Rattle.escrow_num.specs.declared.refusal.Refusal.{Refusal}
@@ -15,8 +15,8 @@ use Rattle.escrow_num.specs.declared.value.RowName.{RowName}
 use Rattle.escrow_num.specs.Order.{same_row}
 use Rattle.escrow_num.specs.Refusal.{refuse_if, first_refusal}
 use Rattle.escrow_num.proofs.Items.{find_has}
-use Rattle.escrow_num.proofs.Orders.{name_same, row_same}
-use Rattle.escrow_num.proofs.Put.{find_put}
+use Rattle.escrow_num.proofs.Orders.{name_same, row_same, same_row_itself}
+use Rattle.escrow_num.proofs.Put.{find_put, put}
 use Rattle.escrow_statement.specs.declared.statement.InsertText.{InsertText}
 use Rattle.escrow_statement.specs.declared.statement.Statement.TheVariants as statement
 use Rattle.escrow_schema.specs.declared.table.TableDef.{TableDef}
@@ -152,6 +152,27 @@ pub record IsAsked {S : Type 0} (g : Ghosts S) (d : Database S) (session : ℕ) 
   pub named : table_named d.state.catalog text.table ≡ Some table
   pub counted : HasCleanDisk (state g d.store) → count ≡ length (rows_of d.state.rows text.table)
 
+-- the rows with it, if its name is new
+new_is : (row : Row) (rows : List Row) → row_named rows row.name ≡ None → with_new row rows ≡ with_row row rows
+new_is row rows new = ap (λ (o : Option Row). if is_some o then rows else with_row row rows) new
+
+-- a new item that passes a test, which no other passes, is found
+finds_put : {A : Type 0} (before : A → A → Bool) (p : A → Bool) (x : A) (xs : List A) → p x ≡ true → find p xs ≡ None → find p (put before x xs) ≡ Some x
+finds_put before p x [] passes none = cond-true (p x) (Some x) None passes
+finds_put before p x (z ∷ zs) passes none =
+    cond_both (before x z) (x ∷ z ∷ zs) (z ∷ put before x zs) (λ ws. find p ws ≡ Some x)
+    (λ _. cond-true (p x) (Some x) (find p (z ∷ zs)) passes)
+    (λ _. elim (cases_Bool (p z)) [
+      | inl is ↦ (let found : Some z ≡ None = sym (cond-true (p z) (Some z) (find p zs) is) ∙ none in absurd (cc))
+      | inr is ↦ cond-false (p z) (Some z) (find p (put before x zs)) is ∙ finds_put before p x zs passes (sym (cond-false (p z) (Some z) (find p zs) is) ∙ none)
+    ])
+
+-- a new row is found
+pub new_found : (rows : List Row) (row : Row) → row_named rows row.name ≡ None → row_named (with_new row rows) row.name ≡ Some row
+new_found rows row new =
+    ap (λ (rs : List Row). row_named rs row.name) (new_is row rows new ∙ with_row_put row rows)
+    ∙ finds_put row_before (λ (r : Row). same_row r.name row.name) row rows (same_row_itself row.name) new
+
 -- an existing row is found with its amounts after a new row is added
 still_has : (rows : List Row) (row : Row) (name : RowName) (amounts : List ℤ) → row_named rows row.name ≡ None → amounts_named rows name ≡ Some amounts → amounts_named (with_row row rows) name ≡ Some amounts
 still_has rows row name amounts new has =
@@ -159,10 +180,6 @@ still_has rows row name amounts new has =
       | inl same ↦ (let none : amounts_named rows name ≡ None = ap (option_map (λ (r : Row). r.amounts)) (ap (row_named rows) (sym (row_same row.name name same)) ∙ new) in absurd (cc))
       | inr differs ↦ ap (option_map (λ (r : Row). r.amounts)) (ap (λ (rs : List Row). row_named rs name) (with_row_put row rows) ∙ find_put row_before (λ (r : Row). same_row r.name name) row rows differs) ∙ has
     ]
-
--- the rows with it, if its name is new
-new_is : (row : Row) (rows : List Row) → row_named rows row.name ≡ None → with_new row rows ≡ with_row row rows
-new_is row rows new = ap (λ (o : Option Row). if is_some o then rows else with_row row rows) new
 
 known_is : (row other : Row) (rows : List Row) → row_named rows row.name ≡ Some other → with_new row rows ≡ rows
 known_is row other rows stands = ap (λ (o : Option Row). if is_some o then rows else with_row row rows) stands

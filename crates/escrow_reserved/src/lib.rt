@@ -1,6 +1,6 @@
 //! What is open in a database: the journals of its sessions, and the sums of each row that they
 //! reserve, kept together. It also makes what SHOW BOUNDS and SHOW JOURNAL show of these, and keeps
-//! the amounts of rows that were read.
+//! the amounts of rows that were read or inserted.
 //!
 //! Its main contract is that of [`Reserved`]: after any call, the place of a row counts exactly the
 //! open reservations of the row. So [`Reserved::grant`] grants a reservation by the grant rule,

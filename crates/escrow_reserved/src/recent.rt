@@ -1,4 +1,4 @@
-//! The amounts of rows that were read.
+//! The amounts of rows that were read or inserted.
 
 ghost use Rattle.std.specs.Prelude.{◌≡◌, [], ◌∷◌, map};
 ghost use Rattle.std.specs.List.{AllByRecursion};
@@ -72,8 +72,9 @@ fn commit_to(amounts: &mut [Amount], name: &RowName, r: &Reservation)
     commit_amounts(amounts, name, slice::from_ref(r));
 }
 
-/// The amounts of rows that were read, each with what was committed to it since. So a row is read
-/// once, however often an UPDATE of it is refused, or it is reserved and committed.
+/// The amounts of rows that were read or inserted, each with what was committed to it since. So a
+/// row is read at most once, however often an UPDATE of it is refused, or it is reserved and
+/// committed.
 ///
 /// The caller must forget a row before it deletes it, and the rows of a table before it drops it.
 /// At most [`Recent::MAX_ROWS`] rows are kept. If there is no room for another one, a kept row is
@@ -176,8 +177,8 @@ impl Recent {
         if row == name { Some(self.last) } else { None }
     }
 
-    /// Keeps the amounts that were read of a row. If there is no room, another row is forgotten
-    /// first. Fails only if memory is refused, and then the amounts aren't kept.
+    /// Keeps the amounts of a row. If there is no room, another row is forgotten first. Fails only if
+    /// memory is refused, and then the amounts aren't kept.
     pub fn remember(&mut self, name: &RowName, amounts: &[Amount]) -> Result<(), AllocError>
         ensures kept { OnOk result (read_at self.new name.now ≡ Some amounts.now) }
         ensures others { length self.old < MAX_ROWS → (other : RowName) → same_row name.now other ≡ false → read_at self.new other ≡ read_at self.old other }

@@ -8,25 +8,26 @@ ghost use Rattle.escrow_schema.specs.declared.table.TheConstants.TableDef.{MAX_R
 use crate::database::{Answer, Database};
 use escrow_machine::Reply;
 use escrow_num::{Refusal, Row, RowName, Session};
-use escrow_reserved::first_violation;
+use escrow_reserved::{Recent, first_violation};
 use escrow_schema::{TableDef, fit_row};
 use escrow_statement::{InsertText, Statement};
 use sqlite::Alter;
 use std::alloc::Global;
 
 impl<S: Alter> Database<S> {
-    ghost use Rattle.std.specs.Prelude.{◌≡◌, ◌⊎◌, Some, IfOk, IfErr};
+    ghost use Rattle.std.specs.Prelude.{◌≡◌, ◌⊎◌, Some, IsSomeAnd, IfOk, IfErr, length};
     ghost use Rattle.sqlite.specs.Held.{state};
     ghost use Rattle.sqlite.specs.State.{HasCleanDisk};
     ghost use Rattle.escrow_machine.specs.Asked.{new_row};
-    ghost use Rattle.escrow_schema.specs.Catalog.{place_named};
+    ghost use Rattle.escrow_schema.specs.Catalog.{place_named, table_named};
+    ghost use Rattle.escrow_schema.specs.Column.{reservables};
     ghost use Rattle.escrow_schema.specs.Rows.{row_named};
     ghost use Rattle.escrow_core.specs.Serving.{Answers, IsFailure, OnlyReads, unless_stands};
     ghost use Rattle.escrow_machine.specs.Accepted.{IsRefusal, PassesEarly};
 
     /// INSERT: adds the row that the values make to the committed rows. If the amounts of a row with
     /// its key are kept, that row exists. Otherwise the write tells whether the key is free, and the
-    /// row is read only if the write isn't done.
+    /// row is read only if the write isn't done. The amounts of a new row are kept.
     pub(crate) fn insert(&mut self, alloc: Global, session: Session, text: &InsertText) -> Answer
         ensures { Answers S.Store session (Statement.Insert text.now) self.old result self.new }
     {
@@ -42,9 +43,23 @@ impl<S: Alter> Database<S> {
             return Err(self.row_exists_or(alloc, place, &row.name, refusal));
         }
         if self.tables.insert(alloc, place, &row)? {
+            self.remember_new(&row);
             return Ok(Reply::Inserted);
         }
         Err(self.row_exists_or(alloc, place, &row.name, Refusal::Store))
+    }
+
+    /// Keeps the amounts of a row that was inserted, if it has any and there is room, so that its first
+    /// reservation reads nothing. No other row is forgotten for it.
+    fn remember_new(&mut self, row: &Row)
+        requires many { IsSomeAnd (table_named self.old.state.catalog row.now.name.table) (λ table. length row.now.amounts ≡ length (reservables table.columns)) }
+        requires inserted { HasCleanDisk (state S.Store self.old.store) → row_named self.old.state.rows row.now.name ≡ Some row.now }
+        ensures { self.new ≡ self.old }
+    {
+        if !row.amounts.is_empty() && self.recent.len() < Recent::MAX_ROWS {
+            // If memory is refused, the row will be read.
+            let _ = self.recent.remember(&row.name, row.amounts.as_slice());
+        }
     }
 
     /// Returns why a new row isn't added: a row has its name, or else another reason. Keeps the

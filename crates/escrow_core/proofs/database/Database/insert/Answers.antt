@@ -1,17 +1,21 @@
+use Rattle.std.specs.Prelude.{length}
 use Rattle.std.proofs.Common.{◌≡◌, ◌∙◌, Some, inr, refl, sym, subst}
 use Rattle.sqlite.specs.Held.{state}
 use Rattle.sqlite.specs.State.{HasCleanDisk}
 use Rattle.escrow_num.specs.declared.refusal.Refusal.TheVariants as refusal
 use Rattle.escrow_statement.specs.declared.statement.Statement.TheVariants as statement
-use Rattle.escrow_schema.specs.Catalog.{place_named}
+use Rattle.escrow_schema.specs.Catalog.{place_named, table_named}
 use Rattle.escrow_machine.specs.declared.reply.Reply.TheVariants as reply
+use Rattle.escrow_schema.specs.Column.{reservables}
+use Rattle.escrow_schema.specs.Fit.{IsRowOf}
 use Rattle.escrow_schema.specs.Rows.{row_named}
 use Rattle.escrow_machine.specs.State.{State}
+use Rattle.escrow_machine.proofs.Safe.{some_weaker}
 use Rattle.escrow_tables.specs.Calls.{with_new}
 use Rattle.escrow_core.specs.Inside.{database_of}
 use Rattle.escrow_core.specs.Database.{Database}
 use Rattle.escrow_core.specs.Serving.{unless_stands}
-use Rattle.escrow_core.proofs.Inserting.{IsAsked, is_made, made_row, may_insert, put_none, put_reply, room_left, row_exists, row_refused, store_refused}
+use Rattle.escrow_core.proofs.Inserting.{IsAsked, is_made, made_row, may_insert, new_found, put_none, put_reply, room_left, row_exists, row_refused, store_refused}
 use Rattle.escrow_core.proofs.Serving.{Any, MayWrite, failure_serves, late_refused, look_refused, refusal_serves, refusal_told, still_clean, told_or_failed, unwritten_holds, write_holds, write_serves}
 use Rattle.escrow_core.proofs.database.Database.insert.Given as given
 use Rattle.escrow_core.proofs.database.Database.insert.Goals as goal
@@ -109,15 +113,28 @@ invariant_of-self-then-branch g c =
     write_holds g.S.Store c.args.session (statement.Insert c.args.text.now) c.self.inside.tables c.insert.new.self c.self.inside.reserved.txns _ _ (may g (goal.at.invariant_of-self-then-branch g c).After-insert)
     c.self.inside.reserved.places c.self.inside.recent c.self.inside.recent c.self.invariant (rw c.if-branch.true at c.in_ok-insert.ensures.writes) (λ name. inr (refl, tt))
 
+pub remember_new-requires-clause-many : goal.remember_new-requires-clause-many
+remember_new-requires-clause-many g c =
+    let s : State = (database_of c.self.inside.tables c.self.inside.reserved.txns).state in
+    let writes = rw c.if-branch.true at c.in_ok-insert.ensures.writes in
+    rw (writes.done_catalog refl)
+    (some_weaker (λ table. IsRowOf table c.in_ok-place.row) (λ table. length c.in_ok-place.row.amounts ≡ length (reservables table.columns)) (table_named s.catalog c.in_ok-place.row.name.table)
+    (λ table is. is.amounts) (is_made s c.args.text.now c.in_ok-place.row (asked g (goal.at.remember_new-requires-clause-many g c).After-count).made).has_table)
+
+pub remember_new-requires-clause-inserted : goal.remember_new-requires-clause-inserted
+remember_new-requires-clause-inserted g c = λ u.
+    let writes = rw c.if-branch.true at c.in_ok-insert.ensures.writes in
+    rw (writes.done_rows refl u) (new_found c.self.inside.tables.rows c.in_ok-place.row (c.in_ok-insert.ensures.told u c.if-branch.true))
+
 pub returns-then-branch : goal.returns-then-branch
 returns-then-branch g c =
-    rw (← c.self.view_is)
+    rw (← c.self.view_is, c.remember_new.ensures)
     (write_serves g.S.Store c.args.session (statement.Insert c.args.text.now) c.self.inside.tables c.insert.new.self c.self.inside.reserved.txns _ _ (may g (goal.at.returns-then-branch g c).After-insert) reply.Inserted refl
     (λ u. put_none (row_named c.self.inside.tables.rows c.in_ok-place.row.name) (c.in_ok-insert.ensures.told u c.if-branch.true)) (rw c.if-branch.true at c.in_ok-insert.ensures.writes))
 
 -- it was not inserted: a row has its name, or the store refused it
-pub invariant_of-self-2 : goal.invariant_of-self-2
-invariant_of-self-2 g c =
+pub invariant_of-self-else-branch : goal.invariant_of-self-else-branch
+invariant_of-self-else-branch g c =
     unwritten_holds g.S.Store c.self.inside.tables c.insert.new.self c.self.inside.reserved.txns c.self.inside.reserved.places _ _ c.self.inside.recent c.self.inside.recent c.self.invariant (rw c.if-branch.false at c.in_ok-insert.ensures.writes) (λ name. inr refl)
 
 pub row_exists_or-requires-2 : goal.row_exists_or-requires-2
