@@ -145,7 +145,7 @@ fn see_left<S: Alter>(databases: &[Database<S>])
 {
     for database in databases {
         // The contract of `next_id` says what a crash leaves.
-        let _ = database.next_id();
+        prove!(database.next_id() != Some(0));
     }
 }
 
