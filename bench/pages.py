@@ -23,6 +23,11 @@ def short(value: float) -> str:
     return f"{value:.2f}" if abs(value) < 10 else f"{value:.1f}" if abs(value) < 100 else f"{value:,.0f}"
 
 
+def of_runs(which: str, count: int, name: str = "run") -> str:
+    """Returns which of several runs a figure is, as `the least of 3 runs`; or `one run`, if there was one alone."""
+    return f"one {name}" if count == 1 else f"{which} of {count} {name}s"
+
+
 def heading(how: str) -> List[str]:
     """Returns what stands before a table: when it was measured, on what, and how."""
     found = re.search(r"(?m)^model name\s*: (.*)$", Path("/proc/cpuinfo").read_text(encoding="utf-8"))
