@@ -15,9 +15,15 @@ use std::sync::Wait;
 ///
 /// [`Watched`]: crate::Watched
 pub trait UnderLock<S: Alter> {
-    ghost use Rattle.std.specs.Prelude.{◌≡◌, None, length, IfOk, IfErr};
-    ghost use Rattle.escrow_history.specs.Calls.{IsAnswer, IsNotDrained};
+    ghost use Rattle.std.specs.Prelude.{◌≡◌, ◌↔◌, ◌+◌, ◌<◌, [], None, length, IfOk, IfErr, IsErrOf, OnErr};
+    ghost use Rattle.escrow_history.specs.Audited.{Audited};
+    ghost use Rattle.escrow_history.specs.Calls.{Appends, Stays, IsAnswer, IsNotDrained};
+    ghost use Rattle.escrow_history.specs.Commits.{Commits};
     ghost use Rattle.escrow_machine.specs.Reply.{failure_of};
+    ghost use Rattle.escrow_transcript.specs.declared.transcript.TheConstants.Transcript.{MAX_ENTRIES};
+
+    // the database with its transcript
+    ghost history: { Self → Audited S };
 
     /// Serves one statement of a session, and adds its entry to the transcript. May wait.
     fn serve_locked<R: Wait>(
@@ -27,6 +33,9 @@ pub trait UnderLock<S: Alter> {
         session: Session,
         statement: &Statement,
     ) -> Result<Served, Unserved>
+        ensures served { IfOk result (λ r. Appends S.Store (history self.old) session statement.now r.number r.reply (history self.new)) }
+        ensures unserved { OnErr result (Stays S.Store (history self.old) (history self.new)) }
+        ensures full { IsErrOf result Unserved.Full ↔ (length (history self.old).entries ≡ MAX_ENTRIES) }
         ensures kept { IfOk result (λ r. r.kept ≡ r.reply) }
         ensures succeeds { IfOk result (λ r. failure_of r.reply ≡ None) }
         ensures answers { IfOk result (λ r. IsAnswer r.reply) };
@@ -39,15 +48,22 @@ pub trait UnderLock<S: Alter> {
         alloc: Global,
         sessions: &[Session],
     ) -> Result<Vec<Result<Committed, Failure>>, Unserved>
+        ensures served { IfOk result (λ outcomes. Commits S.Store (history self.old) sessions.now outcomes.items (history self.new)) }
+        ensures unserved { OnErr result (Stays S.Store (history self.old) (history self.new)) }
+        ensures full { IsErrOf result Unserved.Full ↔ (MAX_ENTRIES < length (history self.old).entries + length sessions.now) }
         ensures each { IfOk result (λ outcomes. length outcomes.items ≡ length sessions.now) };
 
     /// Hands out the next part of the history of a database.
     fn drain_locked(&mut self, alloc: Global, database: usize) -> Result<Part<S>, Refusal>
         ensures part { IfOk result (λ p. p.database ≡ database) }
+        ensures entries { IfOk result (λ p. (p.base ≡ (history self.old).base) × (p.entries ≡ (history self.old).entries)) }
+        ensures begun { IfOk result (λ p. ((history self.new).base ≡ p.end) × ((history self.new).entries ≡ [])) }
+        ensures undrained { OnErr result (Stays S.Store (history self.old) (history self.new)) }
         ensures only { IfErr result IsNotDrained };
 
     /// Returns the database and its transcript out of their lock.
-    fn into_locked(self) -> Locked<S>;
+    fn into_locked(self) -> Locked<S>
+        ensures { result.audited ≡ history self };
 }
 
 /// A database with its transcript, and the number of parts of its history
@@ -100,6 +116,7 @@ impl<S: Alter> Locked<S> {
     ) -> Result<Vec<Result<Committed, Failure>>, Unserved>
         ensures served { IfOk result (λ outcomes. Commits S.Store self.old.audited sessions.now outcomes.items self.new.audited) }
         ensures unserved { OnErr result (Stays S.Store self.old.audited self.new.audited) }
+        ensures full { IsErrOf result Unserved.Full ↔ (MAX_ENTRIES < length self.old.audited.entries + length sessions.now) }
         ensures parts { self.new.parts ≡ self.old.parts }
         ensures clean { HasCleanDisk (state S.Store self.new.audited.store) → HasCleanDisk (state S.Store self.old.audited.store) }
     {
@@ -143,6 +160,8 @@ impl<S: Alter> Locked<S> {
 }
 
 impl<S: Alter> UnderLock<S> for Locked<S> {
+    ghost history = { λ locked. locked.audited };
+
     fn serve_locked<R: Wait>(
         &mut self,
         _rt: &R,
