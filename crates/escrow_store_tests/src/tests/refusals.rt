@@ -1,5 +1,6 @@
 //! A statement that the store refuses changes nothing.
 use super::databases::{Asked, Bank, OverFiles, ask, ask_all, over};
+use escrow_core::Event;
 use std::process::Abort;
 use std::test::Fail;
 
@@ -107,6 +108,22 @@ const WRITES: &[Write] = &[
             ),
         ],
     },
+    // the same, of a row that was inserted since the restart: it isn't read
+    Write {
+        session: 1,
+        set_up: &[INSERT],
+        statement: "UPDATE ACCOUNT SET BALANCE = BALANCE + 1 WHERE ID = -2",
+        reply: "bank.1> OK reserved 1\n",
+        is_refused: false,
+        before: &[TWO],
+        after: &[
+            TWO,
+            (
+                "SHOW JOURNAL",
+                "bank.9> 1 session 1 ACCOUNT -2 BALANCE +1\nbank.9> OK reservations 1\n",
+            ),
+        ],
+    },
     // an INSERT
     Write {
         session: 1,
@@ -120,10 +137,7 @@ const WRITES: &[Write] = &[
     // a DELETE
     Write {
         session: 1,
-        set_up: &[(
-            "INSERT INTO ACCOUNT VALUES (-2, 'B', 60)",
-            "bank.1> OK inserted\n",
-        )],
+        set_up: &[INSERT],
         statement: "DELETE FROM ACCOUNT WHERE ID = -2",
         reply: "bank.1> OK deleted\n",
         is_refused: true,
@@ -203,6 +217,12 @@ const TWO: (&str, &str) = (
     "bank.9> ID | OWNER | BALANCE\nbank.9> -2 | 'B' | 60\nbank.9> 1 | 'it''s é' | 100\nbank.9> OK rows 2\n",
 );
 
+/// The INSERT of that one.
+const INSERT: (&str, &str) = (
+    "INSERT INTO ACCOUNT VALUES (-2, 'B', 60)",
+    "bank.1> OK inserted\n",
+);
+
 /// A second table.
 const CREATE: &str = "CREATE TABLE B (ID NUMBER(3) PRIMARY KEY, N NUMBER(3) RESERVABLE)";
 
@@ -237,7 +257,8 @@ const CHECKED: (&str, &str) = (
 );
 
 /// Asks a statement about a new table, under each limit of SQLite's steps, from 1 on, until it is
-/// served. After each refusal, session 9 looks, without a limit, whether anything changed.
+/// served. After each refusal, session 9 looks, without a limit, whether anything changed. The
+/// database is restarted before, so that no row's amounts are kept.
 fn refuse_at_each_limit<R: Abort + AllocGlobal, B: Bank>(
     rt: &R,
     table: Asked,
@@ -245,6 +266,7 @@ fn refuse_at_each_limit<R: Abort + AllocGlobal, B: Bank>(
 ) -> Result<(), Fail> {
     let mut bank: B = over(rt, &[])?;
     ask_all(rt, &mut bank, 1, table)?;
+    bank.run(rt.alloc(), &[Event::Restart])?;
     ask_all(rt, &mut bank, write.session, write.set_up)?;
     for limit in 1..1000u64 {
         if is_served(rt, &mut bank, write, limit)? {
