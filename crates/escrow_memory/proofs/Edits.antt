@@ -1,6 +1,7 @@
 -- From an edit at the place that a search finds to the terms of the contracts.
-use Rattle.std.proofs.Common.{◌≡◌, ◌∙◌, ℕ, zero, suc, ◌<◌, ◌≤◌, Bool, true, false, not, List, [], ◌∷◌, filter, length, get_or, set, insert, refl, sym, ap, subst, arith, Ordering, Less, Equal, Greater, is_lt, is_eq, true≢false}
+use Rattle.std.proofs.Common.{◌≡◌, ◌∙◌, ℕ, zero, suc, ◌<◌, ◌≤◌, Bool, true, false, not, inl, inr, eq-or-lt_of_le, List, [], ◌∷◌, filter, length, get_or, set, insert, refl, sym, ap, subst, arith, Ordering, Less, Equal, Greater, is_lt, is_eq, true≢false}
 use Rattle.std.specs.Cmp.{IsTotalOrder}
+use Rattle.std.specs.Ordering.{ordering_reverse}
 use Rattle.std.specs.Borrow.{Bor}
 use Rattle.std.specs.Prelude.{Result, Ok, Err, OnOk, OnErr, Option, Some, None, IfSome}
 use Rattle.std.proofs.Math.Nat.{suc-add, add-zero}
@@ -15,7 +16,7 @@ use Rattle.sqlite_trees.specs.declared.store.Shape.TheVariants.{Absent, Table, I
 use Rattle.sqlite_trees.specs.Probe.{IsPlaceOf, IsTestAt}
 use Rattle.sqlite_trees.specs.Tree.{rowid, IsAscending, IsTable, put_row}
 use Rattle.sqlite_trees.specs.View.{IsShaped}
-use Rattle.sqlite_trees.proofs.ListLemmas.{all_weaker, ascending_weaker, filter_all}
+use Rattle.sqlite_trees.proofs.ListLemmas.{all_weaker, ascending-get_or, ascending_weaker, filter_all}
 use Rattle.sqlite_trees.proofs.MemoryLemmas.{shaped, set-put_row, insert-put_row}
 use Rattle.escrow_memory.specs.declared.tree.Tree.{Tree}
 use Rattle.escrow_memory.specs.Rows.{spliced, IsCut}
@@ -64,6 +65,12 @@ less Less h = refl
 less Equal h = absurd (true≢false (sym h))
 less Greater h = absurd (true≢false (sym h))
 
+-- a test for `Equal`, as an equation
+equal : (o : Ordering) → is_eq o ≡ true → o ≡ Equal
+equal Less h = absurd (true≢false (sym h))
+equal Equal h = refl
+equal Greater h = absurd (true≢false (sym h))
+
 -- Rows ascending by key, and a key to look for: tables ascend by rowid, and indexes by whole entries.
 module _ {K : Type 0} (cmp : K → K → Ordering) (total : IsTotalOrder cmp) (key : Row → K) (k : K) where
   -- each row is below the later rows
@@ -90,6 +97,20 @@ module _ {K : Type 0} (cmp : K → K → Ordering) (total : IsTotalOrder cmp) (k
   beyond a b over up Less e = refl
   beyond a b over up Greater e = refl
   beyond a b over up Equal e = absurd (true≢false (sym (ap is_lt (sym (alike_right total _ _ (key a) e) ∙ up)) ∙ over))
+
+  -- a row that has the key is at its place
+  pub place_of_own : (rows : List Row) (at : ℕ) → Rises rows → at < length rows → has_key (get_or rows at []) ≡ true → IsKeyPlace rows at
+  place_of_own rows at up inside own =
+      let here = key (get_or rows at []) in
+      let same : cmp here k ≡ Equal = equal _ own in
+      record {
+        within = omega arith;
+        before = λ i below. ap is_lt (sym (alike_right total here k _ same) ∙ ascending-get_or _ rows i at [] up below inside);
+        after = λ i from within. elim (eq-or-lt_of_le from) [
+          | inl is ↦ rw (← is) (ap is_lt same)
+          | inr above ↦ ap is_lt (total.antisymm _ k ∙ ap ordering_reverse (sym (total.congr here k _ same) ∙ ascending-get_or _ rows at i [] up above within))
+        ];
+      }
 
   -- none of these rows is filtered out
   none_behind : (x : Row) (rows : List Row) → is_lt (cmp (key x) k) ≡ false → Rises (x ∷ rows) → without_key rows ≡ rows

@@ -127,6 +127,19 @@ impl<N: Node> Entries<N> {
         Some((next, found))
     }
 
+    /// Returns the place where the entry of a rowid is expected, and the entry there, if the last two
+    /// places that were found are as far apart as their rowids.
+    pub(crate) fn expected(&self, rowid: usize) -> Option<(usize, &[u8])>
+        ensures { IfSome result (λ found. (found.0 < length self.now) × (decode found.1.now ≡ slice_index_or self.now found.0 [])) }
+    {
+        if !self.is_run.load(Ordering::SeqCst) {
+            return None;
+        }
+        let at = self.offset.load(Ordering::SeqCst).wrapping_add(rowid);
+        let entry = self.get(at)?;
+        Some((at, entry))
+    }
+
     /// Returns the place after the entries that pass, and the entry there, if any. The last two
     /// places may have been side by side, as when an index is walked, or as far apart as their
     /// rowids. Then the search first tries the place that follows from this.

@@ -1,10 +1,11 @@
 //! One tree, and the writes to it.
-ghost use Rattle.std.specs.Prelude.{◌≡◌, ◌^◌, ◌<◌, false, [], take, None, IsTrue, IfOk, OnOk, IfSome};
-ghost use Rattle.std.specs.Ordering.{is_eq};
+ghost use Rattle.std.specs.Prelude.{◌≡◌, ◌^◌, ◌<◌, false, [], length, slice_index_or, take, None, IsTrue, IfOk, OnOk, IfSome};
+ghost use Rattle.std.specs.Ordering.{is_eq, is_lt};
 ghost use Rattle.sqlite_value.specs.Value.{owned};
 ghost use Rattle.sqlite_value.specs.Order.{value_cmp};
 ghost use Rattle.sqlite_value.specs.Keys.{entry_cmp};
 ghost use Rattle.sqlite_record.specs.Record.{decode};
+ghost use Rattle.sqlite_trees.specs.Probe.{IsPlaceOf, IsTestAt};
 ghost use Rattle.sqlite_trees.specs.Tree.{rowid, put_row, insert_entry, remove_entry, without_rowid};
 ghost use Rattle.sqlite_trees.specs.View.{IsShaped, Finds, is_int};
 ghost use Rattle.sqlite_trees.specs.Objects.{description, listing};
@@ -135,8 +136,48 @@ impl Tree {
         })
     }
 
+    /// Returns the place of the row with a rowid, and its entry, if it is where it is expected.
+    fn expected(&self, id: ValueRef<'_>) -> Option<(usize, &[u8])>
+        requires { self.now.shape ≡ Shape.Table }
+        ensures place { IfSome result (λ found. IsPlaceOf (λ row. is_lt (value_cmp (rowid row) (owned id.entry))) self.now.rows found.0) }
+        ensures entry { IfSome result (λ found. (found.0 < length self.now.rows) × (decode found.1.now ≡ slice_index_or self.now.rows found.0 [])) }
+        ensures own { IfSome result (λ found. IsTrue (is_eq (value_cmp (rowid (decode found.1.now)) (owned id.entry)))) }
+    {
+        let (at, entry) = self.rows.expected(Probe::BelowRowid(id).number())?;
+        if with_rowid(entry, id).is_eq() {
+            Some((at, entry))
+        } else {
+            None
+        }
+    }
+
+    /// Returns the place of the row with a rowid, or where it would be, and whether there is one.
+    fn place_of(&self, id: ValueRef<'_>) -> (usize, bool)
+        requires { self.now.shape ≡ Shape.Table }
+        ensures place { IsPlaceOf (λ row. is_lt (value_cmp (rowid row) (owned id.entry))) self.now.rows result.0 }
+        ensures test { IsTestAt (λ row. is_eq (value_cmp (rowid row) (owned id.entry))) self.now.rows result.0 result.1 }
+    {
+        if let Some((at, _)) = self.expected(id) {
+            return (at, true);
+        }
+        let (at, found) = self.rows.seek(Probe::BelowRowid(id));
+        (at, has_rowid(found, id))
+    }
+
     /// Writes the row with this rowid over `row`. Returns whether there is one.
     pub(crate) fn get(&self, id: i64, row: &mut Row) -> Result<bool, AllocError>
+        requires { self.now.shape ≡ Shape.Table }
+        ensures { IfOk result (Finds self.now.rows id row.new) }
+    {
+        if let Some((_, entry)) = self.expected(ValueRef::Int(id)) {
+            read_into(entry, row)?;
+            return Ok(true);
+        }
+        self.search(id, row)
+    }
+
+    /// Does what [`Tree::get`] does, wherever the row is.
+    fn search(&self, id: i64, row: &mut Row) -> Result<bool, AllocError>
         requires { self.now.shape ≡ Shape.Table }
         ensures { IfOk result (Finds self.now.rows id row.new) }
     {
@@ -162,10 +203,9 @@ impl Tree {
         ensures ok { OnOk result (self.new.rows ≡ put_row new.now self.old.rows) }
         ensures heading { heading self.new ≡ heading self.old }
     {
-        let id = new.get(0);
-        let (at, found) = self.rows.seek(Probe::BelowRowid(id));
-        let cut = usize::from(has_rowid(found, id));
-        self.rows.splice(alloc, at, cut, Some(bytes))
+        let (at, is_there) = self.place_of(new.get(0));
+        self.rows
+            .splice(alloc, at, usize::from(is_there), Some(bytes))
     }
 
     /// Removes the row with this rowid. After an error there are no rows.
