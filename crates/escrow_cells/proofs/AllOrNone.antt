@@ -125,6 +125,10 @@ acts_on steps at some old mid new within before one =
     subst (λ these. ActsBy old new true these) (sym (take_more steps at some within))
     (acts_then (Does first) (Does next) _ (λ x y z. does_more first next x y z) old mid new (length (first ++ next)) (length first) 1 (omega (arith, length-append first next)) true before one)
 
+-- steps run after a call that did none
+pub acts_after_none : (steps : List Step) (old mid new : State) (is_done : Bool) → ActsBy old mid true [] → ActsBy mid new is_done steps → ActsBy old new is_done steps
+acts_after_none steps old mid new is_done before after = acts_then (Does []) (Does steps) _ (λ x y z. does_more [] steps x y z) old mid new (length steps) 0 (length steps) (omega arith) is_done before after
+
 -- if a step fails, nothing is claimed about the result
 pub acts_failed : (old mid new : State) (steps : ℕ) (Makes : Database → Database → Type 0) → IsPending old mid → IsPending mid new → Acts old new false steps Makes
 acts_failed old mid new steps Makes before one = record { done = λ e. absurd (false≢true e); was_open = λ e. absurd (false≢true e); pending = pending_then old mid new before one }

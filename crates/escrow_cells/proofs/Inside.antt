@@ -1,5 +1,5 @@
 -- What a statement does inside a transaction.
-use Rattle.std.proofs.Common.{◌≡◌, ℕ, Bool, List, [], ◌∷◌, ◌⊎◌, false, cond, drop, length, map, Option, ℤ, slice_get, Some, None, Ok, Err, Result, IfOk, refl, sym, ap, ◌∙◌, subst, subst₂, inl, inr}
+use Rattle.std.proofs.Common.{◌≡◌, ℕ, Bool, List, [], ◌∷◌, ◌⊎◌, true, false, IsTrue, cond, drop, length, map, Option, ℤ, slice_get, Some, None, Ok, Err, Result, IfOk, refl, sym, ap, ◌∙◌, subst, subst₂, inl, inr}
 use Rattle.std.specs.Prelude.{unwrap_or}
 use Rattle.std.proofs.lemmas.List.{length-map}
 use Rattle.std.specs.List.{AllByRecursion, flat_map, filter_map}
@@ -25,7 +25,7 @@ use Rattle.sqlite.specs.Effect.{Database, IsDatabase, Answers, IsSource}
 use Rattle.sqlite.specs.Does.{Tally, OnRows, WritesRows}
 use Rattle.sqlite.specs.Listing.{understood}
 use Rattle.sqlite.specs.Rows.{Task, Counts, Inserts, Sourced, Written, Edited, rowids_for, count_of, stamped}
-use Rattle.sqlite.specs.State.{State, Executes, Writes as HasWritten, Runs, mode_of}
+use Rattle.sqlite.specs.State.{State, HasCleanDisk, Executes, Writes as HasWritten, Runs, mode_of}
 use Rattle.sqlite.specs.Values.{bound_value}
 use Rattle.sqlite.proofs.Callers.{IsPlain, command_of, one_step, runs_as, statement_of}
 use Rattle.escrow_cells.specs.declared.datum.Datum.{Datum}
@@ -55,6 +55,15 @@ pub tells : (sql : List ℕ) (params given : Row) (old new : State) {E : Type 0}
     → IfOk r (λ n. Executes sql given old new (Ok n)) → given ≡ params → IfOk r Told
 tells sql params given old new Told told (Ok n) ran same = told n (subst (λ (ps : Row). Executes sql ps old new (Ok n)) same ran)
 tells sql params given old new Told told (Err e) ran same = tt
+
+-- the same, if what it did depends on how many rows it changed
+pub acts_counted : {sql : List ℕ} {params given : Row} {old new : State} {steps : ℕ} {Makes : Database → Database → Type 0} (n : ℕ) → (Executes sql params old new (Ok n) → Makes old.now new.now)
+    → Wrote sql given old new true → (HasCleanDisk new → IsTrue old.in_transaction → Executes sql given old new (Ok n)) → given ≡ params → Acts old new true steps Makes
+acts_counted {sql = sql} {old = old} {new = new} n makes it ran same = record {
+  done = λ ok clean inside. ((it.done ok clean inside).0, makes (subst (λ (ps : Row). Executes sql ps old new (Ok n)) same (ran clean inside)));
+  was_open = λ ok clean inside _. it.was_open ok clean inside;
+  pending = it.pending;
+}
 
 -- a text is that of a statement for a command, whatever objects the schema lists after the three tables
 pub record IsStatement (text : List ℕ) (command : Command) : Type 0 where

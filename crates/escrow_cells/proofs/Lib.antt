@@ -24,3 +24,4 @@ pub mod Streaming
 mod Texts
 pub mod Unique
 mod Update
+mod UpdateAt

@@ -39,7 +39,7 @@ pub tied_turn : (a b : Row) → tied a b ≡ tied b a
 tied_turn a b = ap is_eq (value_cmp_total.antisymm (rowid a) (rowid b)) ∙ reversed_eq (value_cmp (rowid b) (rowid a))
 
 -- among rows with distinct rowids, two with the same rowid are one row
-one_row : (rows : List Row) (a b : Row) → AreApart rows → Has rows a → Has rows b → tied a b ≡ true → a ≡ b
+pub one_row : (rows : List Row) (a b : Row) → AreApart rows → Has rows a → Has rows b → tied a b ≡ true → a ≡ b
 one_row [] a b up h k tie = absurd h
 one_row (r ∷ rows) a b up (inl h) (inl k) tie = h ∙ sym k
 one_row (r ∷ rows) a b up (inl h) (inr k) tie = absurd (both_ways _ (all_has (λ x. tied r x ≡ false) rows b up.0 k) (rw h at tie))

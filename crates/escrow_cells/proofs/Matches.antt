@@ -36,7 +36,7 @@ matched db params tree tests terms rows h =
 -- ---- whether some row passes
 
 -- the filtered list is non-empty exactly if some item passes
-some_pass : {X : Type 0} (p : X → Bool) (xs : List X) → nat_lt 0 (length (filter p xs)) ≡ list_any p xs
+pub some_pass : {X : Type 0} (p : X → Bool) (xs : List X) → nat_lt 0 (length (filter p xs)) ≡ list_any p xs
 some_pass p [] = refl
 some_pass p (x ∷ xs) =
     elim (p x) as (λ b. nat_lt 0 (length (cond b (x ∷ filter p xs) (filter p xs))) ≡ (b || list_any p xs)) [

@@ -1,5 +1,5 @@
 -- Steps compose, although cells and tables are known only up to order.
-use Rattle.std.proofs.Common.{◌≡◌, ℤ, true, List, [], ◌∷◌, ◌++◌, fold, refl, sym, ◌∙◌, subst}
+use Rattle.std.proofs.Common.{◌≡◌, ℤ, Option, true, List, [], ◌∷◌, ◌++◌, fold, refl, sym, ◌∙◌, subst}
 use Rattle.std.specs.List.Sorted.{IsPermutation}
 use Rattle.std.proofs.lemmas.List.Sorted.{IsPermutation-refl, IsPermutation-trans, IsPermutation-cons, IsPermutation-map}
 use Rattle.std.proofs.lemmas.List.Sums.{fold-append}
@@ -19,7 +19,7 @@ record AreAlike (c d : Contents) : Type 0 where
 -- the order does not matter to a step
 done_alike : (c d : Contents) (s : Step) → AreAlike c d → AreAlike (done c s) (done d s)
 done_alike c d (step.InsertCell table key place value) h = record { cells = IsPermutation-cons _ _ _ h.cells; tabs = h.tabs }
-done_alike c d (step.SetCell table key place value) h = record { cells = IsPermutation-map _ _ _ h.cells; tabs = h.tabs }
+done_alike c d (step.SetCell table key place value hint) h = record { cells = IsPermutation-map _ _ _ h.cells; tabs = h.tabs }
 done_alike c d (step.DeleteRow table key) h = record { cells = IsPermutation-filter _ _ _ h.cells; tabs = h.tabs }
 done_alike c d (step.DeleteCells table) h = record { cells = IsPermutation-filter _ _ _ h.cells; tabs = h.tabs }
 done_alike c d (step.InsertTab id name text) h = record { cells = h.cells; tabs = IsPermutation-cons _ _ _ h.tabs }
@@ -48,10 +48,10 @@ does_more steps more old mid new before after h =
     subst (λ c. HoldsContents c old new) (sym (fold-append done (contents old) steps more)) whole
 
 -- a step that looks for no key always finds what it needs
-pub finds_rest : (s : Step) (all : List Row) → ((table : ℤ) (key : Datum) (place : ℤ) (value : Datum) → s ≡ step.SetCell table key place value → ⊥) → ((table : ℤ) (key : Datum) → s ≡ step.DeleteRow table key → ⊥)
+pub finds_rest : (s : Step) (all : List Row) → ((table : ℤ) (key : Datum) (place : ℤ) (value : Datum) (hint : Option ℤ) → s ≡ step.SetCell table key place value hint → ⊥) → ((table : ℤ) (key : Datum) → s ≡ step.DeleteRow table key → ⊥)
     → finds s all ≡ true
 finds_rest (step.InsertCell table key place value) all set deleted = refl
-finds_rest (step.SetCell table key place value) all set deleted = absurd (set table key place value refl)
+finds_rest (step.SetCell table key place value hint) all set deleted = absurd (set table key place value hint refl)
 finds_rest (step.DeleteRow table key) all set deleted = absurd (deleted table key refl)
 finds_rest (step.DeleteCells table) all set deleted = refl
 finds_rest (step.InsertTab id name text) all set deleted = refl

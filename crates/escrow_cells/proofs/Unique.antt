@@ -3,7 +3,7 @@ use Rattle.std.proofs.Common.{◌≡◌, ◌≤◌, ℤ, true, false, ◌&&◌, 
 use Rattle.std.specs.Ordering.{is_eq, is_ne}
 use Rattle.std.specs.declared.cmp.Ordering.{Ordering}
 use Rattle.std.specs.declared.cmp.Ordering.TheVariants.{Less, Equal, Greater}
-use Rattle.std.proofs.lemmas.Bool.{and_from, and_parts, both_ways}
+use Rattle.std.proofs.lemmas.Bool.{and_from, and_parts, both_ways, cases_Bool}
 use Rattle.std.proofs.lemmas.List.{length-map}
 use Rattle.sqlite_value.specs.declared.value.Value.{Value}
 use Rattle.sqlite_value.specs.declared.value.Value.TheVariants.{Null, Int}
@@ -17,7 +17,7 @@ use Rattle.sqlite_schema.specs.Rules.{agree, clashes, differ}
 use Rattle.sqlite_rules.specs.Lists.{Has}
 use Rattle.sqlite_rules.specs.Edit.{id_in}
 use Rattle.sqlite_rules.proofs.KeyLemmas.{agree_back, agree_chain}
-use Rattle.sqlite_rules.proofs.ListLemmas.{has_filtered, some_from}
+use Rattle.sqlite_rules.proofs.ListLemmas.{all_has, has_filtered, some_from}
 use Rattle.sqlite_rules.proofs.TableLemmas.{int_is}
 use Rattle.sqlite_catalog.proofs.AlterLemmas.{keys_are_unique}
 use Rattle.sqlite.specs.Effect.{Database}
@@ -25,7 +25,7 @@ use Rattle.escrow_cells.specs.Tables.{cell, cell_tree}
 use Rattle.escrow_cells.specs.Store.{IsStore, NumbersDiffer, cells}
 use Rattle.escrow_cells.specs.Step.{is_at, same}
 use Rattle.escrow_cells.proofs.Leaves.{cell_of}
-use Rattle.escrow_cells.proofs.Makes.{numbered_filtered}
+use Rattle.escrow_cells.proofs.Makes.{numbered_filtered, one_row, tied}
 
 untied : (o : Ordering) → is_eq o ≡ false → is_ne o ≡ true
 untied Less apart = refl
@@ -66,6 +66,16 @@ module _ (table key place : Value) where
       let clash : clashes plain key_places (db.trees cell_tree) b ≡ true = some_from (λ other. agree plain key_places other key_places b && differ (rowid other) (rowid b)) (db.trees cell_tree) a has_a (and_from _ _ both apart) in
       let listed : Has db.schema.tables cell = rw store.tables.is (inr (inr (inl refl))) in
       both_ways _ (keys_are_unique db.schema db.trees cell 0 key_places b store.sound listed refl has_b) clash
+
+  -- the rows of CELL at this place are one row
+  pub only_row : (db : Database) → IsStore db → (a b : Row) → Has (db.trees cell_tree) a → Has (db.trees cell_tree) b → is_at table key place (cell_of a) ≡ true → is_at table key place (cell_of b) ≡ true → a ≡ b
+  only_row db store a b has_a has_b at_a at_b =
+      let rows = db.trees cell_tree in
+      let whole = store.cells_numbered.whole in
+      elim (cases_Bool (tied a b)) [
+        | inl same ↦ one_row rows a b store.cells_numbered.apart has_a has_b same
+        | inr apart ↦ absurd (never_two db store a b has_a has_b at_a at_b (differs a b (all_has _ rows a whole has_a) (all_has _ rows b whole has_b) apart))
+      ]
 
   -- at most one of the distinctly numbered rows is at this place
   one_of : (db : Database) → IsStore db → (found : List Row) → NumbersDiffer found → ((r : Row) → Has found r → Has (db.trees cell_tree) r × (is_at table key place (cell_of r) ≡ true)) → length found ≤ 1

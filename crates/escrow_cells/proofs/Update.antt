@@ -1,5 +1,5 @@
 -- What UPDATE does to CELL.
-use Rattle.std.proofs.Common.{◌≡◌, ℕ, ℤ, Bool, true, false, not, ◌&&◌, cond, List, [], ◌∷◌, ◌++◌, map, filter, drop, codes, slice_get, Ok, IsPermutation, refl, sym, ap, ap₂, ◌∙◌, subst, subst₂}
+use Rattle.std.proofs.Common.{◌≡◌, ℕ, ℤ, Bool, true, false, not, ◌&&◌, None, cond, List, [], ◌∷◌, ◌++◌, map, filter, drop, codes, slice_get, Ok, IsPermutation, refl, sym, ap, ap₂, ◌∙◌, subst, subst₂}
 use Rattle.std.specs.Prelude.{nat_lt}
 use Rattle.std.specs.List.{AllByRecursion, list_any}
 use Rattle.std.proofs.lemmas.Bool.{not-true}
@@ -8,11 +8,13 @@ use Rattle.std.proofs.lemmas.List.Sorted.{IsPermutation-map, IsPermutation-trans
 use Rattle.sqlite_value.specs.declared.value.Value.{Value}
 use Rattle.sqlite_value.specs.declared.value.Value.TheVariants.{Int}
 use Rattle.sqlite_value.specs.Order.{Row, column}
+use Rattle.sqlite_trees.specs.Tree.{rowid}
 use Rattle.sqlite_trees.proofs.ListLemmas.{map-map}
 use Rattle.sqlite_sql.specs.Term.{Term, col, eval_all}
 use Rattle.sqlite_schema.specs.declared.schema.Schema.{Schema}
 use Rattle.sqlite_schema.specs.declared.command.Command.TheVariants.{Update}
 use Rattle.sqlite_rules.specs.declared.error.Rowids.TheVariants.{Given}
+use Rattle.sqlite_rules.specs.Lists.{Has}
 use Rattle.sqlite_rules.specs.Cast.{cast_row}
 use Rattle.sqlite_rules.specs.Edit.{put_all, are_fresh, without_all, numbered}
 use Rattle.sqlite_rules.specs.Calls.{ids_of}
@@ -40,7 +42,7 @@ abbrev at_tests : List Term
 at_tests = is_given 1 0 ∷ is_given 2 1 ∷ is_given 3 2 ∷ []
 
 -- the rowid, followed by the row with the new value
-abbrev set_terms : List Term
+abbrev pub set_terms : List Term
 set_terms = col 1 0 ∷ col 1 0 ∷ col 1 1 ∷ col 1 2 ∷ col 1 3 ∷ col 0 3 ∷ []
 
 set_statement : IsStatement set_text (Update 2 (record { lets = []; body = plain_query 4 at_tests set_terms }))
@@ -60,78 +62,100 @@ mapped_parts p f g h xs passed failed =
     let both = IsPermutation-map h _ _ (IsPermutation-filter_both p (λ x. not (p x)) (λ x. refl) xs) in
     subst (IsPermutation (map h xs)) (map-append h (filter p xs) _ ∙ ap₂ ◌++◌ (map_on h f _ passed) (map_on h g _ failed)) both
 
-three : (a b c : Bool) → (a && (b && (c && true))) ≡ ((a && b) && c)
+-- ---- rows of CELL, of which some get a new value
+
+-- what a statement writes in place of a row that it found
+abbrev written_as : (Row → Row) → Row → Row
+written_as found_by r = cast_row cell (drop 1 (found_by r))
+
+-- The rows that pass are found, and written; `h` is what becomes of each cell.
+module _ (p : Row → Bool) (found_by h : Row → Row) (keeps : (r : Row) → rowid (found_by r) ≡ rowid r) (rows found : List Row) (numbered_rows : NumbersDiffer rows) (same_rows : IsPermutation (map found_by (filter p rows)) found)
+    (set : (r : Row) → Has rows r → p r ≡ true → h r ≡ cell_of (written_as found_by r)) (unset : (r : Row) → Has rows r → not (p r) ≡ true → h r ≡ cell_of r) where
+  abbrev set_row : Row → Row
+  set_row r = written_as found_by r
+
+  abbrev left : List Row
+  left = without_all rows (ids_of found)
+
+  abbrev news : List Row
+  news = numbered Given left (map (λ s. cast_row cell (drop 1 s)) found)
+
+  abbrev taken : List Row
+  taken = filter p rows
+
+  abbrev others : List Row
+  others = filter (λ r. not (p r)) rows
+
+  told : IsPermutation (map h rows) (map (λ r. cell_of (set_row r)) taken ++ map cell_of others)
+  told = mapped_parts p (λ r. cell_of (set_row r)) cell_of h rows
+      (all_from _ taken (λ r is. let at = has_filtered p rows r is in set r at.0 at.1))
+      (all_from _ others (λ r is. let at = has_filtered (λ x. not (p x)) rows r is in unset r at.0 at.1))
+
+  news_are : IsPermutation (map set_row taken) news
+  news_are = subst₂ IsPermutation (map-map (λ s. cast_row cell (drop 1 s)) found_by taken) (sym (given left _)) (IsPermutation-map (λ s. cast_row cell (drop 1 s)) _ found same_rows)
+
+  left_are : left ≡ others
+  left_are = left_is p found_by rows found keeps numbered_rows same_rows
+
+  -- the cells after UPDATE are the old ones, each as told
+  pub set_rows : are_fresh left news ≡ true → IsPermutation (map h rows) (map cell_of (put_all left news))
+  set_rows fresh =
+      let all = IsPermutation-trans _ _ _ (IsPermutation-append_left left _ _ news_are) (put_beside news left fresh) in
+      let shown = IsPermutation-map cell_of _ _ all in
+      let parts : map cell_of (map set_row taken ++ left) ≡ map (λ r. cell_of (set_row r)) taken ++ map cell_of others =
+      map-append cell_of (map set_row taken) left ∙ ap₂ ◌++◌ (map-map cell_of set_row taken) (ap (map cell_of) left_are) in
+      IsPermutation-trans _ _ _ told (subst (λ l. IsPermutation l (map cell_of (put_all left news))) parts shown)
+
+-- ---- the cell of a table, a key and a place
+
+pub three : (a b c : Bool) → (a && (b && (c && true))) ≡ ((a && b) && c)
 three true true true = refl
 three true true false = refl
 three true false c = refl
 three false b c = refl
 
 module _ (table key place value : Value) where
+  abbrev pub put : Row → Row
+  put r = with_value table key place value (cell_of r)
+
+  -- the cell at this place, with the new value
+  pub put_at : (r : Row) → is_at table key place (cell_of r) ≡ true → IsWritten r → put r ≡ cell_of (cast_row cell (column r 0 ∷ column r 1 ∷ column r 2 ∷ column r 3 ∷ value ∷ []))
+  put_at r at w =
+      ap (λ b. cond b (column r 1 ∷ column r 2 ∷ column r 3 ∷ value ∷ []) (cell_of r)) at ∙ ap₂ (λ x y. x ∷ column r 2 ∷ y ∷ value ∷ []) (sym w.0) (sym w.1)
+
+  -- any other cell
+  pub put_beyond : (r : Row) → is_at table key place (cell_of r) ≡ false → put r ≡ cell_of r
+  put_beyond r at = ap (λ b. cond b (column r 1 ∷ column r 2 ∷ column r 3 ∷ value ∷ []) (cell_of r)) at
+
   abbrev params : Row
   params = table ∷ key ∷ place ∷ value ∷ []
 
   abbrev found_by : Row → Row
   found_by r = eval_all set_terms (params ∷ r ∷ [])
 
-  abbrev set_row : Row → Row
-  set_row r = cast_row cell (drop 1 (found_by r))
-
-  abbrev put : Row → Row
-  put r = with_value table key place value (cell_of r)
-
   passes_at : (r : Row) → passes at_tests params r ≡ is_at table key place (cell_of r)
   passes_at r = three (same (column r 1) table) (same (column r 2) key) (same (column r 3) place)
 
-  set_as_told : (r : Row) → passes at_tests params r ≡ true → IsWritten r → put r ≡ cell_of (set_row r)
-  set_as_told r at w =
-      ap (λ b. cond b (column r 1 ∷ column r 2 ∷ column r 3 ∷ value ∷ []) (cell_of r)) (sym (passes_at r) ∙ at) ∙ ap₂ (λ x y. x ∷ column r 2 ∷ y ∷ value ∷ []) (sym w.0) (sym w.1)
-
-  left_as_told : (r : Row) → not (passes at_tests params r) ≡ true → put r ≡ cell_of r
-  left_as_told r at = ap (λ b. cond b (column r 1 ∷ column r 2 ∷ column r 3 ∷ value ∷ []) (cell_of r)) (sym (passes_at r) ∙ not-true _ at)
-
-  module _ (rows found : List Row) (numbered_rows : NumbersDiffer rows) (held : AllByRecursion IsWritten rows) (same_rows : IsPermutation (map found_by (filter (passes at_tests params) rows)) found) where
-    abbrev left : List Row
-    left = without_all rows (ids_of found)
-
-    abbrev news : List Row
-    news = numbered Given left (map (λ s. cast_row cell (drop 1 s)) found)
-
-    abbrev taken : List Row
-    taken = filter (passes at_tests params) rows
-
-    abbrev others : List Row
-    others = filter (λ r. not (passes at_tests params r)) rows
-
-    told : IsPermutation (map put rows) (map (λ r. cell_of (set_row r)) taken ++ map cell_of others)
-    told = mapped_parts (passes at_tests params) (λ r. cell_of (set_row r)) cell_of put rows
-        (all_from _ taken (λ r h. let at = has_filtered (passes at_tests params) rows r h in set_as_told r at.1 (all_has IsWritten rows r held at.0)))
-        (all_from _ others (λ r h. left_as_told r (has_filtered (λ x. not (passes at_tests params x)) rows r h).1))
-
-    news_are : IsPermutation (map set_row taken) news
-    news_are = subst₂ IsPermutation (map-map (λ s. cast_row cell (drop 1 s)) found_by taken) (sym (given left _)) (IsPermutation-map (λ s. cast_row cell (drop 1 s)) _ found same_rows)
-
-    left_are : left ≡ others
-    left_are = left_is (passes at_tests params) found_by rows found (λ r. refl) numbered_rows same_rows
-
-    -- the cells after UPDATE are the old ones, with the new value at the requested place
-    set_rows : are_fresh left news ≡ true → IsPermutation (map (with_value table key place value) (map cell_of rows)) (map cell_of (put_all left news))
-    set_rows fresh =
-        let all = IsPermutation-trans _ _ _ (IsPermutation-append_left left _ _ news_are) (put_beside news left fresh) in
-        let shown = IsPermutation-map cell_of _ _ all in
-        let parts : map cell_of (map set_row taken ++ left) ≡ map (λ r. cell_of (set_row r)) taken ++ map cell_of others =
-        map-append cell_of (map set_row taken) left ∙ ap₂ ◌++◌ (map-map cell_of set_row taken) (ap (map cell_of) left_are) in
-        rw (map-map (with_value table key place value) cell_of rows) (IsPermutation-trans _ _ _ told (subst (λ l. IsPermutation l (map cell_of (put_all left news))) parts shown))
+  -- the cells after UPDATE are the old ones, with the new value at the requested place
+  set_all : (rows found : List Row) → NumbersDiffer rows → AllByRecursion IsWritten rows → (same_rows : IsPermutation (map found_by (filter (passes at_tests params) rows)) found)
+      → are_fresh (without_all rows (ids_of found)) (numbered Given (without_all rows (ids_of found)) (map (λ s. cast_row cell (drop 1 s)) found)) ≡ true
+      → IsPermutation (map (with_value table key place value) (map cell_of rows)) (map cell_of (put_all (without_all rows (ids_of found)) (numbered Given (without_all rows (ids_of found)) (map (λ s. cast_row cell (drop 1 s)) found))))
+  set_all rows found numbered_rows held same_rows fresh =
+      rw (map-map (with_value table key place value) cell_of rows)
+      (set_rows (passes at_tests params) found_by put (λ r. refl) rows found numbered_rows same_rows
+      (λ r has at. put_at r (sym (passes_at r) ∙ at) (all_has IsWritten rows r held has))
+      (λ r has at. put_beyond r (sym (passes_at r) ∙ not-true _ at)) fresh)
 
 -- UPDATE writes the new value to the cell
 pub sets : (table : ℤ) (key : Datum) (place : ℤ) (value : Datum) (old new : State) (n : ℕ) → Executes set_text (Int table ∷ kept key ∷ Int place ∷ kept value ∷ []) old new (Ok n)
-    → Does (step.SetCell table key place value ∷ []) old.now new.now
+    → Does (step.SetCell table key place value None ∷ []) old.now new.now
 sets table key place value old new n ran store =
     let t = store.tables in
     let given_params = params (Int table) (kept key) (Int place) (kept value) in
     let w = wrote_by set_statement given_params old new t n ran in
     let u = updates old new cell 2 (ap (λ (s : Schema). slice_get s.tables 2) t.is) store.no_keys _ given_params n _ w in
     let found = matched old.now given_params 4 at_tests set_terms u.0 u.1 in
-    let cells_are = set_rows (Int table) (kept key) (Int place) (kept value) (old.now.trees 4) u.0 store.cells_numbered (all_written old.now store) found u.2.applies.fresh in
+    let cells_are = set_all (Int table) (kept key) (Int place) (kept value) (old.now.trees 4) u.0 store.cells_numbered (all_written old.now store) found u.2.applies.fresh in
     holds_cells old.now new.now _ store u.2 refl _ (rw u.2.applies.rows cells_are)
 
 -- the count reports whether the cell exists

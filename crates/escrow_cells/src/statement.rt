@@ -1,12 +1,12 @@
 //! The statements that write, each inside a transaction.
-ghost use Rattle.std.specs.Prelude.{◌≡◌, [], ◌∷◌, nat_lt, is_ok, Ok, IfOk, IsTrue};
+ghost use Rattle.std.specs.Prelude.{◌≡◌, [], ◌∷◌, true, false, nat_lt, is_ok, Ok, Some, None, IfOk, IsTrue};
 ghost use Rattle.std.specs.List.{list_any};
 ghost use Rattle.sqlite_value.specs.declared.value.Value.TheVariants.{Int};
 ghost use Rattle.sqlite.specs.Held.{state};
 ghost use Rattle.sqlite.specs.State.{HasCleanDisk, Executes};
 ghost use Rattle.sqlite.specs.Values.{bound};
 ghost use Rattle.escrow_cells.specs.declared.step.Step.TheVariants as step;
-ghost use Rattle.escrow_cells.specs.Inside.{ActsBy, Wrote};
+ghost use Rattle.escrow_cells.specs.Inside.{ActsBy, IsPending, Wrote};
 ghost use Rattle.escrow_cells.specs.NewCell.{step_of};
 ghost use Rattle.escrow_cells.specs.Step.{kept, is_of, is_at, finds};
 ghost use Rattle.escrow_cells.specs.Store.{IsStore, cells};
@@ -125,7 +125,7 @@ fn set_cell<S: Alter>(
     value: Datum<'_>,
 ) -> Result<usize, Error>
     ensures same_reference { tx.new.conn.ghost_name ≡ tx.old.conn.ghost_name }
-    ensures acts { ActsBy (state S.Store tx.old.conn.now) (state S.Store tx.new.conn.now) (is_ok result) (step.SetCell table key.entry place value.entry ∷ []) }
+    ensures acts { ActsBy (state S.Store tx.old.conn.now) (state S.Store tx.new.conn.now) (is_ok result) (step.SetCell table key.entry place value.entry None ∷ []) }
     ensures found { HasCleanDisk (state S.Store tx.new.conn.now) → IsTrue (state S.Store tx.old.conn.now).in_transaction
         → IfOk result (λ n. IsStore (state S.Store tx.old.conn.now).now → nat_lt 0 n ≡ list_any (is_at (Int table) (kept key.entry) (Int place)) (cells (state S.Store tx.old.conn.now).now)) }
 {
@@ -134,6 +134,51 @@ fn set_cell<S: Alter>(
         "UPDATE CELL SET V = ?4 WHERE TAB = ?1 AND K = ?2 AND C = ?3",
         params![table, key, place, value],
     )
+}
+
+/// Sets the value of an existing cell, if the row of CELL with this rowid is that cell. Returns
+/// whether it is.
+fn set_cell_at<S: Alter>(
+    tx: &mut Transaction<'_, S>,
+    rowid: i64,
+    table: i64,
+    key: Datum<'_>,
+    place: i64,
+    value: Datum<'_>,
+) -> Result<bool, Error>
+    ensures same_reference { tx.new.conn.ghost_name ≡ tx.old.conn.ghost_name }
+    ensures set { result ≡ Ok true → ActsBy (state S.Store tx.old.conn.now) (state S.Store tx.new.conn.now) true (step.SetCell table key.entry place value.entry (Some rowid) ∷ []) }
+    ensures left { result ≡ Ok false → ActsBy (state S.Store tx.old.conn.now) (state S.Store tx.new.conn.now) true [] }
+    ensures pending { IsPending (state S.Store tx.old.conn.now) (state S.Store tx.new.conn.now) }
+{
+    let found = change(
+        tx,
+        "UPDATE CELL SET V = ?4 WHERE rowid = ?5 AND TAB = ?1 AND K = ?2 AND C = ?3",
+        params![table, key, place, value, rowid],
+    )?;
+    Ok(found > 0)
+}
+
+/// Sets the value of an existing cell, which is looked for first in the row of CELL with a rowid,
+/// if one is given.
+fn set_cell_hinted<S: Alter>(
+    tx: &mut Transaction<'_, S>,
+    hint: Option<i64>,
+    table: i64,
+    key: Datum<'_>,
+    place: i64,
+    value: Datum<'_>,
+) -> Result<(), Error>
+    ensures same_reference { tx.new.conn.ghost_name ≡ tx.old.conn.ghost_name }
+    ensures acts { ActsBy (state S.Store tx.old.conn.now) (state S.Store tx.new.conn.now) (is_ok result) (step.SetCell table key.entry place value.entry hint ∷ []) }
+{
+    if let Some(rowid) = hint {
+        if set_cell_at(tx, rowid, table, key, place, value)? {
+            return Ok(());
+        }
+    }
+    set_cell(tx, table, key, place, value)?;
+    Ok(())
 }
 
 /// Deletes the cells of the row of a key. Returns how many there were.
@@ -212,10 +257,8 @@ fn do_step<S: Alter>(tx: &mut Transaction<'_, S>, step: &Step<'_>) -> Result<(),
             key,
             place,
             value,
-        } => {
-            set_cell(tx, table, key, place, value)?;
-            Ok(())
-        }
+            hint,
+        } => set_cell_hinted(tx, hint, table, key, place, value),
         Step::DeleteRow { table, key } => {
             delete_row(tx, table, key)?;
             Ok(())
@@ -242,6 +285,7 @@ pub(crate) fn do_finding<S: Alter>(
             key,
             place,
             value,
+            hint: _,
         } => {
             let found = set_cell(tx, table, key, place, value)?;
             Ok(found > 0)

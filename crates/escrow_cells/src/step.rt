@@ -11,12 +11,14 @@ pub enum Step<'a> {
         place: i64,
         value: Datum<'a>,
     },
-    /// Sets the value of an existing cell.
+    /// Sets the value of an existing cell. The hint is the rowid that it probably has in CELL, if
+    /// one is known. A wrong hint costs time, and changes nothing.
     SetCell {
         table: i64,
         key: Datum<'a>,
         place: i64,
         value: Datum<'a>,
+        hint: Option<i64>,
     },
     /// Deletes the cells of the row of a key.
     DeleteRow {

@@ -132,7 +132,7 @@ pub delete_told : (s : StoredTable) (key : Value) (id : ℤ) (d : Datum) → id 
 delete_told s key id d number is db = rw (number, is) (any_told s key (is_of (sql.Int s.id) (stored key)) (of_key s key) db)
 
 pub set_told : (s : StoredTable) (key : Value) (first : Step) → SetsCellOf s key first → (db : Database) → Tells s (is_there s key) db (finds first (cells db))
-set_told s key (step.SetCell id k place value) sets db =
+set_told s key (step.SetCell id k place value hint) sets db =
     rw (sets.0, sets.1, sets.4) (any_told s key (is_at (sql.Int s.id) (stored key) (sql.Int (pos (sets.2 + 1)))) (at_place s key sets.2 sets.3) db)
 set_told s key (step.InsertCell table k place value) sets db = absurd sets
 set_told s key (step.DeleteRow table k) sets db = absurd sets

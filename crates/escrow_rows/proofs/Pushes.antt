@@ -63,6 +63,6 @@ pub amount_passed : (columns : List Column) (i : ℕ) (column : Column) (news : 
 amount_passed columns i column news within here r = rw (drop_item columns i column within here, r) refl
 
 -- one more step writes a value to a cell of the row
-pub sets_more : (s : StoredTable) (key : Value) (steps : List Step) (id place : ℤ) (k value : Datum) (i : ℕ) → id ≡ s.id → kept k ≡ stored key → i < length s.table.columns → place ≡ pos (i + 1)
-    → AllByRecursion (SetsCellOf s key) steps → AllByRecursion (SetsCellOf s key) (steps ++ step.SetCell id k place value ∷ [])
-sets_more s key steps id place k value i number is within here before = all-append (SetsCellOf s key) steps (step.SetCell id k place value ∷ []) before ((number, is, i, within, here), tt)
+pub sets_more : (s : StoredTable) (key : Value) (steps : List Step) (id place : ℤ) (k value : Datum) (hint : Option ℤ) (i : ℕ) → id ≡ s.id → kept k ≡ stored key → i < length s.table.columns → place ≡ pos (i + 1)
+    → AllByRecursion (SetsCellOf s key) steps → AllByRecursion (SetsCellOf s key) (steps ++ step.SetCell id k place value hint ∷ [])
+sets_more s key steps id place k value hint i number is within here before = all-append (SetsCellOf s key) steps (step.SetCell id k place value hint ∷ []) before ((number, is, i, within, here), tt)

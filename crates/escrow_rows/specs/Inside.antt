@@ -23,7 +23,7 @@ Change steps f = (c : Contents) → fold done c steps ≡ on_cells f c
 
 -- a step sets a cell of the row of a key of a table, at the place of one of its columns
 abbrev pub SetsCellOf : StoredTable → Value → Step → Type 0
-SetsCellOf s key (step.SetCell id k place value) = (id ≡ s.id) × (kept k ≡ stored key) × (i : ℕ) × (i < length s.table.columns) × (place ≡ pos (i + 1))
+SetsCellOf s key (step.SetCell id k place value hint) = (id ≡ s.id) × (kept k ≡ stored key) × (i : ℕ) × (i < length s.table.columns) × (place ≡ pos (i + 1))
 SetsCellOf s key _ = ⊥
 
 -- a cell with the new value, if there is one, if it is the one at a place of the row of a key; otherwise unchanged

@@ -9,6 +9,7 @@ ghost use Rattle.escrow_rows.specs.Inside.{all_on, amounts_on, first_new, on_cel
 
 use crate::cell::push_cell;
 use crate::datum::datum;
+use crate::rowids::{Rowids, rowid_at};
 use crate::store::RowStore;
 use escrow_cells::{Datum, Step, run};
 use escrow_num::{Amount, Changes, Failure, Value};
@@ -32,24 +33,32 @@ impl<S: Alter> RowStore<S> {
     pub fn put_amounts(&mut self, alloc: Global, news: &[NewAmounts<'_>]) -> Result<(), Failure>
         ensures { Transacts (state S.Store self.old) (state S.Store self.new) (is_ok result) (PutsAmounts news.now) }
     {
-        let steps = all_steps(alloc, news)?;
+        let steps = all_steps(alloc, &self.rowids, news)?;
         run(&mut self.conn, steps.as_slice())
     }
 }
 
 /// Returns the steps that write new amounts.
-fn all_steps<'a>(alloc: Global, news: &[NewAmounts<'a>]) -> Result<Vec<Step<'a>>, AllocError>
+fn all_steps<'a>(
+    alloc: Global,
+    rowids: &Rowids,
+    news: &[NewAmounts<'a>],
+) -> Result<Vec<Step<'a>>, AllocError>
     ensures { IfOk result (λ steps. (c : Contents) → fold done c steps.items ≡ all_on news.now c) }
 {
     let mut steps = Vec::with_capacity(alloc, news.len())?;
     for new in news {
-        push_steps(&mut steps, new)?;
+        push_steps(&mut steps, rowids.before(new.table.id, new.key), new)?;
     }
     Ok(steps)
 }
 
 /// Adds the steps that write new amounts into one row.
-fn push_steps<'a>(steps: &mut Vec<Step<'a>>, new: &NewAmounts<'a>) -> Result<(), AllocError>
+fn push_steps<'a>(
+    steps: &mut Vec<Step<'a>>,
+    before: Option<i64>,
+    new: &NewAmounts<'a>,
+) -> Result<(), AllocError>
     ensures { OnOk result ((c : Contents) → fold done c steps.new.items ≡ on_cells (amounts_on new.now) (fold done c steps.old.items)) }
 {
     let mut at = 0;
@@ -61,6 +70,7 @@ fn push_steps<'a>(steps: &mut Vec<Step<'a>>, new: &NewAmounts<'a>) -> Result<(),
                 datum(new.key),
                 i,
                 amount_at(new.amounts.as_slice(), at),
+                rowid_at(before, i),
             )?;
             at += 1;
         }

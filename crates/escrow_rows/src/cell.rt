@@ -17,6 +17,7 @@ pub(crate) fn push_cell<'a>(
     key: Datum<'a>,
     place: usize,
     value: Option<Datum<'a>>,
+    hint: Option<i64>,
 ) -> Result<(), AllocError>
     requires { place < 2 ^ 63 - 1 }
     ensures puts { OnOk result ((c : Contents) → fold done c steps.new.items ≡ on_cells (put_value table (kept key.entry) (pos (place + 1)) (option_map kept value.entry)) (fold done c steps.old.items)) }
@@ -29,6 +30,7 @@ pub(crate) fn push_cell<'a>(
             key,
             place: place as i64 + 1,
             value,
+            hint,
         })?;
     }
     Ok(())

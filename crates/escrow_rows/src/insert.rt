@@ -11,6 +11,7 @@ use sqlite::Alter;
 use std::alloc::{AllocError, Global};
 
 impl<S: Alter> RowStore<S> {
+    ghost use Rattle.std.specs.Prelude.{◌≡◌};
     ghost use Rattle.sqlite.specs.Held.{state};
     ghost use Rattle.escrow_schema.specs.Fit.{IsRowOf};
     ghost use Rattle.escrow_cells.specs.Calls.{Transacts, was_done};
@@ -23,9 +24,36 @@ impl<S: Alter> RowStore<S> {
         requires { IsRowOf table.now.table row.now }
         ensures { Transacts (state S.Store self.old) (state S.Store self.new) (was_done result) (Inserts table.now row.now) }
     {
+        let is_inserted = self.insert_cells(alloc, table, row)?;
+        if is_inserted {
+            self.note_rowids(alloc, table, &row.name.key);
+        }
+        Ok(is_inserted)
+    }
+
+    /// Inserts the cells of a row as [`RowStore::insert`] does.
+    fn insert_cells(
+        &mut self,
+        alloc: Global,
+        table: &StoredTable,
+        row: &Row,
+    ) -> Result<bool, Failure>
+        requires { IsRowOf table.now.table row.now }
+        ensures { Transacts (state S.Store self.old) (state S.Store self.new) (was_done result) (Inserts table.now row.now) }
+    {
         let values = values_of(alloc, &table.table, row)?;
         let steps = cell_steps(alloc, table.id, &row.name.key, values.as_slice())?;
         run_unless_refused(&mut self.conn, steps.as_slice())
+    }
+
+    /// Notes the rowids of the cells of the row of a key, which were inserted last.
+    fn note_rowids(&mut self, alloc: Global, table: &StoredTable, key: &Value)
+        ensures { self.new ≡ self.old }
+    {
+        if let Ok(cells) = i64::try_from(table.table.columns.len()) {
+            let before = self.conn.last_insert_rowid().wrapping_sub(cells);
+            self.rowids.note(alloc, table.id, key, before);
+        }
     }
 }
 

@@ -22,6 +22,7 @@ mod migration;
 mod plain;
 mod read;
 mod reader;
+mod rowids;
 mod span;
 mod store;
 mod tables;

@@ -57,7 +57,14 @@ fn plain_steps<'a>(
     let mut at = 0;
     for (i, column) in table.table.columns.as_slice().iter().enumerate() {
         if !column.reservable && i != table.table.key {
-            push_cell(&mut steps, table.id, datum(key), i, plain_at(values, at))?;
+            push_cell(
+                &mut steps,
+                table.id,
+                datum(key),
+                i,
+                plain_at(values, at),
+                None,
+            )?;
             at += 1;
         }
     }

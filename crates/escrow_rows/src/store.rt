@@ -1,3 +1,4 @@
+use crate::rowids::Rowids;
 use sqlite::{Alter, Connection};
 use std::marker::Model;
 
@@ -5,6 +6,7 @@ use std::marker::Model;
 #[derive(Drop)]
 pub struct RowStore<S: Alter> {
     pub(crate) conn: Connection<S>,
+    pub(crate) rowids: Rowids,
 }
 
 impl<S: Alter> Model for RowStore<S> {
@@ -31,7 +33,10 @@ impl<S: Alter> RowStore<S> {
         requires { conn.in_transaction ≡ false }
         ensures { result ≡ conn }
     {
-        RowStore { conn }
+        RowStore {
+            conn,
+            rowids: Rowids::new(),
+        }
     }
 
     /// Returns the connection. Makes no store call.
@@ -39,7 +44,8 @@ impl<S: Alter> RowStore<S> {
         ensures same { result ≡ self }
         ensures outside { result.in_transaction ≡ false }
     {
-        self.conn
+        let RowStore { conn, rowids: _ } = self;
+        conn
     }
 
     /// Returns whether the connection is outside a transaction, which it is between any two calls.

@@ -2,7 +2,7 @@ use Rattle.std.proofs.Common.{◌∙◌, rules, w64}
 use Rattle.std.proofs.lemmas.Int.{to_z-of_z}
 use Rattle.escrow_rows.proofs.ImageInsert.{inserts, puts_row}
 use Rattle.escrow_rows.proofs.Runs.{writes_as}
-use Rattle.escrow_rows.proofs.store.RowStore.insert.Goals as goal
+use Rattle.escrow_rows.proofs.store.RowStore.insert_cells.Goals as goal
 
 pub returns : goal.returns
 returns g c =
