@@ -39,7 +39,8 @@ pub(crate) type Answer = Result<Reply, Refusal>;
 /// takes. If a fault shuts the store, these are unchanged.
 ///
 /// The database also keeps what the open reservations can do to each row that they reserve, so a
-/// grant needs no walk over them. And it keeps the amounts of rows that were read.
+/// grant needs no walk over them. And it keeps the amounts of rows that were read or
+/// inserted.
 pub struct Database<S: Alter> {
     tables: Tables<S>,
     reserved: Reserved,

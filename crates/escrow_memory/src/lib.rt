@@ -23,7 +23,8 @@
 //! - The entries of a tree (`entries.rt`) are under a branch that is never divided. A search goes
 //!   down once and returns the place and the entry there. If the last two searches led to one
 //!   place, or to two that are side by side or as far apart as their rowids, that place and the
-//!   next are tried first.
+//!   next are tried first. An entry there that has the rowid which is sought needs no look at the
+//!   one before it.
 //! - A forest (`forest.rt`) is a list of trees and SQLite's user version. The store (`store.rt`)
 //!   keeps the forest of the last commit, that of the transaction once it has written, and for each
 //!   savepoint that of the transaction at that time, if it had written. A commit replaces the first

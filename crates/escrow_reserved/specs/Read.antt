@@ -1,4 +1,4 @@
--- Helps: what was read of rows.
+-- Helps: what is kept of rows that were read or inserted.
 use Rattle.std.specs.Prelude.{◌≡◌, ◌⊎◌, ◌≤◌, ℕ, ℤ, Option, Some, None, IfSome, IsSomeAnd, List, option_map, length, slice_get}
 use Rattle.std.specs.Map.{lookup}
 use Rattle.escrow_num.specs.Order.{same_row}
@@ -16,11 +16,11 @@ use Rattle.escrow_reserved.specs.Placed.{amounts_named}
 
 -- WHICH ROWS ARE KEPT
 
--- a row as it was read: its name, and its amounts
+-- a row as it was read or inserted: its name, and its amounts
 abbrev pub ReadRow : Type 0
 ReadRow = RowName × List ℤ
 
--- rows that were read, in any order
+-- rows that were read or inserted, in any order
 abbrev pub ReadRows : Type 0
 ReadRows = List ReadRow
 
