@@ -5,7 +5,7 @@ use indexmap::IndexMap;
 use std::alloc::Global;
 use std::hash::{BuildHasher, BuildHasherDefault, FoldHasher};
 
-/// The most rows that are noted, as many as a table may have. One takes some 40 bytes.
+/// The most rows that are noted, as many as a table may have. One takes some 50 bytes.
 const MAX_ROWS: usize = 65_536;
 
 /// The rowids that the cells of rows probably have in CELL. SQLite numbers the cells of a new row
