@@ -136,16 +136,6 @@ module _ (table key place value : Value) where
   passes_at : (r : Row) → passes at_tests params r ≡ is_at table key place (cell_of r)
   passes_at r = three (same (column r 1) table) (same (column r 2) key) (same (column r 3) place)
 
-  -- the cells after UPDATE are the old ones, with the new value at the requested place
-  set_all : (rows found : List Row) → NumbersDiffer rows → AllByRecursion IsWritten rows → (same_rows : IsPermutation (map found_by (filter (passes at_tests params) rows)) found)
-      → are_fresh (without_all rows (ids_of found)) (numbered Given (without_all rows (ids_of found)) (map (λ s. cast_row cell (drop 1 s)) found)) ≡ true
-      → IsPermutation (map (with_value table key place value) (map cell_of rows)) (map cell_of (put_all (without_all rows (ids_of found)) (numbered Given (without_all rows (ids_of found)) (map (λ s. cast_row cell (drop 1 s)) found))))
-  set_all rows found numbered_rows held same_rows fresh =
-      rw (map-map (with_value table key place value) cell_of rows)
-      (set_rows (passes at_tests params) found_by put (λ r. refl) rows found numbered_rows same_rows
-      (λ r has at. put_at r (sym (passes_at r) ∙ at) (all_has IsWritten rows r held has))
-      (λ r has at. put_beyond r (sym (passes_at r) ∙ not-true _ at)) fresh)
-
 -- UPDATE writes the new value to the cell
 pub sets : (table : ℤ) (key : Datum) (place : ℤ) (value : Datum) (old new : State) (n : ℕ) → Executes set_text (Int table ∷ kept key ∷ Int place ∷ kept value ∷ []) old new (Ok n)
     → Does (step.SetCell table key place value None ∷ []) old.now new.now
@@ -155,8 +145,10 @@ sets table key place value old new n ran store =
     let w = wrote_by set_statement given_params old new t n ran in
     let u = updates old new cell 2 (ap (λ (s : Schema). slice_get s.tables 2) t.is) store.no_keys _ given_params n _ w in
     let found = matched old.now given_params 4 at_tests set_terms u.0 u.1 in
-    let cells_are = set_all (Int table) (kept key) (Int place) (kept value) (old.now.trees 4) u.0 store.cells_numbered (all_written old.now store) found u.2.applies.fresh in
-    holds_cells old.now new.now _ store u.2 refl _ (rw u.2.applies.rows cells_are)
+    let cells_are = set_rows (passes at_tests given_params) (found_by (Int table) (kept key) (Int place) (kept value)) (put (Int table) (kept key) (Int place) (kept value)) (λ r. refl) (old.now.trees 4) u.0 store.cells_numbered found
+    (λ r has at. put_at (Int table) (kept key) (Int place) (kept value) r (sym (passes_at (Int table) (kept key) (Int place) (kept value) r) ∙ at) (all_has IsWritten (old.now.trees 4) r (all_written old.now store) has))
+    (λ r has at. put_beyond (Int table) (kept key) (Int place) (kept value) r (sym (passes_at (Int table) (kept key) (Int place) (kept value) r) ∙ not-true _ at)) u.2.applies.fresh in
+    holds_cells old.now new.now _ store u.2 refl _ (rw (map-map (with_value (Int table) (kept key) (Int place) (kept value)) cell_of (old.now.trees 4), u.2.applies.rows) cells_are)
 
 -- the count reports whether the cell exists
 pub set_found : (table : ℤ) (key : Datum) (place : ℤ) (value : Datum) (old new : State) (n : ℕ) → Executes set_text (Int table ∷ kept key ∷ Int place ∷ kept value ∷ []) old new (Ok n)

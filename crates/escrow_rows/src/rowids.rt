@@ -9,8 +9,8 @@ use std::hash::{BuildHasher, BuildHasherDefault, FoldHasher};
 const MAX_ROWS: usize = 65_536;
 
 /// The rowids that the cells of rows probably have in CELL. SQLite numbers the cells of a new row
-/// one after another, so one number is noted for each row that is inserted. A row goes by the hash
-/// of its table and its key, which it may share with another row. So a rowid is a hint.
+/// one after another, so an INSERT notes one number for its row. The hash of the row's table and key
+/// finds it. Another row may have the same hash, so a rowid is a hint.
 #[derive(Debug)]
 pub(crate) struct Rowids {
     /// The number before the rowid of a row's first cell, by the row's hash.
