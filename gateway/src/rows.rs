@@ -2,6 +2,7 @@
 
 mod definition;
 mod result;
+pub mod shape;
 
 pub use definition::{ColumnType, DefinedColumn, Definition};
 pub use result::{bounds, constants, definition_text, journal, rows, statistics, ResultSet};

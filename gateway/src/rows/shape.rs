@@ -1,0 +1,43 @@
+//! Which rows of a table a result has, in which order, and what it shows of each.
+//!
+//! The program gives all columns of all rows, or of one row, in the order of the key. What a client asks beyond that is
+//! cut and ordered here, as the rows stream by.
+
+use crate::wire::backend::Column;
+use std::rc::Rc;
+
+/// What a column of the result shows.
+#[derive(Clone, Debug, PartialEq, Eq)]
+pub enum Output {
+    /// The table's column at this place, from 0.
+    Column(usize),
+    /// A text that is the same in each row. None: NULL.
+    Constant(Option<String>),
+    /// `count(*)`: how many rows there are. The result has one row then.
+    Count,
+}
+
+/// The order of the rows.
+#[derive(Clone, Copy, Debug, Default, PartialEq, Eq)]
+pub enum Order {
+    /// The program's: by the key, rising.
+    #[default]
+    Rising,
+    /// By the key, falling.
+    Falling,
+}
+
+/// What a result has of a table's rows.
+#[derive(Clone, Debug, PartialEq, Eq)]
+pub struct Shape {
+    /// The columns, as a client is told them.
+    pub columns: Rc<[Column]>,
+    /// What each of them shows.
+    pub outputs: Vec<Output>,
+    /// In which order.
+    pub order: Order,
+    /// How many rows are passed over.
+    pub offset: u64,
+    /// How many rows there are at the most.
+    pub limit: Option<u64>,
+}
