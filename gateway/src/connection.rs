@@ -1,5 +1,6 @@
 //! The state machine of one client, without input and output.
 
+mod activity;
 mod channel;
 mod extended;
 mod local;
@@ -54,6 +55,14 @@ pub enum Request<'a> {
     },
     /// A statement of its session: one line, without prefix and without line feed. It gets one reply.
     Statement(&'a [u8]),
+    /// What all connections do. [`Connection::activities`] takes the answer, before anything else comes.
+    Activities,
+    /// The end of the connection with this process id, as an administrator's. It has no answer: the list of
+    /// [`Request::Activities`] tells whether there is one.
+    Terminate {
+        /// What BackendKeyData told the client of that connection.
+        process_id: i32,
+    },
 }
 
 /// The answer to [`Request::Open`].
@@ -70,7 +79,7 @@ pub enum Opened {
 pub enum Ending {
     /// The program ended, with this text.
     ProgramEnded(String),
-    /// The gateway is stopping.
+    /// An administrator stops the gateway, or ends this connection.
     Shutdown,
 }
 
@@ -117,6 +126,8 @@ pub struct Connection {
     settings: Rc<Settings>,
     process_id: i32,
     phase: Phase,
+    /// When the client connected.
+    since: Instant,
     now: Instant,
     /// When the startup, or the last words, have to be over.
     limit: Option<Instant>,
@@ -156,6 +167,7 @@ impl Connection {
             settings,
             process_id,
             phase: Phase::Startup(Startup::default()),
+            since: now,
             now,
             limit,
             input: Input::default(),

@@ -3,6 +3,7 @@
 //! In each turn it reads what is ready, writes all statements that came to their programs at once, and writes what
 //! each client got. It waits for nothing but the system's word that something is ready, and the next deadline.
 
+mod activity;
 mod clients;
 mod deadlines;
 mod door;
@@ -278,6 +279,8 @@ impl Engine {
                         program.ask(session.number, statement, self.now);
                     }
                 }
+                Some(Request::Activities) => self.tell_activities(place),
+                Some(Request::Terminate { process_id }) => self.terminate(process_id),
             }
         }
     }
@@ -365,7 +368,7 @@ impl Engine {
                 // The system has no memory for it. The client sees that it is closed.
                 continue;
             }
-            self.process_id = self.process_id.checked_add(1).unwrap_or(1);
+            self.process_id = self.clients.next_process_id(self.process_id);
             let connection = Connection::new(Rc::clone(&self.settings), self.process_id, self.now);
             let client = Client::new(socket, connection);
             wake(&mut self.alarm, client.connection.deadline());

@@ -96,10 +96,14 @@ impl Output {
     }
 }
 
-/// What is asked of the engine: perhaps a session, then lines for the program.
+/// What is asked of the engine: perhaps a session or what all connections do, then lines for the program.
 #[derive(Debug, Default)]
 pub struct Requests {
     open: Option<usize>,
+    /// Whether it is asked what all connections do.
+    activities: bool,
+    /// The process ids of the connections that are to end.
+    terminate: Vec<i32>,
     lines: Vec<u8>,
     at: usize,
     unanswered: usize,
@@ -109,6 +113,16 @@ impl Requests {
     /// Asks for a session of the database at this place.
     pub fn open(&mut self, database: usize) {
         self.open = Some(database);
+    }
+
+    /// Asks what all connections do.
+    pub fn ask_activities(&mut self) {
+        self.activities = true;
+    }
+
+    /// Asks for the end of the connection with this process id.
+    pub fn terminate(&mut self, process_id: i32) {
+        self.terminate.push(process_id);
     }
 
     /// Asks the program by a line that `write` appends. Nothing is asked if it fails.
@@ -137,6 +151,12 @@ impl Requests {
         if let Some(database) = self.open.take() {
             return Some(Request::Open { database });
         }
+        if std::mem::take(&mut self.activities) {
+            return Some(Request::Activities);
+        }
+        if let Some(process_id) = self.terminate.pop() {
+            return Some(Request::Terminate { process_id });
+        }
         if self.at == self.lines.len() {
             self.at = 0;
             self.lines.clear();
@@ -162,6 +182,8 @@ impl Requests {
     /// Forgets what nobody has taken.
     pub fn drop_untaken(&mut self) {
         self.open = None;
+        self.activities = false;
+        self.terminate.clear();
         self.at = 0;
         self.lines.clear();
     }

@@ -1,5 +1,7 @@
 //! A connection is fed with a client's bytes and with replies, and what comes out is compared.
 
+mod activity;
+
 use super::*;
 use proptest::prelude::*;
 use std::collections::VecDeque;

@@ -22,6 +22,8 @@ pub enum Block {
 #[derive(Debug)]
 struct Savepoint {
     name: String,
+    /// How many reservations were made before it.
+    reservations: u32,
     variables: Snapshot,
 }
 
@@ -36,6 +38,8 @@ pub struct Transaction {
     pub dirty: bool,
     /// Whether something was reserved since the last savepoint.
     pub reserved: bool,
+    /// How many reservations the program's session holds.
+    pub reservations: u32,
     /// READ ONLY.
     pub read_only: bool,
     savepoints: Vec<Savepoint>,
@@ -48,6 +52,13 @@ impl Transaction {
     /// Returns since when a block is open, or something is reserved.
     pub fn since(&self) -> Option<Instant> {
         self.since
+    }
+
+    /// Is told that the program's session holds one more reservation.
+    pub fn reserves(&mut self, now: Instant) {
+        self.reserved = true;
+        self.reservations += 1;
+        self.holds(now);
     }
 
     /// Is told that the program's session holds something.
@@ -144,6 +155,8 @@ impl Connection {
             return;
         }
         self.transaction.reserved = false;
+        let last = self.transaction.savepoints.last();
+        self.transaction.reservations = last.map_or(0, |savepoint| savepoint.reservations);
         match self.transaction.savepoints.len().checked_sub(1) {
             Some(last) => self.swallow(&["ROLLBACK TO ", &savepoint_name(last)]),
             None => {
@@ -161,10 +174,12 @@ impl Connection {
 
     /// Adds a savepoint, which the program has under its place's name.
     pub(super) fn add_savepoint(&mut self, name: String) {
-        let variables = self.variables.snapshot();
-        self.transaction
-            .savepoints
-            .push(Savepoint { name, variables });
+        let savepoint = Savepoint {
+            name,
+            reservations: self.transaction.reservations,
+            variables: self.variables.snapshot(),
+        };
+        self.transaction.savepoints.push(savepoint);
         self.transaction.reserved = false;
         self.transaction.holds(self.now);
     }
@@ -180,6 +195,7 @@ impl Connection {
         self.transaction.block = Block::Open;
         self.transaction.reserved = false;
         if let Some(savepoint) = self.transaction.savepoints.last() {
+            self.transaction.reservations = savepoint.reservations;
             let variables = savepoint.variables.clone();
             self.restore_variables(&variables);
         }

@@ -2,6 +2,7 @@
 
 use std::rc::Rc;
 
+use crate::connection::activity::Evaluate;
 use crate::connection::prepared::{Binding, Statement};
 use crate::connection::simple::Query;
 use crate::connection::transaction::{savepoint_name, Block};
@@ -166,6 +167,15 @@ pub enum Work {
         target: Target,
         /// The place.
         place: usize,
+    },
+    /// What all connections do, which the engine tells in this turn.
+    Activities {
+        /// What asked for it.
+        target: Target,
+        /// The statement.
+        subject: Subject,
+        /// What makes the statement's result of it.
+        evaluate: Evaluate,
     },
 }
 
@@ -592,8 +602,7 @@ impl Connection {
     fn done(&mut self, running: &Running, done: Done, lines: &str) -> Result<Completed, Failure> {
         match done {
             Done::Reserved => {
-                self.transaction.reserved = true;
-                self.transaction.holds(self.now);
+                self.transaction.reserves(self.now);
                 return Ok(Completed::plain("UPDATE 1"));
             }
             Done::Inserted | Done::Deleted | Done::Updated => self.events.push(Event::Committed),

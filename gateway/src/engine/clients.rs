@@ -35,6 +35,14 @@ impl Clients {
         self.places.get_mut(place)?.as_mut()
     }
 
+    /// Returns the first process id behind `last` that no client has.
+    pub fn next_process_id(&self, last: i32) -> i32 {
+        next_free(last, |id| {
+            self.iter()
+                .any(|(_, client)| client.connection.process_id() == id)
+        })
+    }
+
     /// Returns how many there are.
     pub fn len(&self) -> usize {
         self.places.len() - self.free.len()
@@ -55,5 +63,31 @@ impl Clients {
     pub fn iter_mut(&mut self) -> impl Iterator<Item = (usize, &mut Client)> {
         let clients = self.places.iter_mut().enumerate();
         clients.filter_map(|(place, client)| Some((place, client.as_mut()?)))
+    }
+}
+
+/// Returns the first number from 1 behind `last` that isn't taken. Behind the greatest one comes 1.
+fn next_free(last: i32, is_taken: impl Fn(i32) -> bool) -> i32 {
+    let mut next = last;
+    loop {
+        next = next.checked_add(1).unwrap_or(1);
+        if next == last || !is_taken(next) {
+            return next;
+        }
+    }
+}
+
+#[cfg(test)]
+mod tests {
+    use super::*;
+
+    #[test]
+    fn no_two_clients_have_the_same_process_id() {
+        let nobody = |_| false;
+        assert_eq!(next_free(0, nobody), 1);
+        assert_eq!(next_free(7, nobody), 8);
+        assert_eq!(next_free(7, |id| id < 12), 12);
+        assert_eq!(next_free(i32::MAX, nobody), 1);
+        assert_eq!(next_free(i32::MAX - 1, |id| id == i32::MAX || id < 3), 3);
     }
 }

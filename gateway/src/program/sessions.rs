@@ -29,6 +29,11 @@ impl Number {
         usize::from(self.0) - 1
     }
 
+    /// Returns the number.
+    pub fn to_u8(self) -> u8 {
+        self.0
+    }
+
     /// Returns the number of the session at this place, from 0.
     fn at(place: usize) -> Number {
         debug_assert!(place < SESSIONS);
