@@ -102,6 +102,12 @@ const MOST_OUTPUT: usize = 256 * 1024;
 /// How much input may wait while a statement runs.
 const MOST_INPUT: usize = 64 * 1024;
 
+/// A Sync. One with a body is a fault, and commits nothing.
+const SYNC: Raw<'_> = Raw {
+    kind: b'S',
+    body: &[],
+};
+
 /// How long a client may take for its last words.
 const LINGER: Duration = Duration::from_secs(5);
 
@@ -370,9 +376,9 @@ impl Connection {
                 false
             }
             Frame::Whole(raw, length) => {
-                let next = input.kind_behind(length);
+                let next = input.behind(length);
                 self.serve_message(raw, next);
-                self.input = input.behind(length);
+                self.input = input.take(length);
                 self.idle_since = self.now;
                 return true;
             }
@@ -381,8 +387,8 @@ impl Connection {
         goes_on
     }
 
-    /// Serves a message. `next` is the kind of the one behind it, if all of that is there.
-    fn serve_message(&mut self, raw: Raw<'_>, next: Option<u8>) {
+    /// Serves a message. `next` is the one behind it, if all of that is there.
+    fn serve_message(&mut self, raw: Raw<'_>, next: Option<Raw<'_>>) {
         let message = match frontend::message(raw) {
             Ok(message) => message,
             Err(Fault::UnknownKind(kind)) => {
@@ -403,7 +409,7 @@ impl Connection {
             Message::Bind(bind) => self.bind(&bind),
             Message::Describe(target) => self.describe(target),
             Message::Execute { portal, limit } => {
-                self.execute_portal(portal, limit, next == Some(b'S'));
+                self.execute_portal(portal, limit, next == Some(SYNC));
             }
             Message::Close(target) => self.close_target(target),
             Message::FunctionCall => {
@@ -420,8 +426,14 @@ impl Connection {
     fn refuse_layout(&mut self, kind: u8) {
         let report = Report::error(SqlState::PROTOCOL_VIOLATION, "invalid message format");
         match kind {
-            _ if self.skipping => {}
+            _ if self.skipping && kind != b'S' => {}
             b'Q' => self.refuse_query(report, ""),
+            // PostgreSQL rolls back, tells of the fault, and is ready.
+            b'S' => {
+                self.fail(report, None);
+                self.skipping = false;
+                self.ready();
+            }
             _ => {
                 self.resting = false;
                 self.fail(report, None);

@@ -6,6 +6,7 @@
 
 pub mod activity;
 pub mod connection;
+pub mod queue;
 pub mod reply;
 pub mod rows;
 pub mod sqlstate;

@@ -1,12 +1,15 @@
 //! What comes from the client, what goes to it, and what goes to the program.
 
 use crate::connection::Request;
-use crate::wire::frontend::{self, Frame};
+use crate::queue::Queue;
+use crate::wire::frontend::{self, Frame, Raw};
 
-/// A buffer that is larger than this is given back when it is empty.
-const KEPT: usize = 64 * 1024;
+/// How many bytes of memory a buffer keeps for its next bytes.
+const KEPT: usize = 16 * 1024;
 
 /// Bytes of the client that aren't served yet.
+///
+/// They are in one piece, since a message is read in one piece.
 #[derive(Debug, Default)]
 pub struct Input {
     bytes: Vec<u8>,
@@ -16,10 +19,7 @@ pub struct Input {
 impl Input {
     /// Adds bytes that came.
     pub fn extend(&mut self, bytes: &[u8]) {
-        if self.at > 0 {
-            self.bytes.drain(..self.at);
-            self.at = 0;
-        }
+        self.give_back();
         self.bytes.extend_from_slice(bytes);
     }
 
@@ -33,66 +33,71 @@ impl Input {
         self.bytes.len() - self.at
     }
 
-    /// Returns the kind of the message behind `length` bytes, if all of it is there.
-    pub fn kind_behind(&self, length: usize) -> Option<u8> {
+    /// Returns the message behind `length` bytes, if all of it is there.
+    pub fn behind(&self, length: usize) -> Option<Raw<'_>> {
         match frontend::raw(self.rest().get(length..)?) {
-            Frame::Whole(raw, _) => Some(raw.kind),
+            Frame::Whole(raw, _) => Some(raw),
             _ => None,
         }
     }
 
     /// Takes bytes off the front.
-    pub fn behind(mut self, length: usize) -> Input {
+    pub fn take(mut self, length: usize) -> Input {
         self.at += length;
-        if self.at == self.bytes.len() {
-            self.at = 0;
-            self.bytes.clear();
-            if self.bytes.capacity() > KEPT {
-                self.bytes = Vec::new();
-            }
-        }
+        self.give_back();
         self
+    }
+
+    /// Gives memory back. What is moved for that is no more than what was served before.
+    fn give_back(&mut self) {
+        if self.at > self.len() || self.len() == 0 {
+            self.bytes.drain(..self.at);
+            self.at = 0;
+        }
+        if self.bytes.capacity() > KEPT && self.bytes.capacity() / 4 > self.bytes.len() {
+            self.bytes.shrink_to(KEPT);
+        }
     }
 }
 
 /// Bytes for the client.
-#[derive(Debug, Default)]
+#[derive(Debug)]
 pub struct Output {
-    bytes: Vec<u8>,
-    sent: usize,
+    bytes: Queue,
+}
+
+impl Default for Output {
+    fn default() -> Output {
+        Output {
+            bytes: Queue::new(KEPT),
+        }
+    }
 }
 
 impl Output {
-    /// Returns the buffer, to append to.
+    /// Returns the buffer, to append a few messages to.
     pub fn buffer(&mut self) -> &mut Vec<u8> {
-        &mut self.bytes
+        self.bytes.room(1)
     }
 
-    /// Returns what isn't sent.
+    /// Returns the first bytes that aren't sent. They are none exactly if all is sent.
     pub fn unsent(&self) -> &[u8] {
-        &self.bytes[self.sent..]
+        self.bytes.front()
     }
 
     /// Returns how many bytes aren't sent.
     pub fn len(&self) -> usize {
-        self.bytes.len() - self.sent
+        self.bytes.len()
     }
 
     /// Takes bytes off the front.
     pub fn sent(&mut self, count: usize) {
-        self.sent = self.bytes.len().min(self.sent + count);
-        if self.sent == self.bytes.len() {
-            self.clear();
-        }
+        self.bytes.take(count);
     }
 
     /// Forgets what isn't sent.
     pub fn clear(&mut self) {
-        self.sent = 0;
         self.bytes.clear();
-        if self.bytes.capacity() > KEPT {
-            self.bytes = Vec::new();
-        }
     }
 }
 
@@ -160,6 +165,7 @@ impl Requests {
         if self.at == self.lines.len() {
             self.at = 0;
             self.lines.clear();
+            self.lines.shrink_to(KEPT);
             return None;
         }
         let start = self.at;

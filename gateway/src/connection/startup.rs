@@ -42,7 +42,7 @@ impl Connection {
             Frame::Whole(packet, length) => {
                 self.serve_startup(packet);
                 if !self.is_closing() {
-                    self.input = input.behind(length);
+                    self.input = input.take(length);
                 }
                 true
             }

@@ -255,10 +255,18 @@ impl Client {
 
     /// Takes what was written to the client, in words.
     fn output(&mut self) -> Vec<String> {
-        let messages = decoded(self.connection.output());
-        self.connection
-            .sent(self.connection.output().len(), self.now);
-        messages
+        decoded(&self.bytes())
+    }
+
+    /// Takes what was written to the client.
+    fn bytes(&mut self) -> Vec<u8> {
+        let mut bytes = Vec::new();
+        while !self.connection.output().is_empty() {
+            let piece = self.connection.output().to_vec();
+            self.connection.sent(piece.len(), self.now);
+            bytes.extend(piece);
+        }
+        bytes
     }
 
     /// Sends a simple query, serves it, and returns what the client gets.
@@ -990,6 +998,31 @@ fn a_message_that_is_laid_out_wrongly_is_refused() {
 }
 
 #[test]
+fn a_sync_that_is_laid_out_wrongly_commits_nothing() {
+    let wrong = message(b'S', b"x");
+    let run = [
+        parse("", TAKE, &[]),
+        bind("", "", &[], 0, 0),
+        execute("", 0),
+    ]
+    .concat();
+    let mut client = Client::connected();
+    client.send(&[run, wrong.clone()].concat());
+    client.serve(&[(TAKE, RESERVED), ("ROLLBACK", ROLLED_BACK)]);
+    let told = [
+        "parsed",
+        "bound",
+        "complete UPDATE 1",
+        "ERROR 08P01",
+        "ready I",
+    ];
+    assert_eq!(client.output(), told);
+    // It ends the skipping behind an error, too.
+    client.send(&[message(b'B', b"\0\0"), wrong].concat());
+    assert_eq!(client.output(), ["ERROR 08P01", "ERROR 08P01", "ready I"]);
+}
+
+#[test]
 fn a_text_that_is_no_utf_8_is_refused() {
     let mut client = Client::connected();
     client.send(&message(b'Q', b"SELECT '\xff'\0"));
@@ -1094,7 +1127,7 @@ fn a_client_that_does_not_read_is_not_served_on() {
     let text = "SELECT * FROM stock";
     client.send(&[query(text), query(text)].concat());
     client.serve(&[("SHOW TABLE stock", STOCK), (text, &rows)]);
-    assert!(client.connection.output().len() > MOST_OUTPUT);
+    assert!(client.connection.output.len() > MOST_OUTPUT);
     assert!(!client.connection.wants_input());
     client.output();
     client.serve(&[("SHOW TABLE stock", STOCK), (text, &rows)]);
@@ -1155,11 +1188,8 @@ fn played(pieces: &[&[u8]]) -> (Vec<String>, Vec<u8>) {
                 .replied(plausible_reply(&line).as_bytes(), client.now);
             lines.push(line);
         }
-        output.extend_from_slice(client.connection.output());
-        client
-            .connection
-            .sent(client.connection.output().len(), client.now);
-        assert!(client.connection.output().len() <= 2 * MOST_OUTPUT);
+        assert!(client.connection.output.len() <= 2 * MOST_OUTPUT);
+        output.extend(client.bytes());
     }
     (lines, output)
 }

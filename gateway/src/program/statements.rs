@@ -2,6 +2,8 @@
 
 use std::io::{self, ErrorKind, Write};
 
+use escrowd_pg::queue::Queue;
+
 use super::sessions::{Number, SESSIONS};
 
 /// What the kernel takes from one write to a pipe whole or not at all (Linux's PIPE_BUF).
@@ -13,8 +15,8 @@ const ATOMIC: usize = 4096;
 /// in the pipe. The program would serve that part, and `WHERE id = 12` may be the beginning of `WHERE id = 123`.
 pub struct Statements {
     prefixes: Vec<Vec<u8>>,
-    bytes: Vec<u8>,
-    written: usize,
+    /// Each piece is one write.
+    lines: Queue,
 }
 
 impl Statements {
@@ -23,50 +25,39 @@ impl Statements {
         let prefixes = (1..=SESSIONS).map(|number| format!("bank.{number}: ").into_bytes());
         Statements {
             prefixes: prefixes.collect(),
-            bytes: Vec::new(),
-            written: 0,
+            lines: Queue::new(ATOMIC),
         }
     }
 
     /// Adds a statement, which has no line feed.
     pub fn push(&mut self, session: Number, statement: &[u8]) {
-        self.bytes
-            .extend_from_slice(&self.prefixes[session.place()]);
-        self.bytes.extend_from_slice(statement);
-        self.bytes.push(b'\n');
+        let prefix = &self.prefixes[session.place()];
+        // A line that is longer than a write would be cut; a connection makes none.
+        let piece = self.lines.room(prefix.len() + statement.len() + 1);
+        piece.extend_from_slice(prefix);
+        piece.extend_from_slice(statement);
+        piece.push(b'\n');
     }
 
     /// Returns whether the pipe has taken all.
     pub fn is_empty(&self) -> bool {
-        self.bytes.is_empty()
+        self.lines.is_empty()
     }
 
     /// Writes as much as `pipe` takes. Returns whether it took all.
     ///
     /// After an error other than that of a full pipe, the program reads nothing more.
     pub fn write(&mut self, pipe: &mut impl Write) -> io::Result<bool> {
-        while self.written < self.bytes.len() {
-            match pipe.write(whole_lines(&self.bytes[self.written..])) {
-                Ok(count) => self.written += count,
+        while !self.lines.is_empty() {
+            match pipe.write(self.lines.front()) {
+                Ok(count) => self.lines.take(count),
                 Err(error) if error.kind() == ErrorKind::WouldBlock => return Ok(false),
                 Err(error) if error.kind() == ErrorKind::Interrupted => {}
                 Err(error) => return Err(error),
             }
         }
-        self.bytes.clear();
-        self.written = 0;
         Ok(true)
     }
-}
-
-/// Returns the lines at the front that one write takes whole.
-fn whole_lines(bytes: &[u8]) -> &[u8] {
-    if bytes.len() <= ATOMIC {
-        return bytes;
-    }
-    let end = bytes[..ATOMIC].iter().rposition(|&byte| byte == b'\n');
-    // A line that is longer than the limit would have to be cut; a connection makes none.
-    &bytes[..end.map_or(ATOMIC, |end| end + 1)]
 }
 
 #[cfg(test)]
