@@ -83,6 +83,8 @@ impl SqlState {
     pub const TOO_MANY_CONNECTIONS: SqlState = SqlState("53300");
     /// 54000.
     pub const LIMIT_EXCEEDED: SqlState = SqlState("54000");
+    /// 54001.
+    pub const STATEMENT_TOO_COMPLEX: SqlState = SqlState("54001");
     /// 55000.
     pub const NOT_IN_PREREQUISITE_STATE: SqlState = SqlState("55000");
     /// 55006.

@@ -7,6 +7,7 @@ pub mod lexer;
 pub mod line;
 pub mod literal;
 pub mod parameters;
+pub mod parser;
 pub mod query;
 pub mod session;
 

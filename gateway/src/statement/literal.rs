@@ -1,7 +1,10 @@
 //! Names and texts as they are meant, out of how they are written.
 
+use std::borrow::Cow;
+
 use crate::sqlstate::{Failure, Report, SqlState};
 use crate::statement::lexer::{Token, TokenKind};
+use crate::statement::parser;
 
 /// The most bytes of a name, as in PostgreSQL. Longer ones are cut.
 pub const LONGEST_NAME: usize = 63;
@@ -9,7 +12,12 @@ pub const LONGEST_NAME: usize = 63;
 /// Returns a name as PostgreSQL means it: in lower case unless it is in quotes, and cut to 63 bytes.
 pub fn name(text: &str, token: &Token) -> String {
     let written = token.text(text);
-    let mut name = if token.kind == TokenKind::QuotedName {
+    folded(written, token.kind == TokenKind::QuotedName)
+}
+
+/// Returns a name as PostgreSQL means it, from how it is written.
+pub fn folded(written: &str, is_quoted: bool) -> String {
+    let mut name = if is_quoted {
         written[1..written.len() - 1].replace("\"\"", "\"")
     } else {
         written.to_ascii_lowercase()
@@ -37,6 +45,61 @@ pub fn text_value(text: &str, token: &Token) -> Result<String, Failure> {
         }
         _ => Ok(written[1..written.len() - 1].replace("''", "'")),
     }
+}
+
+/// Returns the delimiter of a text in dollar quotes with which `text` begins: `$$`, `$tag$`. None: there is none.
+pub fn dollar_quote(text: &str) -> Option<&str> {
+    let rest = text.strip_prefix('$')?;
+    let tag = &rest[..rest.find('$')?];
+    let is_start = |byte: u8| byte.is_ascii_alphabetic() || byte == b'_' || byte >= 0x80;
+    let is_tag = tag
+        .bytes()
+        .enumerate()
+        .all(|(place, byte)| is_start(byte) || (place > 0 && byte.is_ascii_digit()));
+    is_tag.then(|| &text[..tag.len() + 2])
+}
+
+/// Returns the text that a token of a text means, from how it is written.
+///
+/// # Errors
+///
+/// Fails if an escape of `E'..'` is none, or stands for no character.
+pub fn text_of(kind: parser::TokenKind, written: &str) -> Result<String, Failure> {
+    if kind == parser::TokenKind::DollarText {
+        let quote = dollar_quote(written).map_or(0, str::len);
+        return Ok(written[quote..written.len() - quote].to_owned());
+    }
+    let is_escaped = kind == parser::TokenKind::EscapedText;
+    let pieces = pieces(written, usize::from(is_escaped) + 1, is_escaped);
+    if is_escaped {
+        unescape(&pieces)
+    } else {
+        Ok(pieces.replace("''", "'"))
+    }
+}
+
+/// Joins the pieces of a text that goes on on other lines, without the quotes around them.
+fn pieces(written: &str, first: usize, is_escaped: bool) -> Cow<'_, str> {
+    let bytes = written.as_bytes();
+    let (mut joined, mut start, mut at) = (String::new(), first, first);
+    while at < bytes.len() {
+        match bytes[at] {
+            b'\\' if is_escaped => at += 2,
+            b'\'' if bytes.get(at + 1) == Some(&b'\'') => at += 2,
+            b'\'' if at + 1 < bytes.len() => {
+                joined.push_str(&written[start..at]);
+                at = parser::lexer::continuation(bytes, at + 1).unwrap_or(bytes.len());
+                start = at;
+            }
+            _ => at += 1,
+        }
+    }
+    let last = &written[start..written.len() - 1];
+    if joined.is_empty() {
+        return Cow::Borrowed(last);
+    }
+    joined.push_str(last);
+    Cow::Owned(joined)
 }
 
 fn unescape(written: &str) -> Result<String, Failure> {

@@ -140,6 +140,23 @@ pub struct FunctionCall {
     pub order: Vec<OrderBy>,
 }
 
+impl FunctionCall {
+    /// Makes a call of a function of the catalog, without its schema in front.
+    pub fn plain(name: &str, arguments: Vec<Expression>, span: Span) -> FunctionCall {
+        let text = name.to_owned();
+        FunctionCall {
+            name: QualifiedName {
+                schema: None,
+                name: Name { text, span },
+            },
+            arguments,
+            is_star: false,
+            is_distinct: false,
+            order: Vec::new(),
+        }
+    }
+}
+
 /// A column of a query's result.
 #[derive(Clone, Debug, PartialEq, Eq)]
 pub enum Target {
@@ -262,6 +279,8 @@ pub enum Body {
     Select(Box<Select>),
     /// VALUES
     Values(Vec<Vec<Expression>>),
+    /// A query in parentheses that has more than a body, as one side of UNION.
+    Query(Box<Query>),
     /// UNION, INTERSECT or EXCEPT of two: the word in capitals, whether ALL is there.
     Set(Box<Body>, String, bool, Box<Body>),
 }

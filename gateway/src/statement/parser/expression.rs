@@ -1,0 +1,793 @@
+//! Expressions (manual 4.2; `a_expr` and `c_expr` of PostgreSQL's grammar).
+
+use std::mem::size_of;
+
+use crate::sqlstate::{Failure, Report};
+use crate::statement::literal;
+use crate::statement::parser::lexer::Token;
+use crate::statement::parser::{keywords, Parser, TokenKind};
+use crate::statement::query::{
+    Expression, ExpressionKind, FunctionCall, IsWhat, Name, QualifiedName, Query, TypeName,
+};
+
+/// How tightly an operator binds what is around it, as PostgreSQL's grammar orders them.
+#[derive(Clone, Copy, Debug, PartialEq, Eq, PartialOrd, Ord)]
+pub(super) enum Binding {
+    Or,
+    And,
+    Not,
+    Is,
+    Comparison,
+    Membership,
+    Operator,
+    Sum,
+    Product,
+    Power,
+    TimeZone,
+    Collate,
+    Sign,
+    Subscript,
+}
+
+impl Binding {
+    /// Returns the next tighter one.
+    fn tighter(self) -> Binding {
+        match self {
+            Binding::Or => Binding::And,
+            Binding::And => Binding::Not,
+            Binding::Not => Binding::Is,
+            Binding::Is => Binding::Comparison,
+            Binding::Comparison => Binding::Membership,
+            Binding::Membership => Binding::Operator,
+            Binding::Operator => Binding::Sum,
+            Binding::Sum => Binding::Product,
+            Binding::Product => Binding::Power,
+            Binding::Power => Binding::TimeZone,
+            Binding::TimeZone => Binding::Collate,
+            Binding::Collate => Binding::Sign,
+            Binding::Sign | Binding::Subscript => Binding::Subscript,
+        }
+    }
+
+    /// Returns how tightly an operator binds that is written with signs.
+    fn of(operator: &str) -> Option<Binding> {
+        Some(match operator {
+            "=>" => return None,
+            "<" | ">" | "=" | "<=" | ">=" | "<>" | "!=" => Binding::Comparison,
+            "+" | "-" => Binding::Sum,
+            "*" | "/" | "%" => Binding::Product,
+            "^" => Binding::Power,
+            _ => Binding::Operator,
+        })
+    }
+}
+
+/// What was read in parentheses.
+pub(super) enum Parenthesized {
+    /// A query.
+    Query(Box<Query>),
+    /// An expression.
+    Expression(Expression),
+}
+
+/// An operator between two expressions.
+enum Infix {
+    /// It is written with signs, or by OPERATOR(), or as AND, OR, LIKE.
+    Binary(String),
+    /// IS and what follows.
+    Is,
+    /// ISNULL; true: NOTNULL.
+    IsNull(bool),
+    /// IN; true: NOT IN.
+    In(bool),
+    /// BETWEEN; true: NOT BETWEEN.
+    Between(bool),
+    /// AT TIME ZONE
+    TimeZone,
+    /// COLLATE
+    Collate,
+}
+
+impl<'a> Parser<'a> {
+    pub(super) fn expression_of(&mut self, kind: ExpressionKind, start: usize) -> Expression {
+        self.size += size_of::<Expression>();
+        let span = self.span_from(start);
+        Expression { kind, span }
+    }
+
+    /// Reads an expression.
+    pub(super) fn expression(&mut self) -> Result<Expression, Failure> {
+        self.expression_bound(Binding::Or)
+    }
+
+    /// Reads an expression of operators that bind at least so tightly.
+    pub(super) fn expression_bound(&mut self, least: Binding) -> Result<Expression, Failure> {
+        self.nested(|parser| {
+            let left = parser.prefixed()?;
+            parser.continued(left, least)
+        })
+    }
+
+    /// Reads an operand with what may be in front of it.
+    fn prefixed(&mut self) -> Result<Expression, Failure> {
+        let start = self.start();
+        if self.keyword("NOT") {
+            let operand = self.expression_bound(Binding::Not)?;
+            let kind = ExpressionKind::Unary("NOT".to_owned(), Box::new(operand));
+            return Ok(self.expression_of(kind, start));
+        }
+        let (operator, binding) = match self.operator() {
+            Some(sign @ ("-" | "+")) => (sign.to_owned(), Binding::Sign),
+            Some(operator) if Binding::of(operator) == Some(Binding::Operator) => {
+                (operator.to_owned(), Binding::Sum)
+            }
+            Some(_) => return Err(self.fault()),
+            None if self.at_keyword("OPERATOR") && self.at_symbol(1, b'(') => {
+                let operator = self.named_operator()?;
+                let operand = self.expression_bound(Binding::Sum)?;
+                let kind = ExpressionKind::Unary(operator, Box::new(operand));
+                return Ok(self.expression_of(kind, start));
+            }
+            None => return self.primary(),
+        };
+        self.at += 1;
+        let operand = self.expression_bound(binding)?;
+        let kind = ExpressionKind::Unary(operator, Box::new(operand));
+        Ok(self.expression_of(kind, start))
+    }
+
+    /// Returns the operator that follows an operand, how tightly it binds, and how many tokens it has.
+    fn infix(&mut self) -> Option<(Infix, Binding, usize)> {
+        if let Some(operator) = self.operator() {
+            let name = if operator == "!=" { "<>" } else { operator };
+            return Some((Infix::Binary(name.to_owned()), Binding::of(operator)?, 1));
+        }
+        let word = self.word()?;
+        let is = |keyword: &str| word.eq_ignore_ascii_case(keyword);
+        let binary = |name: &str| Infix::Binary(name.to_owned());
+        Some(if is("AND") {
+            (binary("AND"), Binding::And, 1)
+        } else if is("OR") {
+            (binary("OR"), Binding::Or, 1)
+        } else if is("IS") {
+            (Infix::Is, Binding::Is, 1)
+        } else if is("IN") {
+            (Infix::In(false), Binding::Membership, 1)
+        } else if is("LIKE") {
+            (binary("~~"), Binding::Membership, 1)
+        } else if is("ILIKE") {
+            (binary("~~*"), Binding::Membership, 1)
+        } else if is("BETWEEN") {
+            (Infix::Between(false), Binding::Membership, 1)
+        } else if is("ISNULL") {
+            (Infix::IsNull(false), Binding::Is, 1)
+        } else if is("NOTNULL") {
+            (Infix::IsNull(true), Binding::Is, 1)
+        } else if is("COLLATE") {
+            (Infix::Collate, Binding::Collate, 1)
+        } else if is("OPERATOR") && self.at_symbol(1, b'(') {
+            (binary(""), Binding::Operator, 0)
+        } else if is("AT") && self.at_keywords(&["AT", "TIME", "ZONE"]) {
+            (Infix::TimeZone, Binding::TimeZone, 3)
+        } else if is("NOT") {
+            let next = self.word_at(1)?;
+            let is = |keyword: &str| next.eq_ignore_ascii_case(keyword);
+            if is("IN") {
+                (Infix::In(true), Binding::Membership, 2)
+            } else if is("LIKE") {
+                (binary("!~~"), Binding::Membership, 2)
+            } else if is("ILIKE") {
+                (binary("!~~*"), Binding::Membership, 2)
+            } else if is("BETWEEN") {
+                (Infix::Between(true), Binding::Membership, 2)
+            } else {
+                return None;
+            }
+        } else {
+            return None;
+        })
+    }
+
+    /// Reads the operators behind an operand that bind at least so tightly, with their right sides.
+    pub(super) fn continued(
+        &mut self,
+        mut left: Expression,
+        least: Binding,
+    ) -> Result<Expression, Failure> {
+        // Of operators like these PostgreSQL's grammar takes only one.
+        let mut last = None;
+        while let Some((infix, binding, tokens)) = self.infix() {
+            if binding < least {
+                break;
+            }
+            if last == Some(binding) {
+                return Err(self.fault());
+            }
+            self.at += tokens;
+            let is_closed;
+            (left, is_closed) = self.infix_applied(left, infix, binding)?;
+            let is_single = matches!(
+                binding,
+                Binding::Is | Binding::Comparison | Binding::Membership
+            );
+            last = (is_single && !is_closed).then_some(binding);
+        }
+        if self.at_keyword("SIMILAR") || self.at_keywords(&["NOT", "SIMILAR"]) {
+            return Err(self.missing("SIMILAR TO"));
+        }
+        Ok(left)
+    }
+
+    /// Reads what follows an operator. Also returns whether it ends without an operand, or with one in parentheses.
+    fn infix_applied(
+        &mut self,
+        left: Expression,
+        infix: Infix,
+        binding: Binding,
+    ) -> Result<(Expression, bool), Failure> {
+        let start = left.span.start;
+        let left = Box::new(left);
+        let kind = match infix {
+            Infix::Binary(operator) => {
+                let operator = if operator.is_empty() {
+                    self.named_operator()?
+                } else {
+                    operator
+                };
+                if let Some(word) = self.keyword_of(&["ANY", "SOME", "ALL"]) {
+                    let right = Box::new(self.in_parentheses()?);
+                    let kind = ExpressionKind::Quantified(left, operator, word == "ALL", right);
+                    return Ok((self.expression_of(kind, start), true));
+                }
+                let right = self.expression_bound(binding.tighter())?;
+                if self.at_keyword("ESCAPE") && binding == Binding::Membership {
+                    return Err(self.missing("ESCAPE"));
+                }
+                ExpressionKind::Binary(left, operator, Box::new(right))
+            }
+            Infix::Is => {
+                let kind = self.is_what(left)?;
+                let is_closed = matches!(kind, ExpressionKind::Is(..));
+                return Ok((self.expression_of(kind, start), is_closed));
+            }
+            Infix::IsNull(not) => {
+                let kind = ExpressionKind::Is(left, IsWhat::Null, not);
+                return Ok((self.expression_of(kind, start), true));
+            }
+            Infix::In(not) => {
+                let kind = self.members(left, not)?;
+                return Ok((self.expression_of(kind, start), true));
+            }
+            Infix::Between(not) => {
+                if self.at_keyword("SYMMETRIC") {
+                    return Err(self.missing("BETWEEN SYMMETRIC"));
+                }
+                self.keyword("ASYMMETRIC");
+                let low = self.expression_bound(Binding::Operator)?;
+                self.expect_keyword("AND")?;
+                let high = self.expression_bound(Binding::Operator)?;
+                ExpressionKind::Between(left, Box::new(low), Box::new(high), not)
+            }
+            Infix::TimeZone => {
+                let zone = self.expression_bound(Binding::Collate)?;
+                self.call_of("timezone", vec![zone, *left], start)
+            }
+            Infix::Collate => {
+                let collation = self.qualified_name()?;
+                ExpressionKind::Collate(left, collation)
+            }
+        };
+        Ok((self.expression_of(kind, start), false))
+    }
+
+    fn is_what(&mut self, left: Box<Expression>) -> Result<ExpressionKind, Failure> {
+        let not = self.keyword("NOT");
+        if self.keywords(&["DISTINCT", "FROM"]) {
+            let operator = if not {
+                "IS NOT DISTINCT FROM"
+            } else {
+                "IS DISTINCT FROM"
+            };
+            let right = self.expression_bound(Binding::Comparison)?;
+            return Ok(ExpressionKind::Binary(
+                left,
+                operator.to_owned(),
+                Box::new(right),
+            ));
+        }
+        let what = match self.keyword_of(&["NULL", "TRUE", "FALSE", "UNKNOWN"]) {
+            Some("NULL") => IsWhat::Null,
+            Some("TRUE") => IsWhat::True,
+            Some("FALSE") => IsWhat::False,
+            Some(_) => IsWhat::Unknown,
+            None => return Err(self.fault()),
+        };
+        Ok(ExpressionKind::Is(left, what, not))
+    }
+
+    /// Reads what is behind IN.
+    fn members(&mut self, left: Box<Expression>, not: bool) -> Result<ExpressionKind, Failure> {
+        if self.at_query(1) && self.at_symbol(0, b'(') {
+            if let Parenthesized::Query(query) = self.parenthesized()? {
+                return Ok(ExpressionKind::InQuery(left, query, not));
+            }
+        }
+        let members = self.list_in_parentheses(Self::expression)?;
+        Ok(ExpressionKind::In(left, members, not))
+    }
+
+    /// Reads one expression, or a query, in parentheses.
+    fn in_parentheses(&mut self) -> Result<Expression, Failure> {
+        let start = self.start();
+        if !self.at_symbol(0, b'(') {
+            return Err(self.fault());
+        }
+        Ok(match self.parenthesized()? {
+            Parenthesized::Query(query) => {
+                self.expression_of(ExpressionKind::Subquery(query), start)
+            }
+            Parenthesized::Expression(expression) => expression,
+        })
+    }
+
+    /// Reads `OPERATOR(schema.operator)`.
+    fn named_operator(&mut self) -> Result<String, Failure> {
+        let start = self.start();
+        self.at += 2;
+        if self.operator().is_none() {
+            let schema = self.name()?;
+            self.expect_symbol(b'.')?;
+            if schema.text != "pg_catalog" {
+                let text = format!("an operator of the schema {}", schema.text);
+                return Err(Report::missing(&text).at(start));
+            }
+        }
+        let operator = match self.operator() {
+            Some("!=") => "<>",
+            Some(operator) => operator,
+            None => return Err(self.fault()),
+        };
+        self.at += 1;
+        self.expect_symbol(b')')?;
+        Ok(operator.to_owned())
+    }
+
+    /// Returns how far the first token is, from this distance on, that opens no parenthesis.
+    pub(super) fn behind_parentheses(&self, ahead: usize) -> usize {
+        let is_open = |token: &&Token| token.kind == TokenKind::Symbol(b'(');
+        let rest = self.tokens.list.get(self.at + ahead..).unwrap_or(&[]);
+        ahead + rest.iter().take_while(is_open).count()
+    }
+
+    /// Returns whether a query begins at this distance, behind parentheses perhaps.
+    pub(super) fn at_query(&self, ahead: usize) -> bool {
+        let first = self.behind_parentheses(ahead);
+        ["SELECT", "VALUES", "WITH", "TABLE"]
+            .iter()
+            .any(|keyword| self.at_keyword_ahead(first, keyword))
+    }
+
+    /// Reads what is in parentheses: an expression, several (a row), or a query.
+    pub(super) fn parenthesized(&mut self) -> Result<Parenthesized, Failure> {
+        self.nested(|parser| {
+            let start = parser.start();
+            parser.expect_symbol(b'(')?;
+            let first = if parser.at_symbol(0, b'(') {
+                let inner = parser.start();
+                match parser.parenthesized()? {
+                    Parenthesized::Query(query)
+                        if parser.at_symbol(0, b')') || parser.at_query_end() =>
+                    {
+                        let query = parser.query_from(*query)?;
+                        parser.expect_symbol(b')')?;
+                        return Ok(Parenthesized::Query(Box::new(query)));
+                    }
+                    Parenthesized::Query(query) => {
+                        let kind = ExpressionKind::Subquery(query);
+                        let operand = parser.expression_of(kind, inner);
+                        let operand = parser.postfixed(operand)?;
+                        parser.continued(operand, Binding::Or)?
+                    }
+                    Parenthesized::Expression(operand) => {
+                        let operand = parser.postfixed(operand)?;
+                        parser.continued(operand, Binding::Or)?
+                    }
+                }
+            } else if parser.at_query(0) {
+                let query = parser.query()?;
+                parser.expect_symbol(b')')?;
+                return Ok(Parenthesized::Query(Box::new(query)));
+            } else {
+                parser.expression()?
+            };
+            let kind = if parser.symbol(b',') {
+                let mut row = vec![first];
+                row.append(&mut parser.list(Self::expression)?);
+                ExpressionKind::Row(row)
+            } else {
+                first.kind
+            };
+            parser.expect_symbol(b')')?;
+            let span = parser.span_from(start);
+            Ok(Parenthesized::Expression(Expression { kind, span }))
+        })
+    }
+
+    /// Reads an operand, with the casts and subscripts behind it.
+    fn primary(&mut self) -> Result<Expression, Failure> {
+        let operand = self.operand()?;
+        self.postfixed(operand)
+    }
+
+    fn postfixed(&mut self, mut operand: Expression) -> Result<Expression, Failure> {
+        loop {
+            let start = operand.span.start;
+            let kind = if self.kind() == Some(TokenKind::Cast) {
+                self.at += 1;
+                ExpressionKind::Cast(Box::new(operand), self.type_name()?)
+            } else if self.symbol(b'[') {
+                let subscript = self.expression()?;
+                if self.at_symbol(0, b':') {
+                    return Err(self.missing("a slice of an array"));
+                }
+                self.expect_symbol(b']')?;
+                ExpressionKind::Subscript(Box::new(operand), Box::new(subscript))
+            } else if self.at_symbol(0, b'.') {
+                return Err(self.missing("a field of a row"));
+            } else {
+                return Ok(operand);
+            };
+            operand = self.expression_of(kind, start);
+        }
+    }
+
+    fn operand(&mut self) -> Result<Expression, Failure> {
+        let start = self.start();
+        let token = match self.peek() {
+            Some(token) => token,
+            None => return Err(self.fault()),
+        };
+        let kind = match token.kind {
+            TokenKind::Number => {
+                self.at += 1;
+                let number = token.text(self.text).to_owned();
+                self.size += number.len();
+                ExpressionKind::Number(number)
+            }
+            TokenKind::Text | TokenKind::EscapedText | TokenKind::DollarText => {
+                ExpressionKind::Text(self.text_value()?)
+            }
+            TokenKind::Parameter(number) => {
+                self.at += 1;
+                ExpressionKind::Parameter(number)
+            }
+            TokenKind::Symbol(b'(') => {
+                return match self.parenthesized()? {
+                    Parenthesized::Expression(expression) => Ok(expression),
+                    Parenthesized::Query(query) => {
+                        Ok(self.expression_of(ExpressionKind::Subquery(query), start))
+                    }
+                };
+            }
+            TokenKind::Word => match self.special_form()? {
+                Some(kind) => kind,
+                None => self.named()?,
+            },
+            TokenKind::QuotedName => self.named()?,
+            _ => return Err(self.fault()),
+        };
+        Ok(self.expression_of(kind, start))
+    }
+
+    /// Returns whether the next token is a text in quotes.
+    pub(super) fn at_text(&self) -> bool {
+        matches!(
+            self.kind(),
+            Some(TokenKind::Text | TokenKind::EscapedText | TokenKind::DollarText)
+        )
+    }
+
+    /// Reads a text in quotes.
+    pub(super) fn text_value(&mut self) -> Result<String, Failure> {
+        let token = match self.peek() {
+            Some(token) if self.at_text() => token,
+            _ => return Err(self.fault()),
+        };
+        let value = literal::text_of(token.kind, token.text(self.text))
+            .map_err(|report| report.at(token.span.start))?;
+        self.at += 1;
+        self.size += value.capacity();
+        Ok(value)
+    }
+
+    /// Makes a call of a function of the catalog that has words of its own in the grammar.
+    fn call_of(&mut self, name: &str, arguments: Vec<Expression>, start: usize) -> ExpressionKind {
+        self.size += name.len();
+        ExpressionKind::Function(FunctionCall::plain(name, arguments, self.span_from(start)))
+    }
+
+    /// Reads an operand that begins with a keyword. None: the next word is a name.
+    fn special_form(&mut self) -> Result<Option<ExpressionKind>, Failure> {
+        let start = self.start();
+        let word = self.word().unwrap_or("").to_ascii_uppercase();
+        let is_call = self.at_symbol(1, b'(');
+        let kind = match word.as_str() {
+            "NULL" => ExpressionKind::Null,
+            "TRUE" => ExpressionKind::Boolean(true),
+            "FALSE" => ExpressionKind::Boolean(false),
+            "DEFAULT" => return Err(self.missing("DEFAULT")),
+            "CURRENT_USER" | "CURRENT_ROLE" | "SESSION_USER" | "USER" | "CURRENT_CATALOG"
+            | "CURRENT_DATE" | "CURRENT_TIME" | "CURRENT_TIMESTAMP" | "LOCALTIME"
+            | "LOCALTIMESTAMP" => self.call_of(&word.to_ascii_lowercase(), Vec::new(), start),
+            "CURRENT_SCHEMA" if !is_call => self.call_of("current_schema", Vec::new(), start),
+            "CASE" => return self.case().map(Some),
+            "ARRAY" => return self.array().map(Some),
+            "EXISTS" if is_call => {
+                self.at += 1;
+                return match self.parenthesized()? {
+                    Parenthesized::Query(query) => Ok(Some(ExpressionKind::Exists(query))),
+                    Parenthesized::Expression(expression) => Err(Report::syntax(
+                        self.text,
+                        expression.span.start + 1,
+                        expression.span.end,
+                    )),
+                };
+            }
+            "CAST" if is_call => return self.cast().map(Some),
+            "ROW" if is_call => {
+                self.at += 2;
+                let row = if self.at_symbol(0, b')') {
+                    Vec::new()
+                } else {
+                    self.list(Self::expression)?
+                };
+                self.expect_symbol(b')')?;
+                return Ok(Some(ExpressionKind::Row(row)));
+            }
+            "COALESCE" | "NULLIF" | "GREATEST" | "LEAST" if is_call => {
+                self.at += 1;
+                let arguments = self.list_in_parentheses(Self::expression)?;
+                if word == "NULLIF" && arguments.len() != 2 {
+                    self.at -= 1;
+                    return Err(self.fault());
+                }
+                return Ok(Some(self.call_of(
+                    &word.to_ascii_lowercase(),
+                    arguments,
+                    start,
+                )));
+            }
+            "EXTRACT" | "POSITION" | "SUBSTRING" | "TRIM" if is_call => {
+                self.at += 2;
+                let kind = self.call_with_words(&word, start)?;
+                self.expect_symbol(b')')?;
+                return Ok(Some(kind));
+            }
+            "OVERLAY" | "NORMALIZE" | "TREAT" | "GROUPING" | "XMLCONCAT" | "XMLELEMENT"
+            | "XMLEXISTS" | "XMLFOREST" | "XMLPARSE" | "XMLPI" | "XMLROOT" | "XMLSERIALIZE"
+                if is_call =>
+            {
+                return Err(self.missing(&word));
+            }
+            _ => return self.typed_text(),
+        };
+        self.at += 1;
+        Ok(Some(kind))
+    }
+
+    /// Reads `type 'text'` of a type that has words of its own. None: the next word is a name.
+    fn typed_text(&mut self) -> Result<Option<ExpressionKind>, Failure> {
+        let at = self.at;
+        let type_name = match self.built_in_type()? {
+            Some(type_name) if self.at_text() => type_name,
+            Some(_) if self.at > at + 1 => return Err(self.fault()),
+            _ => {
+                self.at = at;
+                return Ok(None);
+            }
+        };
+        self.cast_text(type_name).map(Some)
+    }
+
+    fn cast_text(&mut self, type_name: TypeName) -> Result<ExpressionKind, Failure> {
+        let start = self.start();
+        let text = self.text_value()?;
+        let text = self.expression_of(ExpressionKind::Text(text), start);
+        Ok(ExpressionKind::Cast(Box::new(text), type_name))
+    }
+
+    /// Reads CASE.
+    fn case(&mut self) -> Result<ExpressionKind, Failure> {
+        self.at += 1;
+        let operand = if self.at_keyword("WHEN") {
+            None
+        } else {
+            Some(Box::new(self.expression()?))
+        };
+        let mut branches = Vec::new();
+        while self.keyword("WHEN") {
+            let condition = self.expression()?;
+            self.expect_keyword("THEN")?;
+            branches.push((condition, self.expression()?));
+        }
+        if branches.is_empty() {
+            return Err(self.fault());
+        }
+        self.size += branches.capacity() * size_of::<(Expression, Expression)>();
+        let otherwise = if self.keyword("ELSE") {
+            Some(Box::new(self.expression()?))
+        } else {
+            None
+        };
+        self.expect_keyword("END")?;
+        Ok(ExpressionKind::Case {
+            operand,
+            branches,
+            otherwise,
+        })
+    }
+
+    /// Reads `ARRAY[..]` and `ARRAY(SELECT ..)`.
+    fn array(&mut self) -> Result<ExpressionKind, Failure> {
+        self.at += 1;
+        if self.at_symbol(0, b'(') && self.at_query(1) {
+            if let Parenthesized::Query(query) = self.parenthesized()? {
+                return Ok(ExpressionKind::ArrayQuery(query));
+            }
+        }
+        self.expect_symbol(b'[')?;
+        let elements = if self.at_symbol(0, b']') {
+            Vec::new()
+        } else {
+            self.list(Self::expression)?
+        };
+        self.expect_symbol(b']')?;
+        Ok(ExpressionKind::Array(elements))
+    }
+
+    /// Reads `CAST(a AS type)`.
+    fn cast(&mut self) -> Result<ExpressionKind, Failure> {
+        self.at += 2;
+        let operand = self.expression()?;
+        self.expect_keyword("AS")?;
+        let type_name = self.type_name()?;
+        self.expect_symbol(b')')?;
+        Ok(ExpressionKind::Cast(Box::new(operand), type_name))
+    }
+
+    /// Reads the arguments of a function that may have words between them, from behind its parenthesis.
+    fn call_with_words(&mut self, word: &str, start: usize) -> Result<ExpressionKind, Failure> {
+        match word {
+            "EXTRACT" => {
+                let field_start = self.start();
+                let field = if self.at_text() {
+                    self.text_value()?
+                } else {
+                    self.label()?.text
+                };
+                let field = self.expression_of(ExpressionKind::Text(field), field_start);
+                self.expect_keyword("FROM")?;
+                let source = self.expression()?;
+                Ok(self.call_of("extract", vec![field, source], start))
+            }
+            "POSITION" => {
+                let piece = self.expression_bound(Binding::Operator)?;
+                self.expect_keyword("IN")?;
+                let text = self.expression_bound(Binding::Operator)?;
+                Ok(self.call_of("position", vec![text, piece], start))
+            }
+            "SUBSTRING" => {
+                let mut arguments = vec![self.expression()?];
+                while self.keyword_of(&["FROM", "FOR"]).is_some() || self.symbol(b',') {
+                    arguments.push(self.expression()?);
+                }
+                if self.at_keyword("SIMILAR") {
+                    return Err(self.missing("SUBSTRING .. SIMILAR"));
+                }
+                Ok(self.call_of("substring", arguments, start))
+            }
+            _ => {
+                let side = self.keyword_of(&["BOTH", "LEADING", "TRAILING"]);
+                let name = match side {
+                    Some("LEADING") => "ltrim",
+                    Some("TRAILING") => "rtrim",
+                    _ => "btrim",
+                };
+                let mut arguments = Vec::new();
+                if !self.at_keyword("FROM") {
+                    arguments = self.list(Self::expression)?;
+                }
+                if self.keyword("FROM") {
+                    let mut texts = self.list(Self::expression)?;
+                    texts.append(&mut arguments);
+                    arguments = texts;
+                }
+                Ok(self.call_of(name, arguments, start))
+            }
+        }
+    }
+
+    /// Reads an operand that begins with a name: a column, a call, or a text of a type.
+    fn named(&mut self) -> Result<ExpressionKind, Failure> {
+        let start = self.start();
+        let first = self.name_if(keywords::may_be_name)?;
+        let is_quoted = self.text.as_bytes().get(start) == Some(&b'"');
+        let mut names = vec![first];
+        while self.at_symbol(0, b'.') && !self.at_star(1) {
+            self.at += 1;
+            names.push(self.label()?);
+        }
+        let only = |may_be: fn(&str) -> bool| is_quoted || may_be(&names[0].text);
+        if self.at_symbol(0, b'(') || self.at_text() {
+            let may_be = if names.len() == 1 {
+                keywords::may_name_function
+            } else {
+                keywords::may_name_column
+            };
+            if !only(may_be) {
+                return Err(self.fault());
+            }
+            let name = self.qualified(names)?;
+            if self.at_symbol(0, b'(') {
+                return self.call(name).map(ExpressionKind::Function);
+            }
+            return self.cast_text(TypeName {
+                name,
+                modifiers: Vec::new(),
+                is_array: false,
+                span: self.span_from(start),
+            });
+        }
+        if !only(keywords::may_name_column) {
+            return Err(self.fault());
+        }
+        self.size += names.capacity() * size_of::<Name>();
+        Ok(ExpressionKind::Column(names))
+    }
+
+    fn at_star(&self, ahead: usize) -> bool {
+        self.operator_at(ahead) == Some("*")
+    }
+
+    /// Reads the arguments of a function, with their parentheses.
+    pub(super) fn call(&mut self, name: QualifiedName) -> Result<FunctionCall, Failure> {
+        self.expect_symbol(b'(')?;
+        let mut call = FunctionCall {
+            name,
+            arguments: Vec::new(),
+            is_star: false,
+            is_distinct: false,
+            order: Vec::new(),
+        };
+        if self.take_operator("*") {
+            call.is_star = true;
+        } else if !self.at_symbol(0, b')') {
+            call.is_distinct = self.keyword("DISTINCT");
+            if !call.is_distinct {
+                self.keyword("ALL");
+            }
+            call.arguments = self.list(|parser| {
+                if parser.at_keyword("VARIADIC") {
+                    return Err(parser.missing("VARIADIC"));
+                }
+                let argument = parser.expression()?;
+                if parser.operator() == Some("=>") || parser.kind() == Some(TokenKind::Pair) {
+                    return Err(parser.missing("an argument by its name"));
+                }
+                Ok(argument)
+            })?;
+            call.order = self.order_by()?;
+        }
+        self.expect_symbol(b')')?;
+        if self.at_keywords(&["WITHIN", "GROUP"]) {
+            return Err(self.missing("WITHIN GROUP"));
+        }
+        if self.at_keyword("FILTER") && self.at_symbol(1, b'(') {
+            return Err(self.missing("FILTER"));
+        }
+        if self.at_keyword("OVER") {
+            return Err(self.missing("a window function"));
+        }
+        Ok(call)
+    }
+}
