@@ -8,7 +8,9 @@ use std::time::Duration;
 
 use clap::builder::{OsStringValueParser, TypedValueParser};
 use clap::error::ErrorKind;
-use clap::{CommandFactory, Parser};
+use clap::{CommandFactory, Parser, ValueEnum};
+use escrowd_pg::variables::Limits;
+use tracing::Level;
 
 /// The longest name of a database, in bytes: PostgreSQL's clients cut longer ones.
 const NAME_LIMIT: usize = 63;
@@ -23,9 +25,9 @@ Clients connect to the Unix socket DIRECTORY/.s.PGSQL.PORT, for example by
 of the socket and its directory are the only access control.
 
 Exit status:
-  0  SIGTERM or SIGINT stopped it, and all programs exited without an error
+  0  a signal stopped it, and all programs exited without an error
   1  a system call failed, or a program exited with an error
-  2  wrong arguments
+  2  wrong arguments, or the file of the metrics is not a regular file
   3  a program cannot be started, or a store cannot be opened
   4  the socket cannot be created, or another process listens on it
   5  a program ended while it was in use
@@ -64,9 +66,42 @@ pub struct Args {
     #[arg(long, value_name = "SECONDS", default_value_t = 0)]
     idle_in_transaction_timeout: u32,
 
+    /// Ends connections whose transaction lasts longer than this. 0 means never
+    #[arg(long, value_name = "SECONDS", default_value_t = 0)]
+    transaction_timeout: u32,
+
     /// Writes metrics to FILE every ten seconds, for the textfile collector of node_exporter
     #[arg(long, value_name = "FILE")]
     pub metrics: Option<PathBuf>,
+
+    /// Logs what is at least this grave. `debug` shows each connection
+    #[arg(long, value_name = "LEVEL", value_enum, default_value_t = LogLevel::Info)]
+    pub log_level: LogLevel,
+}
+
+/// How grave a line of the log is.
+#[derive(Clone, Copy, Debug, PartialEq, Eq, ValueEnum)]
+pub enum LogLevel {
+    /// The gateway ends.
+    Error,
+    /// An operator should look.
+    Warning,
+    /// A store is open, the gateway stops.
+    Info,
+    /// A client connects or leaves.
+    Debug,
+}
+
+impl LogLevel {
+    /// Returns the level that a line must have at least.
+    pub fn level(self) -> Level {
+        match self {
+            LogLevel::Error => Level::ERROR,
+            LogLevel::Warning => Level::WARN,
+            LogLevel::Info => Level::INFO,
+            LogLevel::Debug => Level::DEBUG,
+        }
+    }
 }
 
 /// A database that is served.
@@ -101,13 +136,18 @@ impl Args {
         }
     }
 
-    /// Returns how long a connection may be idle inside a transaction, if there is a limit.
-    pub fn idle_in_transaction(&self) -> Option<Duration> {
-        match self.idle_in_transaction_timeout {
-            0 => None,
-            seconds => Some(Duration::from_secs(seconds.into())),
+    /// Returns how long transactions may be idle, and how long they may last.
+    pub fn limits(&self) -> Limits {
+        Limits {
+            idle_in_transaction: limit(self.idle_in_transaction_timeout),
+            transaction: limit(self.transaction_timeout),
         }
     }
+}
+
+/// Returns a limit of so many seconds. None: there is no limit.
+fn limit(seconds: u32) -> Option<Duration> {
+    Some(Duration::from_secs(seconds.into())).filter(|limit| !limit.is_zero())
 }
 
 /// Reads the permissions of a socket.
@@ -164,7 +204,8 @@ mod tests {
                 store: None
             }]
         );
-        assert_eq!(args.idle_in_transaction(), None);
+        assert_eq!(args.limits(), Limits::default());
+        assert_eq!(args.log_level.level(), Level::INFO);
         assert_eq!((args.program, args.metrics), (None, None));
     }
 
@@ -178,15 +219,23 @@ mod tests {
             "--database=other",
             "--program=/opt/escrowd",
             "--idle-in-transaction-timeout=30",
+            "--transaction-timeout=4294967295",
             "--metrics=/var/m.prom",
+            "--log-level=debug",
         ])
         .unwrap();
         assert_eq!((args.port, args.mode), (6432, 0o660));
         assert_eq!(args.databases[0].store, Some(PathBuf::from("/var/a=b.db")));
         assert_eq!(args.databases[1].store, None);
         assert_eq!(args.program, Some(PathBuf::from("/opt/escrowd")));
-        assert_eq!(args.idle_in_transaction(), Some(Duration::from_secs(30)));
+        let limits = args.limits();
+        assert_eq!(limits.idle_in_transaction, Some(Duration::from_secs(30)));
+        assert_eq!(
+            limits.transaction,
+            Some(Duration::from_secs(u32::MAX.into()))
+        );
         assert_eq!(args.metrics, Some(PathBuf::from("/var/m.prom")));
+        assert_eq!(args.log_level.level(), Level::DEBUG);
     }
 
     #[test]
@@ -210,7 +259,7 @@ mod tests {
     #[test]
     fn what_cannot_be_used_is_refused() {
         let long = "n".repeat(NAME_LIMIT + 1);
-        let refused: [&[&str]; 10] = [
+        let refused: [&[&str]; 12] = [
             &[],
             &["--listen", "x"],
             &["--database", "a"],
@@ -221,6 +270,15 @@ mod tests {
             &["--listen", "x", "--database", "a", "--database", "a=b"],
             &["--listen", "x", "--database", "a", "--mode", "1777"],
             &["--listen", "x", "--database", "a", "--port", "0"],
+            &["--listen", "x", "--database", "a", "--log-level", "loud"],
+            &[
+                "--listen",
+                "x",
+                "--database",
+                "a",
+                "--transaction-timeout",
+                "-1",
+            ],
         ];
         for words in refused {
             let error = read(words).expect_err(&format!("{words:?} was read"));

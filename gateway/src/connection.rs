@@ -20,7 +20,7 @@ use crate::rows::Definition;
 use crate::sqlstate::{Failure, Report, Severity, SqlState};
 use crate::statement::lexer::Token;
 use crate::statement::Kind;
-use crate::variables::Variables;
+use crate::variables::{Limits, Variables};
 use crate::wire::backend::{self, Status};
 use crate::wire::frontend::{self, Fault, Frame, Message, Raw};
 use channel::{Input, Output, Requests};
@@ -37,8 +37,8 @@ pub struct Settings {
     pub databases: Vec<String>,
     /// The version that `server_version` reports: PostgreSQL's number in front, as in `15.0 (escrowd 1.1)`.
     pub version: String,
-    /// How long a connection may be idle inside a transaction. None: forever.
-    pub idle_in_transaction: Option<Duration>,
+    /// How long transactions may last, unless a connection sets it for itself.
+    pub limits: Limits,
     /// How long a client may take for its startup.
     pub startup: Duration,
     /// The most connections of a database, for the text of the refusal.
@@ -167,7 +167,7 @@ pub struct Connection {
 impl Connection {
     /// Begins a connection, of which no byte has come yet. `process_id` is what BackendKeyData names.
     pub fn new(settings: Rc<Settings>, process_id: i32, now: Instant) -> Connection {
-        let variables = Variables::new(&settings.version, "", settings.idle_in_transaction);
+        let variables = Variables::new(&settings.version, "", settings.limits);
         let limit = now.checked_add(settings.startup);
         Connection {
             settings,
@@ -285,7 +285,10 @@ impl Connection {
         match self.phase {
             Phase::Startup(_) | Phase::Closing => self.limit,
             Phase::Opening => None,
-            Phase::Serving => self.idle_limit(),
+            Phase::Serving => {
+                let limits = [self.idle_limit(), self.transaction_limit()];
+                limits.iter().copied().flatten().min()
+            }
         }
     }
 
@@ -299,6 +302,7 @@ impl Connection {
             Phase::Startup(_) => self.close(),
             Phase::Closing => self.output.clear(),
             Phase::Opening => {}
+            Phase::Serving if self.transaction_is_too_long() => self.end_long_transaction(),
             Phase::Serving => self.die(Report::fatal(
                 SqlState::IDLE_IN_TRANSACTION_TIMEOUT,
                 "terminating connection due to idle-in-transaction timeout",
@@ -336,6 +340,9 @@ impl Connection {
     /// Does all that can be done without waiting for the program or for the client.
     fn advance(&mut self) {
         while self.work.is_none() && self.output.len() < MOST_OUTPUT {
+            if self.transaction_is_too_long() {
+                self.end_long_transaction();
+            }
             let goes_on = match self.phase {
                 Phase::Startup(_) => self.startup_packet(),
                 Phase::Opening | Phase::Closing => false,
@@ -459,7 +466,30 @@ impl Connection {
             return None;
         }
         self.idle_since
-            .checked_add(self.variables.idle_in_transaction()?)
+            .checked_add(self.variables.limits().idle_in_transaction?)
+    }
+
+    /// Returns when a transaction lasts too long, if one is open and nothing runs: what runs is answered first.
+    fn transaction_limit(&self) -> Option<Instant> {
+        if self.work.is_some() {
+            return None;
+        }
+        let since = self.transaction.since()?;
+        since.checked_add(self.variables.limits().transaction?)
+    }
+
+    /// Returns whether a transaction lasts too long.
+    fn transaction_is_too_long(&self) -> bool {
+        let is_over = |limit| limit <= self.now;
+        matches!(self.phase, Phase::Serving) && self.transaction_limit().map_or(false, is_over)
+    }
+
+    /// Ends the connection for the age of its transaction, as PostgreSQL 17 does.
+    fn end_long_transaction(&mut self) {
+        self.die(Report::fatal(
+            SqlState::TRANSACTION_TIMEOUT,
+            "terminating connection due to transaction timeout",
+        ));
     }
 
     /// Tells the client of a failure, and gives up what it is doing. `text` is the text that the place is of.

@@ -247,6 +247,7 @@ impl Engine {
             Some(number) => {
                 client.session = Some(Session { database, number });
                 client.connection.opened(Opened::Session, self.now);
+                activity::log_session(client);
                 enqueue(&mut self.queue, client, place);
                 true
             }
@@ -323,10 +324,15 @@ impl Engine {
         client.is_queued = false;
         client.write(self.poll.registry(), token, self.now);
         let database = client.database;
+        let mut refused = None;
         for event in client.connection.take_events() {
+            refused = activity::grave(event).or(refused);
             if let Some(metrics) = &self.metrics {
                 metrics.count(database, event);
             }
+        }
+        if let Some(state) = refused {
+            activity::log_refusal(client, state);
         }
         // What was sent made room, for input that waited in the connection too.
         self.forward(place);
@@ -335,6 +341,7 @@ impl Engine {
             None => return,
         };
         if client.is_done() {
+            activity::log_end(client);
             self.clients.remove(place);
             return;
         }

@@ -1,11 +1,16 @@
 //! What is said on standard error.
 
 use std::collections::VecDeque;
+use std::env;
+use std::fs::{File, Metadata};
 use std::io::{self, Write};
+use std::os::unix::fs::MetadataExt;
+use std::os::unix::io::AsFd;
 use std::sync::{Arc, Condvar, Mutex, MutexGuard, PoisonError};
 use std::thread;
 use std::time::Duration;
 
+use tracing::Level;
 use tracing_subscriber::fmt::MakeWriter;
 
 /// How many lines wait for a reader of standard error. Further ones are dropped, and counted.
@@ -14,14 +19,54 @@ const WAITING: usize = 1024;
 /// How long the end of the process waits for a reader of standard error.
 const PATIENCE: Duration = Duration::from_secs(1);
 
+/// The environment variable in which systemd names the device and the inode of the journal's stream.
+const JOURNAL: &str = "JOURNAL_STREAM";
+
 /// Lines on their way to standard error. A thread writes them, so that a reader that stands still stops nobody.
-#[derive(Clone, Default)]
+#[derive(Clone)]
 pub struct Log(Arc<Shared>);
 
-#[derive(Default)]
 struct Shared {
     queue: Mutex<Queue>,
     changed: Condvar,
+    style: Style,
+}
+
+/// What is in front of each line.
+#[derive(Clone, Copy, Debug, PartialEq, Eq)]
+enum Style {
+    /// The time and the level.
+    Plain,
+    /// The priority, as sd-daemon(3) says: the journal notes the time by itself, and takes the number off.
+    Journal,
+}
+
+impl Style {
+    /// Returns how the lines of standard error begin.
+    fn of_stderr() -> io::Result<Style> {
+        let stderr = File::from(io::stderr().as_fd().try_clone_to_owned()?);
+        let stream = env::var(JOURNAL).unwrap_or_default();
+        Ok(match is_stream(&stream, &stderr.metadata()?) {
+            true => Style::Journal,
+            false => Style::Plain,
+        })
+    }
+
+    /// Returns what is in front of a line of this level, and not written by the subscriber.
+    fn prefix(self, level: Level) -> &'static str {
+        match self {
+            Style::Plain => "",
+            Style::Journal if level == Level::ERROR => "<3>",
+            Style::Journal if level == Level::WARN => "<4>",
+            Style::Journal if level == Level::INFO => "<6>",
+            Style::Journal => "<7>",
+        }
+    }
+}
+
+/// Returns whether `named` is a file, by its device and inode: `DEVICE:INODE` in decimal.
+fn is_stream(named: &str, file: &Metadata) -> bool {
+    named == format!("{}:{}", file.dev(), file.ino())
 }
 
 #[derive(Default)]
@@ -34,32 +79,42 @@ struct Queue {
 
 impl Queue {
     /// Takes what is to be written next.
-    fn next(&mut self) -> Option<Vec<u8>> {
+    fn next(&mut self, style: Style) -> Option<Vec<u8>> {
         match std::mem::take(&mut self.dropped) {
             0 => self.lines.pop_front(),
-            dropped => Some(
-                format!("{dropped} lines were dropped: standard error was not read in time\n")
-                    .into_bytes(),
-            ),
+            dropped => {
+                let prefix = style.prefix(Level::WARN);
+                let text = "lines were dropped: standard error was not read in time";
+                Some(format!("{prefix}{dropped} {text}\n").into_bytes())
+            }
         }
     }
 }
 
 impl Log {
-    /// Begins to log to standard error. It is called once.
-    pub fn start() -> io::Result<Log> {
-        let log = Log::to(io::stderr())?;
-        tracing_subscriber::fmt()
+    /// Begins to log to standard error what is at least as grave as `level`. It is called once.
+    pub fn start(level: Level) -> io::Result<Log> {
+        let style = Style::of_stderr()?;
+        let log = Log::to(io::stderr(), style)?;
+        let lines = tracing_subscriber::fmt()
             .with_writer(log.clone())
+            .with_max_level(level)
             .with_target(false)
-            .with_ansi(false)
-            .init();
+            .with_ansi(false);
+        match style {
+            Style::Plain => lines.init(),
+            Style::Journal => lines.without_time().with_level(false).init(),
+        }
         Ok(log)
     }
 
     /// Writes lines to `writer`.
-    fn to(writer: impl Write + Send + 'static) -> io::Result<Log> {
-        let log = Log::default();
+    fn to(writer: impl Write + Send + 'static, style: Style) -> io::Result<Log> {
+        let log = Log(Arc::new(Shared {
+            queue: Mutex::default(),
+            changed: Condvar::new(),
+            style,
+        }));
         let shared = Arc::clone(&log.0);
         thread::Builder::new()
             .name("log".to_owned())
@@ -88,7 +143,7 @@ impl Shared {
     fn write_all(&self, mut writer: impl Write) {
         let mut queue = self.lock();
         loop {
-            let line = match queue.next() {
+            let line = match queue.next(self.style) {
                 Some(line) => line,
                 None => {
                     queue = self
@@ -109,12 +164,21 @@ impl Shared {
     }
 }
 
-impl Write for Log {
+/// Takes lines of one level.
+pub struct Lines {
+    log: Log,
+    level: Level,
+}
+
+impl Write for Lines {
+    /// Takes a whole line: a subscriber writes each at once.
     fn write(&mut self, line: &[u8]) -> io::Result<usize> {
-        let mut queue = self.0.lock();
+        let shared = &self.log.0;
+        let mut queue = shared.lock();
         if queue.lines.len() < WAITING {
-            queue.lines.push_back(line.to_vec());
-            self.0.changed.notify_all();
+            let prefix = shared.style.prefix(self.level).as_bytes();
+            queue.lines.push_back([prefix, line].concat());
+            shared.changed.notify_all();
         } else {
             queue.dropped += 1;
         }
@@ -127,10 +191,20 @@ impl Write for Log {
 }
 
 impl MakeWriter<'_> for Log {
-    type Writer = Log;
+    type Writer = Lines;
 
-    fn make_writer(&self) -> Log {
-        self.clone()
+    fn make_writer(&self) -> Lines {
+        Lines {
+            log: self.clone(),
+            level: Level::INFO,
+        }
+    }
+
+    fn make_writer_for(&self, line: &tracing::Metadata<'_>) -> Lines {
+        Lines {
+            level: *line.level(),
+            ..self.make_writer()
+        }
     }
 }
 
@@ -163,9 +237,9 @@ mod tests {
     fn a_reader_that_stands_still_stops_nobody() {
         let (word, wait) = channel();
         let (given, written) = channel();
-        let mut log = Log::to(Slow { word: wait, given }).unwrap();
+        let log = Log::to(Slow { word: wait, given }, Style::Plain).unwrap();
         for _ in 0..2 * WAITING {
-            log.write_all(b"line\n").unwrap();
+            log.make_writer().write_all(b"line\n").unwrap();
         }
         // The thread may hold one line beside those in the queue.
         let dropped = log.0.lock().dropped;
@@ -183,5 +257,47 @@ mod tests {
         let told = format!("{dropped} lines were dropped: standard error was not read in time\n")
             .into_bytes();
         assert!(written.contains(&told));
+    }
+
+    #[test]
+    fn the_journal_gets_priorities() {
+        let (word, wait) = channel();
+        let (given, written) = channel();
+        let log = Log::to(Slow { word: wait, given }, Style::Journal).unwrap();
+        for level in [
+            Level::ERROR,
+            Level::WARN,
+            Level::INFO,
+            Level::DEBUG,
+            Level::TRACE,
+        ] {
+            let mut lines = Lines {
+                level,
+                ..log.make_writer()
+            };
+            lines.write_all(b"line\n").unwrap();
+            word.send(()).unwrap();
+        }
+        log.finish();
+        let written: Vec<_> = written.try_iter().collect();
+        let expected = [
+            "<3>line\n",
+            "<4>line\n",
+            "<6>line\n",
+            "<7>line\n",
+            "<7>line\n",
+        ];
+        assert_eq!(written, expected.map(|line| line.as_bytes().to_vec()));
+    }
+
+    #[test]
+    fn a_stream_is_told_by_device_and_inode() {
+        let file = std::fs::metadata("/").unwrap();
+        assert!(is_stream(&format!("{}:{}", file.dev(), file.ino()), &file));
+        assert!(!is_stream(
+            &format!("{}:{}", file.dev(), file.ino() + 1),
+            &file
+        ));
+        assert!(!is_stream("", &file));
     }
 }

@@ -22,7 +22,7 @@ use log::Log;
 
 fn main() -> ExitCode {
     let args = Args::read();
-    let log = match Log::start() {
+    let log = match Log::start(args.log_level.level()) {
         Ok(log) => log,
         Err(error) => {
             eprintln!("escrowd-pg: the log cannot be started: {error}");

@@ -41,6 +41,8 @@ impl SqlState {
     pub const FAILED_TRANSACTION: SqlState = SqlState("25P02");
     /// 25P03.
     pub const IDLE_IN_TRANSACTION_TIMEOUT: SqlState = SqlState("25P03");
+    /// 25P04.
+    pub const TRANSACTION_TIMEOUT: SqlState = SqlState("25P04");
     /// 26000.
     pub const UNDEFINED_PREPARED_STATEMENT: SqlState = SqlState("26000");
     /// 28000.

@@ -78,11 +78,7 @@ static KNOWN: &[Known] = &[
     known("escape_string_warning", "on", Domain::Bool),
     known("extra_float_digits", "1", Domain::Integer),
     known("geqo", "on", Domain::Bool),
-    known(
-        "idle_in_transaction_session_timeout",
-        "0",
-        Domain::Milliseconds,
-    ),
+    known(IDLE_LIMIT, "0", Domain::Milliseconds),
     known("idle_session_timeout", "0", Domain::Milliseconds),
     reported("in_hot_standby", "off", Domain::Fixed),
     reported("integer_datetimes", "on", Domain::Fixed),
@@ -112,6 +108,7 @@ static KNOWN: &[Known] = &[
     known("transaction_deferrable", "off", Domain::Bool),
     known("transaction_isolation", "read committed", Domain::Isolation),
     known("transaction_read_only", "off", Domain::Bool),
+    known(TRANSACTION_LIMIT, "0", Domain::Milliseconds),
     known("work_mem", "4MB", Domain::Text),
     known("xmloption", "content", Domain::Text),
 ];
@@ -119,8 +116,23 @@ static KNOWN: &[Known] = &[
 /// The most bytes of a setting's value.
 const LONGEST_VALUE: usize = 4_096;
 
-/// The greatest time in milliseconds, as in PostgreSQL.
+/// The greatest time in milliseconds that a client may set, as in PostgreSQL.
 const MOST_MILLISECONDS: f64 = i32::MAX as f64;
+
+/// The setting that limits how long a transaction may be idle.
+const IDLE_LIMIT: &str = "idle_in_transaction_session_timeout";
+
+/// The setting that limits how long a transaction may last, as in PostgreSQL 17.
+const TRANSACTION_LIMIT: &str = "transaction_timeout";
+
+/// How long transactions may last. None: forever.
+#[derive(Clone, Copy, Debug, Default, PartialEq, Eq)]
+pub struct Limits {
+    /// How long one may wait for its client.
+    pub idle_in_transaction: Option<Duration>,
+    /// How long one may last.
+    pub transaction: Option<Duration>,
+}
 
 /// Values that differ from their defaults, by the place of their setting in `KNOWN`.
 type Values = BTreeMap<usize, String>;
@@ -134,8 +146,8 @@ pub struct Variables {
     session: Rc<Values>,
     /// The values of the transaction, in front of the session's.
     local: Rc<Values>,
-    /// How long a transaction may be idle, as these values say.
-    idle_in_transaction: Option<Duration>,
+    /// How long transactions may last, as these values say.
+    limits: Limits,
 }
 
 /// The values at a place of a transaction, to which a rollback goes back.
@@ -182,12 +194,12 @@ fn milliseconds(text: &str) -> Option<f64> {
         "d" => 86_400_000.0,
         _ => return None,
     };
-    let milliseconds = (number * unit).round();
-    if milliseconds.abs() <= MOST_MILLISECONDS {
-        Some(milliseconds)
-    } else {
-        None
-    }
+    Some((number * unit).round())
+}
+
+/// Returns whether a client may set a time of so many milliseconds.
+fn is_settable(milliseconds: &f64) -> bool {
+    milliseconds.abs() <= MOST_MILLISECONDS
 }
 
 /// Writes a time as SHOW prints it: in the largest unit that it is a whole number of.
@@ -245,7 +257,7 @@ fn canonical(known: &Known, value: &str) -> Result<String, Failure> {
             Ok(number) => Ok(number.to_string()),
             Err(_) => Err(bad()),
         },
-        Domain::Milliseconds => match milliseconds(value) {
+        Domain::Milliseconds => match milliseconds(value).filter(is_settable) {
             Some(time) if time >= 0.0 || known.name.starts_with("log_") => Ok(written_time(time)),
             Some(time) => Err(Report::error(
                 SqlState::INVALID_PARAMETER_VALUE,
@@ -302,8 +314,8 @@ pub fn no_isolation() -> Failure {
 }
 
 impl Variables {
-    /// Begins a session of this user. Without SET a transaction may be idle for `idle`.
-    pub fn new(version: &str, user: &str, idle: Option<Duration>) -> Variables {
+    /// Begins a session of this user. Without SET `limits` say how long its transactions may last.
+    pub fn new(version: &str, user: &str, limits: Limits) -> Variables {
         let mut values = Values::new();
         let mut put = |name: &str, value: String| {
             if let Ok(place) = place(name) {
@@ -312,18 +324,20 @@ impl Variables {
         };
         put("server_version", version.to_owned());
         put("session_authorization", user.to_owned());
-        if let Some(idle) = idle {
-            put(
-                "idle_in_transaction_session_timeout",
-                written_time(idle.as_millis() as f64),
-            );
+        for (name, limit) in [
+            (IDLE_LIMIT, limits.idle_in_transaction),
+            (TRANSACTION_LIMIT, limits.transaction),
+        ] {
+            if let Some(limit) = limit {
+                put(name, written_time(limit.as_millis() as f64));
+            }
         }
         let values = Rc::new(values);
         let mut variables = Variables {
             initial: Rc::clone(&values),
             session: values,
             local: Rc::new(Values::new()),
-            idle_in_transaction: None,
+            limits: Limits::default(),
         };
         variables.changed();
         variables
@@ -331,9 +345,16 @@ impl Variables {
 
     /// Reads the values that are asked for often.
     fn changed(&mut self) {
-        let time = milliseconds(self.value("idle_in_transaction_session_timeout"));
-        let time = time.filter(|&time| time >= 1.0);
-        self.idle_in_transaction = time.map(|time| Duration::from_millis(time as u64));
+        self.limits = Limits {
+            idle_in_transaction: self.limit(IDLE_LIMIT),
+            transaction: self.limit(TRANSACTION_LIMIT),
+        };
+    }
+
+    /// Returns the time of a setting. None: it is 0, which is no limit.
+    fn limit(&self, name: &str) -> Option<Duration> {
+        let time = milliseconds(self.value(name)).filter(|&time| time >= 1.0)?;
+        Some(Duration::from_millis(time as u64))
     }
 
     /// Makes the values that the session has now those to which RESET goes back.
@@ -427,9 +448,9 @@ impl Variables {
             .map(move |(place, known)| (known.name, self.at(place)))
     }
 
-    /// Returns how long a transaction may be idle. None: forever.
-    pub fn idle_in_transaction(&self) -> Option<Duration> {
-        self.idle_in_transaction
+    /// Returns how long transactions may last.
+    pub fn limits(&self) -> Limits {
+        self.limits
     }
 
     /// Returns whether the client wants warnings, and whether it wants notices.
@@ -491,7 +512,7 @@ mod tests {
     use super::*;
 
     fn variables() -> Variables {
-        Variables::new("15.0 (escrowd 1.1)", "ada", None)
+        Variables::new("15.0 (escrowd 1.1)", "ada", Limits::default())
     }
 
     #[test]
@@ -527,24 +548,38 @@ mod tests {
     }
 
     #[test]
-    fn the_idle_timeout_is_a_duration() {
+    fn a_limit_is_a_duration() {
         let mut variables = variables();
-        assert_eq!(variables.idle_in_transaction(), None);
-        let name = "idle_in_transaction_session_timeout";
-        variables.set(name, Some("1500"), false).unwrap();
-        assert_eq!(
-            variables.idle_in_transaction(),
-            Some(Duration::from_millis(1_500))
-        );
-        variables.set(name, Some("0"), true).unwrap();
-        assert_eq!(variables.idle_in_transaction(), None);
+        assert_eq!(variables.limits(), Limits::default());
+        variables.set(IDLE_LIMIT, Some("1500"), false).unwrap();
+        variables.set(TRANSACTION_LIMIT, Some("1h"), false).unwrap();
+        let limits = Limits {
+            idle_in_transaction: Some(Duration::from_millis(1_500)),
+            transaction: Some(Duration::from_secs(3_600)),
+        };
+        assert_eq!(variables.limits(), limits);
+        variables.set(IDLE_LIMIT, Some("0"), true).unwrap();
+        assert_eq!(variables.limits().idle_in_transaction, None);
         variables.end_transaction();
-        assert_eq!(
-            variables.idle_in_transaction(),
-            Some(Duration::from_millis(1_500))
-        );
-        let by_option = Variables::new("", "", Some(Duration::from_secs(30)));
-        assert_eq!(by_option.value(name), "30s");
+        assert_eq!(variables.limits(), limits);
+    }
+
+    #[test]
+    fn limits_of_the_gateway_may_be_longer_than_a_client_can_set() {
+        // PostgreSQL's settings end at 2,147,483,647 ms, which are 24.8 days.
+        let day = Duration::from_secs(86_400);
+        let limits = Limits {
+            idle_in_transaction: Some(30 * day),
+            transaction: Some(Duration::from_secs(u32::MAX.into())),
+        };
+        let mut variables = Variables::new("", "", limits);
+        assert_eq!(variables.limits(), limits);
+        assert_eq!(variables.value(IDLE_LIMIT), "30d");
+        variables.set(IDLE_LIMIT, Some("24d"), false).unwrap();
+        variables.set(IDLE_LIMIT, None, false).unwrap();
+        assert_eq!(variables.limits(), limits);
+        let refused = variables.set(IDLE_LIMIT, Some("30d"), false).unwrap_err();
+        assert_eq!(refused.state, SqlState::INVALID_PARAMETER_VALUE);
     }
 
     #[test]

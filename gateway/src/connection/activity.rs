@@ -26,6 +26,21 @@ impl Connection {
         self.process_id
     }
 
+    /// Returns the name of the database that it asked for, if that is served. Otherwise it is empty.
+    pub fn database(&self) -> &str {
+        &self.database
+    }
+
+    /// Returns the name that the client gave itself, as soon as it has named a database that is served.
+    pub fn user(&self) -> &str {
+        &self.user
+    }
+
+    /// Returns the setting `application_name`.
+    pub fn application_name(&self) -> &str {
+        self.variables.value("application_name")
+    }
+
     /// Returns what it does, if it serves its client. `session` is the number of its session.
     pub fn activity(&self, session: u8, clock: &Clock) -> Option<Activity> {
         if !matches!(self.phase, Phase::Serving) {
@@ -42,7 +57,7 @@ impl Connection {
             process_id: self.process_id,
             database: self.database.clone(),
             user: self.user.clone(),
-            application_name: self.variables.value("application_name").to_owned(),
+            application_name: self.application_name().to_owned(),
             session,
             since: clock.time_of(self.since),
             transaction_since: self.transaction.since().map(|it| clock.time_of(it)),

@@ -121,8 +121,8 @@ impl Connection {
             let text = format!("database \"{}\" does not exist", database);
             Report::fatal(SqlState::UNDEFINED_DATABASE, text)
         })?;
-        let idle = self.settings.idle_in_transaction;
-        self.variables = Variables::new(&self.settings.version, names.user, idle);
+        let limits = self.settings.limits;
+        self.variables = Variables::new(&self.settings.version, names.user, limits);
         for (name, value) in &names.settings {
             self.variables
                 .set(name, Some(value), false)

@@ -21,7 +21,7 @@ fn settings() -> Rc<Settings> {
     Rc::new(Settings {
         databases: vec!["bank".to_owned(), "shop".to_owned()],
         version: "15.0 (escrowd 1.1)".to_owned(),
-        idle_in_transaction: None,
+        limits: Limits::default(),
         startup: Duration::from_secs(10),
         sessions: 64,
     })
@@ -1050,7 +1050,7 @@ fn a_transaction_that_is_idle_too_long_ends() {
 #[test]
 fn a_pipeline_without_an_end_is_idle_too() {
     let mut settings = (*settings()).clone();
-    settings.idle_in_transaction = Some(Duration::from_secs(1));
+    settings.limits.idle_in_transaction = Some(Duration::from_secs(1));
     let mut client = Client::connected_with(Rc::new(settings));
     client.send(
         &[
@@ -1065,6 +1065,43 @@ fn a_pipeline_without_an_end_is_idle_too() {
     client.output();
     client.pass(Duration::from_secs(1));
     assert_eq!(client.output(), ["FATAL 25P03"]);
+}
+
+#[test]
+fn a_transaction_that_lasts_too_long_ends() {
+    let mut settings = (*settings()).clone();
+    settings.limits.transaction = Some(Duration::from_secs(60));
+    let mut client = Client::connected_with(Rc::new(settings));
+    client.pass(Duration::from_secs(100));
+    client.ask("BEGIN", &[]);
+    let end = client.now + Duration::from_secs(60);
+    // It counts from the begin, whatever the client does.
+    client.pass(Duration::from_secs(50));
+    client.ask(TAKE, &[(TAKE, RESERVED)]);
+    assert_eq!(client.connection.deadline(), Some(end));
+    client.pass(Duration::from_secs(9));
+    assert_eq!(client.output(), Vec::<String>::new());
+    // What runs is answered first, and what came behind it is not begun.
+    client.send(&[query(TAKE), query(TAKE)].concat());
+    client.take();
+    client.pass(Duration::from_secs(1));
+    assert_eq!(client.asked, [TAKE]);
+    client.serve_replies(&[RESERVED]);
+    assert_eq!(client.output(), ["complete UPDATE 1", "FATAL 25P04"]);
+    assert!(client.connection.is_closing());
+}
+
+#[test]
+fn the_age_of_a_transaction_can_be_limited_by_its_client() {
+    let mut client = Client::connected();
+    client.ask("SET transaction_timeout = '2s'", &[]);
+    client.ask("BEGIN", &[]);
+    client.ask("SET LOCAL transaction_timeout = 0", &[]);
+    assert_eq!(client.connection.deadline(), None);
+    client.ask("ROLLBACK", &[]);
+    client.ask("BEGIN", &[]);
+    client.pass(Duration::from_secs(2));
+    assert_eq!(client.output(), ["FATAL 25P04"]);
 }
 
 #[test]

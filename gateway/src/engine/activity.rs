@@ -1,12 +1,75 @@
-//! What the engine knows of all connections.
+//! What the engine knows of all connections, and what it logs of them.
 
 use std::time::SystemTime;
 
 use escrowd_pg::activity::{Activity, Clock};
-use escrowd_pg::connection::Ending;
-use tracing::info;
+use escrowd_pg::connection::{Ending, Event};
+use escrowd_pg::sqlstate::SqlState;
+use tracing::{debug, info, warn};
 
 use super::{enqueue, Engine};
+use crate::client::Client;
+
+/// Returns what an operator should know of an error that a client got, if it is one that needs a look.
+fn warning(state: SqlState) -> Option<&'static str> {
+    match state {
+        SqlState::IDLE_IN_TRANSACTION_TIMEOUT => {
+            Some("it was idle inside a transaction for too long")
+        }
+        SqlState::TRANSACTION_TIMEOUT => Some("its transaction lasted too long"),
+        SqlState::OUT_OF_MEMORY => Some("there is no memory for a statement"),
+        SqlState::TOO_MANY_CONNECTIONS => Some("all sessions of the database are taken"),
+        SqlState::IO_ERROR => Some("the store cannot be read or written"),
+        SqlState::INTERNAL_ERROR => Some("a reply of the program was not understood"),
+        _ => None,
+    }
+}
+
+/// Returns the SQLSTATE of an error that an operator should know of.
+pub(super) fn grave(event: Event) -> Option<SqlState> {
+    match event {
+        Event::Refused(state) if warning(state).is_some() => Some(state),
+        _ => None,
+    }
+}
+
+/// Logs an error that a client got, if an operator should look.
+pub(super) fn log_refusal(client: &Client, state: SqlState) {
+    if let Some(text) = warning(state) {
+        let connection = &client.connection;
+        warn!(
+            "{}: connection {} of user {:?}, application {:?}, got {}: {text}",
+            connection.database(),
+            connection.process_id(),
+            connection.user(),
+            connection.application_name(),
+            state.code(),
+        );
+    }
+}
+
+/// Logs that a client has a session.
+pub(super) fn log_session(client: &Client) {
+    if let Some(session) = client.session {
+        debug!(
+            "{}: connection {} of user {:?} has session {}",
+            client.connection.database(),
+            client.connection.process_id(),
+            client.connection.user(),
+            session.number.to_u8(),
+        );
+    }
+}
+
+/// Logs that a client left.
+pub(super) fn log_end(client: &Client) {
+    let connection = &client.connection;
+    debug!(
+        "{}: connection {} ended",
+        connection.database(),
+        connection.process_id()
+    );
+}
 
 impl Engine {
     /// Tells the client at `place` what all connections do.

@@ -68,7 +68,7 @@ impl Engine {
             settings: Rc::new(Settings {
                 databases: names,
                 version: format!("{POSTGRESQL} (escrowd {})", env!("CARGO_PKG_VERSION")),
-                idle_in_transaction: args.idle_in_transaction(),
+                limits: args.limits(),
                 startup: STARTUP,
                 sessions: SESSIONS,
             }),
