@@ -8,6 +8,7 @@ mod clients;
 mod deadlines;
 mod door;
 mod phases;
+mod signals;
 mod start;
 
 use std::collections::VecDeque;
@@ -27,6 +28,7 @@ use crate::metrics::Metrics;
 use crate::program::{self, Holder, Program, OPENED};
 use clients::Clients;
 use door::Door;
+use signals::HangUp;
 
 /// How many events one turn takes at most.
 const EVENTS: usize = 1024;
@@ -40,8 +42,11 @@ const FAREWELL: Duration = Duration::from_secs(10);
 /// How long clients may take to be told of a fault.
 const SHORT_FAREWELL: Duration = Duration::from_secs(1);
 
-/// How long programs may take to close their stores.
+/// How long programs may take to close their stores. Then they are killed: a store keeps what was answered.
 const CLOSING: Duration = Duration::from_secs(60);
+
+/// How long a killed program may take to end.
+const KILLING: Duration = Duration::from_secs(2);
 
 const SIGNALS: Token = Token(0);
 const LISTENER: Token = Token(1);
@@ -58,6 +63,8 @@ enum Phase {
     Leaving(Instant),
     /// Programs close their stores, until then at the latest.
     Closing(Instant),
+    /// Programs that didn't close their stores in time are killed, and waited for until then.
+    Killing(Instant),
     /// All is done.
     Finished,
 }
@@ -66,6 +73,9 @@ enum Phase {
 pub struct Engine {
     poll: Poll,
     signals: Signals,
+    hang_up: HangUp,
+    /// When a signal last asked for the end.
+    stopped: Option<Instant>,
     /// None: no client is accepted any more.
     door: Option<Door>,
     programs: Vec<Program>,

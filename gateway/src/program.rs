@@ -7,14 +7,14 @@ mod statements;
 use std::fs;
 use std::io::{self, ErrorKind, Read};
 use std::os::unix::fs::PermissionsExt;
-use std::path::Path;
+use std::path::{Path, PathBuf};
 use std::process::{Child, Command, ExitStatus, Stdio};
 use std::time::{Duration, Instant};
 
 use mio::event::Event;
 use mio::unix::pipe::{Receiver, Sender};
 use mio::{Interest, Registry, Token};
-use tracing::{info, warn};
+use tracing::{debug, info, warn};
 
 pub use sessions::{Holder, Number, SESSIONS};
 
@@ -35,6 +35,15 @@ pub const OPENED: &[u8] = b"\nOK statistics\n";
 
 /// How long the end of its output and its exit status may be apart.
 const END: Duration = Duration::from_secs(1);
+
+/// How long a program is started again if another one has its store open. One that a killed gateway left closes it.
+const LOCK: Duration = Duration::from_secs(10);
+
+/// How long after the end of a program it is started again.
+const RETRY: Duration = Duration::from_millis(100);
+
+/// How the program's line on standard error ends if another one has its store open.
+const LOCKED: &str = "another program has it open";
 
 /// How often a pipe is read in a turn, at most. Then others have their turn.
 const READS: usize = 16;
@@ -61,6 +70,8 @@ pub struct Reply<'a> {
 /// A program that serves a database.
 pub struct Program {
     database: Database,
+    path: PathBuf,
+    token: Token,
     child: Child,
     input: Option<Sender>,
     input_is_ready: bool,
@@ -77,6 +88,7 @@ pub struct Program {
     /// Whether its replies didn't fit.
     is_abandoned: bool,
     exit: Option<ExitStatus>,
+    is_killed: bool,
     ending_since: Option<Instant>,
 }
 
@@ -100,6 +112,8 @@ impl Program {
         pipes.register(registry, token).map_err(failed)?;
         let mut program = Program {
             database: database.clone(),
+            path: path.to_owned(),
+            token,
             child,
             input: Some(pipes.input),
             input_is_ready: true,
@@ -114,6 +128,7 @@ impl Program {
             is_told_to_end: false,
             is_abandoned: false,
             exit: None,
+            is_killed: false,
             ending_since: None,
         };
         // The program writes nothing until it is asked, and reads nothing until its store is open.
@@ -121,6 +136,30 @@ impl Program {
             program.ask(session, OPENING, now);
         }
         Ok(program)
+    }
+
+    /// Returns when to start it again, if it ended because another program has its store open. None: it is not to be
+    /// started again.
+    pub fn retry_at(&self) -> Option<Instant> {
+        let last = self.error_lines.last.as_deref().unwrap_or_default();
+        if self.is_open || self.exit.is_none() || !last.ends_with(LOCKED) {
+            return None;
+        }
+        let retry = self.ending_since? + RETRY;
+        Some(retry).filter(|&retry| retry < self.started + LOCK)
+    }
+
+    /// Starts it again, if it is time for that.
+    pub fn retry(&mut self, registry: &Registry, now: Instant) -> Result<(), Failure> {
+        let is_due = self.retry_at().map_or(false, |retry| retry <= now);
+        if is_due && self.has_exited(now) {
+            let started = self.started;
+            *self = Program {
+                started,
+                ..Program::start(&self.path, &self.database, registry, self.token, now)?
+            };
+        }
+        Ok(())
     }
 
     /// Notes what the system says of its pipe at this place, from 0.
@@ -268,6 +307,31 @@ impl Program {
         self.is_told_to_end = true;
     }
 
+    /// Lets it go on if somebody has stopped it (SIGSTOP): else it could neither answer nor close its store. systemd
+    /// does the same for a process that it ends.
+    pub fn let_go_on(&self) {
+        let id = self.child.id().to_string();
+        if self.exit.is_none() && is_stopped(&id) {
+            warn!(
+                "{}: the program was stopped, and goes on",
+                self.database.name
+            );
+            // If that fails, the program is killed in the end.
+            let _ = Command::new("/bin/sh")
+                .args(["-c", r#"kill -CONT "$1""#, "sh", &id])
+                .status();
+        }
+    }
+
+    /// Kills it, if it runs still. Its store keeps what was answered.
+    pub fn kill(&mut self) {
+        if self.exit.is_none() {
+            // If that fails, it has ended.
+            let _ = self.child.kill();
+            self.is_killed = true;
+        }
+    }
+
     /// Asks the system whether it has ended.
     pub fn look_for_end(&mut self, now: Instant) {
         if self.exit.is_none() {
@@ -311,6 +375,7 @@ impl Program {
     /// Describes how it ended, behind the word "program" and the name of its database.
     pub fn how_it_ended(&self) -> String {
         let mut text = match self.exit {
+            Some(_) if self.is_killed => "was killed before it closed its store".to_owned(),
             Some(exit) => format!("ended ({exit})"),
             None => "closed its output or its input".to_owned(),
         };
@@ -325,6 +390,16 @@ impl Program {
     pub fn name(&self) -> &str {
         &self.database.name
     }
+}
+
+/// Returns whether a process is stopped, as by SIGSTOP.
+fn is_stopped(process: &str) -> bool {
+    // The state follows the name of the program, which is in parentheses and may have some itself.
+    fs::read_to_string(format!("/proc/{process}/stat")).map_or(false, |text| {
+        text.rsplit(") ")
+            .next()
+            .map_or(false, |state| state.starts_with('T'))
+    })
 }
 
 /// Checks the reply to the ROLLBACK of a session that its client left.
@@ -479,8 +554,13 @@ impl ErrorLines {
     fn pass_on(&mut self, database: &str) {
         let line = String::from_utf8_lossy(&self.line).into_owned();
         self.line.clear();
-        if !line.is_empty() {
+        if line.ends_with(LOCKED) {
+            // It is said often, and at the end if the gateway gives up.
+            debug!("{database}: {line}");
+        } else if !line.is_empty() {
             warn!("{database}: {line}");
+        }
+        if !line.is_empty() {
             self.last = Some(line);
         }
     }

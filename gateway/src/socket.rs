@@ -5,11 +5,18 @@ use std::io::{self, ErrorKind};
 use std::os::unix::fs::{DirBuilderExt, FileTypeExt, MetadataExt, PermissionsExt};
 use std::os::unix::net::UnixListener;
 use std::path::{Path, PathBuf};
+use std::time::Duration;
 
 use thiserror::Error;
 
 /// How often a name is tried that others give and take away at the same time.
 const ATTEMPTS: u32 = 100;
+
+/// The name of the socket in its private folder.
+const SOCKET: &str = "s";
+
+/// After this time a folder without a socket that answers isn't one of a gateway that starts.
+const MOMENT: Duration = Duration::from_secs(60);
 
 /// Why the socket cannot be had.
 #[derive(Debug, Error)]
@@ -54,6 +61,7 @@ impl Socket {
         if name_is_taken(&path)? {
             return Err(SocketError::Answered(path));
         }
+        remove_left(folder);
         let private = PrivateFolder::make(folder).map_err(refused)?;
         let place = private.socket();
         let listener = UnixListener::bind(&place).map_err(refused)?;
@@ -196,7 +204,7 @@ impl PrivateFolder {
     }
 
     fn socket(&self) -> PathBuf {
-        self.path.join("s")
+        self.path.join(SOCKET)
     }
 
     fn aside(&self) -> PathBuf {
@@ -207,6 +215,44 @@ impl PrivateFolder {
     fn remove(&self) {
         let _ = fs::remove_dir_all(&self.path);
     }
+}
+
+/// Removes the folders in `folder` that gateways left when they were killed at their start.
+fn remove_left(folder: &Path) {
+    for entry in fs::read_dir(folder).into_iter().flatten().flatten() {
+        let path = entry.path();
+        let process = entry.file_name().to_str().and_then(process_of);
+        if process.map_or(false, |process| is_left(&path, process)) {
+            // If that fails, as for a folder of another user, it stays.
+            let _ = fs::remove_dir_all(&path);
+        }
+    }
+}
+
+/// Returns whether `path` is a folder that a process of this number made and that nobody uses.
+fn is_left(path: &Path, process: u32) -> bool {
+    let found = match fs::symlink_metadata(path) {
+        Ok(found) if found.is_dir() => found,
+        _ => return false,
+    };
+    if !matches!(name_is_taken(&path.join(SOCKET)), Ok(false)) {
+        return false;
+    }
+    // A gateway that starts needs a moment from the folder to its socket.
+    let age = found.modified().ok().and_then(|made| made.elapsed().ok());
+    age.map_or(false, |age| age > MOMENT) || process == std::process::id() || !is_running(process)
+}
+
+/// Returns the number of the process that made a folder of this name, if a gateway makes such.
+fn process_of(name: &str) -> Option<u32> {
+    let (process, number) = name.strip_prefix('.')?.split_once('.')?;
+    number.parse::<u32>().ok()?;
+    process.parse().ok()
+}
+
+/// Returns whether there is a process of this number.
+fn is_running(process: u32) -> bool {
+    Path::new("/proc").join(process.to_string()).exists()
 }
 
 impl Drop for PrivateFolder {
@@ -299,6 +345,35 @@ mod tests {
             Err(SocketError::NoSocket(_))
         ));
         assert_eq!(fs::read(&path).unwrap(), b"text");
+    }
+
+    #[test]
+    fn folders_of_killed_starts_are_removed() {
+        let folder = Folder::new("left");
+        // No process has a number above 2^22.
+        let (dead, own) = (u32::MAX, std::process::id());
+        for name in [
+            format!(".{dead}.0"),
+            format!(".{own}.7"),
+            format!(".{dead}.1"),
+        ] {
+            fs::create_dir(folder.0.join(name)).unwrap();
+        }
+        drop(UnixListener::bind(folder.0.join(format!(".{dead}.1/s"))).unwrap());
+        let kept = [".1.0".to_owned(), format!(".{dead}.2"), ".x.0".to_owned()];
+        for name in &kept {
+            fs::create_dir(folder.0.join(name)).unwrap();
+        }
+        let _starting = UnixListener::bind(folder.0.join(format!(".{dead}.2/s"))).unwrap();
+        std::os::unix::fs::symlink("/nowhere", folder.0.join(format!(".{dead}.3"))).unwrap();
+        let (socket, _listener) = Socket::bind(&folder.0, 5, 0o600).unwrap();
+        // The new one's own is beside those that stay.
+        assert_eq!(folder.entries(), kept.len() + 2);
+        drop(socket);
+        for name in &kept {
+            assert!(folder.0.join(name).exists(), "{name}");
+        }
+        assert_eq!(folder.entries(), kept.len() + 1);
     }
 
     #[test]

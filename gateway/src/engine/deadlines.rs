@@ -50,7 +50,7 @@ impl Engine {
     /// Returns how long to wait for something to be ready.
     pub(super) fn timeout(&self) -> Option<Duration> {
         let phase = match self.phase {
-            Phase::Leaving(until) | Phase::Closing(until) => Some(until),
+            Phase::Leaving(until) | Phase::Closing(until) | Phase::Killing(until) => Some(until),
             Phase::Opening | Phase::Serving | Phase::Finished => None,
         };
         let door = self.door.as_ref().and_then(Door::deadline);
@@ -59,8 +59,18 @@ impl Engine {
             .programs
             .iter()
             .map(|program| program.end_deadline(self.now));
+        let retries = self.programs.iter().map(|program| {
+            let is_ahead = |retry: &Instant| self.now < *retry;
+            program.retry_at().filter(is_ahead)
+        });
         let deadlines = [self.alarm, phase, door, metrics];
-        let next = deadlines.iter().copied().chain(ends).flatten().min()?;
+        let next = deadlines
+            .iter()
+            .copied()
+            .chain(ends)
+            .chain(retries)
+            .flatten()
+            .min()?;
         Some(next.saturating_duration_since(self.now))
     }
 }

@@ -1,7 +1,6 @@
 //! How the gateway begins and ends.
 
 use escrowd_pg::connection::Ending;
-use signal_hook::consts::SIGCHLD;
 use tracing::{error, info};
 
 use super::{enqueue, Engine, Phase, CLOSING, FAREWELL, LISTENER, SHORT_FAREWELL};
@@ -10,20 +9,6 @@ use crate::notify;
 use crate::program::Program;
 
 impl Engine {
-    /// Takes the signals that came.
-    pub(super) fn take_signals(&mut self) {
-        for signal in self.signals.pending() {
-            if signal == SIGCHLD {
-                for program in &mut self.programs {
-                    program.look_for_end(self.now);
-                }
-            } else if matches!(self.phase, Phase::Opening | Phase::Serving) {
-                info!("stopping");
-                self.leave(&Ending::Shutdown);
-            }
-        }
-    }
-
     /// Goes on to the next phases, as far as it is time for them.
     pub(super) fn act_on_phase(&mut self) {
         loop {
@@ -39,7 +24,9 @@ impl Engine {
     fn act_once(&mut self) {
         match self.phase {
             Phase::Opening => {
-                if !self.notice_end() && self.programs.iter().all(Program::is_open) {
+                if let Err(failure) = self.start_again() {
+                    self.fail(failure);
+                } else if !self.notice_end() && self.programs.iter().all(Program::is_open) {
                     self.open_door();
                 }
             }
@@ -55,17 +42,31 @@ impl Engine {
                 }
             }
             Phase::Closing(until) => {
-                let have_exited = self
-                    .programs
-                    .iter()
-                    .all(|program| program.has_exited(self.now));
-                if have_exited || until <= self.now {
-                    self.judge_ends();
-                    self.phase = Phase::Finished;
+                if self.have_exited() {
+                    self.finish_end();
+                } else if until <= self.now {
+                    self.kill_programs();
+                }
+            }
+            Phase::Killing(until) => {
+                if self.have_exited() || until <= self.now {
+                    self.finish_end();
                 }
             }
             Phase::Finished => {}
         }
+    }
+
+    /// Returns whether all programs have exited.
+    fn have_exited(&self) -> bool {
+        let now = self.now;
+        self.programs.iter().all(|program| program.has_exited(now))
+    }
+
+    /// Ends the gateway.
+    fn finish_end(&mut self) {
+        self.judge_ends();
+        self.phase = Phase::Finished;
     }
 
     /// Lets clients in.
@@ -87,13 +88,20 @@ impl Engine {
         }
     }
 
-    /// Ends the gateway if a program has ended. Returns whether one has.
+    /// Starts the programs again whose stores were still open in others.
+    fn start_again(&mut self) -> Result<(), Failure> {
+        let registry = self.poll.registry();
+        self.programs
+            .iter_mut()
+            .try_for_each(|program| program.retry(registry, self.now))
+    }
+
+    /// Ends the gateway if a program has ended, and won't be started again. Returns whether one has.
     fn notice_end(&mut self) -> bool {
-        let program = match self
-            .programs
-            .iter()
-            .find(|program| program.has_ended(self.now))
-        {
+        let is_opening = self.phase == Phase::Opening;
+        let program = match self.programs.iter().find(|program| {
+            program.has_ended(self.now) && !(is_opening && program.retry_at().is_some())
+        }) {
             None => return false,
             Some(program) => program,
         };
@@ -116,9 +124,10 @@ impl Engine {
     }
 
     /// Accepts no client any more, and tells those that are there of the end.
-    fn leave(&mut self, why: &Ending) {
+    pub(super) fn leave(&mut self, why: &Ending) {
         self.door = None;
         notify::stopping();
+        self.programs.iter().for_each(Program::let_go_on);
         for (place, client) in self.clients.iter_mut() {
             client.connection.end(why.clone(), self.now);
             enqueue(&mut self.queue, client, place);
@@ -135,7 +144,7 @@ impl Engine {
             let how = match program.has_exited(self.now) {
                 true if program.ended_well() => continue,
                 true => program.how_it_ended(),
-                false => format!("did not end within {} s", CLOSING.as_secs()),
+                false => "did not end when it was killed".to_owned(),
             };
             // A fault that ended all was told already.
             if self.failure.is_none() {

@@ -8,13 +8,12 @@ use std::rc::Rc;
 use std::time::{Duration, Instant};
 
 use escrowd_pg::connection::Settings;
-use mio::{Interest, Poll, Token};
-use signal_hook::consts::{SIGCHLD, SIGINT, SIGTERM};
-use signal_hook_mio::v0_8::Signals;
+use mio::{Poll, Token};
 
 use super::clients::Clients;
 use super::door::Door;
-use super::{Engine, Phase, PROGRAMS, SIGNALS};
+use super::signals;
+use super::{Engine, Phase, PROGRAMS};
 use crate::args::Args;
 use crate::failure::Failure;
 use crate::metrics::Metrics;
@@ -34,7 +33,7 @@ impl Engine {
     pub fn start(args: &Args) -> Result<Engine, Failure> {
         let now = Instant::now();
         let poll = Poll::new().map_err(Failure::system("epoll"))?;
-        let signals = watch_signals(&poll).map_err(Failure::system("signals"))?;
+        let (signals, hang_up) = signals::watch(&poll).map_err(Failure::system("signals"))?;
         let door = Door::make(&args.listen, args.port, args.mode)?;
         let path = program_path(args).map_err(Failure::system("the gateway's own path"))?;
         let mut programs = Vec::with_capacity(args.databases.len());
@@ -60,6 +59,8 @@ impl Engine {
         Ok(Engine {
             poll,
             signals,
+            hang_up,
+            stopped: None,
             door: Some(door),
             waiting: programs.iter().map(|_| VecDeque::new()).collect(),
             programs,
@@ -83,14 +84,6 @@ impl Engine {
             now,
         })
     }
-}
-
-/// Asks the system for the signals that end the gateway, and for those that tell of a program's end.
-fn watch_signals(poll: &Poll) -> io::Result<Signals> {
-    let mut signals = Signals::new([SIGTERM, SIGINT, SIGCHLD])?;
-    poll.registry()
-        .register(&mut signals, SIGNALS, Interest::READABLE)?;
-    Ok(signals)
 }
 
 /// Returns the path of the program that serves a database.
