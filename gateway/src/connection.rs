@@ -332,6 +332,11 @@ impl Connection {
         self.transaction.since()
     }
 
+    /// Returns how many reservations its transaction holds.
+    pub fn reservations(&self) -> u32 {
+        self.transaction.reservations
+    }
+
     /// Takes the facts for the metrics that came up since they were last taken.
     pub fn take_events(&mut self) -> std::vec::Drain<'_, Event> {
         self.events.drain(..)

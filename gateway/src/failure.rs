@@ -44,6 +44,14 @@ pub enum Failure {
         /// How it ended.
         how: String,
     },
+    /// The metrics cannot be written where they should be.
+    #[error("the metrics cannot be written to {}: {error}", path.display())]
+    Metrics {
+        /// The path that was given, or the one beside it.
+        path: PathBuf,
+        /// What is wrong with it.
+        error: io::Error,
+    },
     /// The socket cannot be had.
     #[error(transparent)]
     Socket(#[from] SocketError),
@@ -72,6 +80,7 @@ impl Failure {
     pub fn status(&self) -> u8 {
         match self {
             Failure::System { .. } | Failure::EndedBadly { .. } => 1,
+            Failure::Metrics { .. } => 2,
             Failure::NotStarted { .. } | Failure::NotOpened { .. } => 3,
             Failure::Socket(_) => 4,
             Failure::Ended { .. } => 5,

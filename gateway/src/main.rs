@@ -11,6 +11,8 @@ mod metrics;
 mod notify;
 mod program;
 mod socket;
+#[cfg(test)]
+mod temporary;
 
 use std::process::ExitCode;
 

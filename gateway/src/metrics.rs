@@ -1,12 +1,13 @@
 //! Metrics, written to a file for the textfile collector of node_exporter.
 
-use std::fs;
-use std::io::{self, ErrorKind};
+use std::fs::{self, OpenOptions};
+use std::io::{self, ErrorKind, Write};
 use std::path::{Path, PathBuf};
 use std::time::{Duration, Instant};
 
 use escrowd_pg::connection::Event;
 use escrowd_pg::statement::Kind;
+use prometheus::core::Collector;
 use prometheus::local::LocalHistogram;
 use prometheus::{
     Encoder, Gauge, GaugeVec, HistogramOpts, HistogramVec, IntCounter, IntCounterVec, IntGauge,
@@ -14,15 +15,20 @@ use prometheus::{
 };
 use tracing::{info, warn};
 
+use crate::args::Database;
+use crate::failure::Failure;
 use crate::program::Program;
 
 /// How often the file is written.
 const INTERVAL: Duration = Duration::from_secs(10);
 
-/// The upper ends of the histogram's buckets, in microseconds.
+/// The upper ends of the histograms' buckets, in microseconds.
 const MICROSECONDS: [f64; 16] = [
     20.0, 50.0, 100.0, 200.0, 500.0, 1e3, 2e3, 5e3, 1e4, 2e4, 5e4, 1e5, 2e5, 5e5, 1e6, 1e7,
 ];
+
+/// How many microseconds a second has.
+const MILLION: f64 = 1e6;
 
 /// The metrics of all databases, and their file.
 pub struct Metrics {
@@ -42,9 +48,29 @@ struct DatabaseMetrics {
     committed: IntCounter,
     rolled_back: IntCounter,
     connections: IntGauge,
+    reservations: IntGauge,
     oldest: Gauge,
-    durations: LocalHistogram,
+    seconds: LocalHistogram,
+    microseconds: LocalHistogram,
+    store: Option<StoreMetrics>,
     name: String,
+}
+
+/// What is measured of a database's files.
+struct StoreMetrics {
+    path: PathBuf,
+    log_path: PathBuf,
+    bytes: IntGauge,
+    log_bytes: IntGauge,
+}
+
+impl StoreMetrics {
+    /// Reads the sizes of the files. One that does not exist has none.
+    fn measure(&self) {
+        let size = |path: &Path| fs::metadata(path).map_or(0, |found| found.len() as i64);
+        self.bytes.set(size(&self.path));
+        self.log_bytes.set(size(&self.log_path));
+    }
 }
 
 /// What is true of a database at the moment.
@@ -52,6 +78,8 @@ struct DatabaseMetrics {
 pub struct State {
     /// How many clients have a session.
     pub connections: usize,
+    /// How many reservations their transactions hold.
+    pub reservations: u32,
     /// When the oldest open transaction began.
     pub oldest: Option<Instant>,
 }
@@ -61,30 +89,49 @@ impl State {
     pub fn of(program: &Program) -> State {
         State {
             connections: program.clients(),
-            oldest: None,
+            ..State::default()
         }
     }
 
-    /// Adds a client, with the time at which its transaction began, if it has one.
-    pub fn add(&mut self, transaction: Option<Instant>) {
+    /// Adds a client: the time at which its transaction began, if it has one, and how many reservations it holds.
+    pub fn add(&mut self, transaction: Option<Instant>, reservations: u32) {
         self.oldest = self.oldest.into_iter().chain(transaction).min();
+        self.reservations += reservations;
     }
 }
 
 impl Metrics {
-    /// Returns metrics of these databases, which are written to `path`.
-    pub fn new(databases: &[String], path: &Path, now: Instant) -> prometheus::Result<Metrics> {
-        let registry = Registry::new();
-        let families = Families::register(&registry)?;
-        let mut beside = path.as_os_str().to_owned();
+    /// Returns metrics of these databases, each of which serves so many sessions. They are written to `path`.
+    ///
+    /// # Errors
+    ///
+    /// Fails if the path, or that beside it which is written first, has another kind of file than a regular one.
+    pub fn new(
+        databases: &[Database],
+        sessions: usize,
+        path: &Path,
+        now: Instant,
+    ) -> Result<Metrics, Failure> {
         // The collector reads files that end in `.prom` alone.
-        beside.push(".new");
+        let beside = with_suffix(path, ".new");
+        for path in [path, &beside] {
+            check_regular(path).map_err(|error| Failure::Metrics {
+                path: path.to_owned(),
+                error,
+            })?;
+        }
+        let failed = |error| Failure::system("metrics")(io::Error::new(ErrorKind::Other, error));
+        let registry = Registry::new();
+        let families = Families::register(&registry).map_err(failed)?;
+        let version = env!("CARGO_PKG_VERSION");
+        families.build.with_label_values(&[version]).set(1);
+        let of = |database| families.of(database, sessions);
         Ok(Metrics {
+            databases: databases.iter().map(of).collect(),
             registry,
-            databases: databases.iter().map(|name| families.of(name)).collect(),
             refusals: families.refusals.clone(),
             path: path.to_owned(),
-            beside: beside.into(),
+            beside,
             due: now,
             is_failing: false,
         })
@@ -103,9 +150,10 @@ impl Metrics {
 
     /// Notes how long the program of a database took to answer a statement.
     pub fn answered(&self, database: usize, duration: Duration) {
-        self.databases[database]
-            .durations
-            .observe(duration.as_secs_f64() * 1e6);
+        let seconds = duration.as_secs_f64();
+        let database = &self.databases[database];
+        database.seconds.observe(seconds);
+        database.microseconds.observe(seconds * MILLION);
     }
 
     /// Returns when the file is to be written.
@@ -141,7 +189,16 @@ impl Metrics {
         TextEncoder::new()
             .encode(&self.registry.gather(), &mut text)
             .map_err(|error| io::Error::new(ErrorKind::Other, error))?;
-        fs::write(&self.beside, &text)?;
+        check_regular(&self.path)?;
+        // What a killed gateway left is removed. A link or a pipe that somebody put there is neither followed nor opened.
+        if check_regular(&self.beside)? {
+            fs::remove_file(&self.beside)?;
+        }
+        OpenOptions::new()
+            .write(true)
+            .create_new(true)
+            .open(&self.beside)?
+            .write_all(&text)?;
         fs::rename(&self.beside, &self.path)
     }
 
@@ -169,8 +226,13 @@ impl DatabaseMetrics {
 
     /// Sets what is true at the moment.
     fn show(&self, state: &State, now: Instant) {
-        self.durations.flush();
+        self.seconds.flush();
+        self.microseconds.flush();
+        if let Some(store) = &self.store {
+            store.measure();
+        }
         self.connections.set(state.connections as i64);
+        self.reservations.set(state.reservations.into());
         let age = state
             .oldest
             .map_or(Duration::ZERO, |since| now.saturating_duration_since(since));
@@ -178,70 +240,120 @@ impl DatabaseMetrics {
     }
 }
 
+/// Returns whether there is a file at `path`.
+///
+/// # Errors
+///
+/// Fails if it is not a regular file: a link would be followed, and a pipe waited for.
+fn check_regular(path: &Path) -> io::Result<bool> {
+    match fs::symlink_metadata(path) {
+        Ok(found) if found.is_file() => Ok(true),
+        Ok(_) => {
+            let text = format!("{} is not a regular file", path.display());
+            Err(io::Error::new(ErrorKind::Other, text))
+        }
+        Err(error) if error.kind() == ErrorKind::NotFound => Ok(false),
+        Err(error) => Err(error),
+    }
+}
+
+/// Returns a path with a text behind it.
+fn with_suffix(path: &Path, suffix: &str) -> PathBuf {
+    let mut path = path.as_os_str().to_owned();
+    path.push(suffix);
+    path.into()
+}
+
 /// The metrics before they are told apart by database.
 struct Families {
+    build: IntGaugeVec,
     statements: IntCounterVec,
     refusals: IntCounterVec,
     transactions: IntCounterVec,
     connections: IntGaugeVec,
+    most_connections: IntGaugeVec,
+    reservations: IntGaugeVec,
     oldest: GaugeVec,
-    durations: HistogramVec,
+    seconds: HistogramVec,
+    microseconds: HistogramVec,
+    store: IntGaugeVec,
 }
 
 impl Families {
     fn register(registry: &Registry) -> prometheus::Result<Families> {
-        let families = Families {
-            statements: IntCounterVec::new(
-                Opts::new(
-                    "escrowd_pg_statements_total",
-                    "Statements that clients sent, by kind.",
-                ),
+        let counters = |name, help, labels: &[&str]| {
+            registered(registry, IntCounterVec::new(Opts::new(name, help), labels)?)
+        };
+        let gauges = |name, help, labels: &[&str]| {
+            registered(registry, IntGaugeVec::new(Opts::new(name, help), labels)?)
+        };
+        let histograms = |name, help, buckets| {
+            let options = HistogramOpts::new(name, help).buckets(buckets);
+            registered(registry, HistogramVec::new(options, &["database"])?)
+        };
+        let oldest = Opts::new(
+            "escrowd_pg_oldest_transaction_seconds",
+            "The age of the oldest open transaction, 0 if none is open.",
+        );
+        Ok(Families {
+            build: gauges(
+                "escrowd_pg_build_info",
+                "1, with the version of the gateway.",
+                &["version"],
+            )?,
+            statements: counters(
+                "escrowd_pg_statements_total",
+                "Statements that clients sent, by kind.",
                 &["database", "kind"],
             )?,
-            refusals: IntCounterVec::new(
-                Opts::new(
-                    "escrowd_pg_refusals_total",
-                    "Errors that clients got, by SQLSTATE.",
-                ),
+            refusals: counters(
+                "escrowd_pg_refusals_total",
+                "Errors that clients got, by SQLSTATE.",
                 &["database", "sqlstate"],
             )?,
-            transactions: IntCounterVec::new(
-                Opts::new(
-                    "escrowd_pg_transactions_total",
-                    "Transactions that ended, by outcome.",
-                ),
+            transactions: counters(
+                "escrowd_pg_transactions_total",
+                "Transactions that ended, by outcome.",
                 &["database", "outcome"],
             )?,
-            connections: IntGaugeVec::new(
-                Opts::new("escrowd_pg_connections", "Clients that have a session."),
+            connections: gauges(
+                "escrowd_pg_connections",
+                "Clients that have a session.",
                 &["database"],
             )?,
-            oldest: GaugeVec::new(
-                Opts::new(
-                    "escrowd_pg_oldest_transaction_seconds",
-                    "The age of the oldest open transaction, 0 if none is open.",
-                ),
+            most_connections: gauges(
+                "escrowd_pg_connections_max",
+                "Clients that can have a session at a time.",
                 &["database"],
             )?,
-            durations: HistogramVec::new(
-                HistogramOpts::new(
-                    "escrowd_pg_statement_microseconds",
-                    "The time from a statement to its program's reply, in microseconds.",
-                )
-                .buckets(MICROSECONDS.to_vec()),
+            reservations: gauges(
+                "escrowd_pg_reservations",
+                "Reservations of open transactions.",
                 &["database"],
             )?,
-        };
-        registry.register(Box::new(families.statements.clone()))?;
-        registry.register(Box::new(families.refusals.clone()))?;
-        registry.register(Box::new(families.transactions.clone()))?;
-        registry.register(Box::new(families.connections.clone()))?;
-        registry.register(Box::new(families.oldest.clone()))?;
-        registry.register(Box::new(families.durations.clone()))?;
-        Ok(families)
+            oldest: registered(registry, GaugeVec::new(oldest, &["database"])?)?,
+            seconds: histograms(
+                "escrowd_pg_statement_seconds",
+                "The time from a statement to its program's reply.",
+                MICROSECONDS.iter().map(|end| end / MILLION).collect(),
+            )?,
+            microseconds: histograms(
+                "escrowd_pg_statement_microseconds",
+                "Deprecated: escrowd_pg_statement_seconds in microseconds.",
+                MICROSECONDS.to_vec(),
+            )?,
+            store: gauges(
+                "escrowd_pg_store_bytes",
+                "The sizes of a store and of the log beside it.",
+                &["database", "file"],
+            )?,
+        })
     }
 
-    fn of(&self, name: &str) -> DatabaseMetrics {
+    fn of(&self, database: &Database, sessions: usize) -> DatabaseMetrics {
+        let name = database.name.as_str();
+        let most = self.most_connections.with_label_values(&[name]);
+        most.set(sessions as i64);
         let statements = Kind::ALL.iter();
         DatabaseMetrics {
             statements: statements
@@ -251,25 +363,51 @@ impl Families {
             committed: self.transactions.with_label_values(&[name, "committed"]),
             rolled_back: self.transactions.with_label_values(&[name, "rolled_back"]),
             connections: self.connections.with_label_values(&[name]),
+            reservations: self.reservations.with_label_values(&[name]),
             oldest: self.oldest.with_label_values(&[name]),
-            durations: self.durations.with_label_values(&[name]).local(),
+            seconds: self.seconds.with_label_values(&[name]).local(),
+            microseconds: self.microseconds.with_label_values(&[name]).local(),
+            store: database.store.as_deref().map(|path| StoreMetrics {
+                path: path.to_owned(),
+                log_path: with_suffix(path, "-wal"),
+                bytes: self.store.with_label_values(&[name, "store"]),
+                log_bytes: self.store.with_label_values(&[name, "log"]),
+            }),
             name: name.to_owned(),
         }
     }
 }
 
+/// Adds metrics to a registry, and returns them.
+fn registered<T: Collector + Clone + 'static>(
+    registry: &Registry,
+    family: T,
+) -> prometheus::Result<T> {
+    registry.register(Box::new(family.clone()))?;
+    Ok(family)
+}
+
 #[cfg(test)]
 mod tests {
     use super::*;
+    use crate::temporary::Folder;
+
+    fn database(name: &str, store: Option<PathBuf>) -> Database {
+        Database {
+            name: name.to_owned(),
+            store,
+        }
+    }
 
     #[test]
     fn the_file_has_what_was_counted() {
-        let folder = std::env::temp_dir().join(format!("escrowd-pg-{}-m", std::process::id()));
-        fs::create_dir(&folder).unwrap();
-        let path = folder.join("escrowd.prom");
+        let folder = Folder::new("metrics");
+        let path = folder.0.join("escrowd.prom");
+        let store = folder.0.join("shop.db");
+        fs::write(&store, [0; 4096]).unwrap();
         let start = Instant::now();
-        let names = ["shop".to_owned(), "other".to_owned()];
-        let mut metrics = Metrics::new(&names, &path, start).unwrap();
+        let databases = [database("shop", Some(store)), database("other", None)];
+        let mut metrics = Metrics::new(&databases, 64, &path, start).unwrap();
         metrics.count(Some(0), Event::Statement(Kind::ALL[0]));
         metrics.count(Some(0), Event::Committed);
         metrics.count(Some(0), Event::Committed);
@@ -277,43 +415,81 @@ mod tests {
         metrics.answered(0, Duration::from_micros(30));
         let mut state = State {
             connections: 3,
-            oldest: None,
+            ..State::default()
         };
-        for since in [
-            None,
-            Some(start + Duration::from_secs(1)),
-            Some(start),
-            None,
+        for (since, reservations) in [
+            (None, 0),
+            (Some(start + Duration::from_secs(1)), 2),
+            (Some(start), 5),
+            (None, 0),
         ] {
-            state.add(since);
+            state.add(since, reservations);
         }
         let now = start + Duration::from_secs(5);
         metrics.write(&[state, State::default()], now);
         assert_eq!(metrics.due(), now + INTERVAL);
         let text = fs::read_to_string(&path).unwrap();
         let kind = Kind::ALL[0].name();
+        let version = env!("CARGO_PKG_VERSION");
         for line in [
+            &format!(r#"escrowd_pg_build_info{{version="{version}"}} 1"#),
             &format!(r#"escrowd_pg_statements_total{{database="shop",kind="{kind}"}} 1"#),
             r#"escrowd_pg_transactions_total{database="shop",outcome="committed"} 2"#,
             r#"escrowd_pg_transactions_total{database="other",outcome="rolled_back"} 1"#,
             r#"escrowd_pg_connections{database="shop"} 3"#,
+            r#"escrowd_pg_connections_max{database="other"} 64"#,
+            r#"escrowd_pg_reservations{database="shop"} 7"#,
             r#"escrowd_pg_oldest_transaction_seconds{database="shop"} 5"#,
             r#"escrowd_pg_oldest_transaction_seconds{database="other"} 0"#,
+            r#"escrowd_pg_statement_seconds_bucket{database="shop",le="0.00002"} 0"#,
+            r#"escrowd_pg_statement_seconds_bucket{database="shop",le="0.00005"} 1"#,
             r#"escrowd_pg_statement_microseconds_bucket{database="shop",le="20"} 0"#,
             r#"escrowd_pg_statement_microseconds_bucket{database="shop",le="50"} 1"#,
+            r#"escrowd_pg_store_bytes{database="shop",file="store"} 4096"#,
+            r#"escrowd_pg_store_bytes{database="shop",file="log"} 0"#,
         ] {
             assert!(
                 text.lines().any(|found| found == line),
                 "{line} is not in {text}"
             );
         }
-        assert_eq!(fs::read_dir(&folder).unwrap().count(), 1);
+        assert!(!text.contains(r#"escrowd_pg_store_bytes{database="other""#));
+        assert_eq!(folder.entries(), 2);
         metrics.remove();
-        assert_eq!(fs::read_dir(&folder).unwrap().count(), 0);
-        metrics.path = folder.join("none/x.prom");
-        metrics.beside = folder.join("none/x.prom.new");
+        assert_eq!(folder.entries(), 1);
+        metrics.path = folder.0.join("none/x.prom");
+        metrics.beside = folder.0.join("none/x.prom.new");
         metrics.write(&[], now);
         assert!(metrics.is_failing);
-        fs::remove_dir(&folder).unwrap();
+    }
+
+    #[test]
+    fn another_kind_of_file_is_neither_followed_nor_opened() {
+        let folder = Folder::new("links");
+        let (path, other) = (folder.0.join("x.prom"), folder.0.join("other"));
+        let beside = folder.0.join("x.prom.new");
+        let now = Instant::now();
+        let new = || Metrics::new(&[database("shop", None)], 64, &path, now);
+        fs::write(&other, "text").unwrap();
+        for place in [&path, &beside] {
+            std::os::unix::fs::symlink(&other, place).unwrap();
+            assert!(matches!(new(), Err(Failure::Metrics { .. })));
+            fs::remove_file(place).unwrap();
+        }
+        let mut metrics = new().unwrap();
+        // What a killed gateway left is replaced.
+        fs::write(&beside, "half").unwrap();
+        metrics.write(&[State::default()], now);
+        assert!(!metrics.is_failing && !beside.exists() && path.exists());
+        for place in [&path, &beside] {
+            let _ = fs::remove_file(place);
+            std::os::unix::fs::symlink(&other, place).unwrap();
+            metrics.write(&[State::default()], now);
+            assert!(metrics.is_failing);
+            fs::remove_file(place).unwrap();
+        }
+        assert_eq!(fs::read(&other).unwrap(), b"text");
+        metrics.write(&[State::default()], now);
+        assert!(!metrics.is_failing);
     }
 }

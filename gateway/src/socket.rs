@@ -264,29 +264,8 @@ impl Drop for PrivateFolder {
 #[cfg(test)]
 mod tests {
     use super::*;
+    use crate::temporary::Folder;
     use std::os::unix::net::UnixStream;
-
-    /// A folder that goes with its test.
-    struct Folder(PathBuf);
-
-    impl Folder {
-        fn new(name: &str) -> Folder {
-            let name = format!("escrowd-pg-{}-{}", std::process::id(), name);
-            let path = std::env::temp_dir().join(name);
-            fs::create_dir(&path).unwrap();
-            Folder(path)
-        }
-
-        fn entries(&self) -> usize {
-            fs::read_dir(&self.0).unwrap().count()
-        }
-    }
-
-    impl Drop for Folder {
-        fn drop(&mut self) {
-            let _ = fs::remove_dir_all(&self.0);
-        }
-    }
 
     #[test]
     fn a_socket_has_its_mode_and_answers() {

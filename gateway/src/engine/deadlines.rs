@@ -39,7 +39,9 @@ impl Engine {
         let mut states: Vec<_> = self.programs.iter().map(State::of).collect();
         for (_, client) in self.clients.iter() {
             if let Some(session) = client.session {
-                states[session.database].add(client.connection.transaction_since());
+                let connection = &client.connection;
+                states[session.database]
+                    .add(connection.transaction_since(), connection.reservations());
             }
         }
         if let Some(metrics) = &mut self.metrics {

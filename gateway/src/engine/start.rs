@@ -2,7 +2,7 @@
 
 use std::collections::VecDeque;
 use std::env;
-use std::io::{self, ErrorKind};
+use std::io;
 use std::path::PathBuf;
 use std::rc::Rc;
 use std::time::{Duration, Instant};
@@ -34,6 +34,10 @@ impl Engine {
         let now = Instant::now();
         let poll = Poll::new().map_err(Failure::system("epoll"))?;
         let (signals, hang_up) = signals::watch(&poll).map_err(Failure::system("signals"))?;
+        let metrics = args.metrics.as_ref();
+        let metrics = metrics
+            .map(|path| Metrics::new(&args.databases, SESSIONS, path, now))
+            .transpose()?;
         let door = Door::make(&args.listen, args.port, args.mode)?;
         let path = program_path(args).map_err(Failure::system("the gateway's own path"))?;
         let mut programs = Vec::with_capacity(args.databases.len());
@@ -52,10 +56,6 @@ impl Engine {
             .iter()
             .map(|database| database.name.clone())
             .collect();
-        let metrics = args
-            .metrics
-            .as_ref()
-            .map(|path| Metrics::new(&names, path, now));
         Ok(Engine {
             poll,
             signals,
@@ -73,9 +73,7 @@ impl Engine {
                 startup: STARTUP,
                 sessions: SESSIONS,
             }),
-            metrics: metrics.transpose().map_err(|error| {
-                Failure::system("metrics")(io::Error::new(ErrorKind::Other, error))
-            })?,
+            metrics,
             phase: Phase::Opening,
             failure: None,
             alarm: None,
