@@ -35,6 +35,8 @@ SHOWS: Dict[str, Sequence[str]] = {
     "default-jdk-headless": ["/usr/bin/javac"],
     "nodejs": ["/usr/bin/node", "/usr/local/bin/node"],
     "pgbouncer": ["/usr/sbin/pgbouncer"],
+    "systemd": ["/lib/systemd/systemd-journald"],
+    "prometheus": ["/usr/bin/promtool"],
     "gnuplot-nox": ["/usr/bin/gnuplot"],
 }
 

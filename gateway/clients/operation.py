@@ -1,0 +1,272 @@
+"""What an operator does and sees: signals, restarts, the log, and files that others left or put in the way."""
+from __future__ import annotations
+
+import fcntl
+import os
+import pty
+import re
+import signal
+import subprocess
+import termios
+import time
+from pathlib import Path
+from typing import Callable, Dict, List, Mapping, Optional, Sequence
+
+from clients import wire
+from clients.limits import STOCK, TAKE, last_words, with_stock
+from clients.servers import END, IN_A_STORE, IN_MEMORY, PROGRAM, Gateway, stored, wait_until
+from clients.suite import Part, expect, main
+from clients.wire import Connection
+
+PART = Part("operation")
+SESSIONS = 64
+# Signals that end a process which does not take them, and that mean nothing to the gateway.
+MEANINGLESS = [signal.SIGUSR1, signal.SIGUSR2, signal.SIGALRM, signal.SIGVTALRM, signal.SIGPROF, signal.SIGIO, signal.SIGXFSZ, signal.SIGRTMIN + 1,
+               signal.SIGRTMAX]
+# The seconds within which signals of the same meaning count once, and some more.
+APART = 1.2
+# The seconds that the gateway waits for a store that another program has open.
+LOCK = 10.0
+# Answers the gateway's first question, and nothing else. It does not end either when its input does.
+DEAF = """#!/usr/bin/python3
+import sys, time
+session = sys.stdin.readline().split(":")[0]
+print(session + "> served 0 granted 0 broken 0 refused 0 commits 0 rollbacks 0 writes 0 queries 0")
+print(session + "> OK statistics", flush=True)
+time.sleep(600)
+"""
+MUTE = "#!/bin/sh\nexec sleep 600\n"
+
+
+class Operated(Gateway):
+    """A gateway that is started in another way: with a program in place of escrowd's, in an environment, or by other words."""
+
+    def __init__(self, databases: Mapping[str, Optional[Path]] = IN_MEMORY, *options: str, program: str = "", front: Sequence[str] = (),
+                 before: Optional[Callable[[], None]] = None) -> None:
+        super().__init__(databases, *options)
+        self.program, self.front, self.before = program, list(front), before
+        self.env: Dict[str, str] = {}
+
+    def words(self) -> List[str]:
+        words = [*self.front, *super().words()]
+        if self.program:
+            path = self.folder / "program"
+            path.write_text(self.program)
+            path.chmod(0o755)
+            words[words.index("--program") + 1] = str(path)
+        return words
+
+    def begin(self) -> None:
+        """Starts the process, and does not wait for it."""
+        with open(self.folder / "said", "ab") as said:
+            self.process = subprocess.Popen(self.words(), stdin=subprocess.DEVNULL, stdout=said, stderr=said, env={**os.environ, **self.env},
+                                            start_new_session=True, preexec_fn=self.before)
+
+    def start(self) -> None:
+        self.begin()
+        self.await_socket(self.socket)
+
+    def as_journal(self) -> None:
+        """Lets its standard error be what systemd says is the journal."""
+        said = self.folder / "said"
+        said.touch()
+        found = said.stat()
+        self.env["JOURNAL_STREAM"] = f"{found.st_dev}:{found.st_ino}"
+
+
+def expect_served(gateway: Gateway) -> None:
+    """Expects that a client is served."""
+    with Connection(gateway.socket) as it:
+        it.do("COMMIT")
+
+
+@PART.alone
+def signals_that_mean_nothing() -> None:
+    """None of them ends the gateway, and each is told."""
+    with Operated() as gateway:
+        for number in (signal.SIGHUP, *MEANINGLESS):
+            gateway.running().send_signal(number)
+            wait_until(f"signal {number} is told", lambda: f"{name_of(number)} changes nothing" in gateway.said())
+            expect_served(gateway)
+        gateway.expect_clean_end()
+
+
+def name_of(number: int) -> str:
+    """Returns the name of a signal as the gateway tells it."""
+    return f"signal {number}" if number >= signal.SIGRTMIN else signal.Signals(number).name
+
+
+@PART.alone
+def signals_that_stop() -> None:
+    for number in (signal.SIGQUIT, signal.SIGXCPU, signal.SIGPWR):
+        with Operated() as gateway:
+            expect((gateway.end(number), f"{name_of(number)}: stopping" in gateway.said()), (0, True), gateway.said())
+
+
+@PART.alone
+def a_terminal_that_hangs_up() -> None:
+    """SIGHUP stops a gateway that has a terminal, unless `nohup` started it."""
+    keyboard, terminal = pty.openpty()
+
+    def take_terminal() -> None:
+        fcntl.ioctl(terminal, termios.TIOCSCTTY, 0)
+
+    with Operated(before=take_terminal) as gateway:
+        expect((gateway.end(signal.SIGHUP), "SIGHUP: stopping" in gateway.said()), (0, True), gateway.said())
+    os.close(keyboard)
+    os.close(terminal)
+    with Operated(front=["/usr/bin/nohup"]) as gateway:
+        gateway.running().send_signal(signal.SIGHUP)
+        expect_served(gateway)
+        gateway.expect_clean_end()
+        expect("SIGHUP" in gateway.said(), False, gateway.said())
+
+
+@PART.alone
+def signals_that_come_again() -> None:
+    """At once they count as one. Later the second one ends the wait for clients, and the third the wait for programs."""
+    with Operated(program=DEAF) as gateway:
+        waiting = Connection(gateway.socket)
+        waiting.send(wire.query("SHOW STATISTICS"))
+        expect_served(gateway)  # so it has read the statement too
+        program, begin = gateway.programs()[0], time.monotonic()
+        for _ in range(3):
+            gateway.running().send_signal(signal.SIGTERM)
+        wait_until("it stops", lambda: "SIGTERM: stopping" in gateway.said())
+        time.sleep(APART)
+        expect(gateway.running().poll(), None, "it waits for the client")
+        gateway.running().send_signal(signal.SIGTERM)
+        expect(waiting.until_end(), [])
+        time.sleep(APART)
+        expect(gateway.running().poll(), None, "it waits for the program")
+        expect(gateway.end(signal.SIGINT), 1, gateway.said())
+        expect(time.monotonic() - begin < LOCK, True, "no limit of time has passed")
+        expect(Path(f"/proc/{program}").exists(), False)
+        expect("the program of bank was killed before it closed its store" in gateway.said(), True, gateway.said())
+
+
+@PART.alone
+def a_server_that_was_stopped() -> None:
+    """The gateway lets it go on at the end, so that it answers, and closes its store."""
+    with Gateway(IN_A_STORE) as gateway:
+        it = with_stock(gateway, 9)
+        os.kill(gateway.programs()[0], signal.SIGSTOP)
+        it.send(wire.query(TAKE.format(2)))
+        expect_served(gateway)  # so it has read the statement too
+        expect(gateway.end(), 0, gateway.said())
+        expect([found.shown() for found in it.until_end()], ["complete UPDATE 1", "ready I", "FATAL 57P01"])
+        expect((gateway.folder / "bank.db-wal").exists(), False)
+        expect(stored(gateway.store, "SELECT * FROM stock")[1:], ["1 | 7", "OK rows 1"])
+
+
+@PART.alone
+def a_start_behind_a_kill() -> None:
+    """The next start waits for the program that a killed gateway left."""
+    with Gateway(IN_A_STORE) as gateway:
+        with_stock(gateway, 9).close()
+        for left in range(8, 3, -1):
+            with Connection(gateway.socket) as it:
+                it.do(TAKE.format(1))
+            gateway.kill()
+            gateway.start()
+            with Connection(gateway.socket) as it:
+                expect(it.rows("SELECT * FROM stock"), [("1", str(left))])
+        gateway.expect_clean_end()
+
+
+@PART.alone
+def a_store_that_is_open_elsewhere() -> None:
+    """The gateway waits for it, ten seconds at most."""
+    with Operated(IN_A_STORE) as gateway:
+        with_stock(gateway, 9).close()
+        gateway.expect_clean_end()
+        holder = subprocess.Popen([PROGRAM, "serve", "--store", gateway.store], stdin=subprocess.PIPE, stdout=subprocess.PIPE)
+        assert holder.stdin and holder.stdout
+        holder.stdin.write(b"bank.1: SHOW STATISTICS\n")
+        holder.stdin.flush()
+        holder.stdout.readline()
+        begin = time.monotonic()
+        gateway.begin()
+        expect(gateway.running().wait(END), 3, gateway.said())
+        expect(LOCK - 1 < time.monotonic() - begin < LOCK + 5, True, f"after {time.monotonic() - begin:.1f} s")
+        expect(gateway.said().strip().endswith("another program has it open"), True, gateway.said())
+        gateway.begin()
+        time.sleep(1)
+        expect(gateway.running().poll(), None, gateway.said())
+        holder.stdin.close()
+        holder.wait(END)
+        gateway.await_socket(gateway.socket)
+        expect_served(gateway)
+        gateway.expect_clean_end()
+
+
+@PART.alone
+def folders_of_a_killed_start() -> None:
+    """The next start removes them."""
+    with Operated() as gateway:
+        gateway.expect_clean_end()
+        gateway.program = MUTE
+
+        def private() -> List[str]:
+            return [it.name for it in gateway.folder.glob(".[0-9]*.[0-9]*")]
+
+        for _ in range(3):
+            gateway.begin()
+            wait_until("its socket has no name yet", lambda: (gateway.folder / f".{gateway.running().pid}.0/s").exists())
+            gateway.kill()
+            expect(len(private()), 1)
+        gateway.program = ""
+        gateway.start()
+        expect(private(), [])
+        gateway.expect_clean_end()
+
+
+@PART.alone
+def metrics_in_the_way() -> None:
+    """A link or a pipe where the metrics should be is refused, and nothing is written to it."""
+    with Operated() as gateway:
+        gateway.expect_clean_end()
+        target, metrics = gateway.folder / "target", gateway.folder / "escrowd.prom"
+        target.write_text("text")
+        gateway.options = ["--metrics", str(metrics)]
+        for place in (metrics, metrics.with_name("escrowd.prom.new")):
+            for make in (lambda: place.symlink_to(target), lambda: os.mkfifo(place), place.mkdir):
+                make()
+                gateway.begin()
+                expect(gateway.running().wait(END), 2, gateway.said())
+                expect(f"{place} is not a regular file" in gateway.said(), True, gateway.said())
+                place.rmdir() if place.is_dir() else place.unlink()
+        expect(target.read_text(), "text")
+
+
+@PART.alone
+def lines_of_the_journal() -> None:
+    """Each line has a priority: connections that of debug, what needs a look that of a warning."""
+    gateway = Operated(IN_A_STORE, "--log-level", "debug", "--idle-in-transaction-timeout", "1", "--transaction-timeout", "2")
+    gateway.as_journal()
+    with gateway:
+        open_ones = [Connection(gateway.socket) for _ in range(SESSIONS)]
+        late = Connection(gateway.socket, ready=False)
+        late.send(wire.startup())
+        expect([it.shown() for it in late.until_end()][-1], "FATAL 53300")
+        open_ones[0].do(STOCK, "INSERT INTO stock VALUES (1, 9)")
+        open_ones[1].do("BEGIN")
+        expect(last_words(open_ones[1])[0], "25P03")
+        open_ones[2].do("BEGIN")
+        for _ in range(3):
+            time.sleep(0.5)
+            open_ones[2].do(TAKE.format(1))
+        expect(last_words(open_ones[2])[0], "25P04")
+        for it in open_ones:
+            it.close()
+        expect(gateway.end(), 0, gateway.said())
+        said = gateway.said().splitlines()
+    expect([line for line in said if not re.match("<[3467]>[^ ]", line)], [])
+    told = {state: [line[:3] for line in said if f"got {state}" in line] for state in ("53300", "25P03", "25P04")}
+    expect(told, {state: ["<4>"] for state in told})
+    expect([line[:3] for line in said if "has session" in line], ["<7>"] * SESSIONS)
+    expect([line[:3] for line in said if "serving bank" in line or "SIGTERM: stopping" in line], ["<6>"] * 2)
+
+
+if __name__ == "__main__":
+    main(PART)

@@ -1,0 +1,28 @@
+"""The metrics as promtool of Prometheus judges them."""
+from __future__ import annotations
+
+import subprocess
+from pathlib import Path
+
+from clients.limits import TAKE, with_stock
+from clients.servers import Gateway, wait_until
+from clients.suite import Part, expect, main
+
+PART = Part("with_promtool")
+# What promtool finds: the histogram whose name stays although its unit is none of Prometheus' base units.
+DEPRECATED = 'escrowd_pg_statement_microseconds use base unit "seconds" instead of "microseconds"\n'
+
+
+@PART.alone
+def metrics_that_are_checked() -> None:
+    with Gateway({"bank": Path("bank.db"), "shop": None}, "--metrics", "{folder}/escrowd.prom") as gateway:
+        with_stock(gateway, 5).do("BEGIN", TAKE.format(1), "COMMIT")
+        metrics = gateway.folder / "escrowd.prom"
+        wait_until("the commit is counted", lambda: metrics.exists() and 'outcome="committed"} 3' in metrics.read_text())
+        done = subprocess.run(["promtool", "check", "metrics"], stdin=metrics.open(), capture_output=True, text=True)
+        expect(done.stdout + done.stderr, DEPRECATED)
+        gateway.expect_clean_end()
+
+
+if __name__ == "__main__":
+    main(PART)
