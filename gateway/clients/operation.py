@@ -229,9 +229,10 @@ def metrics_in_the_way() -> None:
         target, metrics = gateway.folder / "target", gateway.folder / "escrowd.prom"
         target.write_text("text")
         gateway.options = ["--metrics", str(metrics)]
+        makes: List[Callable[[Path], None]] = [lambda place: place.symlink_to(target), os.mkfifo, os.mkdir]
         for place in (metrics, metrics.with_name("escrowd.prom.new")):
-            for make in (lambda: place.symlink_to(target), lambda: os.mkfifo(place), place.mkdir):
-                make()
+            for make in makes:
+                make(place)
                 gateway.begin()
                 expect(gateway.running().wait(END), 2, gateway.said())
                 expect(f"{place} is not a regular file" in gateway.said(), True, gateway.said())
