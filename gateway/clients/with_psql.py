@@ -46,7 +46,7 @@ def all_statements(gateway: Gateway) -> None:
 
 @PART.served
 def position_of_a_fault(gateway: Gateway) -> None:
-    given = "\\set VERBOSITY verbose\nSELECT *\n  FROM stock /* ä€ */\n  WHERE id == 1;\n"
+    given = "\\set VERBOSITY verbose\nDELETE\n  FROM stock /* ä€ */\n  WHERE id == 1;\n"
     status, got = psql(gateway, "-q", given=given)
     expect(status, 0)
     error, line, caret, *_ = got.splitlines()

@@ -10,6 +10,9 @@ use mio::{Interest, Registry, Token};
 
 use crate::program::Number;
 
+/// How often a turn writes to a client at most. Then others have their turn.
+const WRITES: usize = 4;
+
 /// A session of a database that a client has.
 #[derive(Clone, Copy, Debug, PartialEq, Eq)]
 pub struct Session {
@@ -69,7 +72,9 @@ impl Client {
 
     /// Returns whether it can go on without a further word of the system.
     pub fn has_work(&self) -> bool {
-        self.has_input() || (self.is_writable && !self.connection.output().is_empty())
+        self.has_input()
+            || self.connection.has_turn()
+            || (self.is_writable && !self.connection.output().is_empty())
     }
 
     fn has_input(&self) -> bool {
@@ -100,9 +105,12 @@ impl Client {
         }
     }
 
-    /// Writes what the client is to get, as far as the socket takes it.
+    /// Writes what the client is to get, as far as the socket takes it, and as far as one turn goes.
     pub fn write(&mut self, registry: &Registry, token: Token, now: Instant) {
-        while self.is_writable && !self.is_broken && !self.connection.output().is_empty() {
+        for _ in 0..WRITES {
+            if !self.is_writable || self.is_broken || self.connection.output().is_empty() {
+                break;
+            }
             match self.socket.write(self.connection.output()) {
                 Ok(count) => self.connection.sent(count, now),
                 Err(error) => match error.kind() {

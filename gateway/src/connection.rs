@@ -5,6 +5,7 @@ mod channel;
 mod extended;
 mod local;
 mod prepared;
+mod results;
 mod simple;
 mod startup;
 mod transaction;
@@ -13,10 +14,14 @@ mod work;
 #[cfg(test)]
 mod tests;
 
+use std::collections::VecDeque;
 use std::rc::Rc;
 use std::time::{Duration, Instant};
 
-use crate::rows::Definition;
+use crate::budget::Pool;
+use crate::reply::Question;
+use crate::rows::spool::Spill;
+use crate::rows::Definitions;
 use crate::sqlstate::{Failure, Report, Severity, SqlState};
 use crate::statement::lexer::Token;
 use crate::statement::Kind;
@@ -25,10 +30,11 @@ use crate::wire::backend::{self, Status};
 use crate::wire::frontend::{self, Fault, Frame, Message, Raw};
 use channel::{Input, Output, Requests};
 use prepared::Prepared;
+use results::Rows;
 use simple::Query;
 use startup::Startup;
 use transaction::{Block, Transaction};
-use work::{Expected, Work};
+use work::{Awaited, Target};
 
 /// What every connection of a gateway shares.
 #[derive(Clone, Debug)]
@@ -43,6 +49,12 @@ pub struct Settings {
     pub startup: Duration,
     /// The most connections of a database, for the text of the refusal.
     pub sessions: usize,
+    /// The definitions of the tables of each database, in the order of [`Settings::databases`].
+    pub definitions: Vec<Definitions>,
+    /// The memory of all connections.
+    pub memory: Pool,
+    /// The disk for rows of all connections that wait for their clients.
+    pub disk: Pool,
 }
 
 /// What a connection asks the engine for.
@@ -53,8 +65,13 @@ pub enum Request<'a> {
         /// The place, from 0.
         database: usize,
     },
-    /// A statement of its session: one line, without prefix and without line feed. It gets one reply.
-    Statement(&'a [u8]),
+    /// A statement of its session. It gets one reply.
+    Statement {
+        /// The line, without prefix and without line feed.
+        line: &'a [u8],
+        /// What it asks for.
+        question: Question,
+    },
     /// What all connections do. [`Connection::activities`] takes the answer, before anything else comes.
     Activities,
     /// The end of the connection with this process id, as an administrator's. It has no answer: the list of
@@ -97,7 +114,10 @@ pub enum Event {
 }
 
 /// How much output may wait before nothing more is done for the client.
-const MOST_OUTPUT: usize = 256 * 1024;
+const MOST_OUTPUT: usize = 64 * 1024;
+
+/// How many messages or statements are served in a turn, at most. Then others have their turn.
+const STEPS: usize = 32;
 
 /// How much input may wait while a statement runs.
 const MOST_INPUT: usize = 64 * 1024;
@@ -110,9 +130,6 @@ const SYNC: Raw<'_> = Raw {
 
 /// How long a client may take for its last words.
 const LINGER: Duration = Duration::from_secs(5);
-
-/// How many definitions of tables are kept; a database has at most as many tables.
-const MOST_DEFINITIONS: usize = 32;
 
 /// Where a connection is in its life.
 #[derive(Debug)]
@@ -140,9 +157,12 @@ pub struct Connection {
     input: Input,
     output: Output,
     requests: Requests,
-    /// What replies are expected, in order.
-    expected: std::collections::VecDeque<Expected>,
-    work: Option<Work>,
+    /// What the replies of the program answer, in order. Nothing else is done for the client before they came.
+    awaited: VecDeque<Awaited>,
+    /// The result that the client is getting, and what asked for it.
+    giving: Option<(Target, Rows)>,
+    /// Whether there is more to do at once, in the next turn.
+    has_turn: bool,
     /// The simple query that is being served.
     query: Option<Query>,
     /// The tokens of its statement.
@@ -156,7 +176,8 @@ pub struct Connection {
     transaction: Transaction,
     variables: Variables,
     prepared: Prepared,
-    definitions: Vec<Rc<Definition>>,
+    spill: Spill,
+    definitions: Definitions,
     database: String,
     user: String,
     events: Vec<Event>,
@@ -170,6 +191,8 @@ impl Connection {
         let variables = Variables::new(&settings.version, "", settings.limits);
         let limit = now.checked_add(settings.startup);
         Connection {
+            prepared: Prepared::new(&settings.memory),
+            spill: Spill::new(&settings.memory, &settings.disk),
             settings,
             process_id,
             phase: Phase::Startup(Startup::default()),
@@ -179,8 +202,9 @@ impl Connection {
             input: Input::default(),
             output: Output::default(),
             requests: Requests::default(),
-            expected: std::collections::VecDeque::new(),
-            work: None,
+            awaited: VecDeque::new(),
+            giving: None,
+            has_turn: false,
             query: None,
             tokens: Vec::new(),
             skipping: false,
@@ -188,8 +212,7 @@ impl Connection {
             idle_since: now,
             transaction: Transaction::default(),
             variables,
-            prepared: Prepared::default(),
-            definitions: Vec::new(),
+            definitions: Definitions::default(),
             database: String::new(),
             user: String::new(),
             events: Vec::new(),
@@ -219,10 +242,30 @@ impl Connection {
         let has_room = match self.phase {
             Phase::Closing => false,
             Phase::Startup(_) => true,
-            Phase::Opening => self.input.len() < MOST_INPUT,
-            Phase::Serving => self.work.is_none() || self.input.len() < MOST_INPUT,
+            // A message that isn't there as a whole may be longer.
+            Phase::Opening | Phase::Serving => {
+                self.input.len() < MOST_INPUT || self.input.is_incomplete()
+            }
         };
         has_room && !self.input_ended && self.output.len() < MOST_OUTPUT
+    }
+
+    /// Returns whether there is more to do without anything that has to come first.
+    pub fn has_turn(&self) -> bool {
+        self.has_turn
+    }
+
+    /// Goes on with what the last turn left.
+    pub fn go_on(&mut self, now: Instant) {
+        self.now = now;
+        if self.has_turn {
+            self.advance();
+        }
+    }
+
+    /// Returns the definitions of the tables of its database.
+    pub fn definitions(&self) -> &Definitions {
+        &self.definitions
     }
 
     /// Returns the next thing that it asks for. The engine takes all there are, in order.
@@ -248,13 +291,19 @@ impl Connection {
         }
     }
 
-    /// Takes the whole reply to the oldest unanswered statement: its lines without prefix, each with its line feed.
-    pub fn replied(&mut self, reply: &[u8], now: Instant) {
+    /// Takes the next line of the reply to the oldest unanswered statement, without prefix and without line feed.
+    pub fn replied(&mut self, line: &[u8], is_last: bool, now: Instant) {
         self.now = now;
-        self.requests.answered();
+        if is_last {
+            self.requests.answered();
+        }
         if let Phase::Serving = self.phase {
-            self.take_reply(reply);
-            self.advance();
+            if is_last {
+                self.take_last_line(line);
+                self.advance();
+            } else {
+                self.take_line(line);
+            }
         }
     }
 
@@ -263,7 +312,7 @@ impl Connection {
         self.requests.unanswered()
     }
 
-    /// Returns the bytes for the client.
+    /// Returns the first bytes for the client. They are none exactly if there are none.
     pub fn output(&self) -> &[u8] {
         self.output.unsent()
     }
@@ -342,15 +391,26 @@ impl Connection {
         self.events.drain(..)
     }
 
-    /// Does all that can be done without waiting for the program or for the client.
+    /// Does what can be done without waiting for the program or for the client, as far as one turn goes.
     fn advance(&mut self) {
-        while self.work.is_none() && self.output.len() < MOST_OUTPUT {
+        self.flow();
+        let mut steps = 0..STEPS;
+        self.has_turn = false;
+        while self.awaited.is_empty() && self.output.len() < MOST_OUTPUT {
             if self.transaction_is_too_long() {
                 self.end_long_transaction();
+            }
+            if steps.next().is_none() {
+                self.has_turn = true;
+                return;
             }
             let goes_on = match self.phase {
                 Phase::Startup(_) => self.startup_packet(),
                 Phase::Opening | Phase::Closing => false,
+                Phase::Serving if self.giving.is_some() => {
+                    self.give_rows();
+                    true
+                }
                 Phase::Serving if self.query.is_some() => {
                     self.next_statement();
                     true
@@ -362,7 +422,7 @@ impl Connection {
                 break;
             }
         }
-        let is_busy = self.work.is_some() || self.query.is_some() || self.is_closing();
+        let is_busy = self.is_busy() || self.is_closing();
         if self.shutting_down && !is_busy {
             self.die(Report::fatal(
                 SqlState::ADMIN_SHUTDOWN,
@@ -375,6 +435,22 @@ impl Connection {
                 self.close();
             }
         }
+    }
+
+    /// Gives the client rows that wait, while the program writes more of them.
+    fn flow(&mut self) {
+        let result = match self.awaited.front_mut() {
+            Some(Awaited::Statement(running)) => running.flow(&mut self.output),
+            _ => Ok(()),
+        };
+        if let Err(report) = result {
+            self.die(report);
+        }
+    }
+
+    /// Returns whether a statement is being served.
+    fn is_busy(&self) -> bool {
+        !self.awaited.is_empty() || self.giving.is_some() || self.query.is_some()
     }
 
     /// Serves the next message, if all of it is there. Returns whether it was.
@@ -467,7 +543,7 @@ impl Connection {
 
     /// Returns when a transaction has been idle for too long, if one is open and nothing runs.
     fn idle_limit(&self) -> Option<Instant> {
-        if self.work.is_some() || self.query.is_some() || self.transaction.since().is_none() {
+        if self.is_busy() || self.transaction.since().is_none() {
             return None;
         }
         self.idle_since
@@ -476,7 +552,7 @@ impl Connection {
 
     /// Returns when a transaction lasts too long, if one is open and nothing runs: what runs is answered first.
     fn transaction_limit(&self) -> Option<Instant> {
-        if self.work.is_some() {
+        if !self.awaited.is_empty() {
             return None;
         }
         let since = self.transaction.since()?;
@@ -552,7 +628,8 @@ impl Connection {
             self.phase = Phase::Closing;
             self.limit = self.now.checked_add(LINGER);
             self.input = Input::default();
-            self.work = None;
+            self.awaited.clear();
+            self.giving = None;
             self.query = None;
             self.requests.drop_untaken();
         }

@@ -7,6 +7,7 @@ mod activity;
 mod clients;
 mod deadlines;
 mod door;
+mod memory;
 mod phases;
 mod signals;
 mod start;
@@ -25,7 +26,7 @@ use tracing::{error, info};
 use crate::client::{Client, Session};
 use crate::failure::Failure;
 use crate::metrics::Metrics;
-use crate::program::{self, Holder, Program, OPENED};
+use crate::program::{self, Holder, Output, Program};
 use clients::Clients;
 use door::Door;
 use signals::HangUp;
@@ -161,7 +162,7 @@ impl Engine {
 
     /// Serves all that is ready. Returns whether there is more, for which no further word of the system comes.
     fn turn(&mut self) -> bool {
-        let is_more = self.hand_out_replies();
+        let is_more = self.hand_out_lines();
         let mut queue = std::mem::take(&mut self.queue);
         for &place in &queue {
             self.serve(place);
@@ -182,14 +183,13 @@ impl Engine {
         is_more || !self.queue.is_empty()
     }
 
-    /// Reads what the programs wrote, and gives each reply to the client that waits for it. Returns whether there is
-    /// more.
-    fn hand_out_replies(&mut self) -> bool {
+    /// Reads what the programs wrote, and gives each line to the client that waits for it. Returns whether there is more.
+    fn hand_out_lines(&mut self) -> bool {
         let mut is_more = false;
         for database in 0..self.programs.len() {
             is_more |= self.programs[database].read(&mut self.buffer, self.now);
             loop {
-                match self.hand_out_reply(database) {
+                match self.hand_out(database) {
                     Ok(true) => {}
                     Ok(false) => break,
                     Err(failure) => {
@@ -203,38 +203,23 @@ impl Engine {
         is_more
     }
 
-    /// Gives the next reply of a program to the client that waits for it. Returns whether there was one.
-    fn hand_out_reply(&mut self, database: usize) -> Result<bool, Failure> {
+    /// Gives the next line of a program to the client that waits for it. Returns whether there was one.
+    fn hand_out(&mut self, database: usize) -> Result<bool, Failure> {
         let program = &mut self.programs[database];
-        let reply = match program.next_reply()? {
-            Some(reply) => reply,
+        match program.next_output(self.now)? {
             None => return Ok(false),
-        };
-        match reply.holder {
-            Holder::Client(place) => {
-                if let Some(metrics) = &self.metrics {
-                    metrics.answered(database, self.now.duration_since(reply.since));
+            Some(Output::Passed) => {}
+            Some(Output::Own { refusal }) => program.own_answered(refusal, self.now)?,
+            Some(Output::Line(line)) => {
+                if let (Some(metrics), true) = (&self.metrics, line.is_last) {
+                    metrics.answered(database, self.now.duration_since(line.since));
                 }
-                if let Some(client) = self.clients.get_mut(place) {
-                    client.connection.replied(reply.lines, self.now);
-                    enqueue(&mut self.queue, client, place);
+                if let Some(client) = self.clients.get_mut(line.place) {
+                    client.connection.replied(line.text, line.is_last, self.now);
+                    enqueue(&mut self.queue, client, line.place);
                 }
             }
-            Holder::Gateway if reply.lines.ends_with(OPENED) => {
-                let session = reply.session;
-                program.opened(session, self.now);
-            }
-            Holder::Gateway => {
-                let how = format!(
-                    "answered {}",
-                    String::from_utf8_lossy(reply.lines).trim_end()
-                );
-                return Err(Failure::NotOpened {
-                    database: program.name().to_owned(),
-                    how,
-                });
-            }
-            Holder::Leaving | Holder::Nobody => {
+            Some(Output::Freed) => {
                 while let Some(place) = self.waiting[database].pop_front() {
                     if !self.give_session(place, database) {
                         self.waiting[database].push_front(place);
@@ -270,6 +255,7 @@ impl Engine {
             Some(client) => client,
             None => return,
         };
+        client.connection.go_on(self.now);
         client.read(&mut self.buffer, self.now);
         self.forward(place);
     }
@@ -284,10 +270,10 @@ impl Engine {
             match client.connection.next_request() {
                 None => return,
                 Some(Request::Open { database }) => self.open_session(place, database),
-                Some(Request::Statement(statement)) => {
+                Some(Request::Statement { line, question }) => {
                     if let Some(session) = client.session {
                         let program = &mut self.programs[session.database];
-                        program.ask(session.number, statement, self.now);
+                        program.ask(session.number, question, line, self.now);
                     }
                 }
                 Some(Request::Activities) => self.tell_activities(place),

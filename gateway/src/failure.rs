@@ -63,6 +63,16 @@ pub enum Failure {
         /// How it ended.
         how: String,
     },
+    /// A program doesn't roll back what a client has left.
+    #[error(
+        "the program of {database} has refused for {seconds} s to roll back what a client left"
+    )]
+    NotRolledBack {
+        /// The database it serves.
+        database: String,
+        /// For how long.
+        seconds: u64,
+    },
     /// A program's output doesn't fit what it was asked.
     #[error("the program of {database} wrote {line:?}, but {expected}")]
     OutOfStep {
@@ -83,7 +93,7 @@ impl Failure {
             Failure::Metrics { .. } => 2,
             Failure::NotStarted { .. } | Failure::NotOpened { .. } => 3,
             Failure::Socket(_) => 4,
-            Failure::Ended { .. } => 5,
+            Failure::Ended { .. } | Failure::NotRolledBack { .. } => 5,
             Failure::OutOfStep { .. } => 6,
         }
     }

@@ -1,11 +1,14 @@
 //! PostgreSQL's protocol in front of `escrowd serve`.
 //!
-//! The modules of this library have no input and output: bytes and replies go in, statements and bytes come out.
+//! The modules of this library have no input and output: bytes and replies go in, statements and bytes come out. Only
+//! rows that wait for their client go to a file of their own.
 #![forbid(unsafe_code)]
 #![warn(missing_docs)]
 
 pub mod activity;
+pub mod budget;
 pub mod connection;
+pub mod limits;
 pub mod queue;
 pub mod reply;
 pub mod rows;

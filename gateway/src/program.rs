@@ -1,8 +1,10 @@
 //! A program that serves one database, and the pipes to it.
 
+mod candidates;
 mod replies;
 mod sessions;
 mod statements;
+mod version;
 
 use std::fs;
 use std::io::{self, ErrorKind, Read};
@@ -16,10 +18,15 @@ use mio::unix::pipe::{Receiver, Sender};
 use mio::{Interest, Registry, Token};
 use tracing::{debug, info, warn};
 
-pub use sessions::{Holder, Number, SESSIONS};
+use escrowd_pg::reply::{self, Done, Outcome, Question};
+use escrowd_pg::rows::Definitions;
+
+pub use sessions::{Holder, Number};
+pub use version::check_version;
 
 use crate::args::Database;
 use crate::failure::Failure;
+use candidates::candidates;
 use replies::{Replies, Wrong};
 use sessions::Sessions;
 use statements::Statements;
@@ -30,8 +37,8 @@ pub const TOKENS: usize = 3;
 /// What a program is asked at the start. It needs neither memory nor the store, and counts nowhere.
 const OPENING: &[u8] = b"SHOW STATISTICS";
 
-/// How the answer ends.
-pub const OPENED: &[u8] = b"\nOK statistics\n";
+/// What frees what a session holds.
+const ROLLBACK: &[u8] = b"ROLLBACK";
 
 /// How long the end of its output and its exit status may be apart.
 const END: Duration = Duration::from_secs(1);
@@ -46,7 +53,13 @@ const RETRY: Duration = Duration::from_millis(100);
 const LOCKED: &str = "another program has it open";
 
 /// How often a pipe is read in a turn, at most. Then others have their turn.
-const READS: usize = 16;
+const READS: usize = 2;
+
+/// How long a ROLLBACK that was refused waits until it is asked again.
+const PAUSE: Duration = Duration::from_millis(50);
+
+/// How long a ROLLBACK may be refused.
+const MOST_REFUSED: Duration = Duration::from_secs(10);
 
 /// The longest line of its standard error that is passed on whole, in bytes.
 const ERROR_LINE: usize = 4096;
@@ -55,16 +68,39 @@ const ERROR_LINE: usize = 4096;
 /// group. The gateway gets these signals too, and ends the program by the end of its input.
 const WITHOUT_KEYS: &str = r#"trap '' HUP INT QUIT TERM; exec "$@""#;
 
-/// A reply of the program.
-pub struct Reply<'a> {
-    /// The session that asked.
-    pub session: Number,
-    /// Who had the session that asked.
-    pub holder: Holder,
+/// What a program wrote.
+pub enum Output<'a> {
+    /// A line of a reply to a client.
+    Line(Line<'a>),
+    /// A reply to the gateway itself.
+    Own {
+        /// Its last line, if that is a refusal.
+        refusal: Option<String>,
+    },
+    /// The reply behind which a session is free.
+    Freed,
+    /// A line that concerns nobody.
+    Passed,
+}
+
+/// A line of a reply to a client.
+pub struct Line<'a> {
+    /// The client's place.
+    pub place: usize,
     /// When it asked.
     pub since: Instant,
-    /// The lines without prefixes, each with its line feed.
-    pub lines: &'a [u8],
+    /// The line, without prefix and without line feed.
+    pub text: &'a [u8],
+    /// Whether it is the last one of the reply.
+    pub is_last: bool,
+}
+
+/// A session whose ROLLBACK was refused.
+struct Refused {
+    session: Number,
+    since: Instant,
+    /// When it is asked again. None: that was done.
+    again: Option<Instant>,
 }
 
 /// A program that serves a database.
@@ -81,7 +117,14 @@ pub struct Program {
     statements: Statements,
     replies: Replies,
     sessions: Sessions,
+    /// Sessions that clients left, and that can't be rolled back yet.
+    refused: Vec<Refused>,
+    definitions: Definitions,
     started: Instant,
+    /// The session in which the gateway asks by itself, until it has all answers.
+    own: Option<Number>,
+    /// Whether it was asked for the definitions of its tables.
+    is_listed: bool,
     is_open: bool,
     /// Whether its input ends as soon as it has taken all statements.
     is_told_to_end: bool,
@@ -123,7 +166,11 @@ impl Program {
             statements: Statements::new(),
             replies: Replies::new(),
             sessions: Sessions::new(),
+            refused: Vec::new(),
+            definitions: Definitions::default(),
             started: now,
+            own: None,
+            is_listed: false,
             is_open: false,
             is_told_to_end: false,
             is_abandoned: false,
@@ -132,9 +179,8 @@ impl Program {
             ending_since: None,
         };
         // The program writes nothing until it is asked, and reads nothing until its store is open.
-        if let Some(session) = program.sessions.take(Holder::Gateway) {
-            program.ask(session, OPENING, now);
-        }
+        program.own = program.sessions.take(Holder::Gateway);
+        program.ask_itself(Question::Statistics, OPENING, now);
         Ok(program)
     }
 
@@ -153,9 +199,10 @@ impl Program {
     pub fn retry(&mut self, registry: &Registry, now: Instant) -> Result<(), Failure> {
         let is_due = self.retry_at().map_or(false, |retry| retry <= now);
         if is_due && self.has_exited(now) {
-            let started = self.started;
+            let (started, definitions) = (self.started, self.definitions.clone());
             *self = Program {
                 started,
+                definitions,
                 ..Program::start(&self.path, &self.database, registry, self.token, now)?
             };
         }
@@ -191,19 +238,64 @@ impl Program {
         self.sessions.leaving()
     }
 
+    /// Returns the definitions of its tables.
+    pub fn definitions(&self) -> &Definitions {
+        &self.definitions
+    }
+
     /// Queues a statement of a session.
-    pub fn ask(&mut self, session: Number, statement: &[u8], now: Instant) {
-        self.sessions.ask(session, now);
+    pub fn ask(&mut self, session: Number, question: Question, statement: &[u8], now: Instant) {
+        self.sessions.ask(session, question, now);
         self.statements.push(session, statement);
+    }
+
+    /// Queues a statement of the gateway's own.
+    fn ask_itself(&mut self, question: Question, statement: &[u8], now: Instant) {
+        if let Some(session) = self.own {
+            self.ask(session, question, statement, now);
+        }
     }
 
     /// Notes that the holder of a session left. What the session holds is rolled back; it is free when all of its
     /// statements are answered.
     pub fn leave(&mut self, session: Number, now: Instant) {
         if self.sessions.is_used(session) {
-            self.ask(session, b"ROLLBACK", now);
+            self.ask(session, Question::Order, ROLLBACK, now);
         }
         self.sessions.leave(session);
+    }
+
+    /// Asks again for what was refused, if it is time for that.
+    ///
+    /// # Errors
+    ///
+    /// Fails if a ROLLBACK was refused for too long. Only the program's end frees what its session holds.
+    pub fn roll_back_again(&mut self, now: Instant) -> Result<(), Failure> {
+        let mut due = Vec::new();
+        for refused in &mut self.refused {
+            if matches!(refused.again, Some(again) if again <= now) {
+                if refused.since + MOST_REFUSED <= now {
+                    return Err(Failure::NotRolledBack {
+                        database: self.database.name.clone(),
+                        seconds: MOST_REFUSED.as_secs(),
+                    });
+                }
+                refused.again = None;
+                due.push(refused.session);
+            }
+        }
+        for session in due {
+            self.ask(session, Question::Order, ROLLBACK, now);
+        }
+        Ok(())
+    }
+
+    /// Returns when a ROLLBACK is asked again, if one was refused.
+    pub fn rollback_deadline(&self) -> Option<Instant> {
+        self.refused
+            .iter()
+            .filter_map(|refused| refused.again)
+            .min()
     }
 
     /// Writes the queued statements, as far as the pipe takes them.
@@ -236,8 +328,8 @@ impl Program {
         self.output.is_ready || self.errors.is_ready
     }
 
-    /// Takes the next reply, if one is complete.
-    pub fn next_reply(&mut self) -> Result<Option<Reply<'_>>, Failure> {
+    /// Takes the next line that it wrote, if there is one.
+    pub fn next_output(&mut self, now: Instant) -> Result<Option<Output<'_>>, Failure> {
         if self.is_abandoned {
             return Ok(None);
         }
@@ -250,36 +342,98 @@ impl Program {
         let asked = match self.sessions.next() {
             Some(asked) => asked,
             None => {
-                return self
-                    .replies
-                    .check_unasked()
-                    .map_err(out_of_step)
-                    .map(|()| None)
+                let unasked = self.replies.check_unasked();
+                return unasked.map_err(out_of_step).map(|()| None);
             }
         };
-        let lines = match self.replies.take(asked.session).map_err(out_of_step)? {
-            Some(lines) => lines,
+        let text = match self.replies.take(asked.session).map_err(out_of_step)? {
+            Some(text) => text,
             None => return Ok(None),
         };
-        let holder = self.sessions.answered();
-        if holder == Holder::Leaving && self.sessions.unanswered(asked.session) == 0 {
-            // The last one is a ROLLBACK, which the program never refuses. Its session is free on that promise.
-            check_rolled_back(lines).map_err(out_of_step)?;
+        self.definitions.note(asked.question, text);
+        let is_last = asked.question.is_last_line(text);
+        if is_last {
+            self.sessions.answered();
         }
-        Ok(Some(Reply {
-            session: asked.session,
-            holder,
-            since: asked.since,
-            lines,
+        let is_answered = self.sessions.unanswered(asked.session) == 0;
+        Ok(Some(match self.sessions.holder(asked.session) {
+            Holder::Client(place) => Output::Line(Line {
+                place,
+                since: asked.since,
+                text,
+                is_last,
+            }),
+            // The last statement of a session that its client left is a ROLLBACK.
+            Holder::Leaving if is_last && is_answered => {
+                let place = self
+                    .refused
+                    .iter()
+                    .position(|it| it.session == asked.session);
+                if is_rolled_back(text).map_err(out_of_step)? {
+                    self.sessions.free(asked.session);
+                    place.map(|place| self.refused.swap_remove(place));
+                    return Ok(Some(Output::Freed));
+                }
+                let again = Some(now + PAUSE);
+                match place {
+                    Some(place) => self.refused[place].again = again,
+                    None => self.refused.push(Refused {
+                        session: asked.session,
+                        since: now,
+                        again,
+                    }),
+                }
+                Output::Passed
+            }
+            Holder::Gateway if is_last => Output::Own {
+                refusal: match reply::outcome(&String::from_utf8_lossy(text)) {
+                    Some(Outcome::Done(_)) => None,
+                    _ => Some(String::from_utf8_lossy(text).into_owned()),
+                },
+            },
+            _ => Output::Passed,
         }))
     }
 
-    /// Takes the answer to the gateway's own question. It comes when the store is open.
-    pub fn opened(&mut self, session: Number, now: Instant) {
-        self.sessions.leave(session);
+    /// Takes an answer to a question of the gateway's own: whether its store is open, and then the definitions of its
+    /// tables. It is open once it has answered all of them.
+    ///
+    /// # Errors
+    ///
+    /// Fails if it refuses to tell whether its store is open.
+    pub fn own_answered(&mut self, refusal: Option<String>, now: Instant) -> Result<(), Failure> {
+        if !self.is_listed {
+            if let Some(refusal) = refusal {
+                return Err(Failure::NotOpened {
+                    database: self.database.name.clone(),
+                    how: format!("answered {refusal}"),
+                });
+            }
+            self.is_listed = true;
+            let store = self.database.store.clone();
+            for name in store.map_or_else(Vec::new, |store| candidates(&store)) {
+                self.ask_itself(
+                    Question::Table,
+                    format!("SHOW TABLE {name}").as_bytes(),
+                    now,
+                );
+            }
+        }
+        if let Some(session) = self.own {
+            if self.sessions.unanswered(session) == 0 {
+                self.own = None;
+                self.sessions.leave(session);
+                self.opened(now);
+            }
+        }
+        Ok(())
+    }
+
+    fn opened(&mut self, now: Instant) {
         self.is_open = true;
         let name = &self.database.name;
         let took = now.duration_since(self.started).as_millis();
+        let tables = self.definitions.all().len();
         match &self.database.store {
             None => info!("{name}: open, in memory, after {took} ms"),
             Some(path) => {
@@ -287,7 +441,7 @@ impl Program {
                 match fs::metadata(path) {
                     Ok(found) => {
                         let size = found.len();
-                        info!("{name}: the store {path_text} is open: {size} bytes, {took} ms")
+                        info!("{name}: the store {path_text} is open: {tables} tables, {size} bytes, {took} ms")
                     }
                     Err(error) => info!("{name}: the store {path_text} is open ({error})"),
                 }
@@ -402,15 +556,17 @@ fn is_stopped(process: &str) -> bool {
     })
 }
 
-/// Checks the reply to the ROLLBACK of a session that its client left.
-fn check_rolled_back(lines: &[u8]) -> Result<(), Wrong> {
-    if lines.starts_with(b"OK rolled back ") {
-        return Ok(());
+/// Returns whether the last line of a reply to ROLLBACK says that it was done. Otherwise it was refused.
+fn is_rolled_back(line: &[u8]) -> Result<bool, Wrong> {
+    let text = String::from_utf8_lossy(line);
+    match reply::outcome(&text) {
+        Some(Outcome::Done(Done::RolledBack)) => Ok(true),
+        Some(Outcome::Refused(_)) => Ok(false),
+        _ => Err(Wrong {
+            expected: "a reply to ROLLBACK was expected".to_owned(),
+            line: text.into_owned(),
+        }),
     }
-    Err(Wrong {
-        line: String::from_utf8_lossy(lines).trim_end().to_owned(),
-        expected: "a reply to ROLLBACK was expected".to_owned(),
-    })
 }
 
 /// Starts the program at `path` for a database.
@@ -584,10 +740,11 @@ mod tests {
 
     #[test]
     fn a_session_is_free_only_behind_a_rollback() {
-        check_rolled_back(b"OK rolled back 0\n").unwrap();
+        assert_eq!(is_rolled_back(b"OK rolled back 0"), Ok(true));
+        assert_eq!(is_rolled_back(b"ERR 51 memory"), Ok(false));
         assert_eq!(
-            check_rolled_back(b"ERR 12 line\n").unwrap_err().line,
-            "ERR 12 line"
+            is_rolled_back(b"OK committed 1").unwrap_err().line,
+            "OK committed 1"
         );
     }
 }

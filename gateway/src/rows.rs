@@ -1,8 +1,11 @@
 //! Results with rows: a table's, and those of SHOW.
 
 mod definition;
+mod definitions;
 mod result;
 pub mod shape;
+pub mod spool;
 
 pub use definition::{ColumnType, DefinedColumn, Definition};
-pub use result::{bounds, constants, definition_text, journal, rows, statistics, ResultSet};
+pub use definitions::Definitions;
+pub use result::{append_count, constants, shown_columns, LineFault, Reader, ResultSet, Row};

@@ -2,7 +2,7 @@
 
 use std::borrow::Cow;
 
-use crate::reply::Refusal;
+use crate::reply::{Broken, Refusal};
 
 /// The five characters that tell a client which error it got.
 #[derive(Clone, Copy, Debug, PartialEq, Eq, Hash, PartialOrd, Ord)]
@@ -79,10 +79,14 @@ impl SqlState {
     pub const INVALID_TABLE_DEFINITION: SqlState = SqlState("42P16");
     /// 42P18.
     pub const INDETERMINATE_TYPE: SqlState = SqlState("42P18");
+    /// 53100.
+    pub const DISK_FULL: SqlState = SqlState("53100");
     /// 53200.
     pub const OUT_OF_MEMORY: SqlState = SqlState("53200");
     /// 53300.
     pub const TOO_MANY_CONNECTIONS: SqlState = SqlState("53300");
+    /// 53400.
+    pub const CONFIGURATION_LIMIT_EXCEEDED: SqlState = SqlState("53400");
     /// 54000.
     pub const LIMIT_EXCEEDED: SqlState = SqlState("54000");
     /// 54001.
@@ -276,23 +280,23 @@ pub fn refusal(refusal: &Refusal<'_>, refused: Refused<'_>) -> Failure {
         Some((name, _)) => report.table(name),
         None => report,
     };
-    match refusal.number {
-        20 => at_table(Report::error(
+    match *refusal {
+        Refusal::TableExists => at_table(Report::error(
             SqlState::DUPLICATE_TABLE,
             format!("relation \"{}\" already exists", name),
         )),
-        21 => at_table(Report::error(
+        Refusal::NoSuchTable => at_table(Report::error(
             SqlState::UNDEFINED_TABLE,
             format!("relation \"{}\" does not exist", name),
         )),
-        22 => of_table(
+        Refusal::BadDefinition => of_table(
             Report::error(
                 SqlState::INVALID_TABLE_DEFINITION,
                 "invalid table definition",
             )
             .detail("The definition breaks a rule of tables or a limit."),
         ),
-        23 => of_table(
+        Refusal::BadValue => of_table(
             Report::error(
                 SqlState::INVALID_PARAMETER_VALUE,
                 "invalid value for a column",
@@ -303,7 +307,7 @@ pub fn refusal(refusal: &Refusal<'_>, refused: Refused<'_>) -> Failure {
             )
             .hint("Numbers are never rounded, and each column needs a value."),
         ),
-        24 => of_table(
+        Refusal::BadAssignment => of_table(
             Report::error(
                 SqlState::FEATURE_NOT_SUPPORTED,
                 "invalid assignment in UPDATE",
@@ -313,16 +317,16 @@ pub fn refusal(refusal: &Refusal<'_>, refused: Refused<'_>) -> Failure {
                  value. One UPDATE cannot change both kinds. The key cannot be changed.",
             ),
         ),
-        25 => of_table(
+        Refusal::NotTheKey => of_table(
             Report::error(
                 SqlState::FEATURE_NOT_SUPPORTED,
                 "the column in WHERE is not the primary key",
             )
             .hint("WHERE must compare the primary key with one value."),
         ),
-        26 => of_table(commits_by_itself(refused.verb)),
-        27 => of_table(undefined_constraint(name, refused.constraint)),
-        30 => of_table(
+        Refusal::TransactionOpen => of_table(commits_by_itself(refused.verb)),
+        Refusal::NoSuchConstraint => of_table(undefined_constraint(name, refused.constraint)),
+        Refusal::RowExists => of_table(
             Report::error(
                 SqlState::UNIQUE_VIOLATION,
                 format!(
@@ -332,60 +336,62 @@ pub fn refusal(refusal: &Refusal<'_>, refused: Refused<'_>) -> Failure {
             )
             .constraint(format!("{}_pkey", name)),
         ),
-        31 => of_table(Report::error(SqlState::INTERNAL_ERROR, "no such row")),
-        32 => of_table(
+        Refusal::NoSuchRow => of_table(Report::error(SqlState::INTERNAL_ERROR, "no such row")),
+        Refusal::RowReserved => of_table(
             Report::error(
                 SqlState::OBJECT_IN_USE,
                 "another transaction has reserved the row",
             )
             .hint("Try again when that transaction has ended."),
         ),
-        33 => of_table(
+        Refusal::TableReserved => of_table(
             Report::error(
                 SqlState::OBJECT_IN_USE,
                 format!("another transaction has reserved rows of \"{}\"", name),
             )
             .hint("Try again when that transaction has ended."),
         ),
-        34 => of_table(
+        Refusal::TableFull => of_table(
             Report::error(
                 SqlState::LIMIT_EXCEEDED,
                 format!("table \"{}\" is full", name),
             )
             .detail("A table holds at most 65536 rows."),
         ),
-        35 => Report::error(SqlState::LIMIT_EXCEEDED, "too many tables")
+        Refusal::TooManyTables => Report::error(SqlState::LIMIT_EXCEEDED, "too many tables")
             .detail("A database holds at most 32 tables."),
-        41 => of_table(broken_check(refusal, refused)),
-        42 => Report::error(
+        Refusal::Broken(broken) => of_table(broken_check(broken, refused)),
+        Refusal::TooManyReservations => Report::error(
             SqlState::LIMIT_EXCEEDED,
             "too many reservations in a transaction",
         )
         .detail("A transaction holds at most 256 reservations.")
         .hint("Commit more often."),
-        43 => Report::error(SqlState::UNDEFINED_SAVEPOINT, "savepoint does not exist"),
-        44 => Report::error(
+        Refusal::NoSuchSavepoint => Report::error(SqlState::UNDEFINED_SAVEPOINT, "savepoint does not exist"),
+        Refusal::TooManySavepoints => Report::error(
             SqlState::LIMIT_EXCEEDED,
             "too many savepoints in a transaction",
         )
         .detail("A transaction holds at most 64 savepoints."),
-        45 => Report::error(
+        Refusal::NoMoreIds => Report::error(
             SqlState::LIMIT_EXCEEDED,
             "no ids of reservations are left",
         )
         .hint("Restart the server."),
-        51 => Report::error(SqlState::OUT_OF_MEMORY, "out of memory").hint("Try again later."),
-        60 => Report::error(SqlState::IO_ERROR, "the store could not be read or written")
+        Refusal::Memory => Report::error(SqlState::OUT_OF_MEMORY, "out of memory").hint("Try again later."),
+        Refusal::Store => Report::error(SqlState::IO_ERROR, "the store could not be read or written")
             .detail("It is unknown whether the disk has kept the write that failed.")
             .hint(
                 "Try again once. If it fails again, the disk is full or failed: look at the \
                  disk, restart the server, and read the row before you repeat the write.",
             ),
-        12 => Report::error(SqlState::LIMIT_EXCEEDED, "the statement is too long"),
-        number => Report::error(
+        Refusal::Line => Report::error(SqlState::LIMIT_EXCEEDED, "the statement is too long"),
+        Refusal::Syntax { .. } => Report::error(SqlState::SYNTAX_ERROR, "syntax error"),
+        Refusal::Unknown { number, words } => Report::error(
             SqlState::INTERNAL_ERROR,
-            format!("the server refused the statement with error {}", number),
-        ),
+            format!("the server refused the statement with error {} {}", number, words),
+        )
+        .detail("It has changed nothing."),
     }
 }
 
@@ -416,14 +422,8 @@ fn undefined_constraint(table: &str, constraint: Option<&str>) -> Failure {
     }
 }
 
-fn broken_check(refusal: &Refusal<'_>, refused: Refused<'_>) -> Failure {
+fn broken_check(broken: Broken<'_>, refused: Refused<'_>) -> Failure {
     let (table, _) = refused.table.unwrap_or(("", 0));
-    let broken = match refusal.broken {
-        Some(broken) => broken,
-        None => {
-            return Report::error(SqlState::CHECK_VIOLATION, "a check constraint is violated");
-        }
-    };
     let name = broken.constraint.to_ascii_lowercase();
     let message = match refused.verb {
         "ALTER TABLE" => {
@@ -467,10 +467,7 @@ mod tests {
     use crate::reply::{self, Outcome};
 
     fn report(line: &str, verb: &'static str) -> Failure {
-        match reply::parse(format!("{}\n", line).as_bytes())
-            .unwrap()
-            .outcome
-        {
+        match reply::outcome(line).unwrap() {
             Outcome::Refused(refused) => {
                 let table = Some(("stock", 7));
                 refusal(

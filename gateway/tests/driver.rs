@@ -5,6 +5,8 @@
 mod gateway;
 
 use std::ffi::{OsStr, OsString};
+use std::fs::{self, Permissions};
+use std::os::unix::fs::PermissionsExt;
 
 use gateway::{has_program, kill, run, Folder, Gateway};
 use tokio_postgres::error::SqlState;
@@ -386,8 +388,18 @@ fn what_cannot_be_served_has_a_status() {
     assert!(said.contains("/nowhere/escrowd"), "{said}");
     let (status, said) = run(&folder.join("."), &[shop], &["--program", "/bin/false"]);
     assert_eq!(status, Some(3), "{said}");
+    // What has another version, or none, is refused before it is asked anything.
     let (status, said) = run(&folder.join("."), &[shop], &["--program", "/bin/echo"]);
-    assert_eq!(status, Some(6), "{said}");
+    assert_eq!(status, Some(3), "{said}");
+    for (version, status_then) in [("1.0", 3), ("1.1", 6)] {
+        let script = format!("#!/bin/sh\necho escrowd {version}\n");
+        let path = folder.join("program");
+        fs::write(&path, script).expect("a script");
+        fs::set_permissions(&path, Permissions::from_mode(0o700)).expect("its mode");
+        let program = path.to_str().expect("a path in UTF-8");
+        let (status, said) = run(&folder.join("."), &[shop], &["--program", program]);
+        assert_eq!(status, Some(status_then), "{said}");
+    }
     let (status, said) = run(&folder.join("."), &[shop, shop], &[]);
     assert_eq!(status, Some(2), "{said}");
 }

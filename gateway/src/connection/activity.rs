@@ -5,7 +5,7 @@ use std::time::Instant;
 
 use crate::activity::{Activity, Clock, State};
 use crate::connection::transaction::Block;
-use crate::connection::work::{Completed, Subject, Target, Work};
+use crate::connection::work::{Awaited, Completed, Subject, Target};
 use crate::connection::{Connection, Phase};
 use crate::sqlstate::Failure;
 
@@ -46,7 +46,7 @@ impl Connection {
         if !matches!(self.phase, Phase::Serving) {
             return None;
         }
-        let is_busy = self.work.is_some() || self.query.is_some() || !self.resting;
+        let is_busy = self.is_busy() || !self.resting;
         let state = match self.transaction.block {
             _ if is_busy => State::Active,
             Block::None => State::Idle,
@@ -76,7 +76,7 @@ impl Connection {
         evaluate: impl FnOnce(&mut Connection, &[Activity]) -> Result<Completed, Failure> + 'static,
     ) {
         self.requests.ask_activities();
-        self.work = Some(Work::Activities {
+        self.awaited.push_back(Awaited::Activities {
             target,
             subject,
             evaluate: Evaluate(Box::new(evaluate)),
@@ -93,8 +93,8 @@ impl Connection {
     /// included.
     pub fn activities(&mut self, all: &[Activity], now: Instant) {
         self.now = now;
-        match self.work.take() {
-            Some(Work::Activities {
+        match self.awaited.pop_front() {
+            Some(Awaited::Activities {
                 target,
                 subject,
                 evaluate: Evaluate(evaluate),
@@ -102,7 +102,8 @@ impl Connection {
                 let result = evaluate(self, all);
                 self.finish(target, &subject, result);
             }
-            work => self.work = work,
+            Some(awaited) => self.awaited.push_front(awaited),
+            None => {}
         }
         self.advance();
     }

@@ -1,7 +1,10 @@
 //! What comes from the client, what goes to it, and what goes to the program.
 
+use std::collections::VecDeque;
+
 use crate::connection::Request;
 use crate::queue::Queue;
+use crate::reply::Question;
 use crate::wire::frontend::{self, Frame, Raw};
 
 /// How many bytes of memory a buffer keeps for its next bytes.
@@ -31,6 +34,11 @@ impl Input {
     /// Returns how many bytes aren't served.
     pub fn len(&self) -> usize {
         self.bytes.len() - self.at
+    }
+
+    /// Returns whether the first message isn't there as a whole.
+    pub fn is_incomplete(&self) -> bool {
+        frontend::raw(self.rest()) == Frame::Incomplete
     }
 
     /// Returns the message behind `length` bytes, if all of it is there.
@@ -109,7 +117,10 @@ pub struct Requests {
     activities: bool,
     /// The process ids of the connections that are to end.
     terminate: Vec<i32>,
+    /// The lines, each with its line feed.
     lines: Vec<u8>,
+    /// What each of them asks for.
+    questions: VecDeque<Question>,
     at: usize,
     unanswered: usize,
 }
@@ -131,24 +142,28 @@ impl Requests {
     }
 
     /// Asks the program by a line that `write` appends. Nothing is asked if it fails.
-    pub fn line<E>(&mut self, write: impl FnOnce(&mut Vec<u8>) -> Result<(), E>) -> Result<(), E> {
+    pub fn line<E>(
+        &mut self,
+        question: Question,
+        write: impl FnOnce(&mut Vec<u8>) -> Result<(), E>,
+    ) -> Result<(), E> {
         let start = self.lines.len();
-        match write(&mut self.lines) {
-            Ok(()) => self.lines.push(b'\n'),
-            Err(fault) => {
-                self.lines.truncate(start);
-                return Err(fault);
-            }
+        if let Err(fault) = write(&mut self.lines) {
+            self.lines.truncate(start);
+            return Err(fault);
         }
+        self.lines.push(b'\n');
+        self.questions.push_back(question);
         Ok(())
     }
 
     /// Asks the program by this line.
-    pub fn push(&mut self, words: &[&str]) {
+    pub fn push(&mut self, question: Question, words: &[&str]) {
         for word in words {
             self.lines.extend_from_slice(word.as_bytes());
         }
         self.lines.push(b'\n');
+        self.questions.push_back(question);
     }
 
     /// Returns the next request.
@@ -162,17 +177,21 @@ impl Requests {
         if let Some(process_id) = self.terminate.pop() {
             return Some(Request::Terminate { process_id });
         }
-        if self.at == self.lines.len() {
-            self.at = 0;
-            self.lines.clear();
-            self.lines.shrink_to(KEPT);
-            return None;
-        }
+        let question = match self.questions.pop_front() {
+            Some(question) => question,
+            None => {
+                self.drop_untaken();
+                return None;
+            }
+        };
         let start = self.at;
         let length = self.lines[start..].iter().position(|&byte| byte == b'\n')?;
         self.at = start + length + 1;
         self.unanswered += 1;
-        Some(Request::Statement(&self.lines[start..start + length]))
+        Some(Request::Statement {
+            line: &self.lines[start..start + length],
+            question,
+        })
     }
 
     /// Counts a reply.
@@ -190,7 +209,9 @@ impl Requests {
         self.open = None;
         self.activities = false;
         self.terminate.clear();
+        self.questions.clear();
         self.at = 0;
         self.lines.clear();
+        self.lines.shrink_to(KEPT);
     }
 }

@@ -4,9 +4,7 @@ use std::rc::Rc;
 
 use crate::connection::prepared::{Binding, Portal, Progress, Statement};
 use crate::connection::transaction::Block;
-use crate::connection::work::{
-    failed_block, AfterCommit, AfterDefinition, Completed, Subject, Tag, Target,
-};
+use crate::connection::work::{failed_block, AfterCommit, AfterDefinition, Subject, Target};
 use crate::connection::Connection;
 use crate::rows::Definition;
 use crate::sqlstate::{Failure, Report, SqlState};
@@ -66,11 +64,12 @@ impl Connection {
         let table = binding.statement.table_name();
         match table
             .as_ref()
-            .map(|table| (table, self.definition(table).cloned()))
+            .map(|table| (table, self.definitions().get(table)))
         {
             Some((table, None)) => {
                 let statement = Rc::clone(&binding.statement);
-                self.ask_definition(table, statement, AfterDefinition::Bind(binding));
+                let then = AfterDefinition::Bind(binding, statement);
+                self.ask_definition(table, then);
             }
             known => {
                 let definition = known.and_then(|(_, definition)| definition);
@@ -132,7 +131,7 @@ impl Connection {
             portal: bind.portal.to_owned(),
             statement: Rc::clone(statement),
             values,
-            formats: self::formats(&bind.result_formats)?,
+            formats: self::formats(&bind.result_formats)?.into(),
         })
     }
 
@@ -158,11 +157,11 @@ impl Connection {
             None
         };
         match table {
-            Some(table) => {
-                let then = AfterDefinition::Describe(name.to_owned());
-                self.ask_definition(&table, statement, then);
+            Some(table) if self.definitions().get(&table).is_none() => {
+                let then = AfterDefinition::Describe(name.to_owned(), statement);
+                self.ask_definition(&table, then);
             }
-            None => self.describe_now(name),
+            _ => self.describe_now(name),
         }
     }
 
@@ -183,7 +182,7 @@ impl Connection {
         };
         let definition = statement
             .table_name()
-            .and_then(|table| self.definition(&table).cloned());
+            .and_then(|table| self.definitions().get(&table));
         let types = statement.parameter_types(definition.as_deref());
         let columns = match statement
             .command
@@ -246,7 +245,8 @@ impl Connection {
         self.write_description(name, columns);
     }
 
-    fn write_description(&mut self, name: &str, columns: Option<Rc<[Column]>>) {
+    /// Describes the columns of a portal's rows. None: it has no rows.
+    pub(super) fn write_description(&mut self, name: &str, columns: Option<Rc<[Column]>>) {
         let columns = match columns {
             Some(columns) => columns,
             None => return backend::no_data(self.output.buffer()),
@@ -257,25 +257,14 @@ impl Connection {
                     .statement
                     .described
                     .replace(Some(Rc::clone(&columns)));
-                backend::row_description(self.output.buffer(), &columns, portal.format());
+                let format = |place| portal.formats.of(place);
+                backend::row_description(self.output.buffer(), &columns, format);
             }),
             Err(report) => Err(report),
         };
         if let Err(report) = written {
             self.fail(report, None);
         }
-    }
-
-    /// Takes the rows of a portal that were read ahead.
-    pub(super) fn described_portal(&mut self, name: &str, completed: Completed) {
-        let columns = completed
-            .rows
-            .as_ref()
-            .map(|rows| Rc::clone(rows.columns()));
-        if let (Ok(portal), Some(rows)) = (self.prepared.portal(name), completed.rows) {
-            portal.progress = Progress::Rows(rows, completed.tag);
-        }
-        self.write_description(name, columns);
     }
 
     /// Serves Execute. `last`: a Sync is behind it.
@@ -286,7 +275,7 @@ impl Connection {
         };
         match (&portal.progress, &portal.statement.command) {
             (_, None) => backend::empty_query(self.output.buffer()),
-            (Progress::Rows(..), _) => self.give_rows(name, limit),
+            (Progress::Rows(_), _) => self.give_rows_of(name, limit),
             (Progress::Done, Some(_)) => {
                 let text = format!("portal \"{}\" cannot be run", name);
                 self.fail(
@@ -319,47 +308,6 @@ impl Connection {
         }
     }
 
-    /// Tells the client how the statement of a portal ended.
-    pub(super) fn complete_portal(&mut self, name: &str, limit: u32, completed: Completed) {
-        let portal = self.prepared.portal(name).ok();
-        match (completed.rows, completed.tag) {
-            (None, Tag::Plain(tag)) => {
-                if let Some(portal) = portal {
-                    portal.progress = Progress::Done;
-                }
-                backend::command_complete(self.output.buffer(), tag);
-            }
-            (None, Tag::Rows) => backend::command_complete_of(self.output.buffer(), "SELECT", 0),
-            (Some(rows), tag) => {
-                let mut changed = false;
-                if let Some(portal) = portal {
-                    changed = match &*portal.statement.described.borrow() {
-                        Some(columns) => columns != rows.columns(),
-                        None => false,
-                    };
-                    portal.progress = Progress::Rows(rows, tag);
-                }
-                if changed {
-                    let text = "cached plan must not change result type";
-                    let report = Report::error(SqlState::FEATURE_NOT_SUPPORTED, text);
-                    return self.fail(report, None);
-                }
-                self.give_rows(name, limit);
-            }
-        }
-    }
-
-    /// Gives the client the next rows of a portal.
-    fn give_rows(&mut self, name: &str, limit: u32) {
-        let given = match self.prepared.portal(name) {
-            Ok(portal) => give_rows(portal, limit, self.output.buffer()),
-            Err(report) => Err(report),
-        };
-        if let Err(report) = given {
-            self.fail(report, None);
-        }
-    }
-
     /// Serves Close.
     pub(super) fn close_target(&mut self, target: frontend::Target<'_>) {
         match target {
@@ -370,36 +318,6 @@ impl Connection {
         }
         backend::close_complete(self.output.buffer());
     }
-}
-
-fn give_rows(portal: &mut Portal, limit: u32, out: &mut Vec<u8>) -> Result<(), Failure> {
-    let most = if limit == 0 {
-        usize::MAX
-    } else {
-        limit as usize
-    };
-    let progress = std::mem::replace(&mut portal.progress, Progress::Done);
-    let (mut rows, tag) = match progress {
-        Progress::Rows(rows, tag) => (rows, tag),
-        _ => return Ok(()),
-    };
-    portal.check_formats(rows.columns())?;
-    let count = rows.take_rows(most, portal.format(), out).map_err(|_| {
-        Report::error(
-            SqlState::INTERNAL_ERROR,
-            "a value does not have the type of its column",
-        )
-    })?;
-    if count == most {
-        backend::portal_suspended(out);
-    } else {
-        match tag {
-            Tag::Rows => backend::command_complete_of(out, "SELECT", count),
-            Tag::Plain(tag) => backend::command_complete(out, tag),
-        }
-    }
-    portal.progress = Progress::Rows(rows, tag);
-    Ok(())
 }
 
 fn formats(codes: &[i16]) -> Result<Vec<Format>, Failure> {
@@ -457,5 +375,6 @@ fn prepare(text: &str, types: &[u32]) -> Result<Statement, Failure> {
         types,
         places,
         described: Default::default(),
+        charge: None,
     })
 }

@@ -11,7 +11,7 @@ use crate::rows::{self, ResultSet};
 use crate::sqlstate::{Failure, Report, SqlState};
 use crate::statement::constant::{Expression, Item};
 use crate::statement::session::{Isolation, Modes, Setting};
-use crate::statement::{Command, Discard, Verb};
+use crate::statement::{Command, Discard};
 use crate::value::oid;
 use crate::variables::{no_isolation, Snapshot};
 use crate::wire::backend::{self, Column};
@@ -77,13 +77,10 @@ impl Connection {
     /// Returns the columns of a statement's rows, as far as no table's definition tells them. None: it has no rows.
     pub(super) fn columns(&self, command: &Command) -> Result<Option<Rc<[Column]>>, Failure> {
         let rows = match command {
-            Command::Program { verb, .. } => match verb {
-                Verb::ShowTable => rows::definition_text(""),
-                Verb::ShowBounds => rows::bounds(""),
-                Verb::ShowJournal => rows::journal(""),
-                Verb::ShowStatistics => rows::statistics(""),
-                _ => None,
-            },
+            Command::Program { verb, .. } => {
+                let columns = rows::shown_columns((*verb).into());
+                return Ok(Some(columns).filter(|columns| !columns.is_empty()));
+            }
             Command::ShowSetting(_)
             | Command::ShowAll
             | Command::Constant(_)
@@ -269,7 +266,6 @@ impl Connection {
                 ));
             }
             self.prepared.remove_statements();
-            self.definitions.clear();
             self.change_variables(|variables| variables.reset_all());
         }
         Ok(Completed::plain(match discard {

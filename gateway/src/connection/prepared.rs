@@ -2,12 +2,14 @@
 
 use std::cell::RefCell;
 use std::collections::HashMap;
+use std::mem;
 use std::rc::Rc;
 
 use postgres_protocol::Oid;
 
-use crate::connection::work::Tag;
-use crate::rows::{Definition, ResultSet};
+use crate::budget::{Charge, Pool};
+use crate::connection::results::Rows;
+use crate::rows::Definition;
 use crate::sqlstate::{Failure, Report, SqlState};
 use crate::statement::lexer::Token;
 use crate::statement::parameters::{self, Place};
@@ -21,8 +23,15 @@ const MOST_STATEMENTS: usize = 4_096;
 /// The most portals of a connection.
 const MOST_PORTALS: usize = 1_024;
 
-/// The most bytes of all texts of prepared statements, of all values of portals, and of all rows that wait in them.
-const MOST_BYTES: usize = 64 * 1024 * 1024;
+/// How many bytes all prepared statements and portals of a connection take at the most: texts with what is read of them,
+/// values and formats. Rows that wait in portals are bounded by themselves.
+pub const MOST_BYTES: u64 = 64 * 1024 * 1024;
+
+/// How long the name of a column is at the most.
+const NAME: usize = 64;
+
+/// About what a prepared statement or a portal takes beside what it holds.
+const OVERHEAD: usize = 512;
 
 /// A prepared statement.
 #[derive(Debug)]
@@ -39,9 +48,20 @@ pub struct Statement {
     pub places: Vec<Place>,
     /// The columns that the client was told last.
     pub described: RefCell<Option<Rc<[Column]>>>,
+    /// What it takes of the connection's memory, as long as a portal has it too.
+    pub charge: Option<Charge>,
 }
 
 impl Statement {
+    /// Returns about how many bytes it takes.
+    fn size(&self) -> usize {
+        OVERHEAD
+            + self.text.len()
+            + self.tokens.capacity() * mem::size_of::<Token>()
+            + self.types.capacity() * mem::size_of::<Oid>()
+            + self.places.capacity() * (mem::size_of::<Place>() + NAME)
+    }
+
     /// Returns what the program does for it.
     pub fn verb(&self) -> Option<Verb> {
         match self.command {
@@ -108,9 +128,30 @@ pub enum Progress {
     /// It hasn't run.
     Ready,
     /// It has run, and rows may be left.
-    Rows(ResultSet, Tag),
+    Rows(Box<Rows>),
     /// It has run.
     Done,
+}
+
+/// The formats of a result's columns, as Bind gives them: none for text, one for all columns, or one for each.
+#[derive(Clone, Debug, Default)]
+pub struct Formats(Rc<[Format]>);
+
+impl Formats {
+    /// Returns the format of the column at this place.
+    pub fn of(&self, place: usize) -> Format {
+        match self.0[..] {
+            [] => Format::Text,
+            [format] => format,
+            _ => self.0.get(place).copied().unwrap_or(Format::Text),
+        }
+    }
+}
+
+impl From<Vec<Format>> for Formats {
+    fn from(formats: Vec<Format>) -> Formats {
+        Formats(formats.into())
+    }
 }
 
 /// What a Bind gives, before its values are read.
@@ -123,7 +164,7 @@ pub struct Binding {
     /// The values of its parameters.
     pub values: Vec<(Format, Option<Vec<u8>>)>,
     /// The formats of its columns.
-    pub formats: Vec<Format>,
+    pub formats: Formats,
 }
 
 impl Binding {
@@ -160,6 +201,7 @@ impl Binding {
             values: values.into(),
             formats: self.formats,
             progress: Progress::Ready,
+            charge: None,
         })
     }
 }
@@ -172,33 +214,26 @@ pub struct Portal {
     /// The values of its parameters.
     pub values: Rc<[Value]>,
     /// The formats of its columns.
-    pub formats: Vec<Format>,
+    pub formats: Formats,
     /// What it has come to.
     pub progress: Progress,
+    charge: Option<Charge>,
 }
 
 impl Portal {
-    /// Returns the format of a column.
-    pub fn format(&self) -> impl Fn(usize) -> Format + '_ {
-        move |place| match self.formats[..] {
-            [] => Format::Text,
-            [format] => format,
-            _ => self.formats.get(place).copied().unwrap_or(Format::Text),
-        }
-    }
-
     /// Checks that a result has as many columns as the client gives formats for.
     ///
     /// # Errors
     ///
     /// Fails if it hasn't.
     pub fn check_formats(&self, columns: &[Column]) -> Result<(), Failure> {
-        if self.formats.len() > 1 && self.formats.len() != columns.len() {
+        let count = self.formats.0.len();
+        if count > 1 && count != columns.len() {
             return Err(Report::error(
                 SqlState::PROTOCOL_VIOLATION,
                 format!(
                     "bind message has {} result formats but query has {} columns",
-                    self.formats.len(),
+                    count,
                     columns.len()
                 ),
             ));
@@ -206,22 +241,41 @@ impl Portal {
         Ok(())
     }
 
+    /// Checks that a result has the columns that the client was told last.
+    ///
+    /// # Errors
+    ///
+    /// Fails if it has others.
+    pub fn check_described(&self, columns: &Rc<[Column]>) -> Result<(), Failure> {
+        match &*self.statement.described.borrow() {
+            Some(described) if described != columns => Err(other_columns()),
+            _ => Ok(()),
+        }
+    }
+
+    /// Returns about how many bytes it takes.
     fn size(&self) -> usize {
-        let rows = match &self.progress {
-            Progress::Rows(rows, _) => rows.size(),
-            _ => 0,
-        };
-        rows + self.values.iter().map(Value::size).sum::<usize>()
+        let values = self
+            .values
+            .iter()
+            .map(|value| mem::size_of::<Value>() + value.size());
+        OVERHEAD + values.sum::<usize>() + self.formats.0.len() * mem::size_of::<Format>()
     }
 }
 
+/// Makes the report of a result that has other columns than the client was told.
+pub fn other_columns() -> Failure {
+    let text = "cached plan must not change result type";
+    Report::error(SqlState::FEATURE_NOT_SUPPORTED, text)
+}
+
 /// The prepared statements and the portals of a connection.
-#[derive(Debug, Default)]
+#[derive(Debug)]
 pub struct Prepared {
     statements: HashMap<String, Rc<Statement>>,
     portals: HashMap<String, Portal>,
-    /// The bytes of all texts of statements.
-    text: usize,
+    /// What they all take.
+    memory: Pool,
 }
 
 fn too_many(what: &str) -> Failure {
@@ -233,6 +287,15 @@ fn too_many(what: &str) -> Failure {
 }
 
 impl Prepared {
+    /// Returns none as yet, which will take their memory of that of all connections.
+    pub fn new(memory: &Pool) -> Prepared {
+        Prepared {
+            statements: HashMap::new(),
+            portals: HashMap::new(),
+            memory: memory.part(MOST_BYTES),
+        }
+    }
+
     /// Returns a prepared statement.
     ///
     /// # Errors
@@ -254,7 +317,7 @@ impl Prepared {
     /// # Errors
     ///
     /// Fails if the name is taken, or if there are too many.
-    pub fn add_statement(&mut self, name: &str, statement: Statement) -> Result<(), Failure> {
+    pub fn add_statement(&mut self, name: &str, mut statement: Statement) -> Result<(), Failure> {
         if name.is_empty() {
             self.remove_statement(name);
         } else if self.statements.contains_key(name) {
@@ -263,30 +326,22 @@ impl Prepared {
                 format!("prepared statement \"{}\" already exists", name),
             ));
         }
-        let size = name.len() + statement.text.len();
-        if self.statements.len() == MOST_STATEMENTS || self.text + size > MOST_BYTES {
+        statement.charge = self.memory.take(name.len() + statement.size());
+        if self.statements.len() == MOST_STATEMENTS || statement.charge.is_none() {
             return Err(too_many("prepared statements"));
         }
-        self.text += size;
         self.statements.insert(name.to_owned(), Rc::new(statement));
         Ok(())
     }
 
     /// Removes a prepared statement, and returns whether there was one.
     pub fn remove_statement(&mut self, name: &str) -> bool {
-        match self.statements.remove(name) {
-            Some(statement) => {
-                self.text -= name.len() + statement.text.len();
-                true
-            }
-            None => false,
-        }
+        self.statements.remove(name).is_some()
     }
 
     /// Removes all prepared statements.
     pub fn remove_statements(&mut self) {
-        self.statements.clear();
-        self.text = 0;
+        self.statements = HashMap::new();
     }
 
     /// Returns a portal.
@@ -306,7 +361,7 @@ impl Prepared {
     /// # Errors
     ///
     /// Fails if the name is taken, or if there are too many.
-    pub fn add_portal(&mut self, name: &str, portal: Portal) -> Result<(), Failure> {
+    pub fn add_portal(&mut self, name: &str, mut portal: Portal) -> Result<(), Failure> {
         if name.is_empty() {
             self.portals.remove(name);
         } else if self.portals.contains_key(name) {
@@ -315,8 +370,8 @@ impl Prepared {
                 format!("cursor \"{}\" already exists", name),
             ));
         }
-        let used: usize = self.portals.values().map(Portal::size).sum();
-        if self.portals.len() == MOST_PORTALS || used + portal.size() > MOST_BYTES {
+        portal.charge = self.memory.take(name.len() + portal.size());
+        if self.portals.len() == MOST_PORTALS || portal.charge.is_none() {
             return Err(too_many("portals"));
         }
         self.portals.insert(name.to_owned(), portal);
@@ -331,7 +386,7 @@ impl Prepared {
     /// Removes all portals, because the transaction ends.
     pub fn drop_portals(&mut self) {
         if !self.portals.is_empty() {
-            self.portals.clear();
+            self.portals = HashMap::new();
         }
     }
 }

@@ -136,6 +136,12 @@ impl Connection {
         self.variables.begin();
         self.user = names.user.to_owned();
         self.database = database.to_owned();
+        self.definitions = self
+            .settings
+            .definitions
+            .get(place)
+            .cloned()
+            .unwrap_or_default();
         self.requests.open(place);
         self.phase = Phase::Opening;
         Ok(())

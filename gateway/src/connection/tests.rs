@@ -24,6 +24,9 @@ fn settings() -> Rc<Settings> {
         limits: Limits::default(),
         startup: Duration::from_secs(10),
         sessions: 64,
+        definitions: vec![Definitions::default(), Definitions::default()],
+        memory: Pool::new(u64::MAX),
+        disk: Pool::new(u64::MAX),
     })
 }
 
@@ -186,7 +189,7 @@ fn decoded(mut bytes: &[u8]) -> Vec<String> {
 struct Client {
     connection: Connection,
     now: Instant,
-    asked: VecDeque<String>,
+    asked: VecDeque<(String, Question)>,
 }
 
 impl Client {
@@ -225,30 +228,71 @@ impl Client {
 
     fn send(&mut self, bytes: &[u8]) {
         self.connection.receive(bytes, self.now);
+        self.go_on();
+    }
+
+    /// Lets it have all of its turns.
+    fn go_on(&mut self) {
+        while self.connection.has_turn() {
+            self.connection.go_on(self.now);
+        }
+    }
+
+    /// Gives a reply, as the part that reads the program's output does.
+    fn reply(&mut self, question: Question, reply: &str) {
+        let lines: Vec<&str> = reply.split_terminator('\n').collect();
+        for (place, line) in lines.iter().enumerate() {
+            let is_last = place + 1 == lines.len();
+            assert_eq!(question.is_last_line(line.as_bytes()), is_last, "{}", line);
+            self.connection
+                .definitions()
+                .note(question, line.as_bytes());
+            self.connection.replied(line.as_bytes(), is_last, self.now);
+        }
+        self.go_on();
+    }
+
+    /// Lets the gateway learn a definition that another connection asked for.
+    fn learn(&mut self, shown: &str) {
+        let definitions = self.connection.definitions();
+        shown
+            .lines()
+            .for_each(|line| definitions.note(Question::Table, line.as_bytes()));
+    }
+
+    /// Answers the oldest line that the program was asked. Returns the line.
+    fn answer(&mut self, reply: &str) -> Option<String> {
+        let (line, question) = self.asked.pop_front()?;
+        self.reply(question, reply);
+        Some(line)
     }
 
     /// Takes all lines that the program is asked.
     fn take(&mut self) {
         while let Some(request) = self.connection.next_request() {
             match request {
-                Request::Statement(line) => {
-                    self.asked
-                        .push_back(String::from_utf8(line.to_vec()).unwrap());
+                Request::Statement { line, question } => {
+                    let line = String::from_utf8(line.to_vec()).unwrap();
+                    self.asked.push_back((line, question));
                 }
                 request => panic!("{:?}", request),
             }
         }
     }
 
+    /// Returns the lines that the program was asked and that have no reply.
+    fn lines(&self) -> Vec<&str> {
+        self.asked.iter().map(|(line, _)| line.as_str()).collect()
+    }
+
     /// Compares the lines that the program is asked with these, and gives their replies.
     fn serve(&mut self, script: &[(&str, &str)]) -> &mut Client {
         for (line, reply) in script {
             self.take();
-            assert_eq!(self.asked.pop_front().as_deref(), Some(*line));
-            self.connection.replied(reply.as_bytes(), self.now);
+            assert_eq!(self.answer(reply).as_deref(), Some(*line));
         }
         self.take();
-        assert_eq!(self.asked, VecDeque::<String>::new());
+        assert_eq!(self.asked, []);
         assert_eq!(self.connection.unanswered(), 0);
         self
     }
@@ -264,6 +308,7 @@ impl Client {
         while !self.connection.output().is_empty() {
             let piece = self.connection.output().to_vec();
             self.connection.sent(piece.len(), self.now);
+            self.go_on();
             bytes.extend(piece);
         }
         bytes
@@ -419,7 +464,7 @@ fn an_update_outside_of_a_block_is_committed_at_once() {
     let mut client = Client::connected();
     client.send(&query(TAKE));
     client.take();
-    assert_eq!(client.asked, [TAKE, "COMMIT"]);
+    assert_eq!(client.lines(), [TAKE, "COMMIT"]);
     client.serve_replies(&[RESERVED, COMMITTED]);
     assert_eq!(client.output(), ["complete UPDATE 1", "ready I"]);
     let events: Vec<Event> = client.connection.take_events().collect();
@@ -685,11 +730,7 @@ fn rows_have_the_columns_of_their_table() {
             "ready I"
         ]
     );
-    let missing = "ERR 21 no such table\n";
-    let script = [
-        ("SHOW TABLE nothing", missing),
-        ("SELECT * FROM nothing", missing),
-    ];
+    let script = [("SHOW TABLE nothing", "ERR 21 no such table\n")];
     assert_eq!(
         client.ask("SELECT * FROM nothing", &script),
         ["ERROR 42P01 P=15 t=nothing", "ready I"]
@@ -707,10 +748,7 @@ fn a_syntax_error_is_shown_in_the_clients_own_text() {
         client.ask("/* \u{e4} */ SELECT\n  id FROM stock", &script),
         ["ERROR 42601 P=18", "ready I"]
     );
-    let script = [
-        ("DELETE FROM stock WHERE id = 'x'", "ERR 23 bad value\n"),
-        ("SHOW TABLE stock", STOCK),
-    ];
+    let script = [("DELETE FROM stock WHERE id = 'x'", "ERR 23 bad value\n")];
     assert_eq!(
         client.ask("DELETE FROM stock WHERE id = 'x'", &script),
         ["ERROR 22P02 P=30 t=stock c=id", "ready I"]
@@ -736,9 +774,7 @@ fn a_number_in_quotes_is_asked_once_more_without_them() {
     // It is refused again: there is no third time.
     let again = [
         ("DELETE FROM stock WHERE id = '1'", refused),
-        ("SHOW TABLE stock", STOCK),
         ("DELETE FROM stock WHERE id = 1", refused),
-        ("SHOW TABLE stock", STOCK),
     ];
     assert_eq!(
         client.ask("DELETE FROM stock WHERE id = '1'", &again),
@@ -830,14 +866,13 @@ fn a_parameter_of_an_open_type_is_one_of_its_column() {
         client.output(),
         ["parsed", "bound", "complete UPDATE 1", "ready I"]
     );
-    // The definition is known now, until a definition is changed.
+    // The definition is known now.
     client.send(&bind("", "a", &[Some(b"-2"), Some(b"1")], 0, 0));
     client.send(&[execute("", 0), sync()].concat());
     client.serve(&[(line, RESERVED), ("COMMIT", COMMITTED)]);
     assert_eq!(client.output(), ["bound", "complete UPDATE 1", "ready I"]);
     client.ask("DROP TABLE x", &[("DROP TABLE x", "OK dropped X\n")]);
     client.send(&[bind("", "a", &[Some(b"x"), Some(b"1")], 0, 0), sync()].concat());
-    client.serve(&[("SHOW TABLE stock", STOCK)]);
     assert_eq!(client.output(), ["ERROR 22P02", "ready I"]);
 }
 
@@ -926,20 +961,17 @@ fn a_description_tells_types_before_anything_runs() {
     );
     client.send(&parse("b", "SELECT * FROM stock WHERE id = $1", &[]));
     client.send(&[describe('S', "b"), sync()].concat());
-    client.serve(&[("SHOW TABLE stock", STOCK)]);
     assert_eq!(
         client.output(),
         ["parsed", "parameters 20", "columns 4", "ready I"]
     );
     // Another connection has changed the table since.
     let changed = STOCK.replace("NUMBER(8,2)", "NUMBER(8)");
+    client.learn(&changed);
     let rows = "ID | PIECES | PRICE | NAME\n1 | 5 | 9 | 'tea'\nOK rows 1\n";
     client.send(&bind("", "b", &[Some(&1_i64.to_be_bytes())], 1, 1));
     client.send(&[execute("", 0), sync()].concat());
-    client.serve(&[
-        ("SHOW TABLE stock", &changed),
-        ("SELECT * FROM stock WHERE id = 1", rows),
-    ]);
+    client.serve(&[("SELECT * FROM stock WHERE id = 1", rows)]);
     assert_eq!(client.output(), ["bound", "ERROR 0A000", "ready I"]);
 }
 
@@ -1085,7 +1117,7 @@ fn a_transaction_that_lasts_too_long_ends() {
     client.send(&[query(TAKE), query(TAKE)].concat());
     client.take();
     client.pass(Duration::from_secs(1));
-    assert_eq!(client.asked, [TAKE]);
+    assert_eq!(client.lines(), [TAKE]);
     client.serve_replies(&[RESERVED]);
     assert_eq!(client.output(), ["complete UPDATE 1", "FATAL 25P04"]);
     assert!(client.connection.is_closing());
@@ -1153,23 +1185,151 @@ fn what_was_sent_before_the_end_is_served() {
     assert!(client.connection.is_closing());
 }
 
+/// A reply with so many rows, whose names are long enough that they take some megabytes.
+fn many_rows(count: usize) -> String {
+    let name = "x".repeat(20);
+    let row = |id| format!("{id} | 5 | 9.50 | '{name}'\n");
+    let rows: String = (0..count).map(row).collect();
+    format!("ID | PIECES | PRICE | NAME\n{rows}OK rows {count}\n")
+}
+
 #[test]
 fn a_client_that_does_not_read_is_not_served_on() {
     let mut client = Client::connected();
-    let row = format!("1 | 5 | 9.50 | '{}'\n", "x".repeat(20));
-    let rows = format!(
-        "ID | PIECES | PRICE | NAME\n{}OK rows 9000\n",
-        row.repeat(9_000)
-    );
+    client.learn(STOCK);
     let text = "SELECT * FROM stock";
     client.send(&[query(text), query(text)].concat());
-    client.serve(&[("SHOW TABLE stock", STOCK), (text, &rows)]);
-    assert!(client.connection.output.len() > MOST_OUTPUT);
+    client.serve(&[(text, &many_rows(20_000))]);
+    // The rest waits in a file.
+    assert!(client.connection.output.len() < MOST_OUTPUT + 100);
+    assert!(client.connection.settings.memory.taken() < 300_000);
+    assert!(client.connection.settings.disk.taken() > 800_000);
     assert!(!client.connection.wants_input());
-    client.output();
-    client.serve(&[("SHOW TABLE stock", STOCK), (text, &rows)]);
+    let told = client.output();
+    assert_eq!(told.len(), 20_003);
+    assert_eq!(told[20_000], format!("row 19999|5|9.50|{}", "x".repeat(20)));
+    assert_eq!(told[20_001..], ["complete SELECT 20000", "ready I"]);
+    assert_eq!(client.connection.settings.disk.taken(), 0);
+    client.serve(&[(text, ROWS)]);
     client.output();
     assert!(client.connection.wants_input());
+}
+
+#[test]
+fn rows_of_portals_wait_in_one_file() {
+    let mut client = Client::connected();
+    client.learn(STOCK);
+    let text = "SELECT * FROM stock";
+    client.send(&[query("BEGIN"), parse("a", text, &[])].concat());
+    client.output();
+    let rows = many_rows(3_000);
+    for portal in ["p", "q", "r"] {
+        client.send(&[bind(portal, "a", &[], 0, 0), execute(portal, 1)].concat());
+        client.serve(&[(text, &rows)]);
+        assert_eq!(client.output()[2], "suspended");
+    }
+    assert!(client.connection.settings.memory.taken() < 200_000);
+    for portal in ["r", "p", "q"] {
+        client.send(&execute(portal, 0));
+        let told = client.output();
+        assert_eq!(told[2_999], "complete SELECT 2999");
+        assert!(told[2_998].starts_with("row 2999|"), "{}", told[2_998]);
+    }
+    client.send(&[execute("p", 0), sync()].concat());
+    assert_eq!(client.output(), ["complete SELECT 0", "ready T"]);
+    client.ask("COMMIT", &[]);
+    assert_eq!(client.connection.settings.disk.taken(), 0);
+}
+
+#[test]
+fn too_many_waiting_rows_fail_behind_those_that_were_given() {
+    let settings = Settings {
+        disk: Pool::new(100_000),
+        ..(*settings()).clone()
+    };
+    let mut client = Client::connected_with(Rc::new(settings));
+    client.learn(STOCK);
+    let text = "SELECT * FROM stock";
+    client.send(&query(text));
+    client.serve(&[(text, &many_rows(20_000))]);
+    let told = client.output();
+    assert_eq!(told[told.len() - 2..], ["ERROR 53400", "ready I"]);
+    assert!(told[told.len() - 3].starts_with("row "));
+    // Nothing is left of it.
+    assert_eq!(client.connection.settings.disk.taken(), 0);
+    let told = client.ask(text, &[(text, ROWS)]);
+    assert_eq!(told[4..], ["complete SELECT 3", "ready I"]);
+}
+
+#[test]
+fn a_select_of_a_table_that_was_defined_anew_is_asked_again() {
+    let mut client = Client::connected();
+    client.learn(STOCK);
+    let text = "SELECT * FROM stock";
+    client.send(&query(text));
+    client.take();
+    // Another connection has dropped it, and made it with other columns.
+    let anew = "CREATE TABLE STOCK (K VARCHAR2(5) PRIMARY KEY, N NUMBER(5) RESERVABLE)\nOK table\n";
+    client.learn(anew);
+    let rows = "K | N\n'a' | 3\nOK rows 1\n";
+    client.serve(&[(text, rows), (text, rows)]);
+    let told = ["columns 2", "row a|3", "complete SELECT 1", "ready I"];
+    assert_eq!(client.output(), told);
+    // It is dropped, and nobody has made it again.
+    client.send(&query(text));
+    client.take();
+    client
+        .connection
+        .definitions()
+        .note(Question::Order, b"OK dropped STOCK");
+    let missing = "ERR 21 no such table\n";
+    client.serve(&[(text, missing), ("SHOW TABLE stock", missing)]);
+    assert_eq!(client.output(), ["ERROR 42P01 P=15 t=stock", "ready I"]);
+}
+
+#[test]
+fn a_definition_is_asked_for_behind_the_statement_that_makes_it() {
+    let mut client = Client::connected();
+    let text = "CREATE TABLE stock (id INTEGER PRIMARY KEY, pieces INTEGER RESERVABLE)";
+    let script = [(text, "OK created STOCK\n"), ("SHOW TABLE stock", STOCK)];
+    let told = ["complete CREATE TABLE", "ready I"];
+    assert_eq!(client.ask(text, &script), told);
+    let text = "SELECT * FROM stock";
+    assert_eq!(client.ask(text, &[(text, ROWS)])[0], "columns 4");
+    let text = "ALTER TABLE stock DROP CONSTRAINT x";
+    let refused = [
+        (text, "ERR 27 no such constraint\n"),
+        ("SHOW TABLE stock", STOCK),
+    ];
+    assert_eq!(
+        client.ask(text, &refused),
+        ["ERROR 42704 t=stock n=x", "ready I"]
+    );
+    client.ask(
+        "DROP TABLE stock",
+        &[("DROP TABLE stock", "OK dropped STOCK\n")],
+    );
+    assert!(client.connection.definitions().all().is_empty());
+}
+
+#[test]
+fn nothing_is_asked_behind_a_rollback_that_is_refused() {
+    for (begin, line) in [
+        ("BEGIN", "ROLLBACK"),
+        ("BEGIN; SAVEPOINT a", "ROLLBACK TO P0"),
+    ] {
+        let mut client = Client::connected();
+        let savepoint = [("SAVEPOINT P0", "OK savepoint P0\n")];
+        client.ask(begin, if line == "ROLLBACK" { &[] } else { &savepoint });
+        client.ask(TAKE, &[(TAKE, RESERVED)]);
+        client.send(&[query("SELEC"), query("COMMIT")].concat());
+        client.serve(&[(line, "ERR 51 memory\n")]);
+        assert_eq!(
+            client.output(),
+            ["ERROR 42601 P=1", "ready E", "FATAL 53200"]
+        );
+        assert!(client.connection.is_closing());
+    }
 }
 
 #[test]
@@ -1184,8 +1344,7 @@ impl Client {
     /// Gives these replies.
     fn serve_replies(&mut self, replies: &[&str]) {
         for reply in replies {
-            self.asked.pop_front();
-            self.connection.replied(reply.as_bytes(), self.now);
+            self.answer(reply);
         }
     }
 }
@@ -1216,14 +1375,11 @@ fn played(pieces: &[&[u8]]) -> (Vec<String>, Vec<u8>) {
         client.send(piece);
         loop {
             client.take();
-            let line = match client.asked.pop_front() {
-                Some(line) => line,
+            let reply = match client.asked.front() {
+                Some((line, _)) => plausible_reply(line),
                 None => break,
             };
-            client
-                .connection
-                .replied(plausible_reply(&line).as_bytes(), client.now);
-            lines.push(line);
+            lines.extend(client.answer(reply));
         }
         assert!(client.connection.output.len() <= 2 * MOST_OUTPUT);
         output.extend(client.bytes());
@@ -1317,7 +1473,9 @@ proptest! {
         let mut client = Client::connected();
         client.send(&query("SELECT * FROM stock"));
         client.take();
-        client.connection.replied(format!("{}\n", reply).as_bytes(), client.now);
-        client.connection.replied(format!("{}\nOK rows 1\n", reply).as_bytes(), client.now);
+        for line in reply.split('\n').chain(["OK rows 1"]) {
+            let is_last = Question::Rows.is_last_line(line.as_bytes());
+            client.connection.replied(line.as_bytes(), is_last, client.now);
+        }
     }
 }

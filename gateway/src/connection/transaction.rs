@@ -2,8 +2,9 @@
 
 use std::time::Instant;
 
-use crate::connection::work::Expected;
+use crate::connection::work::Awaited;
 use crate::connection::{Connection, Event};
+use crate::reply::Question;
 use crate::variables::Snapshot;
 
 /// What ReadyForQuery tells.
@@ -144,7 +145,7 @@ impl Connection {
     pub(super) fn abort(&mut self) {
         if self.transaction.block == Block::None {
             if self.transaction.dirty {
-                self.swallow(&["ROLLBACK"]);
+                self.undo(&["ROLLBACK"]);
             }
             self.end_transaction(false);
             return;
@@ -158,18 +159,17 @@ impl Connection {
         let last = self.transaction.savepoints.last();
         self.transaction.reservations = last.map_or(0, |savepoint| savepoint.reservations);
         match self.transaction.savepoints.len().checked_sub(1) {
-            Some(last) => self.swallow(&["ROLLBACK TO ", &savepoint_name(last)]),
+            Some(last) => self.undo(&["ROLLBACK TO ", &savepoint_name(last)]),
             None => {
-                self.swallow(&["ROLLBACK"]);
+                self.undo(&["ROLLBACK"]);
                 self.transaction.dirty = false;
             }
         }
     }
 
-    /// Asks the program by a line whose reply tells the client nothing.
-    pub(super) fn swallow(&mut self, words: &[&str]) {
-        self.requests.push(words);
-        self.expected.push_back(Expected::Swallowed);
+    /// Rolls back by a line whose reply tells the client nothing. Nothing more is asked before that is done.
+    fn undo(&mut self, words: &[&str]) {
+        self.ask(Question::Order, words, Awaited::Undo);
     }
 
     /// Adds a savepoint, which the program has under its place's name.

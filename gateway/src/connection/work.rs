@@ -3,12 +3,15 @@
 use std::rc::Rc;
 
 use crate::connection::activity::Evaluate;
-use crate::connection::prepared::{Binding, Statement};
+use crate::connection::channel::Output;
+use crate::connection::prepared::{other_columns, Binding, Progress, Statement};
+use crate::connection::results::Rows;
 use crate::connection::simple::Query;
 use crate::connection::transaction::{savepoint_name, Block};
-use crate::connection::{Connection, Event, MOST_DEFINITIONS};
-use crate::reply::{self, Done, Outcome, Refusal};
-use crate::rows::{self, Definition, ResultSet};
+use crate::connection::{Connection, Event};
+use crate::reply::{self, Done, Outcome, Question, Refusal};
+use crate::rows::shape::Shape;
+use crate::rows::{Definition, Reader, ResultSet};
 use crate::sqlstate::{self, Failure, Refused, Report, SqlState};
 use crate::statement::explain::{self, Explanation};
 use crate::statement::lexer::Token;
@@ -17,19 +20,54 @@ use crate::statement::{literal, Command, Verb};
 use crate::value::Value;
 use crate::wire::backend;
 
-/// What the next reply of the program answers.
-#[derive(Clone, Copy, Debug, PartialEq, Eq)]
-pub enum Expected {
-    /// A line that the client knows nothing of.
-    Swallowed,
-    /// SHOW TABLE of a statement's table.
-    Definition,
+/// What the next reply of the program answers, and what is done then.
+#[derive(Debug)]
+pub enum Awaited {
     /// A statement of the client's.
-    Statement,
+    Statement(Box<Running>),
+    /// The COMMIT behind a statement that is a transaction by itself, with what that was answered.
+    OwnCommit(Option<(Box<Running>, Result<Completed, Failure>)>),
+    /// SHOW TABLE, which tells the gateway the definition of a table.
+    Definition {
+        /// The table.
+        table: String,
+        /// What is done then.
+        then: AfterDefinition,
+    },
     /// A COMMIT.
-    Commit,
-    /// A ROLLBACK, SAVEPOINT or ROLLBACK TO.
-    Control,
+    Commit(AfterCommit),
+    /// A ROLLBACK.
+    Rollback {
+        /// What asked for it.
+        target: Target,
+        /// AND CHAIN.
+        chain: bool,
+    },
+    /// A SAVEPOINT of this name.
+    Savepoint {
+        /// What asked for it.
+        target: Target,
+        /// Its name.
+        name: String,
+    },
+    /// A ROLLBACK TO the savepoint at a place.
+    RollbackTo {
+        /// What asked for it.
+        target: Target,
+        /// The place.
+        place: usize,
+    },
+    /// A ROLLBACK or ROLLBACK TO of the gateway's own.
+    Undo,
+    /// What all connections do, which the engine tells in this turn.
+    Activities {
+        /// What asked for it.
+        target: Target,
+        /// The statement.
+        subject: Subject,
+        /// What makes the statement's result of it.
+        evaluate: Evaluate,
+    },
 }
 
 /// What asks for a statement to be run.
@@ -106,14 +144,33 @@ pub struct Running {
     subject: Subject,
     /// Whether it is a transaction by itself.
     commits: bool,
-    definition: Option<Rc<Definition>>,
-    /// What the statement was answered, while its COMMIT isn't.
-    outcome: Option<Result<Completed, Failure>>,
+    /// How many replies are still to come. A result may be that of several lines.
+    replies: usize,
+    /// What makes rows of the replies, if they have some.
+    reader: Option<Reader>,
+    /// The result, once it is begun.
+    rows: Option<Rows>,
+    /// Why rows that came can't be given. What still comes is passed over.
+    failed: Option<Failure>,
+    /// Whether its table was defined anew before the program served it.
+    is_stale: bool,
+    /// How often it was asked again for that.
+    repeats: u32,
     /// Whether it was refused for a value, which the table's definition may tell.
     bad_value: bool,
     /// Whether the program was asked once more, for a line without quotes around numbers.
     is_unquoted: bool,
 }
+
+impl Running {
+    /// Gives the client rows that wait, as far as it takes its output.
+    pub fn flow(&mut self, output: &mut Output) -> Result<(), Failure> {
+        self.rows.as_mut().map_or(Ok(()), |rows| rows.flow(output))
+    }
+}
+
+/// How often a statement is asked again whose table is defined anew all the time.
+const MOST_REPEATS: u32 = 8;
 
 /// What goes on once a COMMIT is answered.
 #[derive(Clone, Debug)]
@@ -131,61 +188,19 @@ pub enum AfterCommit {
     Sync,
 }
 
-/// What the program does for the client.
-#[derive(Debug)]
-pub enum Work {
-    /// A statement.
-    Statement(Running),
-    /// SHOW TABLE, for which value of a statement that was refused doesn't fit.
-    Explanation(Running, Failure),
-    /// SHOW TABLE, for what a prepared statement's parameters are.
-    Definition {
-        /// The statement.
-        statement: Rc<Statement>,
-        /// What is done then.
-        then: AfterDefinition,
-    },
-    /// A COMMIT.
-    Commit(AfterCommit),
-    /// A ROLLBACK.
-    Rollback {
-        /// What asked for it.
-        target: Target,
-        /// AND CHAIN.
-        chain: bool,
-    },
-    /// A SAVEPOINT of this name.
-    Savepoint {
-        /// What asked for it.
-        target: Target,
-        /// Its name.
-        name: String,
-    },
-    /// A ROLLBACK TO the savepoint at a place.
-    RollbackTo {
-        /// What asked for it.
-        target: Target,
-        /// The place.
-        place: usize,
-    },
-    /// What all connections do, which the engine tells in this turn.
-    Activities {
-        /// What asked for it.
-        target: Target,
-        /// The statement.
-        subject: Subject,
-        /// What makes the statement's result of it.
-        evaluate: Evaluate,
-    },
-}
-
 /// What goes on once a definition is known.
 #[derive(Debug)]
 pub enum AfterDefinition {
-    /// Bind.
-    Bind(Binding),
+    /// Bind of this statement.
+    Bind(Binding, Rc<Statement>),
     /// Describe of a prepared statement of this name.
-    Describe(String),
+    Describe(String, Rc<Statement>),
+    /// A statement.
+    Run(Box<Running>),
+    /// The report of a statement that was refused for a value.
+    Explain(Box<Running>, Failure),
+    /// Nothing: it is asked for behind a statement that defines the table.
+    Nothing,
 }
 
 /// Returns where a statement's text and tokens are.
@@ -226,8 +241,9 @@ fn table_name(source: Source<'_>) -> Option<String> {
     }
 }
 
-fn not_understood() -> Failure {
-    Report::error(SqlState::INTERNAL_ERROR, "the server's reply is not valid")
+/// Makes the report of a reply that isn't understood.
+pub fn not_understood() -> Failure {
+    Report::fatal(SqlState::INTERNAL_ERROR, "the server's reply is not valid")
 }
 
 impl Connection {
@@ -278,48 +294,75 @@ impl Connection {
         if let Err(report) = self.may_run(verb) {
             return self.finish(target, &subject, Err(report));
         }
-        let source = source(&self.query, &self.tokens, &subject, verb, table);
-        let definition_of = if verb == Verb::Select {
-            table_name(source)
-        } else {
-            None
-        };
-        let asked = self.requests.line(|out| {
-            if let Some(name) = &definition_of {
-                out.extend_from_slice(b"SHOW TABLE ");
-                out.extend_from_slice(name.as_bytes());
-                out.push(b'\n');
-            }
-            line::write(source, subject.values(), out, None)
-        });
-        if let Err(report) = asked {
-            return self.finish(target, &subject, Err(report));
-        }
-        if definition_of.is_some() {
-            self.expected.push_back(Expected::Definition);
-        }
-        self.await_statement(Running {
+        self.run_by_definition(Box::new(Running {
             verb,
             table,
             target,
             subject,
             commits,
-            definition: None,
-            outcome: None,
+            replies: 1,
+            reader: None,
+            rows: None,
+            failed: None,
+            is_stale: false,
+            repeats: 0,
             bad_value: false,
             is_unquoted: false,
-        });
+        }));
+    }
+
+    /// Asks the program for a statement. If that needs the definition of its table, and it isn't known, it is asked for
+    /// first.
+    fn run_by_definition(&mut self, mut running: Box<Running>) {
+        let Running { verb, table, .. } = *running;
+        let source = source(&self.query, &self.tokens, &running.subject, verb, table);
+        let table = table_name(source);
+        running.reader = match verb {
+            Verb::Select => match table
+                .as_ref()
+                .map(|table| (table, self.definitions().get(table)))
+            {
+                Some((table, None)) => {
+                    let table = table.clone();
+                    return self.ask_definition(&table, AfterDefinition::Run(running));
+                }
+                Some((_, Some(definition))) => {
+                    let shape = Shape::all(definition.result_columns().into());
+                    Some(Reader::of_table(definition, shape))
+                }
+                None => None,
+            },
+            verb if Question::from(verb) != Question::Order => Some(Reader::of_show(verb.into())),
+            _ => None,
+        };
+        let values = running.subject.values();
+        let written = self
+            .requests
+            .line(verb.into(), |out| line::write(source, values, out, None));
+        if let Err(report) = written {
+            return self.finish(running.target, &running.subject, Err(report));
+        }
+        self.await_statement(running);
+        if let (Verb::CreateTable | Verb::AlterTable, Some(table)) = (verb, table) {
+            // Nobody's statement comes in between. So no SELECT has to ask for it.
+            self.ask_definition(&table, AfterDefinition::Nothing);
+        }
     }
 
     /// Awaits the reply to a statement's line, with its COMMIT behind it if it is a transaction by itself.
-    fn await_statement(&mut self, running: Running) {
-        self.expected.push_back(Expected::Statement);
+    fn await_statement(&mut self, running: Box<Running>) {
         let is_alone = self.transaction.block == Block::None && !self.transaction.dirty;
-        if running.verb == Verb::Reserve && running.commits && is_alone {
-            self.requests.push(&["COMMIT"]);
-            self.expected.push_back(Expected::Commit);
+        let commits = running.verb == Verb::Reserve && running.commits && is_alone;
+        self.awaited.push_back(Awaited::Statement(running));
+        if commits {
+            self.ask(Question::Order, &["COMMIT"], Awaited::OwnCommit(None));
         }
-        self.work = Some(Work::Statement(running));
+    }
+
+    /// Asks the program by a line, and awaits its reply.
+    pub(super) fn ask(&mut self, question: Question, words: &[&str], awaited: Awaited) {
+        self.requests.push(question, words);
+        self.awaited.push_back(awaited);
     }
 
     /// Refuses what would commit by itself inside a transaction, and writes of a transaction that only reads.
@@ -339,124 +382,154 @@ impl Connection {
         Ok(())
     }
 
-    /// Takes a reply of the program.
-    pub(super) fn take_reply(&mut self, reply: &[u8]) {
-        let expected = match self.expected.pop_front() {
-            Some(expected) => expected,
-            None => return self.die(not_understood()),
-        };
-        match (expected, self.work.take()) {
-            (Expected::Swallowed, work) => self.work = work,
-            (Expected::Definition, Some(Work::Statement(running))) => {
-                let definition = self.read_definition(reply).ok();
-                self.work = Some(Work::Statement(Running {
-                    definition,
-                    ..running
-                }));
+    /// Takes a line of a reply that is not its last one.
+    pub(super) fn take_line(&mut self, line: &[u8]) {
+        match self.awaited.pop_front() {
+            Some(Awaited::Statement(mut running)) => {
+                if running.failed.is_none() && !running.is_stale {
+                    if let Err(report) = self.take_row(&mut running, line) {
+                        running.failed = Some(report);
+                    }
+                }
+                self.awaited.push_front(Awaited::Statement(running));
             }
-            (Expected::Definition, Some(Work::Explanation(running, report))) => {
-                self.explain(running, report, reply);
-            }
-            (Expected::Definition, Some(Work::Definition { statement, then })) => {
-                self.definition_replied(&statement, then, reply);
-            }
-            (Expected::Statement, Some(Work::Statement(running))) => {
-                self.statement_replied(running, reply);
-            }
-            (Expected::Commit, Some(Work::Statement(running))) => {
-                self.own_commit_replied(running, reply);
-            }
-            (Expected::Commit, Some(Work::Commit(after))) => self.commit_replied(after, reply),
-            (Expected::Control, Some(work)) => self.control_replied(work, reply),
+            // The program's part has taken note of it.
+            Some(awaited @ Awaited::Definition { .. }) => self.awaited.push_front(awaited),
             _ => self.die(not_understood()),
         }
     }
 
-    /// Reads a definition out of the reply to SHOW TABLE, and keeps it.
-    fn read_definition(&mut self, reply: &[u8]) -> Result<Rc<Definition>, Option<u16>> {
-        let reply = reply::parse(reply).ok_or(None)?;
-        if let Outcome::Refused(refusal) = reply.outcome {
-            return Err(Some(refusal.number));
+    /// Makes a row of a line, and gives it to the client.
+    fn take_row(&mut self, running: &mut Running, line: &[u8]) -> Result<(), Failure> {
+        if self.is_stale(running) {
+            running.is_stale = true;
+            return Ok(());
         }
-        let definition = Definition::parse(reply.lines.trim_end())
-            .map(Rc::new)
-            .ok_or(None)?;
-        self.definitions
-            .retain(|known| known.table != definition.table);
-        if self.definitions.len() == MOST_DEFINITIONS {
-            self.definitions.remove(0);
+        let line = std::str::from_utf8(line).map_err(|_| not_understood())?;
+        self.begin_rows_of(running)?;
+        let (reader, rows) = match (&mut running.reader, &mut running.rows) {
+            (Some(reader), Some(rows)) => (reader, rows),
+            _ => return Err(not_understood()),
+        };
+        let (output, mut result) = (&mut self.output, Ok(()));
+        let read = reader.read(line, |row| {
+            if result.is_ok() {
+                result = rows.push(row, output);
+            }
+        });
+        read.map_err(|_| not_understood())?;
+        result
+    }
+
+    /// Returns whether the table of a SELECT has other columns than the ones by which it was asked.
+    fn is_stale(&self, running: &Running) -> bool {
+        let asked = running.reader.as_ref().and_then(Reader::definition);
+        asked.map_or(false, |asked| match self.definitions().get(&asked.table) {
+            Some(now) => !Rc::ptr_eq(&now, asked) && now.columns != asked.columns,
+            None => true,
+        })
+    }
+
+    fn begin_rows_of(&mut self, running: &mut Running) -> Result<(), Failure> {
+        if let (None, Some(reader)) = (&running.rows, &running.reader) {
+            let tag = match running.verb {
+                Verb::Select => Tag::Rows,
+                _ => Tag::Plain("SHOW"),
+            };
+            let shape = reader.shape().clone();
+            running.rows = Some(self.begin_rows(&running.target, shape, tag)?);
         }
-        self.definitions.push(Rc::clone(&definition));
-        Ok(definition)
+        Ok(())
     }
 
-    /// Returns a table's definition, if it is known.
-    pub(super) fn definition(&self, table: &str) -> Option<&Rc<Definition>> {
-        self.definitions.iter().find(|known| known.table == table)
+    /// Takes the last line of a reply.
+    pub(super) fn take_last_line(&mut self, line: &[u8]) {
+        let outcome = std::str::from_utf8(line).ok().and_then(reply::outcome);
+        let (awaited, outcome) = match (self.awaited.pop_front(), outcome) {
+            (Some(awaited), Some(outcome)) => (awaited, outcome),
+            _ => return self.die(not_understood()),
+        };
+        match awaited {
+            Awaited::Statement(running) => self.statement_replied(running, outcome),
+            Awaited::OwnCommit(Some((running, result))) => {
+                self.own_commit_replied(running, result, outcome);
+            }
+            Awaited::OwnCommit(None) => self.die(not_understood()),
+            Awaited::Definition { table, then } => self.definition_replied(&table, then, outcome),
+            Awaited::Commit(after) => self.commit_replied(after, outcome),
+            Awaited::Undo if outcome != Outcome::Done(Done::RolledBack) => {
+                // The session is given back, and rolled back until it is free. So nothing of it is ever committed.
+                let text =
+                    "terminating connection because its transaction could not be rolled back";
+                self.die(Report::fatal(SqlState::OUT_OF_MEMORY, text));
+            }
+            Awaited::Undo => {}
+            control => self.control_replied(control, outcome),
+        }
     }
 
-    /// Asks for the definition of a prepared statement's table.
-    pub(super) fn ask_definition(
-        &mut self,
-        table: &str,
-        statement: Rc<Statement>,
-        then: AfterDefinition,
-    ) {
-        self.requests.push(&["SHOW TABLE ", table]);
-        self.expected.push_back(Expected::Definition);
-        self.work = Some(Work::Definition { statement, then });
+    /// Asks the program for the definition of a table.
+    pub(super) fn ask_definition(&mut self, table: &str, then: AfterDefinition) {
+        let awaited = Awaited::Definition {
+            table: table.to_owned(),
+            then,
+        };
+        self.ask(Question::Table, &["SHOW TABLE ", table], awaited);
     }
 
-    fn definition_replied(
-        &mut self,
-        statement: &Rc<Statement>,
-        then: AfterDefinition,
-        reply: &[u8],
-    ) {
-        match self.read_definition(reply) {
-            Ok(definition) => match then {
-                AfterDefinition::Bind(binding) => self.bind_now(binding, Some(&definition)),
-                AfterDefinition::Describe(name) => self.describe_now(&name),
-            },
-            Err(number) => {
-                let report = match number {
-                    Some(number) => {
-                        let table = statement.table_and_place();
-                        let table = table.as_ref().map(|(name, place)| (name.as_str(), *place));
-                        let refusal = Refusal {
-                            number,
-                            column: None,
-                            broken: None,
-                        };
-                        let verb = statement.verb().map_or("", Verb::words);
-                        sqlstate::refusal(
-                            &refusal,
-                            Refused {
-                                verb,
-                                table,
-                                constraint: None,
-                            },
-                        )
-                    }
-                    None => not_understood(),
-                };
+    fn definition_replied(&mut self, table: &str, then: AfterDefinition, outcome: Outcome<'_>) {
+        if let Outcome::Refused(Refusal::NoSuchTable) = outcome {
+            self.definitions().forget(table);
+        }
+        let definition = self.definitions().get(table);
+        match (then, outcome) {
+            (AfterDefinition::Nothing, _) => {}
+            (AfterDefinition::Explain(running, report), _) => {
+                self.explain(running, report, definition.as_deref());
+            }
+            (AfterDefinition::Run(mut running), Outcome::Refused(refusal)) => {
+                let result = self.refused(&mut running, &refusal);
+                self.finish(running.target, &running.subject, result);
+            }
+            (AfterDefinition::Bind(_, statement), Outcome::Refused(refusal))
+            | (AfterDefinition::Describe(_, statement), Outcome::Refused(refusal)) => {
+                let report = refusal_of_table(&refusal, &statement);
                 self.fail(report, Some(&statement.text));
             }
+            (_, Outcome::Done(_)) if definition.is_none() => self.die(not_understood()),
+            (AfterDefinition::Run(running), _) => self.run_by_definition(running),
+            (AfterDefinition::Bind(binding, _), _) => {
+                self.bind_now(binding, definition.as_deref());
+            }
+            (AfterDefinition::Describe(name, _), _) => self.describe_now(&name),
         }
     }
 
-    fn statement_replied(&mut self, mut running: Running, reply: &[u8]) {
-        let result = self.outcome(&mut running, reply);
-        if self.expected.front() == Some(&Expected::Commit) {
-            running.outcome = Some(result);
-            self.work = Some(Work::Statement(running));
-            return;
+    fn statement_replied(&mut self, mut running: Box<Running>, outcome: Outcome<'_>) {
+        let result = self.outcome(&mut running, outcome);
+        running.replies -= 1;
+        if running.replies > 0 {
+            if let (Err(report), None) = (result, &running.failed) {
+                running.failed = Some(report);
+            }
+            return self.awaited.push_front(Awaited::Statement(running));
         }
-        self.finish_statement(running, result);
+        match self.awaited.front_mut() {
+            Some(Awaited::OwnCommit(none)) => *none = Some((running, result)),
+            _ => self.finish_statement(running, result),
+        }
     }
 
-    /// Ends a statement; if a value was refused, the table's definition is asked for first.
-    fn finish_statement(&mut self, running: Running, result: Result<Completed, Failure>) {
+    /// Ends a statement. If it was served by another definition than it was asked by, it is asked again: a SELECT and a
+    /// refusal changed nothing. If a value was refused, the table's definition tells which.
+    fn finish_statement(&mut self, mut running: Box<Running>, result: Result<Completed, Failure>) {
+        if running.is_stale && running.rows.is_none() && running.repeats < MOST_REPEATS {
+            running.repeats += 1;
+            running.is_stale = false;
+            running.failed = None;
+            running.replies = 1;
+            return self.run_by_definition(running);
+        }
         match result {
             Err(report) if running.bad_value => {
                 let Running {
@@ -464,42 +537,52 @@ impl Connection {
                     table,
                     subject,
                     ..
-                } = &running;
+                } = &*running;
                 let source = source(&self.query, &self.tokens, subject, *verb, *table);
-                match table_name(source) {
-                    Some(name) => {
-                        self.requests.push(&["SHOW TABLE ", &name]);
-                        self.expected.push_back(Expected::Definition);
-                        self.work = Some(Work::Explanation(running, report));
+                let table = table_name(source).unwrap_or_default();
+                match self.definitions().get(&table) {
+                    None if !table.is_empty() => {
+                        self.ask_definition(&table, AfterDefinition::Explain(running, report));
                     }
-                    None => self.finish(running.target, &running.subject, Err(report)),
+                    definition => self.explain(running, report, definition.as_deref()),
                 }
             }
-            result => self.finish(running.target, &running.subject, result),
+            Err(report) => self.finish(running.target, &running.subject, Err(report)),
+            Ok(completed) => match running.rows {
+                None => self.finish(running.target, &running.subject, Ok(completed)),
+                Some(rows) => {
+                    if let Err(report) = self.end_rows(running.target, rows) {
+                        self.fail_of(report, &running.subject);
+                    }
+                }
+            },
         }
     }
 
     /// Tells which value was refused, or asks once more if there are but numbers in quotes: the refusal changed nothing.
-    fn explain(&mut self, running: Running, report: Failure, reply: &[u8]) {
+    fn explain(
+        &mut self,
+        mut running: Box<Running>,
+        report: Failure,
+        definition: Option<&Definition>,
+    ) {
         let Running {
             verb,
             table,
             subject,
             ..
-        } = &running;
-        let explanation = self.read_definition(reply).ok().and_then(|definition| {
+        } = &*running;
+        let explanation = definition.and_then(|definition| {
             let source = source(&self.query, &self.tokens, subject, *verb, *table);
-            explain::bad_value(&definition, source, subject.values())
+            explain::bad_value(definition, source, subject.values())
         });
         let report = match explanation {
             Some(Explanation::Unquoted(line)) if !running.is_unquoted => {
-                self.requests.push(&[&line]);
-                return self.await_statement(Running {
-                    outcome: None,
-                    bad_value: false,
-                    is_unquoted: true,
-                    ..running
-                });
+                running.bad_value = false;
+                running.is_unquoted = true;
+                running.replies = 1;
+                self.requests.push(running.verb.into(), &[&line]);
+                return self.await_statement(running);
             }
             Some(Explanation::Report(report)) => report,
             _ => report,
@@ -508,26 +591,26 @@ impl Connection {
     }
 
     /// Takes the reply to the COMMIT behind an UPDATE.
-    fn own_commit_replied(&mut self, mut running: Running, reply: &[u8]) {
-        let committed = commit_outcome(reply);
-        let result = match (running.outcome.take(), committed) {
-            // The COMMIT behind a refusal commits nothing.
-            (Some(Err(report)), _) => Err(report),
-            (_, Err(report)) => Err(report),
-            (Some(Ok(completed)), Ok(())) => Ok(completed),
-            (None, Ok(())) => Err(not_understood()),
-        };
+    fn own_commit_replied(
+        &mut self,
+        running: Box<Running>,
+        result: Result<Completed, Failure>,
+        outcome: Outcome<'_>,
+    ) {
+        let committed = commit_outcome(outcome);
+        let is_open = committed.is_err();
+        // The COMMIT behind a refusal commits nothing.
+        let result = result.and_then(|completed| committed.map(|()| completed));
         match &result {
             Ok(_) => self.end_transaction(true),
             // A COMMIT that fails leaves the transaction open: it is rolled back.
-            Err(_) => self.transaction.dirty = commit_outcome(reply).is_err(),
+            Err(_) => self.transaction.dirty = is_open,
         }
         self.finish_statement(running, result);
     }
 
-    fn commit_replied(&mut self, after: AfterCommit, reply: &[u8]) {
-        let result = commit_outcome(reply);
-        let failed = match result {
+    fn commit_replied(&mut self, after: AfterCommit, outcome: Outcome<'_>) {
+        let failed = match commit_outcome(outcome) {
             Ok(()) => {
                 let chain = matches!(after, AfterCommit::Command { chain: true, .. });
                 self.end_block(true, chain);
@@ -556,21 +639,17 @@ impl Connection {
         }
     }
 
-    fn control_replied(&mut self, work: Work, reply: &[u8]) {
-        let outcome = match reply::parse(reply) {
-            Some(reply) => reply.outcome,
-            None => return self.die(not_understood()),
-        };
-        let (target, tag) = match (work, outcome) {
-            (Work::Rollback { target, chain }, Outcome::Done(Done::RolledBack)) => {
+    fn control_replied(&mut self, awaited: Awaited, outcome: Outcome<'_>) {
+        let (target, tag) = match (awaited, outcome) {
+            (Awaited::Rollback { target, chain }, Outcome::Done(Done::RolledBack)) => {
                 self.end_block(false, chain);
                 (target, "ROLLBACK")
             }
-            (Work::Savepoint { target, name }, Outcome::Done(Done::Savepoint)) => {
+            (Awaited::Savepoint { target, name }, Outcome::Done(Done::Savepoint)) => {
                 self.add_savepoint(name);
                 (target, "SAVEPOINT")
             }
-            (Work::RollbackTo { target, place }, Outcome::Done(Done::RolledBack)) => {
+            (Awaited::RollbackTo { target, place }, Outcome::Done(Done::RolledBack)) => {
                 self.back_to_savepoint(place);
                 (target, "ROLLBACK")
             }
@@ -588,70 +667,77 @@ impl Connection {
     }
 
     /// Returns what the reply to a statement means.
-    fn outcome(&mut self, running: &mut Running, reply: &[u8]) -> Result<Completed, Failure> {
-        let reply = reply::parse(reply).ok_or_else(not_understood)?;
-        match reply.outcome {
-            Outcome::Done(done) => self.done(running, done, reply.lines),
+    fn outcome(
+        &mut self,
+        running: &mut Running,
+        outcome: Outcome<'_>,
+    ) -> Result<Completed, Failure> {
+        match outcome {
+            Outcome::Done(done) => self.done(running, done),
             Outcome::Refused(refusal) => {
-                running.bad_value = refusal.number == 23;
+                running.bad_value = refusal == Refusal::BadValue;
+                running.is_stale |= refusal.is_of_definition() && self.is_stale(running);
                 self.refused(running, &refusal)
             }
         }
     }
 
-    fn done(&mut self, running: &Running, done: Done, lines: &str) -> Result<Completed, Failure> {
-        match done {
+    fn done(&mut self, running: &mut Running, done: Done) -> Result<Completed, Failure> {
+        let tag = match done {
             Done::Reserved => {
                 self.transaction.reserves(self.now);
                 return Ok(Completed::plain("UPDATE 1"));
             }
-            Done::Inserted | Done::Deleted | Done::Updated => self.events.push(Event::Committed),
-            Done::Created | Done::Altered | Done::Dropped => {
-                self.events.push(Event::Committed);
-                self.definitions.clear();
+            Done::Inserted => "INSERT 0 1",
+            Done::Deleted => "DELETE 1",
+            Done::Updated => "UPDATE 1",
+            Done::Created => "CREATE TABLE",
+            Done::Altered => "ALTER TABLE",
+            Done::Dropped => "DROP TABLE",
+            Done::Rows(lines) | Done::Reservations(lines) => {
+                return self.rows_done(running, Some(lines));
             }
-            _ => {}
-        }
-        let rows = match done {
-            Done::Inserted => return Ok(Completed::plain("INSERT 0 1")),
-            Done::Deleted => return Ok(Completed::plain("DELETE 1")),
-            Done::Updated => return Ok(Completed::plain("UPDATE 1")),
-            Done::Created => return Ok(Completed::plain("CREATE TABLE")),
-            Done::Altered => return Ok(Completed::plain("ALTER TABLE")),
-            Done::Dropped => return Ok(Completed::plain("DROP TABLE")),
-            Done::Rows => {
-                let definition = running.definition.as_ref().ok_or_else(not_understood)?;
-                let rows = rows::rows(definition, lines).ok_or_else(not_understood)?;
-                return Ok(Completed {
-                    tag: Tag::Rows,
-                    rows: Some(rows),
-                });
-            }
-            Done::Table => rows::definition_text(lines),
-            Done::Bounds => rows::bounds(lines),
-            Done::Reservations => rows::journal(lines),
-            Done::Statistics => rows::statistics(lines),
-            Done::Reserved | Done::Committed | Done::RolledBack | Done::Savepoint => None,
+            Done::Table | Done::Bounds | Done::Statistics => return self.rows_done(running, None),
+            Done::Committed | Done::RolledBack | Done::Savepoint => return Err(not_understood()),
         };
-        let rows = rows.ok_or_else(not_understood)?;
-        Ok(Completed {
-            tag: Tag::Plain("SHOW"),
-            rows: Some(rows),
-        })
+        self.events.push(Event::Committed);
+        Ok(Completed::plain(tag))
     }
 
-    fn refused(&mut self, running: &Running, refusal: &Refusal<'_>) -> Result<Completed, Failure> {
-        match (refusal.number, running.verb) {
-            (31, Verb::Reserve | Verb::Replace) => return Ok(Completed::plain("UPDATE 0")),
-            (31, Verb::Delete) => return Ok(Completed::plain("DELETE 0")),
-            (31, Verb::ShowBounds) => {
-                return Ok(Completed {
-                    tag: Tag::Plain("SHOW"),
-                    rows: rows::bounds(""),
-                });
+    /// Ends the rows of a reply that says how many lines it has.
+    fn rows_done(
+        &mut self,
+        running: &mut Running,
+        lines: Option<u64>,
+    ) -> Result<Completed, Failure> {
+        if let Some(report) = running.failed.take() {
+            return Err(report);
+        }
+        if running.is_stale {
+            // It is asked again, unless rows of it were given.
+            return Err(other_columns());
+        }
+        self.begin_rows_of(running)?;
+        match running.reader.as_mut().map(|reader| reader.end(lines)) {
+            Some(Ok(())) => Ok(Completed::plain("SHOW")),
+            _ => Err(not_understood()),
+        }
+    }
+
+    fn refused(
+        &mut self,
+        running: &mut Running,
+        refusal: &Refusal<'_>,
+    ) -> Result<Completed, Failure> {
+        match (refusal, running.verb) {
+            (Refusal::NoSuchRow, Verb::Reserve | Verb::Replace) => {
+                return Ok(Completed::plain("UPDATE 0"));
             }
-            // Another connection may have changed the table.
-            (21..=25, _) => self.definitions.clear(),
+            (Refusal::NoSuchRow, Verb::Delete) => return Ok(Completed::plain("DELETE 0")),
+            (Refusal::NoSuchRow, Verb::ShowBounds) => {
+                self.begin_rows_of(running)?;
+                return Ok(Completed::plain("SHOW"));
+            }
             _ => {}
         }
         let Running {
@@ -661,7 +747,7 @@ impl Connection {
             ..
         } = running;
         let source = source(&self.query, &self.tokens, subject, *verb, *table);
-        if let Some(column) = refusal.column {
+        if let Refusal::Syntax { column } = *refusal {
             // The column counts the blank behind the prefix.
             return Err(line::syntax_error(
                 source,
@@ -692,14 +778,32 @@ impl Connection {
         subject: &Subject,
         result: Result<Completed, Failure>,
     ) {
-        let completed = match result {
-            Ok(completed) => completed,
-            Err(report) => return self.fail_of(report, subject),
-        };
+        let ended = result.and_then(|completed| match completed.rows {
+            Some(rows) => self.give_result(target, rows, completed.tag),
+            None => {
+                self.complete(&target, completed.tag);
+                Ok(())
+            }
+        });
+        if let Err(report) = ended {
+            self.fail_of(report, subject);
+        }
+    }
+
+    /// Tells the client that its statement, which has no rows, was served.
+    fn complete(&mut self, target: &Target, tag: Tag) {
         match target {
-            Target::Simple => self.complete_simple(completed),
-            Target::Execute { portal, limit } => self.complete_portal(&portal, limit, completed),
-            Target::Describe { portal } => self.described_portal(&portal, completed),
+            Target::Describe { portal } => return self.write_description(portal, None),
+            Target::Execute { portal, .. } => {
+                if let Ok(portal) = self.prepared.portal(portal) {
+                    portal.progress = Progress::Done;
+                }
+            }
+            Target::Simple => {}
+        }
+        match tag {
+            Tag::Plain(tag) => backend::command_complete(self.output.buffer(), tag),
+            Tag::Rows => backend::command_complete_of(self.output.buffer(), "SELECT", 0),
         }
     }
 
@@ -717,29 +821,9 @@ impl Connection {
         }
     }
 
-    /// Writes rows and CommandComplete.
-    pub(super) fn complete_simple(&mut self, completed: Completed) {
-        let out = self.output.buffer();
-        let mut count = 0;
-        if let Some(mut rows) = completed.rows {
-            let text = |_| backend::Format::Text;
-            backend::row_description(out, rows.columns(), text);
-            match rows.take_rows(usize::MAX, text, out) {
-                Ok(taken) => count = taken,
-                Err(_) => return self.fail(not_understood(), None),
-            }
-        }
-        match completed.tag {
-            Tag::Plain(tag) => backend::command_complete(out, tag),
-            Tag::Rows => backend::command_complete_of(out, "SELECT", count),
-        }
-    }
-
     /// Commits what is reserved, because a query or a pipeline ends.
     pub(super) fn commit(&mut self, after: AfterCommit) {
-        self.requests.push(&["COMMIT"]);
-        self.expected.push_back(Expected::Commit);
-        self.work = Some(Work::Commit(after));
+        self.ask(Question::Order, &["COMMIT"], Awaited::Commit(after));
     }
 
     fn commit_block(&mut self, chain: bool, target: Target, subject: &Subject) {
@@ -761,10 +845,8 @@ impl Connection {
             return self.finish(target, subject, Err(report));
         }
         if self.transaction.dirty {
-            self.requests.push(&["ROLLBACK"]);
-            self.expected.push_back(Expected::Control);
-            self.work = Some(Work::Rollback { target, chain });
-            return;
+            let awaited = Awaited::Rollback { target, chain };
+            return self.ask(Question::Order, &["ROLLBACK"], awaited);
         }
         self.end_block(false, chain);
         self.finish(target, subject, Ok(Completed::plain("ROLLBACK")));
@@ -790,10 +872,8 @@ impl Connection {
             return self.finish(target, subject, Err(report));
         }
         let name = self.name_at(name, subject);
-        self.requests
-            .push(&["SAVEPOINT ", &savepoint_name(self.savepoints())]);
-        self.expected.push_back(Expected::Control);
-        self.work = Some(Work::Savepoint { target, name });
+        let words = ["SAVEPOINT ", &savepoint_name(self.savepoints())];
+        self.ask(Question::Order, &words, Awaited::Savepoint { target, name });
     }
 
     fn roll_back_to(&mut self, name: usize, target: Target, subject: &Subject) {
@@ -805,20 +885,19 @@ impl Connection {
         match self.transaction.savepoint(&name) {
             None => self.finish(target, subject, Err(no_savepoint(&name))),
             Some(place) => {
-                self.requests
-                    .push(&["ROLLBACK TO ", &savepoint_name(place)]);
-                self.expected.push_back(Expected::Control);
-                self.work = Some(Work::RollbackTo { target, place });
+                let words = ["ROLLBACK TO ", &savepoint_name(place)];
+                let awaited = Awaited::RollbackTo { target, place };
+                self.ask(Question::Order, &words, awaited);
             }
         }
     }
 }
 
-/// Reads the reply to a COMMIT.
-fn commit_outcome(reply: &[u8]) -> Result<(), Failure> {
-    match reply::parse(reply).map(|reply| reply.outcome) {
-        Some(Outcome::Done(Done::Committed)) => Ok(()),
-        Some(Outcome::Refused(refusal)) => {
+/// Returns what the reply to a COMMIT means.
+fn commit_outcome(outcome: Outcome<'_>) -> Result<(), Failure> {
+    match outcome {
+        Outcome::Done(Done::Committed) => Ok(()),
+        Outcome::Refused(refusal) => {
             let refused = Refused {
                 verb: "COMMIT",
                 table: None,
@@ -826,8 +905,19 @@ fn commit_outcome(reply: &[u8]) -> Result<(), Failure> {
             };
             Err(sqlstate::refusal(&refusal, refused))
         }
-        _ => Err(not_understood()),
+        Outcome::Done(_) => Err(not_understood()),
     }
+}
+
+/// Makes the report of a prepared statement whose table can't be shown.
+fn refusal_of_table(refusal: &Refusal<'_>, statement: &Statement) -> Failure {
+    let table = statement.table_and_place();
+    let refused = Refused {
+        verb: statement.verb().map_or("", Verb::words),
+        table: table.as_ref().map(|(name, place)| (name.as_str(), *place)),
+        constraint: None,
+    };
+    sqlstate::refusal(refusal, refused)
 }
 
 /// Makes the report of a statement in a block that has failed.

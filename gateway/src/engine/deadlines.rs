@@ -5,6 +5,7 @@ use std::time::{Duration, Instant};
 use super::door::Door;
 use super::{enqueue, wake, Engine, Phase};
 use crate::metrics::{Metrics, State};
+use crate::program::Program;
 
 impl Engine {
     /// Does what is due by time.
@@ -20,6 +21,13 @@ impl Engine {
                     deadline => wake(&mut self.alarm, deadline),
                 }
             }
+        }
+        let failed = self
+            .programs
+            .iter_mut()
+            .find_map(|program| program.roll_back_again(self.now).err());
+        if let Some(failure) = failed {
+            self.fail(failure);
         }
         if matches!(self.metrics_due(), Some(due) if due <= self.now) {
             self.write_metrics();
@@ -65,12 +73,14 @@ impl Engine {
             let is_ahead = |retry: &Instant| self.now < *retry;
             program.retry_at().filter(is_ahead)
         });
+        let rollbacks = self.programs.iter().map(Program::rollback_deadline);
         let deadlines = [self.alarm, phase, door, metrics];
         let next = deadlines
             .iter()
             .copied()
             .chain(ends)
             .chain(retries)
+            .chain(rollbacks)
             .flatten()
             .min()?;
         Some(next.saturating_duration_since(self.now))

@@ -7,17 +7,20 @@ use std::path::PathBuf;
 use std::rc::Rc;
 use std::time::{Duration, Instant};
 
+use escrowd_pg::budget::Pool;
 use escrowd_pg::connection::Settings;
+use escrowd_pg::limits::SESSIONS;
+use escrowd_pg::rows::spool;
 use mio::{Poll, Token};
 
 use super::clients::Clients;
 use super::door::Door;
-use super::signals;
+use super::{memory, signals};
 use super::{Engine, Phase, PROGRAMS};
 use crate::args::Args;
 use crate::failure::Failure;
 use crate::metrics::Metrics;
-use crate::program::{self, Program, SESSIONS};
+use crate::program::{self, check_version, Program};
 
 /// How many bytes one read takes at most: what a pipe holds.
 const BUFFER: usize = 64 * 1024;
@@ -40,6 +43,11 @@ impl Engine {
             .transpose()?;
         let door = Door::make(&args.listen, args.port, args.mode)?;
         let path = program_path(args).map_err(Failure::system("the gateway's own path"))?;
+        check_version(&path).map_err(|error| Failure::NotStarted {
+            database: args.databases[0].name.clone(),
+            program: path.clone(),
+            error,
+        })?;
         let mut programs = Vec::with_capacity(args.databases.len());
         for (place, database) in args.databases.iter().enumerate() {
             let token = Token(PROGRAMS + place * program::TOKENS);
@@ -56,6 +64,7 @@ impl Engine {
             .iter()
             .map(|database| database.name.clone())
             .collect();
+        let definitions = programs.iter().map(Program::definitions).cloned().collect();
         Ok(Engine {
             poll,
             signals,
@@ -72,6 +81,9 @@ impl Engine {
                 limits: args.limits(),
                 startup: STARTUP,
                 sessions: SESSIONS,
+                definitions,
+                memory: Pool::new(memory::granted()),
+                disk: Pool::new(spool::MOST_OF_ALL),
             }),
             metrics,
             phase: Phase::Opening,

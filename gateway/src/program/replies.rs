@@ -1,14 +1,14 @@
-//! The replies of a program, cut from its output.
+//! The lines of a program's output.
 
-use escrowd_pg::reply::is_last_line;
+use escrowd_pg::limits::SESSIONS;
 
-use super::sessions::{Number, SESSIONS};
+use super::sessions::Number;
 
 /// No line of a program is nearly as long: one with 30 texts has some 16 KB.
 const LINE_LIMIT: usize = 1 << 20;
 
-/// Buffers that grew beyond this for a large reply are given back.
-const KEPT: usize = 1 << 20;
+/// How much memory a buffer keeps.
+const KEPT: usize = 128 * 1024;
 
 /// How much of a wrong line an error shows, in bytes.
 const SHOWN: usize = 120;
@@ -22,16 +22,12 @@ pub struct Wrong {
     pub expected: String,
 }
 
-/// Output of a program, from which replies are taken in order.
+/// Output of a program, from which lines are taken in order.
 pub struct Replies {
     prefixes: Vec<Vec<u8>>,
     /// What was read. The lines before `next` were taken.
     output: Vec<u8>,
     next: usize,
-    /// The lines so far of a reply that has several, without prefixes.
-    reply: Vec<u8>,
-    /// Whether `reply` was handed out.
-    is_taken: bool,
 }
 
 impl Replies {
@@ -42,19 +38,16 @@ impl Replies {
             prefixes: prefixes.collect(),
             output: Vec::new(),
             next: 0,
-            reply: Vec::new(),
-            is_taken: false,
         }
     }
 
-    /// Adds what the program wrote.
+    /// Adds what the program wrote. All lines before it were taken.
     pub fn push(&mut self, output: &[u8]) {
-        if self.next == self.output.len() {
-            empty(&mut self.output);
-        } else {
-            self.output.drain(..self.next);
-        }
+        self.output.drain(..self.next);
         self.next = 0;
+        if self.output.is_empty() {
+            self.output.shrink_to(KEPT);
+        }
         self.output.extend_from_slice(output);
     }
 
@@ -66,45 +59,24 @@ impl Replies {
         }
     }
 
-    /// Takes the reply to the oldest statement, which is one of `session`, if it is complete. Returns its lines without
-    /// prefixes, each with its line feed.
+    /// Takes the next line of the reply to the oldest statement, which is one of `session`, if it is there. Returns it
+    /// without prefix and without line feed.
     pub fn take(&mut self, session: Number) -> Result<Option<&[u8]>, Wrong> {
-        if self.is_taken {
-            empty(&mut self.reply);
-            self.is_taken = false;
-        }
         let prefix = self.prefixes[session.place()].as_slice();
-        loop {
-            let rest = &self.output[self.next..];
-            let length = match rest.iter().position(|&byte| byte == b'\n') {
-                Some(place) => place + 1,
-                None if rest.len() > LINE_LIMIT => return Err(misplaced(rest, prefix)),
-                None => return Ok(None),
-            };
-            let line = match rest[..length].strip_prefix(prefix) {
-                Some(line) => line,
-                None => return Err(misplaced(&rest[..length], prefix)),
-            };
-            let (start, end) = (self.next + prefix.len(), self.next + length);
-            self.next = end;
-            let is_last = is_last_line(&line[..line.len() - 1]);
-            if is_last && self.reply.is_empty() {
-                // Most replies have one line, which needs no copy.
-                return Ok(Some(&self.output[start..end]));
+        let rest = &self.output[self.next..];
+        let length = match rest.iter().position(|&byte| byte == b'\n') {
+            Some(length) => length,
+            None if rest.len() > LINE_LIMIT => return Err(misplaced(rest, prefix)),
+            None => return Ok(None),
+        };
+        match rest[..length].strip_prefix(prefix) {
+            Some(line) => {
+                self.next += length + 1;
+                Ok(Some(line))
             }
-            self.reply.extend_from_slice(line);
-            if is_last {
-                self.is_taken = true;
-                return Ok(Some(&self.reply));
-            }
+            None => Err(misplaced(&rest[..length], prefix)),
         }
     }
-}
-
-/// Empties a buffer. Its memory is kept for the next use, unless it is large.
-fn empty(buffer: &mut Vec<u8>) {
-    buffer.clear();
-    buffer.shrink_to(KEPT);
 }
 
 /// Describes a line that doesn't begin with `prefix`.
@@ -142,42 +114,33 @@ mod tests {
         (take(), take())
     }
 
-    const OUTPUT: &[u8] = b"bank.1> OK reserved 1\n\
-        bank.2> ID | OK\nbank.2> OK | ERR\nbank.2> OK value 3\nbank.2> OK rows 2\n\
-        bank.1> ERR 41 D low 4 limit 5\n\
-        bank.1> OK committed 0\n";
+    const OUTPUT: &[u8] = b"bank.1> OK reserved 1\nbank.2> ID | OK\nbank.2> OK rows 0\n\
+        bank.1> ERR 41 D low 4 limit 5\n";
 
     #[test]
-    fn replies_are_cut_wherever_the_output_is() {
+    fn lines_are_cut_wherever_the_output_is() {
         let (one, two) = numbers();
-        for cut in 0..=OUTPUT.len() {
-            for piece in [1, 7, OUTPUT.len()] {
-                let mut replies = Replies::new();
-                let mut taken: Vec<Vec<u8>> = Vec::new();
-                let mut due = vec![two, one, one].into_iter();
-                let mut session = one;
-                let pieces = OUTPUT[..cut]
-                    .chunks(piece)
-                    .chain(OUTPUT[cut..].chunks(piece));
-                for piece in pieces {
-                    replies.push(piece);
-                    while let Some(reply) = replies.take(session).unwrap() {
-                        taken.push(reply.to_vec());
-                        match due.next() {
-                            Some(next) => session = next,
-                            None => break,
-                        }
+        for piece in 1..=OUTPUT.len() {
+            let mut replies = Replies::new();
+            let mut taken: Vec<Vec<u8>> = Vec::new();
+            let due = [one, two, two, one];
+            for piece in OUTPUT.chunks(piece) {
+                replies.push(piece);
+                while let Some(&session) = due.get(taken.len()) {
+                    match replies.take(session).unwrap() {
+                        Some(line) => taken.push(line.to_vec()),
+                        None => break,
                     }
                 }
-                let expected: [&[u8]; 4] = [
-                    b"OK reserved 1\n",
-                    b"ID | OK\nOK | ERR\nOK value 3\nOK rows 2\n",
-                    b"ERR 41 D low 4 limit 5\n",
-                    b"OK committed 0\n",
-                ];
-                assert_eq!(taken, expected);
-                replies.check_unasked().unwrap();
             }
+            let expected = [
+                "OK reserved 1",
+                "ID | OK",
+                "OK rows 0",
+                "ERR 41 D low 4 limit 5",
+            ];
+            assert_eq!(taken, expected.map(|line| line.as_bytes().to_vec()));
+            replies.check_unasked().unwrap();
         }
     }
 
@@ -212,18 +175,15 @@ mod tests {
     }
 
     #[test]
-    fn the_memory_of_a_large_reply_is_given_back() {
+    fn memory_does_not_grow_with_a_reply() {
         let (one, _) = numbers();
         let mut replies = Replies::new();
-        let line = b"bank.1> A | B\n".repeat(KEPT / 4);
-        replies.push(&line);
-        replies.push(b"bank.1> OK rows 1\nbank.1> OK committed 0\n");
-        assert_eq!(
-            replies.take(one).unwrap().unwrap().len(),
-            6 * (KEPT / 4) + 10
-        );
-        assert!(replies.take(one).unwrap().is_some());
-        replies.push(b"");
-        assert!(replies.reply.capacity() <= KEPT && replies.output.capacity() <= KEPT);
+        let output = b"bank.1> A | B\n".repeat(400_000);
+        // Each piece ends within a line.
+        for piece in output.chunks(64 * 1024 - 1) {
+            replies.push(piece);
+            while replies.take(one).unwrap().is_some() {}
+        }
+        assert!(replies.output.capacity() <= 3 * KEPT);
     }
 }

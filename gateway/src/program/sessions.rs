@@ -3,8 +3,11 @@
 use std::collections::VecDeque;
 use std::time::Instant;
 
-/// The sessions of a database. Their numbers are 1 to 64.
-pub const SESSIONS: usize = 64;
+use escrowd_pg::limits::SESSIONS;
+use escrowd_pg::reply::Question;
+
+/// The room for so many statements is kept.
+const KEPT: usize = 1024;
 
 /// Who has a session.
 #[derive(Clone, Copy, Debug, PartialEq, Eq)]
@@ -46,6 +49,8 @@ impl Number {
 pub struct Asked {
     /// Its session.
     pub session: Number,
+    /// What it asks for.
+    pub question: Question,
     /// When it was asked.
     pub since: Instant,
 }
@@ -97,11 +102,15 @@ impl Sessions {
     }
 
     /// Notes a statement of `session`.
-    pub fn ask(&mut self, session: Number, since: Instant) {
+    pub fn ask(&mut self, session: Number, question: Question, since: Instant) {
         let asking = &mut self.sessions[session.place()];
         asking.unanswered += 1;
         asking.is_used = true;
-        self.asked.push_back(Asked { session, since });
+        self.asked.push_back(Asked {
+            session,
+            question,
+            since,
+        });
     }
 
     /// Returns the statement that the next reply answers.
@@ -109,20 +118,29 @@ impl Sessions {
         self.asked.front().copied()
     }
 
-    /// Notes that the oldest statement is answered. Returns who had its session.
-    pub fn answered(&mut self) -> Holder {
-        let asked = match self.asked.pop_front() {
-            Some(asked) => asked,
-            None => return Holder::Nobody,
-        };
-        let session = &mut self.sessions[asked.session.place()];
-        session.unanswered -= 1;
-        let holder = session.holder;
-        if holder == Holder::Leaving && session.unanswered == 0 {
+    /// Notes that the oldest statement is answered.
+    pub fn answered(&mut self) {
+        if let Some(asked) = self.asked.pop_front() {
+            self.sessions[asked.session.place()].unanswered -= 1;
+        }
+        // What a burst of statements needed is given back.
+        if self.asked.is_empty() {
+            self.asked.shrink_to(KEPT);
+        }
+    }
+
+    /// Notes that what a client left in its session is rolled back. Nobody has it now.
+    pub fn free(&mut self, session: Number) {
+        let session = &mut self.sessions[session.place()];
+        if session.holder == Holder::Leaving && session.unanswered == 0 {
             session.holder = Holder::Nobody;
             self.leaving -= 1;
         }
-        holder
+    }
+
+    /// Returns who has a session.
+    pub fn holder(&self, session: Number) -> Holder {
+        self.sessions[session.place()].holder
     }
 
     /// Returns how many statements of `session` have no reply.
@@ -135,7 +153,7 @@ impl Sessions {
         self.sessions[session.place()].is_used
     }
 
-    /// Notes that its holder left. The session is free as soon as all of its statements are answered.
+    /// Notes that its holder left. The session is free at once if nothing was asked, and otherwise when it is rolled back.
     pub fn leave(&mut self, session: Number) {
         let session = &mut self.sessions[session.place()];
         self.held -= 1;
@@ -183,32 +201,40 @@ mod tests {
         assert!(!sessions.is_used(first));
         let second = sessions.take(Holder::Client(20)).unwrap();
         for session in [first, second, second, first] {
-            sessions.ask(session, now);
+            sessions.ask(session, Question::Order, now);
         }
         assert_eq!(sessions.next().unwrap().session, first);
         assert_eq!(sessions.unanswered(second), 2);
         assert!(sessions.is_used(first));
-        let holders: Vec<_> = (0..4).map(|_| sessions.answered()).collect();
+        let holders: Vec<_> = (0..4)
+            .map(|_| {
+                let session = sessions.next().unwrap().session;
+                sessions.answered();
+                sessions.holder(session)
+            })
+            .collect();
         let (one, two) = (Holder::Client(10), Holder::Client(20));
         assert_eq!(holders, [one, two, two, one]);
         assert_eq!(sessions.next(), None);
-        assert_eq!(sessions.answered(), Holder::Nobody);
     }
 
     #[test]
-    fn a_session_is_free_when_all_is_answered() {
+    fn a_session_is_free_when_it_is_rolled_back() {
         let now = Instant::now();
         let mut sessions = Sessions::new();
         let session = sessions.take(Holder::Client(1)).unwrap();
-        sessions.ask(session, now);
-        sessions.ask(session, now);
+        sessions.ask(session, Question::Order, now);
+        sessions.ask(session, Question::Order, now);
         sessions.leave(session);
         assert_eq!((sessions.held(), sessions.leaving()), (0, 1));
         let other = sessions.take(Holder::Client(2)).unwrap();
         assert_ne!(other, session);
-        assert_eq!(sessions.answered(), Holder::Leaving);
-        assert_eq!(sessions.leaving(), 1);
-        assert_eq!(sessions.answered(), Holder::Leaving);
+        sessions.answered();
+        sessions.free(session);
+        assert_eq!(sessions.leaving(), 1, "a statement has no reply");
+        sessions.answered();
+        assert_eq!(sessions.holder(session), Holder::Leaving);
+        sessions.free(session);
         assert_eq!(sessions.leaving(), 0);
         assert_eq!(sessions.take(Holder::Client(3)), Some(session));
         assert!(!sessions.is_used(session));

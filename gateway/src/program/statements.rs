@@ -2,9 +2,10 @@
 
 use std::io::{self, ErrorKind, Write};
 
+use escrowd_pg::limits::SESSIONS;
 use escrowd_pg::queue::Queue;
 
-use super::sessions::{Number, SESSIONS};
+use super::sessions::Number;
 
 /// What the kernel takes from one write to a pipe whole or not at all (Linux's PIPE_BUF).
 const ATOMIC: usize = 4096;

@@ -1,7 +1,10 @@
 //! Rows that were read out of replies.
 
+use std::ops::Range;
 use std::rc::Rc;
 
+use crate::reply::Question;
+use crate::rows::shape::{Output, Shape};
 use crate::rows::Definition;
 use crate::value::{append_cell, oid, NumberFault};
 use crate::wire::backend::{self, Column, Format};
@@ -19,7 +22,7 @@ pub struct ResultSet {
     left: usize,
 }
 
-/// The length that stands for NULL.
+/// The length that stands for NULL in a DataRow.
 const NULL: [u8; 4] = (-1_i32).to_be_bytes();
 
 impl ResultSet {
@@ -43,11 +46,6 @@ impl ResultSet {
         self.left
     }
 
-    /// Returns how many bytes it takes.
-    pub fn size(&self) -> usize {
-        self.values.len()
-    }
-
     fn push_value(&mut self, value: Option<&str>) {
         match value {
             Some(value) => {
@@ -68,50 +66,54 @@ impl ResultSet {
         self.left += 1;
     }
 
-    /// Writes at most `limit` rows that nobody has taken as DataRows, and returns how many.
+    /// Writes the next row that nobody has taken as a DataRow. Returns whether there was one.
     ///
     /// # Errors
     ///
     /// Fails if a value is none of its column's type.
-    pub fn take_rows(
+    pub fn take_row(
         &mut self,
-        limit: usize,
         format: impl Fn(usize) -> Format,
         out: &mut Vec<u8>,
-    ) -> Result<usize, NumberFault> {
-        let count = self.left.min(limit);
-        for _ in 0..count {
-            self.take_row(&format, out)?;
+    ) -> Result<bool, NumberFault> {
+        if self.left == 0 {
+            return Ok(false);
         }
-        Ok(count)
-    }
-
-    fn take_row(
-        &mut self,
-        format: &impl Fn(usize) -> Format,
-        out: &mut Vec<u8>,
-    ) -> Result<(), NumberFault> {
         let columns = Rc::clone(&self.columns);
-        let mut at = self.at;
-        let mut result = Ok(());
-        backend::data_row(out, columns.len(), |out| {
-            for (place, column) in columns.iter().enumerate() {
-                let (value, next) = value_at(&self.values, at);
-                at = next;
-                match value {
-                    None => out.extend_from_slice(&NULL),
-                    Some(value) => {
-                        if let Err(fault) = append_cell(out, value, column.oid, format(place)) {
-                            result = Err(fault);
-                        }
+        let (values, mut at) = (&self.values, self.at);
+        let cells = columns.iter().map(|_| {
+            let (value, next) = value_at(values, at);
+            at = next;
+            value
+        });
+        append_row(out, &columns, format, cells)?;
+        self.at = at;
+        self.left -= 1;
+        Ok(true)
+    }
+}
+
+/// Writes a DataRow of these values.
+fn append_row<'a>(
+    out: &mut Vec<u8>,
+    columns: &[Column],
+    format: impl Fn(usize) -> Format,
+    values: impl Iterator<Item = Option<&'a str>>,
+) -> Result<(), NumberFault> {
+    let mut result = Ok(());
+    backend::data_row(out, columns.len(), |out| {
+        for (place, (column, value)) in columns.iter().zip(values).enumerate() {
+            match value {
+                None => out.extend_from_slice(&NULL),
+                Some(value) => {
+                    if let Err(fault) = append_cell(out, value, column.oid, format(place)) {
+                        result = Err(fault);
                     }
                 }
             }
-        });
-        self.at = at;
-        self.left -= 1;
-        result
-    }
+        }
+    });
+    result
 }
 
 /// Returns the value at a place, and the place of the next one.
@@ -146,7 +148,7 @@ fn column(name: &str, oid: Oid) -> Column {
 /// Reads the value that `line` begins with: a text in quotes, or a number. Returns it and what is behind it.
 ///
 /// A text comes as it is meant, with each quote once; `scratch` has it then.
-fn read_value<'a>(line: &'a str, scratch: &'a mut String) -> Option<(&'a str, &'a str)> {
+fn read_value<'a, 'l: 'a>(line: &'l str, scratch: &'a mut String) -> Option<(&'a str, &'l str)> {
     let quoted = match line.strip_prefix('\'') {
         Some(quoted) => quoted,
         None => {
@@ -170,127 +172,288 @@ fn read_value<'a>(line: &'a str, scratch: &'a mut String) -> Option<(&'a str, &'
     }
 }
 
-/// Reads the rows that SELECT shows: a line with names, and one for each row.
-///
-/// None: they aren't rows of this table.
-pub fn rows(definition: &Definition, lines: &str) -> Option<ResultSet> {
-    let mut lines = lines.split_terminator('\n');
-    let mut names = lines.next()?.split(" | ");
-    for column in &definition.columns {
-        if !names.next()?.eq_ignore_ascii_case(&column.name) {
-            return None;
+/// The values of a row, each as text.
+#[derive(Debug, Default)]
+struct Cells {
+    text: String,
+    /// Where each of them is. None: NULL.
+    places: Vec<Option<Range<usize>>>,
+}
+
+impl Cells {
+    fn clear(&mut self) {
+        self.text.clear();
+        self.places.clear();
+    }
+
+    fn push(&mut self, value: Option<&str>) {
+        let start = self.text.len();
+        self.places.push(value.map(|value| {
+            self.text.push_str(value);
+            start..self.text.len()
+        }));
+    }
+
+    fn push_name(&mut self, name: &str) {
+        self.push(Some(name));
+        let start = self.text.len() - name.len();
+        self.text[start..].make_ascii_lowercase();
+    }
+
+    fn get(&self, place: usize) -> Option<&str> {
+        let place = self.places.get(place)?.clone()?;
+        self.text.get(place)
+    }
+}
+
+/// Makes rows of the lines of a reply, as they come.
+#[derive(Debug)]
+pub struct Reader {
+    question: Question,
+    shape: Shape,
+    /// Of a SELECT: the definition by which its rows are read.
+    definition: Option<Rc<Definition>>,
+    /// Whether the line with the names of the columns has come.
+    has_names: bool,
+    /// How many lines the reply has, that one left out.
+    lines: u64,
+    cells: Cells,
+    scratch: String,
+}
+
+/// Why a line gives no rows.
+#[derive(Clone, Copy, Debug, PartialEq, Eq)]
+pub enum LineFault {
+    /// The table has other columns.
+    OtherColumns,
+    /// It is not understood.
+    Unknown,
+}
+
+impl Reader {
+    /// Returns one for the replies to SELECT of a table.
+    pub fn of_table(definition: Rc<Definition>, shape: Shape) -> Reader {
+        Reader {
+            definition: Some(definition),
+            ..Reader::new(Question::Rows, shape)
         }
     }
-    if names.next().is_some() {
-        return None;
+
+    /// Returns one for the reply to a SHOW.
+    pub fn of_show(question: Question) -> Reader {
+        Reader::new(question, Shape::all(shown_columns(question)))
     }
-    let mut result = ResultSet::new(definition.result_columns());
-    let mut scratch = String::new();
-    for line in lines {
+
+    fn new(question: Question, shape: Shape) -> Reader {
+        Reader {
+            question,
+            shape,
+            definition: None,
+            has_names: false,
+            lines: 0,
+            cells: Cells::default(),
+            scratch: String::new(),
+        }
+    }
+
+    /// Returns what the result has of what is read.
+    pub fn shape(&self) -> &Shape {
+        &self.shape
+    }
+
+    /// Returns the definition by which rows are read.
+    pub fn definition(&self) -> Option<&Rc<Definition>> {
+        self.definition.as_ref()
+    }
+
+    /// Reads a line of a reply, which is not its last one. Hands each row that it gives to `take`, which writes it.
+    ///
+    /// # Errors
+    ///
+    /// Fails if the line isn't one of such a reply.
+    pub fn read(&mut self, line: &str, mut take: impl FnMut(&Row<'_>)) -> Result<(), LineFault> {
+        if self.question == Question::Rows && !self.has_names {
+            self.has_names = true;
+            return self.check_names(line);
+        }
+        self.lines += 1;
+        self.cells.clear();
+        match self.question {
+            Question::Rows => self.read_row(line),
+            Question::Table => self.read_table(line),
+            Question::Bounds => self.read_bounds(line),
+            Question::Statistics => self.read_statistics(line),
+            Question::Journal => return self.read_journal(line, take).ok_or(LineFault::Unknown),
+            Question::Order => None,
+        }
+        .ok_or(LineFault::Unknown)?;
+        take(&self.row());
+        Ok(())
+    }
+
+    /// Is told of the end of a reply that says how many lines there were. The next one may begin.
+    ///
+    /// # Errors
+    ///
+    /// Fails if it is another number.
+    pub fn end(&mut self, lines: Option<u64>) -> Result<(), LineFault> {
+        let is_right = lines.map_or(true, |lines| lines == self.lines);
+        self.has_names = false;
+        self.lines = 0;
+        if is_right {
+            Ok(())
+        } else {
+            Err(LineFault::Unknown)
+        }
+    }
+
+    fn row(&self) -> Row<'_> {
+        Row {
+            shape: &self.shape,
+            cells: &self.cells,
+        }
+    }
+
+    fn check_names(&self, line: &str) -> Result<(), LineFault> {
+        let definition = self.definition.as_ref().ok_or(LineFault::Unknown)?;
+        let columns = definition.columns.iter().map(|column| column.name.as_str());
+        let same = line.split(" | ").map(str::to_ascii_lowercase).eq(columns);
+        if same {
+            Ok(())
+        } else {
+            Err(LineFault::OtherColumns)
+        }
+    }
+
+    /// Reads a row of a table.
+    fn read_row(&mut self, line: &str) -> Option<()> {
+        let count = self.definition.as_ref()?.columns.len();
         let mut rest = line;
-        for place in 0..definition.columns.len() {
+        for place in 0..count {
             if place > 0 {
                 rest = rest.strip_prefix(" | ")?;
             }
-            let (value, behind) = read_value(rest, &mut scratch)?;
-            let length = rest.len() - behind.len();
-            result.push_value(Some(value));
-            rest = &rest[length..];
+            let (value, behind) = read_value(rest, &mut self.scratch)?;
+            self.cells.push(Some(value));
+            rest = behind;
         }
-        if !rest.is_empty() {
-            return None;
-        }
-        result.left += 1;
+        rest.is_empty().then_some(())
     }
-    Some(result)
-}
 
-/// Reads what SHOW BOUNDS shows.
-pub fn bounds(lines: &str) -> Option<ResultSet> {
-    let mut result = ResultSet::new(vec![
-        column("name", oid::TEXT),
-        column("kind", oid::TEXT),
-        column("value", oid::NUMERIC),
-        column("least", oid::NUMERIC),
-        column("greatest", oid::NUMERIC),
-        column("low", oid::NUMERIC),
-        column("high", oid::NUMERIC),
-    ]);
-    for line in lines.split_terminator('\n') {
+    /// Reads a line of SHOW TABLE: the table's name, and the statement that makes it again.
+    fn read_table(&mut self, line: &str) -> Option<()> {
+        let table = line.strip_prefix("CREATE TABLE ")?.split(' ').next()?;
+        self.cells.push_name(table);
+        self.cells.push(Some(line));
+        Some(())
+    }
+
+    /// Reads a line of SHOW BOUNDS.
+    fn read_bounds(&mut self, line: &str) -> Option<()> {
         let words: Vec<&str> = line.split(' ').collect();
-        let limit = |word: &'_ str| {
-            if word == "none" {
-                None
-            } else {
-                Some(word.to_owned())
-            }
-        };
-        match words[..] {
+        let limit = |word| if word == "none" { None } else { Some(word) };
+        let (name, values) = match words[..] {
             ["CHECK", name, "least", least, "greatest", greatest, "low", low, "high", high] => {
-                let name = name.to_ascii_lowercase();
-                let (low, high) = (limit(low), limit(high));
-                result.push_row(&[
-                    Some(&name),
-                    Some("check"),
-                    None,
-                    Some(least),
-                    Some(greatest),
-                    low.as_deref(),
-                    high.as_deref(),
-                ]);
+                let bounds = [Some(least), Some(greatest), limit(low), limit(high)];
+                (name, [&[Some("check"), None], &bounds[..]].concat())
             }
             [name, "value", value, "inf", inf, "sup", sup] => {
-                let name = name.to_ascii_lowercase();
-                result.push_row(&[
-                    Some(&name),
-                    Some("column"),
-                    Some(value),
-                    Some(inf),
-                    Some(sup),
-                    None,
-                    None,
-                ]);
+                let bounds = [Some(inf), Some(sup), None, None];
+                (name, [&[Some("column"), Some(value)], &bounds[..]].concat())
             }
             _ => return None,
-        }
+        };
+        self.cells.push_name(name);
+        values.into_iter().for_each(|value| self.cells.push(value));
+        Some(())
     }
-    Some(result)
-}
 
-/// Reads what SHOW JOURNAL shows: a row for each column that a reservation changes.
-pub fn journal(lines: &str) -> Option<ResultSet> {
-    let mut result = ResultSet::new(vec![
-        column("reservation", oid::INT8),
-        column("session", oid::INT4),
-        column("table_name", oid::TEXT),
-        column("key", oid::TEXT),
-        column("column_name", oid::TEXT),
-        column("change", oid::NUMERIC),
-    ]);
-    let mut scratch = String::new();
-    for line in lines.split_terminator('\n') {
+    /// Reads a line of SHOW JOURNAL: it gives a row for each column that the reservation changes.
+    fn read_journal(&mut self, line: &str, mut take: impl FnMut(&Row<'_>)) -> Option<()> {
         let mut words = line.splitn(5, ' ');
         let reservation = words.next()?;
         if words.next()? != "session" {
             return None;
         }
-        let session = words.next()?;
-        let table = words.next()?.to_ascii_lowercase();
-        let (key, rest) = read_value(words.next()?, &mut scratch)?;
+        let (session, table) = (words.next()?, words.next()?);
+        let (key, rest) = read_value(words.next()?, &mut self.scratch)?;
         let mut changes = rest.strip_prefix(' ')?.split(' ');
         while let Some(name) = changes.next() {
             let change = changes.next()?;
-            result.push_row(&[
-                Some(reservation),
-                Some(session),
-                Some(&table),
-                Some(key),
-                Some(&name.to_ascii_lowercase()),
-                Some(change.strip_prefix('+').unwrap_or(change)),
-            ]);
+            self.cells.clear();
+            self.cells.push(Some(reservation));
+            self.cells.push(Some(session));
+            self.cells.push_name(table);
+            self.cells.push(Some(key));
+            self.cells.push_name(name);
+            self.cells
+                .push(Some(change.strip_prefix('+').unwrap_or(change)));
+            take(&Row {
+                shape: &self.shape,
+                cells: &self.cells,
+            });
         }
+        Some(())
     }
-    Some(result)
+
+    /// Reads the line of SHOW STATISTICS: one row, with a column for each total.
+    fn read_statistics(&mut self, line: &str) -> Option<()> {
+        let mut words = line.split(' ');
+        for name in TOTALS {
+            if words.next()? != name {
+                return None;
+            }
+            self.cells.push(Some(words.next()?));
+        }
+        words.next().is_none().then_some(())
+    }
+}
+
+/// A row that was read.
+#[derive(Debug)]
+pub struct Row<'a> {
+    shape: &'a Shape,
+    cells: &'a Cells,
+}
+
+impl Row<'_> {
+    /// Writes what the result has of it as a DataRow.
+    ///
+    /// # Errors
+    ///
+    /// Fails if a value is none of its column's type.
+    pub fn append(
+        &self,
+        format: impl Fn(usize) -> Format,
+        out: &mut Vec<u8>,
+    ) -> Result<(), NumberFault> {
+        let values = self.shape.outputs.iter().map(|output| match output {
+            Output::Column(place) => self.cells.get(*place),
+            Output::Constant(text) => text.as_deref(),
+            Output::Count => None,
+        });
+        append_row(out, &self.shape.columns, format, values)
+    }
+}
+
+/// Writes the row of a result that only counts: `count` where it is asked for, beside constants.
+///
+/// # Errors
+///
+/// Fails if a value is none of its column's type.
+pub fn append_count(
+    shape: &Shape,
+    count: u64,
+    format: impl Fn(usize) -> Format,
+    out: &mut Vec<u8>,
+) -> Result<(), NumberFault> {
+    let count = count.to_string();
+    let values = shape.outputs.iter().map(|output| match output {
+        Output::Count => Some(count.as_str()),
+        Output::Constant(text) => text.as_deref(),
+        Output::Column(_) => None,
+    });
+    append_row(out, &shape.columns, format, values)
 }
 
 /// The totals of SHOW STATISTICS, in its order.
@@ -305,36 +468,34 @@ const TOTALS: [&str; 8] = [
     "queries",
 ];
 
-/// Reads what SHOW STATISTICS shows: one row, with a column for each total.
-pub fn statistics(lines: &str) -> Option<ResultSet> {
-    let columns: Vec<Column> = TOTALS.iter().map(|name| column(name, oid::INT8)).collect();
-    let mut result = ResultSet::new(columns);
-    for line in lines.split_terminator('\n') {
-        let mut words = line.split(' ');
-        let mut values = Vec::with_capacity(TOTALS.len());
-        for name in TOTALS {
-            if words.next()? != name {
-                return None;
-            }
-            values.push(Some(words.next()?));
-        }
-        result.push_row(&values);
-    }
-    Some(result)
-}
-
-/// Makes the result of SHOW TABLE: the table's name, and the statement that makes it again.
-pub fn definition_text(lines: &str) -> Option<ResultSet> {
-    let mut result = ResultSet::new(vec![
-        column("table_name", oid::TEXT),
-        column("definition", oid::TEXT),
-    ]);
-    for printed in lines.split_terminator('\n') {
-        let rest = printed.strip_prefix("CREATE TABLE ")?;
-        let table = rest.split(' ').next()?.to_ascii_lowercase();
-        result.push_row(&[Some(&table), Some(printed)]);
-    }
-    Some(result)
+/// Returns the columns of a SHOW of the program's. Other questions have none.
+pub fn shown_columns(question: Question) -> Rc<[Column]> {
+    let columns: &[(&str, Oid)] = match question {
+        Question::Table => &[("table_name", oid::TEXT), ("definition", oid::TEXT)],
+        Question::Bounds => &[
+            ("name", oid::TEXT),
+            ("kind", oid::TEXT),
+            ("value", oid::NUMERIC),
+            ("least", oid::NUMERIC),
+            ("greatest", oid::NUMERIC),
+            ("low", oid::NUMERIC),
+            ("high", oid::NUMERIC),
+        ],
+        Question::Journal => &[
+            ("reservation", oid::INT8),
+            ("session", oid::INT4),
+            ("table_name", oid::TEXT),
+            ("key", oid::TEXT),
+            ("column_name", oid::TEXT),
+            ("change", oid::NUMERIC),
+        ],
+        Question::Statistics => return TOTALS.iter().map(|name| column(name, oid::INT8)).collect(),
+        Question::Rows | Question::Order => &[],
+    };
+    columns
+        .iter()
+        .map(|(name, oid)| column(name, *oid))
+        .collect()
 }
 
 /// Makes a result of columns that are told by name and type, with these rows.
@@ -354,119 +515,142 @@ pub fn constants(columns: &[(&str, Oid)], rows: &[Vec<Option<String>>]) -> Resul
 #[cfg(test)]
 mod tests {
     use super::*;
+    use crate::rows::shape::Order;
 
-    fn shop() -> Definition {
-        Definition::parse(
-            "CREATE TABLE SHOP (CODE VARCHAR2(8) PRIMARY KEY, PRICE NUMBER(8,2), STOCK NUMBER(4) \
-             RESERVABLE)",
-        )
-        .unwrap()
+    fn shop() -> Rc<Definition> {
+        let printed = "CREATE TABLE SHOP (CODE VARCHAR2(8) PRIMARY KEY, PRICE NUMBER(8,2), \
+                       STOCK NUMBER(4) RESERVABLE)";
+        Rc::new(Definition::parse(printed).unwrap())
     }
 
-    fn all(result: &mut ResultSet) -> Vec<Vec<Option<String>>> {
-        let width = result.columns.len();
+    fn all_of_shop() -> Reader {
+        Reader::of_table(shop(), Shape::all(shop().result_columns().into()))
+    }
+
+    /// Reads lines, and returns what the cells of each row show.
+    fn all(reader: &mut Reader, lines: &str) -> Result<Vec<Vec<String>>, LineFault> {
         let mut rows = Vec::new();
-        let mut at = 0;
-        for _ in 0..result.left {
-            let mut row = Vec::new();
-            for _ in 0..width {
-                let (value, next) = value_at(&result.values, at);
-                row.push(value.map(str::to_owned));
-                at = next;
-            }
-            rows.push(row);
+        for line in lines.lines() {
+            reader.read(line, |row| {
+                let cell = |place| row.cells.get(place).unwrap_or("NULL").to_owned();
+                rows.push((0..row.cells.places.len()).map(cell).collect());
+            })?;
         }
-        rows
-    }
-
-    fn some(values: &[&str]) -> Vec<Option<String>> {
-        values
-            .iter()
-            .map(|value| Some((*value).to_owned()))
-            .collect()
+        Ok(rows)
     }
 
     #[test]
     fn reads_rows_whose_texts_have_bars_and_quotes() {
         let lines = "CODE | PRICE | STOCK\n'a'' | ''b' | -0.50 | 3\n'' | 1.00 | 0\n";
-        let mut result = rows(&shop(), lines).unwrap();
+        let mut reader = all_of_shop();
         assert_eq!(
-            all(&mut result),
-            [some(&["a' | 'b", "-0.50", "3"]), some(&["", "1.00", "0"])]
+            all(&mut reader, lines).unwrap(),
+            [["a' | 'b", "-0.50", "3"], ["", "1.00", "0"]]
         );
+        assert_eq!(reader.end(Some(2)), Ok(()));
+        assert_eq!(reader.end(Some(2)), Err(LineFault::Unknown));
     }
 
     #[test]
     fn rows_of_another_table_are_none() {
-        assert_eq!(rows(&shop(), "CODE | PRICE\n'a' | 1.00\n"), None);
-        assert_eq!(rows(&shop(), "CODE | PRICE | STOCK | X\n"), None);
-        assert_eq!(rows(&shop(), "CODE | PRICE | COUNT\n"), None);
-        assert_eq!(rows(&shop(), "CODE | PRICE | STOCK\n'a' | 1.00\n"), None);
-        assert_eq!(rows(&shop(), "CODE | PRICE | STOCK\n'a | 1.00 | 2\n"), None);
+        for names in [
+            "CODE | PRICE",
+            "CODE | PRICE | STOCK | X",
+            "CODE | PRICE | COUNT",
+            "",
+        ] {
+            let told = all(&mut all_of_shop(), &format!("{names}\n\n"));
+            assert_eq!(told, Err(LineFault::OtherColumns), "{names}");
+        }
+        for row in [
+            "'a' | 1.00",
+            "'a | 1.00 | 2",
+            "'a' | 1.00 | 2 | 3",
+            "'a'|1.00|2",
+        ] {
+            let told = all(
+                &mut all_of_shop(),
+                &format!("CODE | PRICE | STOCK\n{row}\n"),
+            );
+            assert_eq!(told, Err(LineFault::Unknown), "{row}");
+        }
     }
 
     #[test]
     fn reads_bounds_with_null_where_there_is_no_limit() {
         let lines = "STOCK value 12 inf 4 sup 12\nCHECK FREE least 0 greatest 4 low 0 high none\n\
                      CHECK CAP least 0 greatest 4 low none high 9\n";
-        let mut result = bounds(lines).unwrap();
-        let mut column = some(&["stock", "column", "12", "4", "12"]);
-        column.extend([None, None]);
-        let mut free = some(&["free", "check", "", "0", "4", "0"]);
-        free[2] = None;
-        free.push(None);
-        let mut cap = some(&["cap", "check", "", "0", "4", "", "9"]);
-        cap[2] = None;
-        cap[5] = None;
-        assert_eq!(all(&mut result), [column, free, cap]);
-    }
-
-    #[test]
-    fn reads_a_journal_of_several_columns() {
-        let lines = "3 session 2 FLIGHT 'EX 1''04' SOLD +10 HELD -12\n4 session 12 T -1 A +0\n";
-        let mut result = journal(lines).unwrap();
         assert_eq!(
-            all(&mut result),
+            all(&mut Reader::of_show(Question::Bounds), lines).unwrap(),
             [
-                some(&["3", "2", "flight", "EX 1'04", "sold", "10"]),
-                some(&["3", "2", "flight", "EX 1'04", "held", "-12"]),
-                some(&["4", "12", "t", "-1", "a", "0"]),
+                ["stock", "column", "12", "4", "12", "NULL", "NULL"],
+                ["free", "check", "NULL", "0", "4", "0", "NULL"],
+                ["cap", "check", "NULL", "0", "4", "NULL", "9"],
             ]
         );
     }
 
     #[test]
-    fn reads_statistics_and_a_definition() {
-        let lines =
-            "served 3 granted 1 broken 0 refused 0 commits 0 rollbacks 0 writes 1 queries 0\n";
-        let mut result = statistics(lines).unwrap();
-        assert_eq!(result.columns.len(), 8);
-        assert_eq!(result.columns[7].name, "queries");
+    fn reads_a_journal_of_several_columns() {
+        let lines = "3 session 2 FLIGHT 'EX 1''04' SOLD +10 HELD -12\n4 session 12 T -1 A +0\n";
+        let mut reader = Reader::of_show(Question::Journal);
         assert_eq!(
-            all(&mut result),
-            [some(&["3", "1", "0", "0", "0", "0", "1", "0"])]
+            all(&mut reader, lines).unwrap(),
+            [
+                ["3", "2", "flight", "EX 1'04", "sold", "10"],
+                ["3", "2", "flight", "EX 1'04", "held", "-12"],
+                ["4", "12", "t", "-1", "a", "0"],
+            ]
         );
-        let mut table = definition_text("CREATE TABLE T (A NUMBER(15) RESERVABLE)\n").unwrap();
-        assert_eq!(
-            all(&mut table),
-            [some(&["t", "CREATE TABLE T (A NUMBER(15) RESERVABLE)"])]
-        );
+        assert_eq!(reader.end(Some(2)), Ok(()));
     }
 
     #[test]
-    fn takes_rows_in_steps() {
-        let mut result = rows(
-            &shop(),
-            "CODE | PRICE | STOCK\n'a' | 1.00 | 1\n'b' | 1.00 | 2\n",
-        )
-        .unwrap();
+    fn reads_statistics_and_a_definition() {
+        let line = "served 3 granted 1 broken 0 refused 0 commits 0 rollbacks 0 writes 1 queries 0";
+        let mut reader = Reader::of_show(Question::Statistics);
+        assert_eq!(reader.shape().columns[7].name, "queries");
+        let told = all(&mut reader, line).unwrap();
+        assert_eq!(told, [["3", "1", "0", "0", "0", "0", "1", "0"]]);
+        let printed = "CREATE TABLE T (A NUMBER(15) RESERVABLE)";
+        let told = all(&mut Reader::of_show(Question::Table), printed).unwrap();
+        assert_eq!(told, [["t", printed]]);
+    }
+
+    #[test]
+    fn a_shape_shows_columns_constants_and_the_count() {
+        let columns = vec![column("one", oid::TEXT), column("stock", oid::INT8)];
+        let shape = Shape {
+            columns: columns.into(),
+            outputs: vec![Output::Constant(None), Output::Column(2)],
+            order: Order::Rising,
+            offset: 0,
+            limit: None,
+        };
+        let mut reader = Reader::of_table(shop(), shape.clone());
         let mut out = Vec::new();
-        assert_eq!(result.take_rows(1, |_| Format::Text, &mut out), Ok(1));
-        assert_eq!(
-            out,
-            b"D\0\0\0\x18\0\x03\0\0\0\x01a\0\0\0\x041.00\0\0\0\x011"
+        for line in ["CODE | PRICE | STOCK", "'a' | 1.00 | 7"] {
+            let append = |row: &Row<'_>| row.append(|_| Format::Text, &mut out).unwrap();
+            reader.read(line, append).unwrap();
+        }
+        assert_eq!(out, b"D\0\0\0\x0f\0\x02\xff\xff\xff\xff\0\0\0\x017");
+        let outputs = vec![Output::Constant(Some("x".to_owned())), Output::Count];
+        let counted = Shape { outputs, ..shape };
+        out.clear();
+        append_count(&counted, 12, |_| Format::Text, &mut out).unwrap();
+        assert_eq!(out, b"D\0\0\0\x11\0\x02\0\0\0\x01x\0\0\0\x0212");
+    }
+
+    #[test]
+    fn takes_rows_one_by_one() {
+        let mut result = constants(
+            &[("a", oid::TEXT)],
+            &[vec![Some("x".to_owned())], vec![None]],
         );
-        assert_eq!(result.take_rows(9, |_| Format::Text, &mut out), Ok(1));
-        assert_eq!(result.take_rows(9, |_| Format::Text, &mut out), Ok(0));
+        let mut out = Vec::new();
+        assert_eq!(result.take_row(|_| Format::Text, &mut out), Ok(true));
+        assert_eq!(out, b"D\0\0\0\x0b\0\x01\0\0\0\x01x");
+        assert_eq!(result.take_row(|_| Format::Text, &mut out), Ok(true));
+        assert_eq!(result.take_row(|_| Format::Text, &mut out), Ok(false));
     }
 }

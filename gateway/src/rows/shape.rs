@@ -3,8 +3,9 @@
 //! The program gives all columns of all rows, or of one row, in the order of the key. What a client asks beyond that is
 //! cut and ordered here, as the rows stream by.
 
-use crate::wire::backend::Column;
 use std::rc::Rc;
+
+use crate::wire::backend::Column;
 
 /// What a column of the result shows.
 #[derive(Clone, Debug, PartialEq, Eq)]
@@ -40,4 +41,22 @@ pub struct Shape {
     pub offset: u64,
     /// How many rows there are at the most.
     pub limit: Option<u64>,
+}
+
+impl Shape {
+    /// Returns the shape of a result that has all rows, with these columns as they are.
+    pub fn all(columns: Rc<[Column]>) -> Shape {
+        Shape {
+            outputs: (0..columns.len()).map(Output::Column).collect(),
+            columns,
+            order: Order::Rising,
+            offset: 0,
+            limit: None,
+        }
+    }
+
+    /// Returns whether the result has one row, which counts the table's.
+    pub fn counts(&self) -> bool {
+        self.outputs.contains(&Output::Count)
+    }
 }

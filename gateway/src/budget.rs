@@ -1,0 +1,134 @@
+//! What clients may take of the gateway's memory and disk.
+
+use std::cell::Cell;
+use std::rc::Rc;
+
+/// An amount of bytes, of which parts are taken and given back.
+///
+/// What is taken of a pool within another one is taken of both.
+#[derive(Clone, Debug)]
+pub struct Pool(Rc<Amounts>);
+
+#[derive(Debug)]
+struct Amounts {
+    limit: u64,
+    taken: Cell<u64>,
+    of: Option<Pool>,
+}
+
+/// Bytes that are taken of a pool. They are given back when this is dropped.
+#[derive(Debug)]
+pub struct Charge {
+    pool: Pool,
+    bytes: u64,
+}
+
+impl Pool {
+    /// Returns a pool of so many bytes.
+    pub fn new(limit: u64) -> Pool {
+        Pool(Rc::new(Amounts {
+            limit,
+            taken: Cell::new(0),
+            of: None,
+        }))
+    }
+
+    /// Returns a pool of so many bytes within this one.
+    pub fn part(&self, limit: u64) -> Pool {
+        Pool(Rc::new(Amounts {
+            limit,
+            taken: Cell::new(0),
+            of: Some(self.clone()),
+        }))
+    }
+
+    /// Returns how many bytes it has at the most.
+    pub fn limit(&self) -> u64 {
+        self.0.limit
+    }
+
+    /// Returns how many bytes are taken.
+    pub fn taken(&self) -> u64 {
+        self.0.taken.get()
+    }
+
+    /// Begins to take bytes of it: none as yet.
+    pub fn charge(&self) -> Charge {
+        Charge {
+            pool: self.clone(),
+            bytes: 0,
+        }
+    }
+
+    /// Takes bytes, if there are as many.
+    pub fn take(&self, bytes: usize) -> Option<Charge> {
+        let mut charge = self.charge();
+        charge.grow(bytes).then_some(charge)
+    }
+
+    fn add(&self, bytes: u64) -> bool {
+        let taken = match self.taken().checked_add(bytes) {
+            Some(taken) if taken <= self.0.limit => taken,
+            _ => return false,
+        };
+        if let Some(of) = &self.0.of {
+            if !of.add(bytes) {
+                return false;
+            }
+        }
+        self.0.taken.set(taken);
+        true
+    }
+
+    fn remove(&self, bytes: u64) {
+        self.0.taken.set(self.taken() - bytes);
+        if let Some(of) = &self.0.of {
+            of.remove(bytes);
+        }
+    }
+}
+
+impl Charge {
+    /// Takes more bytes. Returns whether there were as many; otherwise it takes none.
+    pub fn grow(&mut self, bytes: usize) -> bool {
+        let is_taken = self.pool.add(bytes as u64);
+        if is_taken {
+            self.bytes += bytes as u64;
+        }
+        is_taken
+    }
+
+    /// Gives all bytes back.
+    pub fn clear(&mut self) {
+        self.pool.remove(self.bytes);
+        self.bytes = 0;
+    }
+}
+
+impl Drop for Charge {
+    fn drop(&mut self) {
+        self.clear();
+    }
+}
+
+#[cfg(test)]
+mod tests {
+    use super::*;
+
+    #[test]
+    fn what_is_taken_of_a_part_is_taken_of_the_whole() {
+        let all = Pool::new(100);
+        let (one, two) = (all.part(60), all.part(60));
+        let mut first = one.take(50).unwrap();
+        assert!(one.take(11).is_none());
+        let second = two.take(50).unwrap();
+        assert_eq!((one.taken(), two.taken(), all.taken()), (50, 50, 100));
+        assert!(!first.grow(1), "the whole has nothing left");
+        drop(second);
+        assert!(first.grow(10));
+        assert_eq!((one.taken(), two.taken(), all.taken()), (60, 0, 60));
+        drop(first);
+        assert_eq!((one.taken(), all.taken()), (0, 0));
+        assert!(all.take(usize::MAX).is_none());
+    }
+}
