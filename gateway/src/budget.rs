@@ -98,6 +98,18 @@ impl Charge {
         is_taken
     }
 
+    /// Takes more bytes or gives some back, so that it has so many. Returns whether there were as many; otherwise it has
+    /// what it had.
+    pub fn set(&mut self, bytes: usize) -> bool {
+        let wanted = bytes as u64;
+        if wanted > self.bytes {
+            return self.grow((wanted - self.bytes) as usize);
+        }
+        self.pool.remove(self.bytes - wanted);
+        self.bytes = wanted;
+        true
+    }
+
     /// Gives all bytes back.
     pub fn clear(&mut self) {
         self.pool.remove(self.bytes);
@@ -127,6 +139,8 @@ mod tests {
         drop(second);
         assert!(first.grow(10));
         assert_eq!((one.taken(), two.taken(), all.taken()), (60, 0, 60));
+        assert!(first.set(5) && !first.set(61) && first.set(7));
+        assert_eq!((one.taken(), all.taken()), (7, 7));
         drop(first);
         assert_eq!((one.taken(), all.taken()), (0, 0));
         assert!(all.take(usize::MAX).is_none());

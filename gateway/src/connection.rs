@@ -18,7 +18,7 @@ use std::collections::VecDeque;
 use std::rc::Rc;
 use std::time::{Duration, Instant};
 
-use crate::budget::Pool;
+use crate::budget::{Charge, Pool};
 use crate::reply::Question;
 use crate::rows::spool::Spill;
 use crate::rows::Definitions;
@@ -155,6 +155,8 @@ pub struct Connection {
     /// When the startup, or the last words, have to be over.
     limit: Option<Instant>,
     input: Input,
+    /// What the input takes of the memory of all.
+    waiting: Charge,
     output: Output,
     requests: Requests,
     /// What the replies of the program answer, in order. Nothing else is done for the client before they came.
@@ -193,6 +195,7 @@ impl Connection {
         Connection {
             prepared: Prepared::new(&settings.memory),
             spill: Spill::new(&settings.memory, &settings.disk),
+            waiting: settings.memory.charge(),
             settings,
             process_id,
             phase: Phase::Startup(Startup::default()),
@@ -224,10 +227,14 @@ impl Connection {
     /// Takes bytes that came from the client.
     pub fn receive(&mut self, bytes: &[u8], now: Instant) {
         self.now = now;
-        if !self.is_closing() {
-            self.input.extend(bytes);
-            self.advance();
+        if self.is_closing() {
+            return;
         }
+        let is_taken = self.input.extend(bytes) && self.waiting.set(self.input.memory());
+        if !is_taken {
+            return self.die(Report::fatal(SqlState::OUT_OF_MEMORY, "out of memory"));
+        }
+        self.advance();
     }
 
     /// Is told that the client sends nothing more. What it has sent is served, then the connection ends.
@@ -373,6 +380,14 @@ impl Connection {
                 self.shutting_down = true;
                 self.advance();
             }
+        }
+    }
+
+    /// Returns since when it waits for the client's startup, if it does.
+    pub fn in_startup_since(&self) -> Option<Instant> {
+        match self.phase {
+            Phase::Startup(_) => Some(self.since),
+            _ => None,
         }
     }
 
@@ -628,6 +643,7 @@ impl Connection {
             self.phase = Phase::Closing;
             self.limit = self.now.checked_add(LINGER);
             self.input = Input::default();
+            self.waiting.clear();
             self.awaited.clear();
             self.giving = None;
             self.query = None;

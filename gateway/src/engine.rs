@@ -21,7 +21,7 @@ use escrowd_pg::connection::{Connection, Opened, Request, Settings};
 use mio::event::Event;
 use mio::{Events, Interest, Poll, Token};
 use signal_hook_mio::v0_8::Signals;
-use tracing::{error, info};
+use tracing::{debug, error, info};
 
 use crate::client::{Client, Session};
 use crate::failure::Failure;
@@ -34,8 +34,11 @@ use signals::HangUp;
 /// How many events one turn takes at most.
 const EVENTS: usize = 1024;
 
-/// How many clients may be without a session. While there are so many, no further one is accepted.
+/// How many clients may be without a session.
 const WITHOUT_SESSION: usize = 256;
+
+/// How many clients are accepted in a turn at most. Then others have their turn.
+const ACCEPTED: usize = 64;
 
 /// How long clients may take to finish their statements and to be told of an orderly end.
 const FAREWELL: Duration = Duration::from_secs(10);
@@ -162,7 +165,7 @@ impl Engine {
 
     /// Serves all that is ready. Returns whether there is more, for which no further word of the system comes.
     fn turn(&mut self) -> bool {
-        let is_more = self.hand_out_lines();
+        let mut is_more = self.hand_out_lines();
         let mut queue = std::mem::take(&mut self.queue);
         for &place in &queue {
             self.serve(place);
@@ -175,7 +178,7 @@ impl Engine {
             // The memory is used again.
             self.queue = queue;
         }
-        self.accept();
+        is_more |= self.accept();
         self.act_on_phase();
         // Of clients that left, transactions are rolled back.
         self.write_to_programs();
@@ -347,24 +350,34 @@ impl Engine {
         wake(&mut self.alarm, client.connection.deadline());
     }
 
-    /// Accepts clients that arrived.
-    fn accept(&mut self) {
+    /// Accepts clients that arrived. Returns whether there may be more.
+    ///
+    /// Where too many have no session, the one that has taken longest for its startup makes room.
+    fn accept(&mut self) -> bool {
         let first_client = self.first_client();
         let door = match &mut self.door {
             Some(door) if self.phase == Phase::Serving => door,
-            _ => return,
+            _ => return false,
         };
         let sessions: usize = self.programs.iter().map(Program::clients).sum();
-        while self.clients.len() < sessions + WITHOUT_SESSION {
+        for _ in 0..ACCEPTED {
+            let is_full = self.clients.len() >= sessions + WITHOUT_SESSION;
+            let oldest = self.clients.oldest_in_startup().filter(|_| is_full);
+            if is_full && oldest.is_none() {
+                return false;
+            }
             let mut socket = match door.accept(self.now) {
                 Some(socket) => socket,
-                None => return,
+                None => return false,
             };
+            if let Some(oldest) = oldest {
+                debug!("a client that does not begin is dropped, since there are too many");
+                self.clients.remove(oldest);
+            }
             let place = self.clients.next_place();
             let token = Token(first_client + place);
-            if self
-                .poll
-                .registry()
+            let registry = self.poll.registry();
+            if registry
                 .register(&mut socket, token, Interest::READABLE)
                 .is_err()
             {
@@ -377,6 +390,7 @@ impl Engine {
             wake(&mut self.alarm, client.connection.deadline());
             self.clients.insert(client);
         }
+        true
     }
 
     /// Writes the statements that are queued.

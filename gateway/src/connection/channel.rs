@@ -20,10 +20,19 @@ pub struct Input {
 }
 
 impl Input {
-    /// Adds bytes that came.
-    pub fn extend(&mut self, bytes: &[u8]) {
+    /// Adds bytes that came. Returns whether the system has memory for them.
+    pub fn extend(&mut self, bytes: &[u8]) -> bool {
         self.give_back();
-        self.bytes.extend_from_slice(bytes);
+        let has_room = self.bytes.try_reserve(bytes.len()).is_ok();
+        if has_room {
+            self.bytes.extend_from_slice(bytes);
+        }
+        has_room
+    }
+
+    /// Returns how many bytes of memory it takes.
+    pub fn memory(&self) -> usize {
+        self.bytes.capacity()
     }
 
     /// Returns the bytes that aren't served.

@@ -43,6 +43,14 @@ impl Clients {
         })
     }
 
+    /// Returns the place of the client that has taken longest for its startup, if one hasn't done it.
+    pub fn oldest_in_startup(&self) -> Option<usize> {
+        self.iter()
+            .filter_map(|(place, client)| Some((client.connection.in_startup_since()?, place)))
+            .min()
+            .map(|(_, place)| place)
+    }
+
     /// Returns how many there are.
     pub fn len(&self) -> usize {
         self.places.len() - self.free.len()
