@@ -1,9 +1,12 @@
 """pgbouncer in front of a gateway: TCP, passwords, and more clients than sessions."""
 from __future__ import annotations
 
+import re
 import subprocess
+import time
+from concurrent.futures import ThreadPoolExecutor
 
-from clients.servers import Gateway, Pgbouncer, wait_until
+from clients.servers import PORT, TOP, Gateway, Pgbouncer, scram_secret, wait_until
 from clients.suite import Part, expect, load, main
 from clients.wire import Connection
 from clients.with_pgbench import run
@@ -18,6 +21,71 @@ UPDATE stock SET pieces = pieces - 1 WHERE id = :id;
 UPDATE stock SET pieces = pieces + 1 WHERE id = 21;
 COMMIT;
 """
+# The seconds within which a pgbouncer with packaging's file serves again behind a restart. By default it waits for 15.
+SOON = 8.0
+
+
+class Packaged(Pgbouncer):
+    """pgbouncer with the file of packaging, and the paths and the port of a test."""
+
+    def __init__(self, gateway: Gateway) -> None:
+        super().__init__(gateway, "transaction", POOL)
+
+    def settings(self) -> str:
+        text = (TOP / "packaging/pgbouncer.ini").read_text()
+        users = self.folder / "users"
+        users.write_text("".join(f'"{name}" "{scram_secret(self.PASSWORD, self.ITERATIONS)}"\n' for name in ("clerk", "monitor")))
+        for pattern, value in (("host=/run/escrowd port=5432", f"host={self.gateway.folder} port={PORT}"), ("listen_port = .*", f"listen_port = {self.port}"),
+                               ("auth_file = .*", f"auth_file = {users}")):
+            text, count = re.subn(pattern, value, text)
+            expect(count, 1, pattern)
+        return text
+
+    def psql(self, *statements: str, **more: object) -> "subprocess.CompletedProcess[str]":
+        """Runs statements of one client."""
+        words = [word for it in statements for word in ("-c", it)]
+        dsn = self.dsn(dbname=more.pop("dbname", "shop"), **more)
+        return subprocess.run(["psql", "-XAtq", *words, dsn], capture_output=True, text=True)
+
+
+@PART.alone
+def a_set_that_would_reach_the_next_client() -> None:
+    """It is refused; what pgbouncer and drivers set, and what ends with its transaction, is served."""
+    with Gateway({"shop": None}) as gateway, Packaged(gateway) as bouncer:
+        for setting in ("idle_in_transaction_session_timeout = '1s'", "transaction_timeout = '1s'", "default_transaction_read_only = on"):
+            done = bouncer.psql(f"SET {setting}")
+            expect(("would reach other clients" in done.stderr, done.stdout), (True, ""), done.stderr)
+            done = bouncer.psql(f"BEGIN; SET LOCAL {setting}; COMMIT", f"SHOW {setting.split()[0]}")
+            expect((done.stdout, done.stderr), ("off\n" if "read_only" in setting else "0\n", ""))
+        done = bouncer.psql("SET statement_timeout = '5s'; SET client_min_messages = warning; RESET ALL", "DISCARD ALL", "SHOW escrowd.transaction_pooling")
+        expect((done.stdout, done.stderr), ("on\n", ""))
+        gateway.expect_clean_end()
+
+
+@PART.alone
+def a_restart_behind_pgbouncer() -> None:
+    with Gateway({"shop": None}) as gateway, Packaged(gateway) as bouncer:
+        expect(bouncer.psql("SHOW server_encoding").stdout, "UTF8\n")
+        gateway.expect_clean_end()
+        with ThreadPoolExecutor(1) as threads:
+            begin = time.monotonic()
+            waiting = threads.submit(bouncer.psql, "SHOW server_encoding")
+            wait_until("pgbouncer has met that the gateway is away", lambda: "connect failed" in bouncer.said())
+            gateway.start()
+            gateway.socket.chmod(0o666)  # pgbouncer runs as another user
+            expect(waiting.result().stdout, "UTF8\n")
+            expect(time.monotonic() - begin < SOON, True, f"after {time.monotonic() - begin:.1f} s")
+        gateway.expect_clean_end()
+
+
+@PART.alone
+def who_may_look_at_pgbouncer() -> None:
+    with Gateway({"shop": None}) as gateway, Packaged(gateway) as bouncer:
+        done = bouncer.psql("SHOW POOLS", dbname="pgbouncer", user="monitor")
+        expect((done.returncode, done.stderr), (0, ""))
+        expect(bouncer.psql("SHOW POOLS", dbname="pgbouncer").returncode, 2)
+        expect(bouncer.psql("RELOAD", dbname="pgbouncer", user="monitor").returncode, 1)
+        gateway.expect_clean_end()
 
 
 @PART.served

@@ -76,6 +76,7 @@ static KNOWN: &[Known] = &[
     ),
     reported("default_transaction_read_only", "off", Domain::Bool),
     known("escape_string_warning", "on", Domain::Bool),
+    known(POOLED, "off", Domain::On),
     known("extra_float_digits", "1", Domain::Integer),
     known("geqo", "on", Domain::Bool),
     known(IDLE_LIMIT, "0", Domain::Milliseconds),
@@ -124,6 +125,16 @@ const IDLE_LIMIT: &str = "idle_in_transaction_session_timeout";
 
 /// The setting that limits how long a transaction may last, as in PostgreSQL 17.
 const TRANSACTION_LIMIT: &str = "transaction_timeout";
+
+/// The setting that says that a pool lends the connection to another client for each transaction. It stays on.
+const POOLED: &str = "escrowd.transaction_pooling";
+
+/// The settings by which one client of such a pool would change what another one's statements do.
+const EFFECTIVE: [&str; 3] = [
+    IDLE_LIMIT,
+    TRANSACTION_LIMIT,
+    "default_transaction_read_only",
+];
 
 /// How long transactions may last. None: forever.
 #[derive(Clone, Copy, Debug, Default, PartialEq, Eq)]
@@ -387,6 +398,12 @@ impl Variables {
             }
         };
         if !local {
+            if known.name == POOLED {
+                // RESET ALL and DISCARD ALL go back to it.
+                put(&mut self.initial, place, value.clone());
+            } else if EFFECTIVE.contains(&known.name) {
+                self.check_lasting(place, value.as_deref())?;
+            }
             if self.local.contains_key(&place) {
                 Rc::make_mut(&mut self.local).remove(&place);
             }
@@ -401,6 +418,20 @@ impl Variables {
         } else {
             Ok(None)
         }
+    }
+
+    /// Refuses a value that isn't that of the session's begin, if a pool would let other clients have it.
+    fn check_lasting(&self, place: usize, value: Option<&str>) -> Result<(), Failure> {
+        let known = &KNOWN[place];
+        let initial = self.initial.get(&place);
+        let initial = initial.map_or(known.default, String::as_str);
+        if self.value(POOLED) == "off" || value.map_or(true, |value| value == initial) {
+            return Ok(());
+        }
+        let name = known.name;
+        let text = format!("SET {} would reach other clients of this connection", name);
+        Err(Report::error(SqlState::FEATURE_NOT_SUPPORTED, text)
+            .hint("Use SET LOCAL inside a block, or an option of escrowd-pg for all."))
     }
 
     /// Sets all settings back to the values of the session's begin.
@@ -580,6 +611,44 @@ mod tests {
         assert_eq!(variables.limits(), limits);
         let refused = variables.set(IDLE_LIMIT, Some("30d"), false).unwrap_err();
         assert_eq!(refused.state, SqlState::INVALID_PARAMETER_VALUE);
+    }
+
+    #[test]
+    fn a_connection_of_a_pool_takes_no_value_that_lasts() {
+        let limits = Limits {
+            idle_in_transaction: Some(Duration::from_secs(60)),
+            transaction: None,
+        };
+        let mut variables = Variables::new("", "", limits);
+        variables.set(POOLED, Some("on"), false).unwrap();
+        let read_only = "default_transaction_read_only";
+        for (name, value) in [
+            (IDLE_LIMIT, "5s"),
+            (TRANSACTION_LIMIT, "5s"),
+            (read_only, "on"),
+        ] {
+            let refused = variables.set(name, Some(value), false).unwrap_err();
+            assert_eq!(refused.state, SqlState::FEATURE_NOT_SUPPORTED, "{}", name);
+            variables.set(name, Some(value), true).unwrap();
+            variables.end_transaction();
+            assert_eq!(variables.limits(), limits);
+        }
+        // What changes nothing is taken, as what pools and drivers set for each client.
+        for (name, value) in [
+            (IDLE_LIMIT, "60s"),
+            (TRANSACTION_LIMIT, "0"),
+            (read_only, "off"),
+            ("application_name", "x"),
+            ("client_min_messages", "warning"),
+        ] {
+            variables.set(name, Some(value), false).unwrap();
+        }
+        variables.set(IDLE_LIMIT, None, false).unwrap();
+        variables.reset_all();
+        let off = variables.set(POOLED, Some("off"), false).unwrap_err();
+        assert_eq!(off.state, SqlState::FEATURE_NOT_SUPPORTED);
+        variables.set(POOLED, None, false).unwrap();
+        assert_eq!(variables.value(POOLED), "on");
     }
 
     #[test]
