@@ -13,25 +13,34 @@ import psycopg
 from psycopg.errors import CheckViolation, UniqueViolation
 
 
+def reserve(connection, update, values):
+    """Reserves by an UPDATE. If there is no such row it raises LookupError: `UPDATE 0` is no error, and reserves nothing."""
+    if connection.execute(update, values).rowcount == 0:
+        raise LookupError(f"no row: {update}, {values}")
+
+
 def authorise(connection, account, amount):
-    """Reserves an amount until the connection commits. Returns False if the account does not cover it."""
+    """Reserves an amount until the connection commits. Returns False if the account does not cover it; what the transaction had stays."""
+    connection.execute("SAVEPOINT before")
     try:
-        connection.execute("UPDATE account SET balance = balance - %s WHERE id = %s", (amount, account))
+        reserve(connection, "UPDATE account SET balance = balance - %s WHERE id = %s", (amount, account))
         return True
     except CheckViolation:
-        connection.rollback()
+        connection.execute("ROLLBACK TO before")
         return False
+    finally:
+        connection.execute("RELEASE before")
 
 
 def take_order(connection, order, article, pieces):
-    """Books an order. Returns False if too few pieces are free. The connection is in autocommit."""
+    """Books an order. Returns False if too few pieces are free, or no such article is there. The connection is in autocommit."""
     connection.execute("INSERT INTO orders VALUES (%s, %s, 0)", (order, article))
     try:
         with connection.transaction():
-            connection.execute("UPDATE article SET held = held + %s WHERE code = %s", (pieces, article))
-            connection.execute("UPDATE orders SET pieces = pieces + %s WHERE id = %s", (pieces, order))
+            reserve(connection, "UPDATE article SET held = held + %s WHERE code = %s", (pieces, article))
+            reserve(connection, "UPDATE orders SET pieces = pieces + %s WHERE id = %s", (pieces, order))
         return True
-    except CheckViolation:
+    except (CheckViolation, LookupError):
         connection.execute("DELETE FROM orders WHERE id = %s", (order,))
         return False
 
@@ -41,8 +50,8 @@ def hold_seats(connection, flights, seats):
     held = []
     with connection.transaction():
         for flight in flights:
-            with suppress(CheckViolation), connection.transaction():  # a savepoint
-                connection.execute("UPDATE flight SET held = held + %s WHERE code = %s", (seats, flight))
+            with suppress(CheckViolation, LookupError), connection.transaction():  # a savepoint
+                reserve(connection, "UPDATE flight SET held = held + %s WHERE code = %s", (seats, flight))
                 held.append(flight)
     return held
 
@@ -51,7 +60,7 @@ def give_back(connection, customer, calls):
     """Gives calls back that a job did not make. A refusal means that a refill came between, and the quota is full."""
     connection.commit()  # what the job took, which may not be given back before
     try:
-        connection.execute("UPDATE bucket SET calls = calls + %s WHERE customer = %s", (calls, customer))
+        reserve(connection, "UPDATE bucket SET calls = calls + %s WHERE customer = %s", (calls, customer))
         connection.commit()
     except CheckViolation:
         connection.rollback()
@@ -67,15 +76,18 @@ def introduce(connection, steps):
 
 
 def book(connect, payment, account, amount):
-    """Books a payment once, even if the server or the network fails in between. `connect` returns a connection in autocommit."""
+    """Books a payment once, even if the server or the network fails in between. `connect` returns a connection in autocommit.
+
+    Delete the payment's row only when nobody can repeat the call any more: a repeat would book the payment again.
+    """
     while True:
         with suppress(psycopg.OperationalError), connect() as connection:
             with suppress(UniqueViolation):
                 connection.execute("INSERT INTO payment VALUES (%s, 0)", (payment,))
             try:
                 with connection.transaction():
-                    connection.execute("UPDATE payment SET times = times + 1 WHERE id = %s", (payment,))
-                    connection.execute("UPDATE account SET balance = balance - %s WHERE id = %s", (amount, account))
+                    reserve(connection, "UPDATE payment SET times = times + 1 WHERE id = %s", (payment,))
+                    reserve(connection, "UPDATE account SET balance = balance - %s WHERE id = %s", (amount, account))
                 return
             except CheckViolation as refused:
                 if refused.diag.constraint_name != "once":
@@ -112,7 +124,8 @@ def main():
     with connect() as plain, connect(autocommit=False) as first, connect(autocommit=False) as second:
         for statement in TABLES.split(";"):
             plain.execute(statement)
-        print("authorised:", authorise(first, 1, 70), authorise(second, 1, 40))
+        print("authorised:", authorise(first, 1, 70), authorise(second, 1, 40), authorise(second, 1, 30))
+        second.rollback()
         print("a new rule:", introduce(plain, [("keeps_50", "balance >= 50"), ("keeps_30", "balance >= 30")]))
         first.commit()
         print("orders:", take_order(plain, 1001, "TEA", 6), take_order(plain, 1002, "TEA", 5))

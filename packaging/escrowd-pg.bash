@@ -11,10 +11,14 @@ _escrowd_pg() {
             compopt -o filenames
             mapfile -t COMPREPLY < <(compgen -f -- "$word")
             ;;
-        --database | --port | --mode | --idle-in-transaction-timeout) ;;
+        --log-level)
+            mapfile -t COMPREPLY < <(compgen -W "error warning info debug" -- "$word")
+            ;;
+        --database | --port | --mode | --idle-in-transaction-timeout | --transaction-timeout) ;;
         *)
             mapfile -t COMPREPLY < <(compgen -W "--listen --port --mode --database --program
-                --idle-in-transaction-timeout --metrics --help --version" -- "$word")
+                --idle-in-transaction-timeout --transaction-timeout --metrics --log-level --help
+                --version" -- "$word")
             ;;
     esac
 }
