@@ -4,6 +4,7 @@ from __future__ import annotations
 import os
 import pwd
 import re
+import shutil
 import signal
 import stat
 import subprocess
@@ -275,6 +276,33 @@ def commands_that_cannot_be_used() -> None:
         expect(sorted(it.name for it in folder.iterdir()), [".s.PGSQL.5432", "said", "text"])
         gateway.expect_clean_end()
         expect(gateway.socket.exists(), False)
+
+
+@PART.alone
+def a_program_without_a_proof() -> None:
+    """Such a program is started only if it is named, and each start says so."""
+    with Gateway() as gateway:
+        beside = gateway.folder / "bin"
+        beside.mkdir()
+        copy = Path(shutil.copy(GATEWAY, beside))
+        unproved = beside / "escrowd"
+        unproved.write_text(f"""#!/bin/sh
+case $* in
+--version) echo 'escrowd 1.1 (unproved)' ;;
+*) exec {PROGRAM} "$@" ;;
+esac
+""")
+        unproved.chmod(0o755)
+        words = [str(copy), "--listen", str(beside), "--database", "bank"]
+        found = subprocess.run(words, capture_output=True, text=True, timeout=END, env={**os.environ, "ESCROWD": ""})
+        expect(found.returncode, 3, found.stderr)
+        expect(f"{unproved} is not proved: --program or ESCROWD has to name it" in found.stderr, True, found.stderr)
+        for more, variable in ((["--program", str(unproved)], ""), ([], str(unproved))):
+            gateway.kill()
+            gateway.launch([*words, *more], env={**os.environ, "ESCROWD": variable})
+            gateway.await_socket(beside / f".s.PGSQL.{PORT}")
+            expect(f"{unproved} is not proved\n" in gateway.said(), True, gateway.said())
+        gateway.expect_clean_end()
 
 
 @PART.alone

@@ -18,7 +18,8 @@ const NAME_LIMIT: usize = 63;
 /// What `--help` says behind the options.
 const AFTER_HELP: &str = "\
 The gateway starts one program, `escrowd serve`, for each database. It looks for the program at
---program, then in the environment variable ESCROWD, then beside its own executable.
+--program, then in the environment variable ESCROWD, then beside its own executable. A program that
+is not proved, whose `--version` says so, has to be named in one of the first two ways.
 
 Clients connect to the Unix socket DIRECTORY/.s.PGSQL.PORT, for example by
 `psql -h DIRECTORY -p PORT NAME`. The socket appears as soon as all stores are open. The permissions

@@ -2,7 +2,6 @@
 
 use std::collections::VecDeque;
 use std::env;
-use std::io;
 use std::path::PathBuf;
 use std::rc::Rc;
 use std::time::{Duration, Instant};
@@ -12,6 +11,7 @@ use escrowd_pg::connection::Settings;
 use escrowd_pg::limits::SESSIONS;
 use escrowd_pg::rows::spool;
 use mio::{Poll, Token};
+use tracing::warn;
 
 use super::clients::Clients;
 use super::door::Door;
@@ -42,12 +42,7 @@ impl Engine {
             .map(|path| Metrics::new(&args.databases, SESSIONS, path, now))
             .transpose()?;
         let door = Door::make(&args.listen, args.port, args.mode)?;
-        let path = program_path(args).map_err(Failure::system("the gateway's own path"))?;
-        check_version(&path).map_err(|error| Failure::NotStarted {
-            database: args.databases[0].name.clone(),
-            program: path.clone(),
-            error,
-        })?;
+        let path = program(args)?;
         let mut programs = Vec::with_capacity(args.databases.len());
         for (place, database) in args.databases.iter().enumerate() {
             let token = Token(PROGRAMS + place * program::TOKENS);
@@ -96,11 +91,29 @@ impl Engine {
     }
 }
 
-/// Returns the path of the program that serves a database.
-fn program_path(args: &Args) -> io::Result<PathBuf> {
-    match (&args.program, env::var_os("ESCROWD")) {
-        (Some(path), _) => Ok(path.clone()),
-        (None, Some(path)) if !path.is_empty() => Ok(path.into()),
-        (None, _) => Ok(env::current_exe()?.with_file_name("escrowd")),
+/// Returns the path of the program that serves the databases, once it has told its version.
+fn program(args: &Args) -> Result<PathBuf, Failure> {
+    let named = args.program.clone().or_else(|| {
+        let path = env::var_os("ESCROWD").filter(|path| !path.is_empty());
+        path.map(PathBuf::from)
+    });
+    let is_named = named.is_some();
+    let path = match named {
+        Some(path) => path,
+        None => env::current_exe()
+            .map_err(Failure::system("the gateway's own path"))?
+            .with_file_name("escrowd"),
+    };
+    match check_version(&path, is_named) {
+        Ok(true) => {}
+        Ok(false) => warn!("{} is not proved", path.display()),
+        Err(error) => {
+            return Err(Failure::NotStarted {
+                database: args.databases[0].name.clone(),
+                program: path,
+                error,
+            })
+        }
     }
+    Ok(path)
 }

@@ -12,24 +12,39 @@ const PATIENCE: Duration = Duration::from_secs(10);
 /// How often it is looked whether it has.
 const PAUSE: Duration = Duration::from_millis(1);
 
+/// What a program that was built without a proof has behind its version.
+const UNPROVED: &str = " (unproved)";
+
 /// Asks the program at `path` for its version, which has to be the gateway's own: of another one, statements and replies
-/// may differ. The third number of a version changes neither.
+/// may differ. The third number of a version changes neither. Returns whether the program is proved; one that is not
+/// has to be named by the command line or the environment.
 ///
 /// # Errors
 ///
-/// Fails with what is wrong if it has another version, or tells none.
-pub fn check_version(path: &Path) -> io::Result<()> {
+/// Fails with what is wrong if it has another version, or tells none, or is neither proved nor named.
+pub fn check_version(path: &Path, is_named: bool) -> io::Result<bool> {
     let told = told_version(path)?;
     let own = env!("CARGO_PKG_VERSION");
-    match told.trim_end().strip_prefix("escrowd ") {
-        Some(version) if is_same(version, own) => Ok(()),
-        Some(version) => Err(other(format!(
+    let version = told
+        .trim_end()
+        .strip_prefix("escrowd ")
+        .ok_or_else(|| other("what `--version` prints is no version of escrowd".to_owned()))?;
+    let (version, is_proved) = match version.strip_suffix(UNPROVED) {
+        Some(version) => (version, false),
+        None => (version, true),
+    };
+    if !is_same(version, own) {
+        return Err(other(format!(
             "its version is {version}, that of the gateway {own}"
-        ))),
-        None => Err(other(
-            "what `--version` prints is no version of escrowd".to_owned(),
-        )),
+        )));
     }
+    if !is_proved && !is_named {
+        let path = path.display();
+        return Err(other(format!(
+            "{path} is not proved: --program or ESCROWD has to name it"
+        )));
+    }
+    Ok(is_proved)
 }
 
 /// Returns whether the first two numbers of two versions are the same.
@@ -84,20 +99,26 @@ mod tests {
     }
 
     #[test]
-    fn a_program_of_another_version_is_refused() {
+    fn a_program_of_another_version_or_without_a_proof_is_refused() {
         let path = std::env::temp_dir().join(format!("escrowd-version.{}", std::process::id()));
-        for (told, refused) in [
-            ("echo escrowd 1.1", None),
-            ("echo escrowd 9.0", Some("its version is 9.0")),
-            ("echo hello", Some("no version of escrowd")),
-            ("exit 3", Some("no version of escrowd")),
+        for (told, is_named, expected) in [
+            ("echo escrowd 1.1", false, Ok(true)),
+            ("echo 'escrowd 1.1 (unproved)'", true, Ok(false)),
+            (
+                "echo 'escrowd 1.1 (unproved)'",
+                false,
+                Err("is not proved: --program or ESCROWD has to name it"),
+            ),
+            ("echo escrowd 9.0", true, Err("its version is 9.0")),
+            ("echo hello", true, Err("no version of escrowd")),
+            ("exit 3", true, Err("no version of escrowd")),
         ] {
             fs::write(&path, format!("#!/bin/sh\n{told}\n")).unwrap();
             fs::set_permissions(&path, fs::Permissions::from_mode(0o700)).unwrap();
-            match (check_version(&path), refused) {
-                (Ok(()), None) => {}
-                (Err(error), Some(text)) => assert!(error.to_string().contains(text), "{error}"),
-                (told, refused) => panic!("{told:?} {refused:?}"),
+            match (check_version(&path, is_named), expected) {
+                (Ok(is_proved), Ok(expected)) => assert_eq!(is_proved, expected, "{told}"),
+                (Err(error), Err(text)) => assert!(error.to_string().contains(text), "{error}"),
+                (told, expected) => panic!("{told:?} {expected:?}"),
             }
         }
         fs::remove_file(&path).unwrap();
