@@ -1,4 +1,4 @@
-"""The built programs that tools/scenarios, tools/scenario, tools/check and tools/test-program start."""
+"""The built programs that tools/scenarios, tools/scenario and tools/test-program start."""
 import os
 from typing import List, Sequence
 
@@ -6,8 +6,6 @@ TOP = os.path.dirname(os.path.dirname(os.path.dirname(os.path.abspath(__file__))
 BUILT = f"{TOP}/crates/escrowd/out/escrowd"
 # How the builds of the two compilers end.
 ENDINGS = ("", ".by-rattle")
-# Where tools/try leaves the program, and the lines of a store that it serves over files in good time: each takes a tenth of a second.
-TRIED, TRIED_LINES = f"{TOP}/crates/escrowd/out/tried/program", 30
 
 
 class Missing(Exception):

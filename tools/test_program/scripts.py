@@ -11,6 +11,14 @@ from steps import Write
 from texts import FOREIGN
 
 NAMES_NONE = "escrowd: ESCROWD names no program: nope\n"
+IS_UNPROVED = "escrowd: {} is not proved\n"
+# A program that is not proved, and writes the mode that it is given.
+UNPROVED = """#!/bin/sh
+case $1 in
+--version) echo 'escrowd 1.1 (unproved)' ;;
+*) echo "$1" ;;
+esac
+"""
 NOT_BUILT = """escrowd: the program isn't built, and the PATH has no `rt` to build it.
 escrowd: ESCROWD=PATH starts a program that was built elsewhere; README.md, What a machine needs, names the kit.
 """
@@ -21,6 +29,17 @@ NEEDED = ("sh", "readlink", "dirname", "sed", "nproc", "find", "python3")
 def names_no_program(_program: Program, folder: str) -> None:
     """ESCROWD names a program that isn't there."""
     check(Program(f"{TOP}/escrowd"), Case("", ("run",), errors=NAMES_NONE, status=1, reads=False, variables={**os.environ, "ESCROWD": "nope"}), folder)
+
+
+def names_an_unproved_program(program: Program, folder: str) -> None:
+    """ESCROWD names a program that is not proved, which each start tells, and one that is proved, or was built in another way."""
+    named = f"{folder}/program"
+    Write("program", UNPROVED).take(program, folder)
+    os.chmod(named, 0o755)
+    case = Case("", ("run",), replies="run\n", errors=IS_UNPROVED.format(named), variables={**os.environ, "ESCROWD": named})
+    check(Program(f"{TOP}/escrowd"), case, folder)
+    Write("program", UNPROVED.replace(" (unproved)", "")).take(program, folder)
+    check(Program(f"{TOP}/escrowd"), case._replace(errors=""), folder)
 
 
 def has_no_kit(_program: Program, folder: str) -> None:
@@ -51,6 +70,7 @@ def dumps_no_store(program: Program, folder: str) -> None:
 
 SCRIPT_TESTS: List[Tuple[str, Callable[[Program, str], None]]] = [
     ("scripts: ESCROWD names no program", names_no_program),
+    ("scripts: ESCROWD names an unproved program", names_an_unproved_program),
     ("scripts: no kit", has_no_kit),
     *([("scripts: dumps of what is no store", dumps_no_store)] if importlib.util.find_spec("sqlite3") else []),
 ]

@@ -1,10 +1,14 @@
 """What a program with the mode `serve` shows besides."""
+from typing import List
+
 from lines import COMMITTED, ONE, SCRIPT, Good, good_case
 from longest import MOST_BYTES
 from process import Case, Input, Output, Program, Stage, compare
 from texts import BAD_MODE, Reason, unprinted
 
 VERSION = "escrowd 1.1\n"
+# What a program says that tools/try has built.
+UNPROVED_VERSION = "escrowd 1.1 (unproved)\n"
 TOO_MANY = """escrowd: unexpected argument '{}' found
 
   tip: a script is read from standard input, as in 'escrowd run < FILE'
@@ -24,9 +28,6 @@ For more information, try '--help'.
 # A line that is longer than a whole script of `run` may be.
 DASHES = "-" * (MOST_BYTES - len("bank.1: COMMIT\n@join\n") + 1)
 SERVING_CASES = [
-    Case("version", ("--version",), SCRIPT, VERSION, reads=False),
-    Case("version", ("-V",), SCRIPT, VERSION, reads=False),
-    Case("version", ("run", "-V"), SCRIPT, VERSION, reads=False),
     Case("version unwritten", ("--version",), errors=unprinted(Reason.FULL), status=1, stdout=Output.FULL),
     Case("help unwritten", ("--help",), errors=unprinted(Reason.FULL), status=1, stdout=Output.FULL),
     Case("help unwritten", ("--help",), errors=unprinted(Reason.CLOSED), status=1, stdout=Output.CLOSED),
@@ -47,6 +48,12 @@ LONG_CASES = [
     Case("open over 16 MiB", ("serve",), f"bank.1: SAVEPOINT X\n{DASHES}\nbank.1: ROLLBACK TO X\n", stdin=Input.PIPE,
          replies="bank.1> OK savepoint X\nscript> ERR 12 line\nbank.1> OK rolled back to X 0\n"),
 ]
+
+
+def version_cases(is_unproved: bool) -> List[Case]:
+    """What a program says that is proved, or that tools/try has built."""
+    version = UNPROVED_VERSION if is_unproved else VERSION
+    return [Case("version", words, SCRIPT, version, reads=False) for words in (("--version",), ("-V",), ("run", "-V"))]
 
 
 def line_by_line(program: Program, folder: str) -> None:
