@@ -52,9 +52,9 @@ def needs() -> List[str]:
     return ([] if shutil.which("cargo") else COMPILER) + PACKAGES
 
 
-def lacks() -> Optional[str]:
-    """Returns what a build needs and this machine does not have, if anything."""
-    if not os.access(PROGRAM, os.X_OK):
+def lacks(needs_program: bool) -> Optional[str]:
+    """Returns what a build, or also the tests with the program, need and this machine does not have, if anything."""
+    if needs_program and not os.access(PROGRAM, os.X_OK):
         return f"{PROGRAM} is not built"
     if "ESCROWD_PG" in os.environ:
         return None if os.access(GATEWAY, os.X_OK) else f"{GATEWAY} is not built"
@@ -87,6 +87,11 @@ def reported(case: str, words: Sequence[str], end: float, add: Callable[[Report]
 def build(end: float, add: Callable[[Report], None]) -> bool:
     """Builds the gateway, if the environment does not name one. Returns whether it is there."""
     return "ESCROWD_PG" in os.environ or reported("build", ["build", "--offline", "--release"], end, add).status == 0
+
+
+def build_tests(end: float, add: Callable[[Report], None]) -> None:
+    """Builds the tests in Rust."""
+    reported("tests are built", ["test", "--offline", "--no-run"], end, add)
 
 
 def examine(end: float, add: Callable[[Report], None]) -> None:
