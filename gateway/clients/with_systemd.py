@@ -64,6 +64,10 @@ cd "/sys/fs/cgroup" && [ -d "$1" ] && find "$1" -depth -type d -exec rmdir {} +
 class Manager(Server):
     """systemd with the unit, in namespaces of processes and of mounts."""
 
+    def __init__(self) -> None:
+        super().__init__()
+        self.is_begun = False
+
     def start(self) -> None:
         lacks = [str(it) for it in (SYSTEMD, JOURNALD) if not it.exists()] + [it for it in ("unshare", "nsenter") if not shutil.which(it)]
         if lacks:
@@ -86,14 +90,15 @@ class Manager(Server):
         wait_until("the manager runs, or cannot", lambda: self.running().poll() is not None or self.is_up())
         if self.running().poll() is not None:
             raise Skipped(f"this machine lets no systemd run in a namespace: {self.said().strip()[-300:]}")
+        self.is_begun = True
 
     def is_up(self) -> bool:
-        """Returns whether the manager answers."""
-        return bool(children(self.running().pid)) and self.systemctl("is-system-running").stdout.strip() == "running"
+        """Returns whether the manager has started what it starts by itself, whatever came of that."""
+        return bool(children(self.running().pid)) and self.systemctl("is-system-running").stdout.strip() in ("running", "degraded")
 
     def kill(self) -> None:
         super().kill()
-        if self.process is not None:
+        if self.process is not None and not self.is_removed() and self.is_begun:
             wait_until("the control group is empty", self.is_removed)
 
     def is_removed(self) -> bool:
