@@ -14,7 +14,7 @@ from typing import Callable, Dict, List, Mapping, Optional, Sequence
 
 from clients import wire
 from clients.limits import STOCK, TAKE, last_words, with_stock
-from clients.servers import END, IN_A_STORE, IN_MEMORY, PROGRAM, Gateway, stored, wait_until
+from clients.servers import END, IN_A_STORE, IN_MEMORY, PROGRAM, Gateway, is_answered, stored, wait_until
 from clients.suite import Part, expect, main
 from clients.wire import Connection
 
@@ -27,15 +27,18 @@ MEANINGLESS = [signal.SIGUSR1, signal.SIGUSR2, signal.SIGALRM, signal.SIGVTALRM,
 APART = 1.2
 # The seconds that the gateway waits for a store that another program has open.
 LOCK = 10.0
-# Answers the gateway's first question, and nothing else. It does not end either when its input does.
-DEAF = """#!/usr/bin/python3
-import sys, time
-session = sys.stdin.readline().split(":")[0]
-print(session + "> served 0 granted 0 broken 0 refused 0 commits 0 rollbacks 0 writes 0 queries 0")
-print(session + "> OK statistics", flush=True)
-time.sleep(600)
+# What a program in place of escrowd's begins with: it has the same version.
+VERSION = f"""#!/bin/sh
+[ "$1" = --version ] && exec {PROGRAM} --version
 """
-MUTE = "#!/bin/sh\nexec sleep 600\n"
+# Answers the gateway's first question, and nothing else. It does not end either when its input does.
+DEAF = VERSION + """IFS=: read -r session question
+printf '%s> served 0 granted 0 broken 0 refused 0 commits 0 rollbacks 0 writes 0 queries 0\\n' "$session"
+printf '%s> OK statistics\\n' "$session"
+exec sleep 60
+"""
+# Answers nothing.
+MUTE = VERSION + "exec cat > /dev/null\n"
 
 
 class Operated(Gateway):
@@ -212,8 +215,11 @@ def folders_of_a_killed_start() -> None:
 
         for _ in range(3):
             gateway.begin()
-            wait_until("its socket has no name yet", lambda: (gateway.folder / f".{gateway.running().pid}.0/s").exists())
+            nameless = gateway.folder / f".{gateway.running().pid}.0/s"
+            wait_until("its socket has no name yet", lambda: is_answered(nameless))
             gateway.kill()
+            # A process that it was starting may have the socket for a moment.
+            wait_until("nobody answers there", lambda: not is_answered(nameless))
             expect(len(private()), 1)
         gateway.program = ""
         gateway.start()

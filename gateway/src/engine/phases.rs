@@ -37,6 +37,7 @@ impl Engine {
                 self.notice_end();
                 if self.clients.is_empty() || until <= self.now {
                     self.clients = Default::default();
+                    self.programs.iter().for_each(Program::let_go_on);
                     self.programs.iter_mut().for_each(Program::tell_to_end);
                     self.phase = Phase::Closing(self.now + CLOSING);
                 }
