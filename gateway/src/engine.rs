@@ -40,6 +40,9 @@ const WITHOUT_SESSION: usize = 256;
 /// How many clients are accepted in a turn at most. Then others have their turn.
 const ACCEPTED: usize = 64;
 
+/// How many bytes of a client are read in a turn at most. Then others have their turn.
+const READ: usize = 16 * 1024;
+
 /// How long clients may take to finish their statements and to be told of an orderly end.
 const FAREWELL: Duration = Duration::from_secs(10);
 
@@ -259,7 +262,7 @@ impl Engine {
             None => return,
         };
         client.connection.go_on(self.now);
-        client.read(&mut self.buffer, self.now);
+        client.read(&mut self.buffer[..READ], self.now);
         self.forward(place);
     }
 

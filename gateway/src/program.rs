@@ -1,6 +1,7 @@
 //! A program that serves one database, and the pipes to it.
 
 mod candidates;
+mod long;
 mod replies;
 mod sessions;
 mod statements;
@@ -27,8 +28,9 @@ pub use version::check_version;
 use crate::args::Database;
 use crate::failure::Failure;
 use candidates::candidates;
+use long::{is_of_whole_table, LongSelects, Waiting};
 use replies::{Replies, Wrong};
-use sessions::Sessions;
+use sessions::{Asked, Sessions};
 use statements::Statements;
 
 /// The tokens of a program: one for each of its pipes.
@@ -117,6 +119,7 @@ pub struct Program {
     statements: Statements,
     replies: Replies,
     sessions: Sessions,
+    long: LongSelects,
     /// Sessions that clients left, and that can't be rolled back yet.
     refused: Vec<Refused>,
     definitions: Definitions,
@@ -166,6 +169,7 @@ impl Program {
             statements: Statements::new(),
             replies: Replies::new(),
             sessions: Sessions::new(),
+            long: LongSelects::default(),
             refused: Vec::new(),
             definitions: Definitions::default(),
             started: now,
@@ -245,8 +249,47 @@ impl Program {
 
     /// Queues a statement of a session.
     pub fn ask(&mut self, session: Number, question: Question, statement: &[u8], now: Instant) {
-        self.sessions.ask(session, question, now);
+        if is_of_whole_table(question, statement) {
+            if self.long.must_wait(statement, now) {
+                return self.long.wait(Waiting {
+                    session,
+                    statement: statement.to_vec(),
+                    since: now,
+                });
+            }
+            self.long.ask(statement, now);
+        }
+        self.send(session, question, statement, now);
+    }
+
+    fn send(&mut self, session: Number, question: Question, statement: &[u8], since: Instant) {
+        let is_of_whole_table = is_of_whole_table(question, statement);
+        let asked = Asked {
+            session,
+            question,
+            since,
+            is_of_whole_table,
+        };
+        self.sessions.ask(asked);
         self.statements.push(session, statement);
+    }
+
+    /// Queues the SELECTs of whole tables whose turn it is.
+    fn ask_long(&mut self, now: Instant) {
+        while let Some(select) = self.long.next(self.sessions.next().is_none(), now) {
+            self.long.ask(&select.statement, now);
+            self.send(
+                select.session,
+                Question::Rows,
+                &select.statement,
+                select.since,
+            );
+        }
+    }
+
+    /// Returns when a SELECT may be queued that waits.
+    pub fn long_deadline(&self) -> Option<Instant> {
+        self.long.deadline()
     }
 
     /// Queues a statement of the gateway's own.
@@ -259,6 +302,7 @@ impl Program {
     /// Notes that the holder of a session left. What the session holds is rolled back; it is free when all of its
     /// statements are answered.
     pub fn leave(&mut self, session: Number, now: Instant) {
+        self.long.leave(session);
         if self.sessions.is_used(session) {
             self.ask(session, Question::Order, ROLLBACK, now);
         }
@@ -300,6 +344,7 @@ impl Program {
 
     /// Writes the queued statements, as far as the pipe takes them.
     pub fn write(&mut self, now: Instant) {
+        self.ask_long(now);
         if let (Some(input), true) = (&mut self.input, self.input_is_ready) {
             match self.statements.write(input) {
                 Ok(all) => self.input_is_ready = all,
@@ -354,6 +399,9 @@ impl Program {
         let is_last = asked.question.is_last_line(text);
         if is_last {
             self.sessions.answered();
+            if asked.is_of_whole_table {
+                self.long.answered(rows_told(text), now);
+            }
         }
         let is_answered = self.sessions.unanswered(asked.session) == 0;
         Ok(Some(match self.sessions.holder(asked.session) {
@@ -554,6 +602,14 @@ fn is_stopped(process: &str) -> bool {
             .next()
             .map_or(false, |state| state.starts_with('T'))
     })
+}
+
+/// Returns how many rows the last line of a reply to SELECT tells. None: it is a refusal.
+fn rows_told(line: &[u8]) -> Option<u64> {
+    match reply::outcome(std::str::from_utf8(line).ok()?)? {
+        Outcome::Done(Done::Rows(rows)) => Some(rows),
+        _ => None,
+    }
 }
 
 /// Returns whether the last line of a reply to ROLLBACK says that it was done. Otherwise it was refused.

@@ -74,6 +74,7 @@ impl Engine {
             program.retry_at().filter(is_ahead)
         });
         let rollbacks = self.programs.iter().map(Program::rollback_deadline);
+        let selects = self.programs.iter().map(Program::long_deadline);
         let deadlines = [self.alarm, phase, door, metrics];
         let next = deadlines
             .iter()
@@ -81,6 +82,7 @@ impl Engine {
             .chain(ends)
             .chain(retries)
             .chain(rollbacks)
+            .chain(selects)
             .flatten()
             .min()?;
         Some(next.saturating_duration_since(self.now))

@@ -53,6 +53,8 @@ pub struct Asked {
     pub question: Question,
     /// When it was asked.
     pub since: Instant,
+    /// Whether it is a SELECT of a whole table.
+    pub is_of_whole_table: bool,
 }
 
 #[derive(Clone, Copy)]
@@ -101,16 +103,12 @@ impl Sessions {
         Some(Number::at(place))
     }
 
-    /// Notes a statement of `session`.
-    pub fn ask(&mut self, session: Number, question: Question, since: Instant) {
-        let asking = &mut self.sessions[session.place()];
+    /// Notes a statement.
+    pub fn ask(&mut self, asked: Asked) {
+        let asking = &mut self.sessions[asked.session.place()];
         asking.unanswered += 1;
         asking.is_used = true;
-        self.asked.push_back(Asked {
-            session,
-            question,
-            since,
-        });
+        self.asked.push_back(asked);
     }
 
     /// Returns the statement that the next reply answers.
@@ -180,6 +178,15 @@ impl Sessions {
 mod tests {
     use super::*;
 
+    fn order(session: Number, since: Instant) -> Asked {
+        Asked {
+            session,
+            question: Question::Order,
+            since,
+            is_of_whole_table: false,
+        }
+    }
+
     #[test]
     fn each_session_is_given_once() {
         let mut sessions = Sessions::new();
@@ -201,7 +208,7 @@ mod tests {
         assert!(!sessions.is_used(first));
         let second = sessions.take(Holder::Client(20)).unwrap();
         for session in [first, second, second, first] {
-            sessions.ask(session, Question::Order, now);
+            sessions.ask(order(session, now));
         }
         assert_eq!(sessions.next().unwrap().session, first);
         assert_eq!(sessions.unanswered(second), 2);
@@ -223,8 +230,8 @@ mod tests {
         let now = Instant::now();
         let mut sessions = Sessions::new();
         let session = sessions.take(Holder::Client(1)).unwrap();
-        sessions.ask(session, Question::Order, now);
-        sessions.ask(session, Question::Order, now);
+        sessions.ask(order(session, now));
+        sessions.ask(order(session, now));
         sessions.leave(session);
         assert_eq!((sessions.held(), sessions.leaving()), (0, 1));
         let other = sessions.take(Holder::Client(2)).unwrap();
