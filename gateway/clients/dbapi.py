@@ -128,8 +128,10 @@ def refusals_by_their_exceptions(driver: Driver, gateway: Gateway) -> None:
     refused(driver, "UndefinedObject", ask("ALTER TABLE stock DROP CONSTRAINT nothing"))
     refused(driver, "FeatureNotSupported", ask("SELECT * FROM stock WHERE pieces = 5"))
     refused(driver, "FeatureNotSupported", ask("UPDATE stock SET pieces = 5 WHERE id = 1"))
-    fault = refused(driver, "SyntaxError", ask("UPDATE stock SET pieces = pieces * 2 WHERE id = 1"))
-    expect(fault.diag.statement_position, "34")
+    computed = refused(driver, "FeatureNotSupported", ask("UPDATE stock SET pieces = pieces * 2 WHERE id = 1"))
+    expect(computed.diag.statement_position, "27")
+    fault = refused(driver, "SyntaxError", ask("UPDATE stock SET pieces = pieces - 1..5 WHERE id = 1"))
+    expect(fault.diag.statement_position, "37")
     connection.close()
 
 

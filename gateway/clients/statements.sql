@@ -103,7 +103,7 @@ DISCARD ALL;
 SELEC * FROM stock;
 UPDATE stock SET pieces = pieces / 2 WHERE id = 1;
   UPDATE stock /* a comment ä */ SET pieces = pieces - 1 -- another
-    WHERE id == 1;
+    WHERE id = = 1;
 UPDATE stock SET pieces = pieces - 1234567890123456 WHERE id = 1;
 SELECT * FROM stock WHERE name = 'no end;
 ';

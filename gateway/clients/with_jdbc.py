@@ -86,7 +86,7 @@ def by_itself_and_through_pgbouncer(gateway: Gateway) -> None:
     with compiled() as folder, Relay(gateway.socket) as relay:
         run(folder, f"jdbc:postgresql://127.0.0.1:{relay.port}/bank?user=clerk", "direct")
         run(folder, f"jdbc:postgresql://127.0.0.1:{relay.port}/bank?user=clerk&preferQueryMode=simple", "simple")
-        run(folder, f"jdbc:postgresql://127.0.0.1:{relay.port}/bank?user=clerk&prepareThreshold=-1", "binary")
+        run(folder, f"jdbc:postgresql://127.0.0.1:{relay.port}/bank?user=clerk&prepareThreshold=-1", "in_binary")
         if is_here("pgbouncer"):
             for mode, more in (("session", ""), ("transaction", "&prepareThreshold=0")):
                 with Pgbouncer(gateway, mode, 5) as bouncer:

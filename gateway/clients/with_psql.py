@@ -46,12 +46,12 @@ def all_statements(gateway: Gateway) -> None:
 
 @PART.served
 def position_of_a_fault(gateway: Gateway) -> None:
-    given = "\\set VERBOSITY verbose\nDELETE\n  FROM stock /* ä€ */\n  WHERE id == 1;\n"
+    given = "\\set VERBOSITY verbose\nDELETE\n  FROM stock /* ä€ */\n  WHERE id = = 1;\n"
     status, got = psql(gateway, "-q", given=given)
     expect(status, 0)
     error, line, caret, *_ = got.splitlines()
     expect(error.startswith("ERROR:  42601: "), True, got)
-    expect((line, caret), ("LINE 3:   WHERE id == 1;", "                    ^"))
+    expect((line, caret), ("LINE 3:   WHERE id = = 1;", "                     ^"))
 
 
 @PART.served

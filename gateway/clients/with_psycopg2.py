@@ -149,9 +149,24 @@ def what_is_not_there(gateway: Gateway) -> None:
         error = dbapi.refused(psycopg2, "FeatureNotSupported", lambda: dbapi.run(connection, statement))
         names += [statement] if not error.diag.message_hint else []
     expect(names, [], "refused without a hint")
+    connection.close()
+
+
+@PART.served
+def cursors_with_names(gateway: Gateway) -> None:
+    """DECLARE, FETCH and CLOSE, as a cursor with a name sends them."""
+    rows = [f"INSERT INTO stock VALUES ({key}, {key})" for key in range(1, 8)]
+    connection = dbapi.opened(psycopg2, gateway, dbapi.STOCK, *rows)
     connection.autocommit = False
     with connection.cursor("named") as cursor:
-        dbapi.refused(psycopg2, "FeatureNotSupported", lambda: cursor.execute("SELECT * FROM stock"))
+        cursor.itersize = 3
+        cursor.execute("SELECT id FROM stock ORDER BY id DESC")
+        expect([key for key, in cursor], [7, 6, 5, 4, 3, 2, 1])
+    with connection.cursor("Other") as cursor:
+        cursor.execute("SELECT id, 'x' AS mark FROM stock WHERE id IN %s", ((2, 9, 1),))
+        expect(cursor.fetchmany(1), [(1, "x")])
+        expect([column.name for column in cursor.description], ["id", "mark"])
+        dbapi.refused(psycopg2, "ObjectNotInPrerequisiteState", lambda: cursor.scroll(-1))
     connection.rollback()
     connection.close()
 

@@ -240,13 +240,22 @@ def what_is_not_there(gateway: Gateway) -> None:
         with connection.cursor() as cursor, cursor.copy("COPY stock FROM STDIN") as it:
             it.write_row((1, 1))
 
-    def named() -> None:
-        with connection.transaction(), connection.cursor("named") as cursor:
-            cursor.execute("SELECT * FROM stock")
-
     dbapi.refused(psycopg, "FeatureNotSupported", copy)
-    dbapi.refused(psycopg, "FeatureNotSupported", named)
     expect(dbapi.rows(connection, "SELECT * FROM stock"), [])
+    connection.close()
+
+
+@PART.served
+def cursors_with_names(gateway: Gateway) -> None:
+    """DECLARE, FETCH, MOVE and CLOSE, as a cursor of the server's sends them, with parameters."""
+    rows = [f"INSERT INTO stock VALUES ({key}, {key})" for key in range(1, 8)]
+    connection = dbapi.opened(psycopg, gateway, dbapi.STOCK, *rows)
+    with connection.transaction(), connection.cursor("named") as cursor:
+        cursor.execute("SELECT id FROM stock ORDER BY id LIMIT %s", (6,))
+        expect(cursor.fetchmany(2), [(1,), (2,)])
+        cursor.scroll(2)
+        expect(cursor.fetchall(), [(5,), (6,)])
+    expect(dbapi.rows(connection, "SELECT count(*) FROM stock"), [(7,)])
     connection.close()
 
 

@@ -23,7 +23,6 @@ use crate::reply::Question;
 use crate::rows::spool::Spill;
 use crate::rows::Definitions;
 use crate::sqlstate::{Failure, Report, Severity, SqlState};
-use crate::statement::lexer::Token;
 use crate::statement::Kind;
 use crate::variables::{Limits, Variables};
 use crate::wire::backend::{self, Status};
@@ -167,8 +166,6 @@ pub struct Connection {
     has_turn: bool,
     /// The simple query that is being served.
     query: Option<Query>,
-    /// The tokens of its statement.
-    tokens: Vec<Token>,
     /// Whether messages are skipped up to the next Sync.
     skipping: bool,
     /// Whether nothing of the client's has been begun since it was told to be ready.
@@ -209,7 +206,6 @@ impl Connection {
             giving: None,
             has_turn: false,
             query: None,
-            tokens: Vec::new(),
             skipping: false,
             resting: true,
             idle_since: now,

@@ -8,6 +8,7 @@
 pub mod activity;
 pub mod budget;
 pub mod connection;
+pub mod decimal;
 pub mod limits;
 pub mod queue;
 pub mod reply;

@@ -1,6 +1,6 @@
 //! Replies of the program.
 
-use crate::statement::Verb;
+use crate::statement::served::Verb;
 
 /// What a statement asks the program for, as far as the form of its reply goes.
 ///

@@ -6,6 +6,6 @@ mod result;
 pub mod shape;
 pub mod spool;
 
-pub use definition::{ColumnType, DefinedColumn, Definition};
+pub use definition::{Check, ColumnType, DefinedColumn, Definition};
 pub use definitions::Definitions;
 pub use result::{append_count, constants, shown_columns, LineFault, Reader, ResultSet, Row};

@@ -9,18 +9,32 @@ use crate::reply::{Broken, Refusal};
 pub struct SqlState(&'static str);
 
 impl SqlState {
+    /// 00000.
+    pub const SUCCESS: SqlState = SqlState("00000");
     /// 08P01.
     pub const PROTOCOL_VIOLATION: SqlState = SqlState("08P01");
     /// 0A000.
     pub const FEATURE_NOT_SUPPORTED: SqlState = SqlState("0A000");
+    /// 21000.
+    pub const CARDINALITY_VIOLATION: SqlState = SqlState("21000");
     /// 22001.
     pub const TEXT_TOO_LONG: SqlState = SqlState("22001");
     /// 22003.
     pub const NUMBER_OUT_OF_RANGE: SqlState = SqlState("22003");
+    /// 22012.
+    pub const DIVISION_BY_ZERO: SqlState = SqlState("22012");
+    /// 2201W.
+    pub const INVALID_ROW_COUNT_IN_LIMIT: SqlState = SqlState("2201W");
+    /// 2201X.
+    pub const INVALID_ROW_COUNT_IN_OFFSET: SqlState = SqlState("2201X");
+    /// 2201B.
+    pub const INVALID_REGULAR_EXPRESSION: SqlState = SqlState("2201B");
     /// 22021.
     pub const CHARACTER_NOT_IN_REPERTOIRE: SqlState = SqlState("22021");
     /// 22023.
     pub const INVALID_PARAMETER_VALUE: SqlState = SqlState("22023");
+    /// 22025.
+    pub const INVALID_ESCAPE_SEQUENCE: SqlState = SqlState("22025");
     /// 22P02.
     pub const INVALID_TEXT_REPRESENTATION: SqlState = SqlState("22P02");
     /// 22P03.
@@ -53,6 +67,8 @@ impl SqlState {
     pub const UNDEFINED_SAVEPOINT: SqlState = SqlState("3B001");
     /// 3D000.
     pub const UNDEFINED_DATABASE: SqlState = SqlState("3D000");
+    /// 3F000.
+    pub const INVALID_SCHEMA: SqlState = SqlState("3F000");
     /// 42601.
     pub const SYNTAX_ERROR: SqlState = SqlState("42601");
     /// 42602.
@@ -61,10 +77,26 @@ impl SqlState {
     pub const NAME_TOO_LONG: SqlState = SqlState("42622");
     /// 42701.
     pub const DUPLICATE_COLUMN: SqlState = SqlState("42701");
+    /// 42702.
+    pub const AMBIGUOUS_COLUMN: SqlState = SqlState("42702");
     /// 42703.
     pub const UNDEFINED_COLUMN: SqlState = SqlState("42703");
     /// 42704.
     pub const UNDEFINED_OBJECT: SqlState = SqlState("42704");
+    /// 42712.
+    pub const DUPLICATE_ALIAS: SqlState = SqlState("42712");
+    /// 42725.
+    pub const AMBIGUOUS_FUNCTION: SqlState = SqlState("42725");
+    /// 42803.
+    pub const GROUPING_ERROR: SqlState = SqlState("42803");
+    /// 42804.
+    pub const DATATYPE_MISMATCH: SqlState = SqlState("42804");
+    /// 42809.
+    pub const WRONG_OBJECT_TYPE: SqlState = SqlState("42809");
+    /// 42846.
+    pub const CANNOT_COERCE: SqlState = SqlState("42846");
+    /// 42883.
+    pub const UNDEFINED_FUNCTION: SqlState = SqlState("42883");
     /// 42P01.
     pub const UNDEFINED_TABLE: SqlState = SqlState("42P01");
     /// 42P02.
@@ -75,6 +107,8 @@ impl SqlState {
     pub const DUPLICATE_PREPARED_STATEMENT: SqlState = SqlState("42P05");
     /// 42P07.
     pub const DUPLICATE_TABLE: SqlState = SqlState("42P07");
+    /// 42P10.
+    pub const INVALID_COLUMN_REFERENCE: SqlState = SqlState("42P10");
     /// 42P16.
     pub const INVALID_TABLE_DEFINITION: SqlState = SqlState("42P16");
     /// 42P18.

@@ -1,5 +1,6 @@
 //! Values in text and in binary, as clients send them and as they get them.
 
+use std::cmp::Ordering;
 use std::fmt;
 
 use postgres_protocol::types;
@@ -85,7 +86,36 @@ impl Value {
     }
 }
 
+impl Value {
+    /// Compares values of one column in the order in which the program keeps them.
+    pub fn compare(&self, other: &Value) -> Ordering {
+        match (self, other) {
+            (Value::Number(left), Value::Number(right)) => left.compare(right),
+            (Value::Text(left), Value::Text(right)) => left.cmp(right),
+            _ => Ordering::Equal,
+        }
+    }
+}
+
 impl Number {
+    /// Compares two numbers.
+    pub fn compare(&self, other: &Number) -> Ordering {
+        let magnitude = |number: &Number| {
+            let (whole, fraction) = number
+                .digits
+                .split_once('.')
+                .unwrap_or((&number.digits, ""));
+            let digits = format!("{:0>15}{:0<6}", whole, fraction);
+            let magnitude = digits.parse::<i128>().unwrap_or(0);
+            if number.negative {
+                -magnitude
+            } else {
+                magnitude
+            }
+        };
+        magnitude(self).cmp(&magnitude(other))
+    }
+
     /// Makes a number of a whole one.
     ///
     /// # Errors
@@ -232,20 +262,14 @@ fn read_exponent(text: &str) -> Result<i64, NumberFault> {
     })
 }
 
-/// Returns the name of a type that a parameter may have, and whether it is one of texts. None: another type.
-fn parameter_type(oid: Oid) -> Option<(&'static str, bool)> {
-    Some(match oid {
-        oid::INT2 => ("smallint", false),
-        oid::INT4 => ("integer", false),
-        oid::INT8 => ("bigint", false),
-        oid::NUMERIC => ("numeric", false),
-        oid::TEXT => ("text", true),
-        oid::VARCHAR => ("character varying", true),
-        oid::BPCHAR => ("character", true),
-        oid::NAME => ("name", true),
-        oid::UNKNOWN | oid::UNSPECIFIED => ("unknown", true),
-        _ => return None,
-    })
+/// Returns whether a type that a parameter may have is one of texts. None: it is another type.
+fn is_text(oid: Oid) -> Option<bool> {
+    match oid {
+        oid::INT2 | oid::INT4 | oid::INT8 | oid::NUMERIC => Some(false),
+        oid::TEXT | oid::VARCHAR | oid::BPCHAR | oid::NAME => Some(true),
+        oid::UNKNOWN | oid::UNSPECIFIED => Some(true),
+        _ => None,
+    }
 }
 
 /// Reads the value of the parameter `$number`.
@@ -259,7 +283,7 @@ pub fn parameter(
     format: Format,
     bytes: Option<&[u8]>,
 ) -> Result<Value, Failure> {
-    let (name, is_text) = parameter_type(oid).ok_or_else(|| {
+    let is_text = is_text(oid).ok_or_else(|| {
         Report::missing(&format!(
             "a parameter (${}) of the type with Oid {}",
             number, oid
@@ -280,24 +304,10 @@ pub fn parameter(
     match format {
         Format::Text => {
             let text = std::str::from_utf8(bytes).map_err(|_| not_utf8(bytes))?;
-            if oid == oid::NUMERIC {
-                number_value(name, text)
-            } else {
-                integer_value(name, oid, text)
-            }
+            self::number(oid, text).map(Value::Number)
         }
         Format::Binary => binary_number(number, oid, bytes),
     }
-}
-
-fn number_value(name: &str, text: &str) -> Result<Value, Failure> {
-    Number::from_text(text)
-        .map(Value::Number)
-        .map_err(|fault| match fault {
-            NumberFault::Syntax if is_special(text) => out_of_range(text),
-            NumberFault::Syntax => invalid_input(name, text),
-            NumberFault::Range => out_of_range(text),
-        })
 }
 
 /// Returns whether PostgreSQL's numeric has this value, which is no number of the program.
@@ -308,25 +318,53 @@ fn is_special(text: &str) -> bool {
         .any(|special| text.eq_ignore_ascii_case(special))
 }
 
-fn integer_value(name: &str, oid: Oid, text: &str) -> Result<Value, Failure> {
-    let trimmed = text.trim();
+/// Reads a whole number as PostgreSQL reads the integer type of this Oid.
+///
+/// # Errors
+///
+/// Fails if it isn't written as one, or is out of the type's range.
+pub fn integer(oid: Oid, text: &str) -> Result<i64, Failure> {
+    let (name, least, greatest) = match oid {
+        oid::INT2 => ("smallint", i64::from(i16::MIN), i64::from(i16::MAX)),
+        oid::INT4 => ("integer", i64::from(i32::MIN), i64::from(i32::MAX)),
+        _ => ("bigint", i64::MIN, i64::MAX),
+    };
+    let trimmed = text.trim_matches(|blank: char| blank.is_ascii_whitespace() || blank == '\x0b');
     let digits = trimmed.strip_prefix(['+', '-']).unwrap_or(trimmed);
     if digits.is_empty() || !digits.bytes().all(|byte| byte.is_ascii_digit()) {
         return Err(invalid_input(name, text));
     }
-    let (least, greatest) = match oid {
-        oid::INT2 => (i64::from(i16::MIN), i64::from(i16::MAX)),
-        oid::INT4 => (i64::from(i32::MIN), i64::from(i32::MAX)),
-        _ => (i64::MIN, i64::MAX),
-    };
     match trimmed.parse::<i64>() {
-        Ok(value) if (least..=greatest).contains(&value) => Number::from_integer(value)
-            .map(Value::Number)
-            .map_err(|_| out_of_range(text)),
+        Ok(value) if (least..=greatest).contains(&value) => Ok(value),
         _ => Err(Report::error(
             SqlState::NUMBER_OUT_OF_RANGE,
             format!("value \"{}\" is out of range for type {}", text, name),
         )),
+    }
+}
+
+/// Reads a number as PostgreSQL reads the type of this Oid: an integer type, or numeric.
+///
+/// # Errors
+///
+/// Fails if it isn't written as one, or if the program's numbers don't hold it.
+pub fn number(oid: Oid, text: &str) -> Result<Number, Failure> {
+    let number = match oid {
+        oid::NUMERIC => Number::from_text(text),
+        _ => Number::from_integer(integer(oid, text)?),
+    };
+    number.map_err(|fault| match fault {
+        NumberFault::Syntax => no_number(text),
+        NumberFault::Range => out_of_range(text),
+    })
+}
+
+/// Makes the report of a text that is no numeric, or one that the program doesn't have.
+pub fn no_number(text: &str) -> Failure {
+    if is_special(text) {
+        out_of_range(text)
+    } else {
+        invalid_input("numeric", text)
     }
 }
 

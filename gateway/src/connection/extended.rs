@@ -2,16 +2,19 @@
 
 use std::rc::Rc;
 
+use postgres_protocol::Oid;
+
 use crate::connection::prepared::{Binding, Portal, Progress, Statement};
 use crate::connection::transaction::Block;
 use crate::connection::work::{failed_block, AfterCommit, AfterDefinition, Subject, Target};
 use crate::connection::Connection;
 use crate::rows::Definition;
 use crate::sqlstate::{Failure, Report, SqlState};
-use crate::statement::lexer::next_statement;
 use crate::statement::literal::not_utf8;
 use crate::statement::parameters::{self, Place};
-use crate::statement::{classify, Command, Verb};
+use crate::statement::parser::next_statement;
+use crate::statement::served::{Served, Verb};
+use crate::statement::{select, Statement as Tree};
 use crate::value::oid;
 use crate::wire::backend::{self, Column, Format};
 use crate::wire::frontend::{self, Bind, Parse};
@@ -37,11 +40,7 @@ impl Connection {
             Err(_) => return self.fail(not_utf8(parse.text), None),
         };
         let prepared = prepare(text, &parse.types).and_then(|statement| {
-            let leaves = statement
-                .command
-                .as_ref()
-                .map_or(true, Command::leaves_failed_block);
-            if self.transaction.block == Block::Failed && !leaves {
+            if self.has_failed_for(&statement) {
                 return Err(failed_block());
             }
             self.prepared.add_statement(parse.name, statement)
@@ -61,14 +60,13 @@ impl Connection {
         if !binding.needs_definition() {
             return self.bind_now(binding, None);
         }
-        let table = binding.statement.table_name();
-        match table
-            .as_ref()
+        let statement = Rc::clone(&binding.statement);
+        match statement
+            .table_name()
             .map(|table| (table, self.definitions().get(table)))
         {
             Some((table, None)) => {
-                let statement = Rc::clone(&binding.statement);
-                let then = AfterDefinition::Bind(binding, statement);
+                let then = AfterDefinition::Bind(binding, Rc::clone(&statement));
                 self.ask_definition(table, then);
             }
             known => {
@@ -92,7 +90,9 @@ impl Connection {
 
     fn binding_of(&self, bind: &Bind<'_>) -> Result<Binding, Failure> {
         let statement = self.prepared.statement(bind.statement)?;
-        if self.has_failed_for(statement) {
+        let is_empty_in_failed_block =
+            statement.parsed.is_none() && self.transaction.block == Block::Failed;
+        if self.has_failed_for(statement) || is_empty_in_failed_block {
             return Err(failed_block());
         }
         let count = bind.values.len();
@@ -151,27 +151,30 @@ impl Connection {
         if self.has_failed_for(&statement) {
             return self.fail(failed_block(), None);
         }
-        let table = if statement.is_described_by_table() {
-            statement.table_name()
-        } else {
-            None
-        };
-        match table {
-            Some(table) if self.definitions().get(&table).is_none() => {
+        match self.unknown_table(&statement) {
+            Some(table) => {
                 let then = AfterDefinition::Describe(name.to_owned(), statement);
                 self.ask_definition(&table, then);
             }
-            _ => self.describe_now(name),
+            None => self.describe_now(name),
         }
+    }
+
+    /// Returns the name of a statement's table, if that describes the statement and is not known.
+    fn unknown_table(&self, statement: &Statement) -> Option<String> {
+        let table = statement.table_name()?;
+        let is_unknown =
+            statement.is_described_by_table() && self.definitions().get(table).is_none();
+        is_unknown.then(|| table.to_owned())
     }
 
     /// Returns whether a failed block refuses to tell of the statement's rows.
     fn has_failed_for(&self, statement: &Statement) -> bool {
         self.transaction.block == Block::Failed
             && !statement
-                .command
+                .parsed
                 .as_ref()
-                .map_or(true, Command::leaves_failed_block)
+                .map_or(true, |parsed| parsed.statement.leaves_failed_block())
     }
 
     /// Describes a prepared statement whose table's definition is known, if it needs that.
@@ -182,25 +185,11 @@ impl Connection {
         };
         let definition = statement
             .table_name()
-            .and_then(|table| self.definitions().get(&table));
+            .and_then(|table| self.definitions().get(table));
         let types = statement.parameter_types(definition.as_deref());
-        let columns = match statement
-            .command
-            .as_ref()
-            .map(|command| self.columns(command))
-        {
-            Some(Err(report)) => return self.fail(report, Some(&statement.text)),
-            Some(Ok(columns)) => columns,
-            None => None,
-        };
-        let columns = match (statement.verb(), definition) {
-            (Some(Verb::Select), Some(definition)) => Some(definition.result_columns().into()),
-            (Some(Verb::Select), None) => {
-                let end = statement.text.len();
-                let report = Report::syntax(&statement.text, end, end).hint(Verb::Select.form());
-                return self.fail(report, Some(&statement.text));
-            }
-            _ => columns,
+        let columns = match self.columns_of(&statement, definition.as_deref(), &types) {
+            Ok(columns) => columns,
+            Err(report) => return self.fail(report, Some(&statement.text)),
         };
         let out = self.output.buffer();
         backend::parameter_description(out, &types);
@@ -209,6 +198,27 @@ impl Connection {
             None => backend::no_data(out),
         }
         statement.described.replace(columns);
+    }
+
+    /// Returns the columns of a statement's rows. None: it has none.
+    fn columns_of(
+        &self,
+        statement: &Statement,
+        definition: Option<&Definition>,
+        types: &[Oid],
+    ) -> Result<Option<Rc<[Column]>>, Failure> {
+        let tree = match &statement.parsed {
+            Some(parsed) => &parsed.statement,
+            None => return Ok(None),
+        };
+        let shown = match tree {
+            Tree::Served(Served::Select(select)) => &select.shown,
+            Tree::Served(served) if !served.returning().is_empty() => served.returning(),
+            tree => return self.columns(tree),
+        };
+        definition
+            .map(|definition| select::columns(shown, definition, types))
+            .transpose()
     }
 
     /// Describes a portal. The rows of a table are read ahead for it.
@@ -227,20 +237,25 @@ impl Connection {
                 ..
             })
         );
-        if is_ready && statement.verb() == Some(Verb::Select) {
+        let verb = statement.served().map(Served::verb);
+        if is_ready && verb == Some(Verb::Select) {
             let target = Target::Describe {
                 portal: name.to_owned(),
             };
             return self.run_portal(name, target, false);
         }
-        let columns = match statement
-            .command
-            .as_ref()
-            .map(|command| self.columns(command))
-        {
-            Some(Err(report)) => return self.fail(report, Some(&statement.text)),
-            Some(Ok(Some(columns))) => Some(columns),
-            _ => statement.described.borrow().clone(),
+        if let (true, Some(table)) = (is_ready, self.unknown_table(&statement)) {
+            let then = AfterDefinition::DescribePortal(name.to_owned(), statement);
+            return self.ask_definition(&table, then);
+        }
+        let definition = statement
+            .table_name()
+            .and_then(|table| self.definitions().get(table));
+        let types = statement.parameter_types(definition.as_deref());
+        let columns = match self.columns_of(&statement, definition.as_deref(), &types) {
+            Err(report) => return self.fail(report, Some(&statement.text)),
+            Ok(Some(columns)) => Some(columns),
+            Ok(None) => statement.described.borrow().clone(),
         };
         self.write_description(name, columns);
     }
@@ -273,7 +288,7 @@ impl Connection {
             Ok(portal) => portal,
             Err(report) => return self.fail(report, None),
         };
-        match (&portal.progress, &portal.statement.command) {
+        match (&portal.progress, &portal.statement.parsed) {
             (_, None) => backend::empty_query(self.output.buffer()),
             (Progress::Rows(_), _) => self.give_rows_of(name, limit),
             (Progress::Done, Some(_)) => {
@@ -295,17 +310,13 @@ impl Connection {
 
     /// Runs a portal that hasn't run.
     fn run_portal(&mut self, name: &str, target: Target, last: bool) {
-        let (statement, values) = match self.prepared.portal(name) {
-            Ok(portal) => (Rc::clone(&portal.statement), Rc::clone(&portal.values)),
+        let subject = match self.prepared.portal(name) {
+            Ok(portal) => {
+                Subject::Prepared(Rc::clone(&portal.statement), Rc::clone(&portal.arguments))
+            }
             Err(report) => return self.fail(report, None),
         };
-        match &statement.command {
-            Some(command) => {
-                let subject = Subject::Prepared(Rc::clone(&statement), values);
-                self.execute(command, target, subject, last);
-            }
-            None => backend::empty_query(self.output.buffer()),
-        }
+        self.execute(subject, target, last);
     }
 
     /// Serves Close.
@@ -314,7 +325,9 @@ impl Connection {
             frontend::Target::Statement(name) => {
                 self.prepared.remove_statement(name);
             }
-            frontend::Target::Portal(name) => self.prepared.remove_portal(name),
+            frontend::Target::Portal(name) => {
+                self.prepared.remove_portal(name);
+            }
         }
         backend::close_complete(self.output.buffer());
     }
@@ -336,45 +349,22 @@ fn formats(codes: &[i16]) -> Result<Vec<Format>, Failure> {
 
 /// Reads the text of a prepared statement.
 fn prepare(text: &str, types: &[u32]) -> Result<Statement, Failure> {
-    let (mut at, mut tokens) = (0, Vec::new());
-    let command = if next_statement(text, &mut at, &mut tokens)? {
-        if next_statement(text, &mut at, &mut Vec::new())? {
-            return Err(Report::error(
-                SqlState::SYNTAX_ERROR,
-                "cannot insert multiple commands into a prepared statement",
-            ));
-        }
-        Some(classify(text, &tokens)?)
-    } else {
-        None
-    };
-    let places = match command {
-        Some(Command::Program { verb, .. }) => parameters::places(text, &tokens, verb),
-        _ => Vec::new(),
-    };
+    let mut at = 0;
+    let parsed = next_statement(text, &mut at)?;
+    if next_statement(text, &mut at)?.is_some() {
+        return Err(Report::error(
+            SqlState::SYNTAX_ERROR,
+            "cannot insert multiple commands into a prepared statement",
+        ));
+    }
+    let places = parsed.as_ref().map_or(&[][..], |parsed| &parsed.places);
     let mut types = types.to_vec();
     if types.len() < places.len() {
         types.resize(places.len(), oid::UNSPECIFIED);
     }
-    let is_open = |(place, oid): (usize, &u32)| {
-        parameters::is_open(*oid)
-            && places
-                .get(place)
-                .map_or(true, |place| *place == Place::Unused)
-    };
-    if let Some(unused) = types.iter().enumerate().position(is_open) {
-        return Err(Report::error(
-            SqlState::INDETERMINATE_TYPE,
-            format!("could not determine data type of parameter ${}", unused + 1),
-        ));
+    for (at, oid) in types.iter().enumerate() {
+        let place = places.get(at).unwrap_or(&Place::Unused);
+        parameters::check_type(at + 1, place, *oid)?;
     }
-    Ok(Statement {
-        text: text.to_owned(),
-        tokens,
-        command,
-        types,
-        places,
-        described: Default::default(),
-        charge: None,
-    })
+    Ok(Statement::new(text, parsed, types))
 }

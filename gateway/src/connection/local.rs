@@ -4,14 +4,18 @@ use std::rc::Rc;
 
 use postgres_protocol::Oid;
 
+use crate::connection::prepared::Progress;
 use crate::connection::transaction::Block;
-use crate::connection::work::{no_savepoint, outside_of_block, Completed, Subject, Tag};
+use crate::connection::work::{no_savepoint, outside_of_block, Completed, Tag};
 use crate::connection::Connection;
 use crate::rows::{self, ResultSet};
 use crate::sqlstate::{Failure, Report, SqlState};
-use crate::statement::constant::{Expression, Item};
+use crate::statement::constant::{self, Input};
+use crate::statement::query::{Body, Expression, ExpressionKind, Query, Relation, Target};
+use crate::statement::select;
+use crate::statement::served::Verb;
 use crate::statement::session::{Isolation, Modes, Setting};
-use crate::statement::{Command, Discard};
+use crate::statement::{Discard, Statement};
 use crate::value::oid;
 use crate::variables::{no_isolation, Snapshot};
 use crate::wire::backend::{self, Column};
@@ -24,50 +28,76 @@ fn check_isolation(modes: Modes) -> Result<(), Failure> {
     }
 }
 
+/// Returns a column of a query for the types of an extension, which drivers send at a connect.
+fn column_of_type(target: &Target) -> Option<(&str, Oid)> {
+    let name = match target {
+        Target::Expression(_, Some(label)) => &label.text,
+        Target::Expression(expression, None) => match &expression.kind {
+            ExpressionKind::Column(names) => &names.last()?.text,
+            _ => return None,
+        },
+        Target::Star(..) => return None,
+    };
+    let is_oid = name.ends_with("oid") || name == "typarray";
+    Some((name, if is_oid { oid::OID } else { oid::TEXT }))
+}
+
 impl Connection {
     /// Runs a statement that needs no program.
     pub(super) fn run_locally(
         &mut self,
-        command: &Command,
-        subject: &Subject,
+        statement: &Statement,
+        input: Input<'_>,
     ) -> Result<Completed, Failure> {
-        match command {
-            Command::Begin { start, modes } => self.begin(*start, *modes),
-            Command::Release(name) => self.release(&self.name_at(*name, subject)),
-            Command::SetTransaction(modes) => self.set_transaction(*modes),
-            Command::SetCharacteristics(modes) => self.set_characteristics(*modes),
-            Command::Set(setting) => self.set(setting),
-            Command::ResetAll => {
+        match statement {
+            Statement::Begin { start, modes } => self.begin(*start, *modes),
+            Statement::Release(name) => self.release(&name.text),
+            Statement::SetTransaction(modes) => self.set_transaction(*modes),
+            Statement::SetCharacteristics(modes) => self.set_characteristics(*modes),
+            Statement::Set(setting) => self.set(setting),
+            Statement::SetRoleNone => Ok(Completed::plain("SET")),
+            Statement::ResetAll => {
                 self.remember_variables();
                 self.change_variables(|variables| variables.reset_all());
                 Ok(Completed::plain("RESET"))
             }
-            Command::Discard(discard) => self.discard(*discard),
-            Command::Deallocate(None) => {
+            Statement::Discard(discard) => self.discard(*discard),
+            Statement::Deallocate(None) => {
                 self.prepared.remove_statements();
                 Ok(Completed::plain("DEALLOCATE ALL"))
             }
-            Command::Deallocate(Some(name)) => {
-                let name = self.name_at(*name, subject);
-                self.prepared.statement(&name)?;
-                self.prepared.remove_statement(&name);
+            Statement::Deallocate(Some(name)) => {
+                self.prepared.statement(&name.text)?;
+                self.prepared.remove_statement(&name.text);
                 Ok(Completed::plain("DEALLOCATE"))
             }
-            Command::Unlisten => Ok(Completed::plain("UNLISTEN")),
-            Command::CloseAll => Ok(Completed::plain("CLOSE CURSOR ALL")),
-            Command::ShowSetting(_) | Command::ShowAll => Ok(Completed {
+            Statement::Unlisten => Ok(Completed::plain("UNLISTEN")),
+            Statement::Close(None) => {
+                self.prepared.drop_portals();
+                Ok(Completed::plain("CLOSE CURSOR ALL"))
+            }
+            Statement::Close(Some(name)) => {
+                if self.prepared.remove_portal(&name.text) {
+                    return Ok(Completed::plain("CLOSE CURSOR"));
+                }
+                let text = format!("cursor \"{}\" does not exist", name.text);
+                Err(Report::error(SqlState::UNDEFINED_PORTAL, text))
+            }
+            Statement::ShowSetting(_) | Statement::ShowAll => Ok(Completed {
                 tag: Tag::Plain("SHOW"),
-                rows: Some(self.local_rows(command)?),
+                rows: Some(self.shown_settings(statement)?),
             }),
-            Command::Constant(_) | Command::Empty(_) => Ok(Completed {
-                tag: Tag::Rows,
-                rows: Some(self.local_rows(command)?),
+            Statement::Query(query) => Ok(Completed {
+                tag: Tag::Rows("SELECT"),
+                rows: Some(self.answer(query, input)?),
             }),
-            Command::Commit { .. }
-            | Command::Rollback { .. }
-            | Command::Savepoint(_)
-            | Command::RollbackTo(_)
-            | Command::Program { .. } => Err(Report::error(
+            Statement::Commit { .. }
+            | Statement::Rollback { .. }
+            | Statement::Savepoint(_)
+            | Statement::RollbackTo(_)
+            | Statement::Declare(_)
+            | Statement::Fetch { .. }
+            | Statement::Served(_) => Err(Report::error(
                 SqlState::INTERNAL_ERROR,
                 "the program serves this statement",
             )),
@@ -75,86 +105,134 @@ impl Connection {
     }
 
     /// Returns the columns of a statement's rows, as far as no table's definition tells them. None: it has no rows.
-    pub(super) fn columns(&self, command: &Command) -> Result<Option<Rc<[Column]>>, Failure> {
-        let rows = match command {
-            Command::Program { verb, .. } => {
-                let columns = rows::shown_columns((*verb).into());
+    pub(super) fn columns(&self, statement: &Statement) -> Result<Option<Rc<[Column]>>, Failure> {
+        let rows = match statement {
+            Statement::Served(served) => {
+                let columns = rows::shown_columns(served.verb().into());
                 return Ok(Some(columns).filter(|columns| !columns.is_empty()));
             }
-            Command::ShowSetting(_)
-            | Command::ShowAll
-            | Command::Constant(_)
-            | Command::Empty(_) => Some(self.local_rows(command)?),
-            _ => None,
+            Statement::Fetch {
+                name,
+                is_move: false,
+                ..
+            } => return Ok(self.cursor_columns(&name.text)),
+            Statement::ShowSetting(_) | Statement::ShowAll => self.shown_settings(statement)?,
+            Statement::Query(query) => self.answer(query, Input::default())?,
+            _ => return Ok(None),
         };
-        Ok(rows.map(|rows| Rc::clone(rows.columns())))
+        Ok(Some(Rc::clone(rows.columns())))
     }
 
-    /// Returns the rows of a statement that needs no table.
-    fn local_rows(&self, command: &Command) -> Result<ResultSet, Failure> {
-        match command {
-            Command::ShowSetting(name) => {
-                let (name, value) = self.setting(name)?;
-                Ok(rows::constants(&[(name, oid::TEXT)], &[vec![Some(value)]]))
-            }
-            Command::ShowAll => {
-                let columns = [
-                    ("name", oid::TEXT),
-                    ("setting", oid::TEXT),
-                    ("description", oid::TEXT),
-                ];
-                let settings: Vec<Vec<Option<String>>> = self
-                    .variables
-                    .all()
-                    .map(|(name, value)| {
-                        vec![
-                            Some(name.to_owned()),
-                            Some(value.to_owned()),
-                            Some(String::new()),
-                        ]
-                    })
-                    .collect();
-                Ok(rows::constants(&columns, &settings))
-            }
-            Command::Constant(items) => {
-                let columns: Vec<(&str, Oid)> = items
-                    .iter()
-                    .map(|item| (item.name.as_str(), item.oid))
-                    .collect();
-                let row: Result<Vec<Option<String>>, Failure> =
-                    items.iter().map(|item| self.evaluate(item)).collect();
-                Ok(rows::constants(&columns, &[row?]))
-            }
-            Command::Empty(result) => {
-                let columns: Vec<(&str, Oid)> = result
-                    .columns
-                    .iter()
-                    .map(|(name, oid)| (name.as_str(), *oid))
-                    .collect();
-                Ok(rows::constants(&columns, &[]))
-            }
-            _ => Err(Report::error(
-                SqlState::INTERNAL_ERROR,
-                "the statement has no rows",
-            )),
+    fn cursor_columns(&self, name: &str) -> Option<Rc<[Column]>> {
+        match self.prepared.progress(name)? {
+            Progress::Rows(rows) => Some(Rc::clone(rows.columns())),
+            _ => None,
         }
     }
 
-    fn evaluate(&self, item: &Item) -> Result<Option<String>, Failure> {
-        Ok(Some(match &item.expression {
-            Expression::Null => return Ok(None),
-            Expression::Literal(value) => value.clone(),
-            Expression::Version => {
-                let version = self.variables.value("server_version");
-                format!("PostgreSQL {}", version)
+    /// Returns what SHOW of a setting, or of all, shows.
+    fn shown_settings(&self, statement: &Statement) -> Result<ResultSet, Failure> {
+        if let Statement::ShowSetting(name) = statement {
+            let (name, value) = self.setting(name)?;
+            return Ok(rows::constants(&[(name, oid::TEXT)], &[vec![Some(value)]]));
+        }
+        let columns = [
+            ("name", oid::TEXT),
+            ("setting", oid::TEXT),
+            ("description", oid::TEXT),
+        ];
+        let settings: Vec<Vec<Option<String>>> = self
+            .variables
+            .all()
+            .map(|(name, value)| {
+                vec![
+                    Some(name.to_owned()),
+                    Some(value.to_owned()),
+                    Some(String::new()),
+                ]
+            })
+            .collect();
+        Ok(rows::constants(&columns, &settings))
+    }
+
+    /// Answers a query that reads no table of the database.
+    fn answer(&self, query: &Query, input: Input<'_>) -> Result<ResultSet, Failure> {
+        let select = match &query.body {
+            Body::Select(select) => select,
+            _ => return Err(Report::missing("this query").at(query.span.start)),
+        };
+        if let Some(relation) = select.from.first() {
+            let is_type = matches!(relation, Relation::Table { name, .. } if name.name.text == "pg_type")
+                || matches!(relation, Relation::Join { .. });
+            let columns: Option<Vec<(&str, Oid)>> =
+                select.targets.iter().map(column_of_type).collect();
+            return match columns {
+                Some(columns) if is_type && select.condition.is_some() => {
+                    Ok(rows::constants(&columns, &[]))
+                }
+                _ => Err(Report::missing("the catalog")
+                    .hint("SHOW TABLE name shows a table's definition.")
+                    .at(select.span.start)),
+            };
+        }
+        let (mut columns, mut row) = (Vec::new(), Vec::new());
+        for target in &select.targets {
+            let (expression, label) = match target {
+                Target::Expression(expression, label) => (expression, label),
+                Target::Star(_, span) => {
+                    let text = "SELECT * with no tables specified is not valid";
+                    return Err(Report::error(SqlState::SYNTAX_ERROR, text).at(span.start));
+                }
+            };
+            let (name, oid, value) = self.value(expression, input)?;
+            let label = label.as_ref().map(|label| label.text.clone());
+            columns.push((label.unwrap_or(name), oid));
+            row.push(value);
+        }
+        let columns: Vec<(&str, Oid)> = columns
+            .iter()
+            .map(|(name, oid)| (name.as_str(), *oid))
+            .collect();
+        Ok(rows::constants(&columns, &[row]))
+    }
+
+    fn value(
+        &self,
+        expression: &Expression,
+        input: Input<'_>,
+    ) -> Result<(String, Oid, Option<String>), Failure> {
+        let call = match &expression.kind {
+            ExpressionKind::Function(call) => call,
+            _ => {
+                constant::check(expression, Verb::Select)?;
+                let value = constant::evaluate(expression, input)?.text();
+                let oid = constant::type_of(expression, input.types).0;
+                let oid = if oid == oid::UNKNOWN { oid::TEXT } else { oid };
+                let name = select::label_of(expression).unwrap_or("?column?");
+                return Ok((name.to_owned(), oid, value));
             }
-            Expression::Schema => "public".to_owned(),
-            Expression::Database => self.database.clone(),
-            Expression::User => self.user.clone(),
-            Expression::ProcessId => self.process_id.to_string(),
-            Expression::InRecovery => "f".to_owned(),
-            Expression::Setting(name) => self.setting(name)?.1,
-        }))
+        };
+        let name = call.name.name.text.as_str();
+        let version = || format!("PostgreSQL {}", self.variables.value("server_version"));
+        let (oid, value) = match (name, &call.arguments[..]) {
+            ("version", []) => (oid::TEXT, version()),
+            ("current_schema", []) => (oid::NAME, "public".to_owned()),
+            ("current_database" | "current_catalog", []) => (oid::NAME, self.database.clone()),
+            ("current_user" | "session_user" | "user" | "current_role", []) => {
+                (oid::NAME, self.user.clone())
+            }
+            ("pg_backend_pid", []) => (oid::INT4, self.process_id.to_string()),
+            ("pg_is_in_recovery", []) => (oid::BOOL, "f".to_owned()),
+            ("current_setting", [argument]) => match &argument.kind {
+                ExpressionKind::Text(name) => (oid::TEXT, self.setting(name)?.1),
+                _ => return Err(Report::missing("a setting whose name is computed")),
+            },
+            _ => {
+                let what = format!("the function {}", name);
+                return Err(Verb::Select.missing(&what, expression.span.start));
+            }
+        };
+        Ok((name.to_owned(), oid, Some(value)))
     }
 
     fn setting(&self, name: &str) -> Result<(&'static str, String), Failure> {

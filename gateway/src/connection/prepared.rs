@@ -11,9 +11,10 @@ use crate::budget::{Charge, Pool};
 use crate::connection::results::Rows;
 use crate::rows::Definition;
 use crate::sqlstate::{Failure, Report, SqlState};
-use crate::statement::lexer::Token;
+use crate::statement::constant::Input;
 use crate::statement::parameters::{self, Place};
-use crate::statement::{line, literal, Command, Verb};
+use crate::statement::served::{Served, Verb};
+use crate::statement::Parsed;
 use crate::value::{self, oid, Value};
 use crate::wire::backend::{Column, Format};
 
@@ -27,9 +28,6 @@ const MOST_PORTALS: usize = 1_024;
 /// values and formats. Rows that wait in portals are bounded by themselves.
 pub const MOST_BYTES: u64 = 64 * 1024 * 1024;
 
-/// How long the name of a column is at the most.
-const NAME: usize = 64;
-
 /// About what a prepared statement or a portal takes beside what it holds.
 const OVERHEAD: usize = 512;
 
@@ -38,61 +36,52 @@ const OVERHEAD: usize = 512;
 pub struct Statement {
     /// Its text.
     pub text: String,
-    /// The tokens of the text.
-    pub tokens: Vec<Token>,
     /// What it is. None: its text is empty.
-    pub command: Option<Command>,
+    pub parsed: Option<Parsed>,
     /// The types of its parameters, as far as the client tells them.
     pub types: Vec<Oid>,
-    /// What its parameters stand for.
-    pub places: Vec<Place>,
     /// The columns that the client was told last.
     pub described: RefCell<Option<Rc<[Column]>>>,
-    /// What it takes of the connection's memory, as long as a portal has it too.
-    pub charge: Option<Charge>,
+    charge: Option<Charge>,
 }
 
 impl Statement {
+    /// Makes a prepared statement of a text that was read.
+    pub fn new(text: &str, parsed: Option<Parsed>, types: Vec<Oid>) -> Statement {
+        Statement {
+            text: text.to_owned(),
+            parsed,
+            types,
+            described: RefCell::default(),
+            charge: None,
+        }
+    }
+
     /// Returns about how many bytes it takes.
     fn size(&self) -> usize {
         OVERHEAD
             + self.text.len()
-            + self.tokens.capacity() * mem::size_of::<Token>()
             + self.types.capacity() * mem::size_of::<Oid>()
-            + self.places.capacity() * (mem::size_of::<Place>() + NAME)
+            + self.parsed.as_ref().map_or(0, |parsed| parsed.size)
     }
 
     /// Returns what the program does for it.
-    pub fn verb(&self) -> Option<Verb> {
-        match self.command {
-            Some(Command::Program { verb, .. }) => Some(verb),
-            _ => None,
-        }
+    pub fn served(&self) -> Option<&Served> {
+        self.parsed.as_ref()?.statement.served()
     }
 
-    /// Returns the name of its table and the place of that in its text.
-    pub fn table_and_place(&self) -> Option<(String, usize)> {
-        match self.command {
-            Some(Command::Program {
-                table: Some(table), ..
-            }) => {
-                let token = self.tokens.get(table)?;
-                Some((literal::name(&self.text, token), token.start))
-            }
-            _ => None,
-        }
-    }
-
-    /// Returns the name of its table, if the program can be asked for it.
-    pub fn table_name(&self) -> Option<String> {
-        self.table_and_place()
-            .map(|(name, _)| name)
-            .filter(|name| line::is_legal_name(name))
+    /// Returns the name of its table.
+    pub fn table_name(&self) -> Option<&str> {
+        self.served()?.table().map(|name| name.text.as_str())
     }
 
     /// Returns what a parameter stands for, and its type as far as the client tells it.
     fn parameter(&self, parameter: usize) -> (&Place, Oid) {
-        let place = self.places.get(parameter).unwrap_or(&Place::Unused);
+        let places = self
+            .parsed
+            .as_ref()
+            .map_or(&[][..], |parsed| &parsed.places);
+        let place = places.get(parameter).unwrap_or(&Place::Unused);
         (
             place,
             self.types
@@ -114,11 +103,37 @@ impl Statement {
 
     /// Returns whether the types of its parameters, or of its columns, depend on its table's definition.
     pub fn is_described_by_table(&self) -> bool {
-        self.verb() == Some(Verb::Select)
+        let has_columns =
+            |served: &Served| served.verb() == Verb::Select || !served.returning().is_empty();
+        self.served().map_or(false, has_columns)
             || (0..self.types.len()).any(|parameter| {
                 let (place, oid) = self.parameter(parameter);
-                parameters::needs_definition(place, oid, Format::Binary)
+                parameters::needs_definition(place, oid)
             })
+    }
+}
+
+/// The values of a statement's parameters, and their types.
+#[derive(Debug, Default)]
+pub struct Arguments {
+    values: Vec<Value>,
+    types: Vec<Oid>,
+}
+
+impl Arguments {
+    /// Returns them as a statement takes them.
+    pub fn input(&self) -> Input<'_> {
+        Input {
+            values: &self.values,
+            types: &self.types,
+        }
+    }
+
+    fn size(&self) -> usize {
+        let values = self.values.iter().map(Value::size).sum::<usize>();
+        values
+            + self.values.capacity() * mem::size_of::<Value>()
+            + self.types.capacity() * mem::size_of::<Oid>()
     }
 }
 
@@ -170,13 +185,10 @@ pub struct Binding {
 impl Binding {
     /// Returns whether its table's definition has to be known before its values can be read.
     pub fn needs_definition(&self) -> bool {
-        self.values
-            .iter()
-            .enumerate()
-            .any(|(parameter, (format, _))| {
-                let (place, oid) = self.statement.parameter(parameter);
-                parameters::needs_definition(place, oid, *format)
-            })
+        (0..self.values.len()).any(|parameter| {
+            let (place, oid) = self.statement.parameter(parameter);
+            parameters::needs_definition(place, oid)
+        })
     }
 
     /// Reads its values.
@@ -185,24 +197,19 @@ impl Binding {
     ///
     /// Fails if one is none of its type, or none that the program holds.
     pub fn read(self, definition: Option<&Definition>) -> Result<Portal, Failure> {
+        let types = self.statement.parameter_types(definition);
         let mut values = Vec::with_capacity(self.values.len());
         for (parameter, (format, bytes)) in self.values.iter().enumerate() {
-            let (place, oid) = self.statement.parameter(parameter);
-            let oid = parameters::parameter_type(place, oid, definition);
-            values.push(value::parameter(
-                parameter + 1,
-                oid,
-                *format,
-                bytes.as_deref(),
-            )?);
+            let oid = types.get(parameter).copied().unwrap_or(oid::UNSPECIFIED);
+            let value = value::parameter(parameter + 1, oid, *format, bytes.as_deref())?;
+            values.push(value);
         }
-        Ok(Portal {
-            statement: self.statement,
-            values: values.into(),
-            formats: self.formats,
-            progress: Progress::Ready,
-            charge: None,
-        })
+        Ok(Portal::new(
+            self.statement,
+            Arguments { values, types },
+            self.formats,
+            Progress::Ready,
+        ))
     }
 }
 
@@ -212,7 +219,7 @@ pub struct Portal {
     /// Its statement.
     pub statement: Rc<Statement>,
     /// The values of its parameters.
-    pub values: Rc<[Value]>,
+    pub arguments: Rc<Arguments>,
     /// The formats of its columns.
     pub formats: Formats,
     /// What it has come to.
@@ -221,6 +228,22 @@ pub struct Portal {
 }
 
 impl Portal {
+    /// Makes a portal of a statement.
+    pub fn new(
+        statement: Rc<Statement>,
+        arguments: Arguments,
+        formats: Formats,
+        progress: Progress,
+    ) -> Portal {
+        Portal {
+            statement,
+            arguments: Rc::new(arguments),
+            formats,
+            progress,
+            charge: None,
+        }
+    }
+
     /// Checks that a result has as many columns as the client gives formats for.
     ///
     /// # Errors
@@ -255,11 +278,7 @@ impl Portal {
 
     /// Returns about how many bytes it takes.
     fn size(&self) -> usize {
-        let values = self
-            .values
-            .iter()
-            .map(|value| mem::size_of::<Value>() + value.size());
-        OVERHEAD + values.sum::<usize>() + self.formats.0.len() * mem::size_of::<Format>()
+        OVERHEAD + self.arguments.size() + self.formats.0.len() * mem::size_of::<Format>()
     }
 }
 
@@ -356,6 +375,11 @@ impl Prepared {
         })
     }
 
+    /// Returns what a portal has come to, if there is one of this name.
+    pub fn progress(&self, name: &str) -> Option<&Progress> {
+        self.portals.get(name).map(|portal| &portal.progress)
+    }
+
     /// Adds a portal. The one without a name takes the place of the one before.
     ///
     /// # Errors
@@ -378,9 +402,9 @@ impl Prepared {
         Ok(())
     }
 
-    /// Removes a portal.
-    pub fn remove_portal(&mut self, name: &str) {
-        self.portals.remove(name);
+    /// Removes a portal, and returns whether there was one.
+    pub fn remove_portal(&mut self, name: &str) -> bool {
+        self.portals.remove(name).is_some()
     }
 
     /// Removes all portals, because the transaction ends.

@@ -148,20 +148,42 @@ impl Rows {
     }
 
     /// Begins to give further rows.
-    fn ask(&mut self, limit: u32) {
-        self.asked = asked(limit);
+    fn ask(&mut self, asked: Option<u64>) {
+        self.asked = asked;
         self.given = 0;
+    }
+
+    /// Passes over so many rows, or over all, and returns how many there were.
+    fn pass(&mut self, most: Option<u64>) -> Result<u64, Failure> {
+        let mut passed = 0;
+        while most.map_or(true, |most| passed < most) {
+            self.row.clear();
+            let is_taken = match self.shape.order {
+                Order::Rising => self.spool.take_first(&mut self.row)?,
+                Order::Falling => self.spool.take_last(&mut self.row)?,
+            };
+            if !is_taken {
+                break;
+            }
+            passed += 1;
+        }
+        Ok(passed)
     }
 
     /// Tells the client that it has what it asked for.
     fn tell_end(&self, out: &mut Vec<u8>) {
         match self.tag {
+            Tag::Rows(FETCH) => backend::command_complete_of(out, FETCH, self.given as usize),
             _ if self.asked == Some(self.given) => backend::portal_suspended(out),
-            Tag::Rows => backend::command_complete_of(out, "SELECT", self.given as usize),
+            Tag::Rows(words) => backend::command_complete_of(out, words, self.given as usize),
             Tag::Plain(tag) => backend::command_complete(out, tag),
+            Tag::Count(words, count) => backend::command_complete_of(out, words, count as usize),
         }
     }
 }
+
+/// The tag of FETCH.
+const FETCH: &str = "FETCH";
 
 /// Returns how many rows Execute asks for. None: all.
 fn asked(limit: u32) -> Option<u64> {
@@ -183,6 +205,7 @@ impl Connection {
                 (Formats::default(), None)
             }
             Target::Describe { portal } => (self.prepared.portal(portal)?.formats.clone(), Some(0)),
+            Target::Declare { .. } | Target::Fetch { .. } => (Formats::default(), Some(0)),
             Target::Execute { portal, limit } => {
                 let portal = self.prepared.portal(portal)?;
                 portal.check_described(&shape.columns)?;
@@ -223,6 +246,10 @@ impl Connection {
                 self.prepared.portal(&portal)?.progress = Progress::Rows(Box::new(rows));
                 self.write_description(&portal, Some(columns));
             }
+            Target::Declare { cursor, by } => {
+                self.prepared.portal(&cursor)?.progress = Progress::Rows(Box::new(rows));
+                self.complete(&by, Tag::Plain("DECLARE CURSOR"));
+            }
             target => {
                 self.giving = Some((target, rows));
                 self.give_rows();
@@ -245,9 +272,73 @@ impl Connection {
             return;
         }
         rows.tell_end(self.output.buffer());
-        if let Target::Execute { portal, .. } = target {
+        let portal = match target {
+            Target::Execute { portal, .. } => portal,
+            Target::Fetch { cursor, by } => {
+                self.end_fetch(*by);
+                cursor
+            }
+            _ => return,
+        };
+        if let Ok(portal) = self.prepared.portal(&portal) {
+            portal.progress = Progress::Rows(Box::new(rows));
+        }
+    }
+
+    /// Begins FETCH: the next rows of a cursor are given. MOVE passes over them.
+    pub(super) fn begin_fetch(
+        &mut self,
+        name: &str,
+        most: Option<u64>,
+        is_move: bool,
+        target: Target,
+    ) -> Result<(), Failure> {
+        let unknown = || {
+            let text = format!("cursor \"{}\" does not exist", name);
+            Report::error(SqlState::UNDEFINED_PORTAL, text)
+        };
+        let portal = self.prepared.portal(name).map_err(|_| unknown())?;
+        let mut rows = match std::mem::replace(&mut portal.progress, Progress::Done) {
+            Progress::Rows(rows) => rows,
+            progress => {
+                portal.progress = progress;
+                return Err(Report::missing("FETCH from a portal that has not run"));
+            }
+        };
+        if is_move {
+            let passed = rows.pass(most)?;
+            portal.progress = Progress::Rows(rows);
+            self.complete(&target, Tag::Count("MOVE", passed));
+            return Ok(());
+        }
+        if let Target::Fetch { by, .. } = &target {
+            let columns = Rc::clone(rows.columns());
+            match &**by {
+                Target::Execute { portal, .. } => {
+                    let portal = self.prepared.portal(portal)?;
+                    portal.check_formats(&columns)?;
+                    if (0..columns.len()).any(|place| portal.formats.of(place) == Format::Binary) {
+                        return Err(Report::missing("binary rows of a cursor"));
+                    }
+                }
+                _ => {
+                    let out = self.output.buffer();
+                    backend::row_description(out, &columns, |_| Format::Text);
+                }
+            }
+        }
+        rows.tag = Tag::Rows(FETCH);
+        rows.ask(most);
+        self.giving = Some((target, *rows));
+        self.give_rows();
+        Ok(())
+    }
+
+    /// Notes that the portal of a FETCH has run.
+    fn end_fetch(&mut self, by: Target) {
+        if let Target::Execute { portal, .. } = by {
             if let Ok(portal) = self.prepared.portal(&portal) {
-                portal.progress = Progress::Rows(Box::new(rows));
+                portal.progress = Progress::Done;
             }
         }
     }
@@ -258,7 +349,7 @@ impl Connection {
             match std::mem::replace(&mut portal.progress, Progress::Done) {
                 Progress::Rows(mut rows) => {
                     portal.check_formats(rows.columns())?;
-                    rows.ask(limit);
+                    rows.ask(asked(limit));
                     Ok(rows)
                 }
                 _ => Err(Report::error(

@@ -1,11 +1,14 @@
 //! The simple query: one text, perhaps of several statements.
 
+use std::rc::Rc;
+
 use crate::connection::work::{AfterCommit, Subject, Target};
 use crate::connection::{transaction::Block, Connection};
-use crate::sqlstate::{Failure, Report};
-use crate::statement::lexer::{next_statement, Token};
+use crate::sqlstate::Failure;
+use crate::statement::constant::no_parameter;
 use crate::statement::literal::not_utf8;
-use crate::statement::{classify, Command};
+use crate::statement::parser::next_statement;
+use crate::statement::{Parsed, Statement};
 use crate::wire::backend;
 
 /// A simple query that is being served.
@@ -15,8 +18,8 @@ pub struct Query {
     pub text: String,
     /// Where its next statement begins.
     at: usize,
-    /// Its next statement, which is in the connection's tokens.
-    command: Option<Command>,
+    /// Its next statement, if that was read.
+    statement: Option<Statement>,
 }
 
 impl Connection {
@@ -27,19 +30,19 @@ impl Connection {
             Err(_) => return self.refuse_query(not_utf8(text), ""),
         };
         let mut at = 0;
-        match first_statement(text, &mut at, &mut self.tokens) {
+        match first_statement(text, &mut at) {
             Err(report) => self.refuse_query(report, text),
             Ok(None) => {
                 backend::empty_query(self.output.buffer());
                 self.ready();
             }
-            Ok(Some((command, several))) => {
+            Ok(Some((statement, several))) => {
                 self.transaction.several = several;
                 let text = text.to_owned();
                 self.query = Some(Query {
                     text,
                     at,
-                    command: Some(command),
+                    statement: Some(statement),
                 });
             }
         }
@@ -50,7 +53,7 @@ impl Connection {
         self.query = Some(Query {
             text: String::new(),
             at: 0,
-            command: None,
+            statement: None,
         });
         self.fail(report, Some(text));
     }
@@ -61,24 +64,21 @@ impl Connection {
             Some(query) => query,
             None => return,
         };
-        let command = match query.command.take() {
-            Some(command) => Ok(Some(command)),
-            None => match next_statement(&query.text, &mut query.at, &mut self.tokens) {
-                Ok(true) => classify(&query.text, &self.tokens).map(Some),
-                Ok(false) => Ok(None),
-                Err(report) => Err(report),
-            },
+        let statement = match query.statement.take() {
+            Some(statement) => Ok(Some(statement)),
+            None => next_statement(&query.text, &mut query.at)
+                .and_then(|parsed| parsed.map(without_parameters).transpose()),
         };
-        match command {
-            Ok(Some(command)) => {
+        match statement {
+            Ok(Some(statement)) => {
                 let commits = !self.transaction.several;
-                self.execute(&command, Target::Simple, Subject::Simple, commits);
+                self.execute(Subject::Simple(Rc::new(statement)), Target::Simple, commits);
             }
             Ok(None) if self.transaction.block == Block::None && self.transaction.dirty => {
                 self.commit(AfterCommit::Query);
             }
             Ok(None) => self.end_query(),
-            Err(report) => self.fail_of(report, &Subject::Simple),
+            Err(report) => self.fail_query(report),
         }
     }
 
@@ -98,37 +98,27 @@ impl Connection {
 /// # Errors
 ///
 /// Fails if any of its statements isn't read.
-fn first_statement(
-    text: &str,
-    at: &mut usize,
-    tokens: &mut Vec<Token>,
-) -> Result<Option<(Command, bool)>, Failure> {
-    if !next_statement(text, at, tokens)? {
-        return Ok(None);
-    }
-    if let Some(parameter) = parameter(tokens) {
-        return Err(parameter);
-    }
-    let command = classify(text, tokens)?;
-    let (mut ahead, mut others) = (*at, Vec::new());
+fn first_statement(text: &str, at: &mut usize) -> Result<Option<(Statement, bool)>, Failure> {
+    let first = match next_statement(text, at)? {
+        Some(first) => without_parameters(first)?,
+        None => return Ok(None),
+    };
+    let mut ahead = *at;
     let mut several = false;
-    while next_statement(text, &mut ahead, &mut others)? {
-        classify(text, &others)?;
+    while next_statement(text, &mut ahead)?.is_some() {
         several = true;
     }
-    Ok(Some((command, several)))
+    Ok(Some((first, several)))
 }
 
-/// Makes the report of a parameter, which no simple query has.
-fn parameter(tokens: &[Token]) -> Option<Failure> {
-    tokens.iter().find_map(|token| match token.kind {
-        crate::statement::lexer::TokenKind::Parameter(number) => Some(
-            Report::error(
-                crate::sqlstate::SqlState::UNDEFINED_PARAMETER,
-                format!("there is no parameter ${}", number),
-            )
-            .at(token.start),
-        ),
-        _ => None,
-    })
+/// Returns the statement of a simple query.
+///
+/// # Errors
+///
+/// Fails if it has parameters, since no simple query gives them values.
+fn without_parameters(parsed: Parsed) -> Result<Statement, Failure> {
+    match parsed.parameter {
+        Some((number, place)) => Err(no_parameter(number, place)),
+        None => Ok(parsed.statement),
+    }
 }

@@ -574,6 +574,7 @@ fn what_commits_by_itself_is_refused_in_a_block() {
     client.ask("ROLLBACK", &[]);
     let both = "INSERT INTO stock VALUES (1, 2, 3, 'x'); SELECT 1";
     assert_eq!(client.ask(both, &[]), ["ERROR 25001", "ready I"]);
+    client.learn(STOCK);
     let alone = "INSERT INTO stock VALUES (1, 2, 3, 'x')";
     assert_eq!(
         client.ask(alone, &[(alone, "OK inserted\n")]),
@@ -738,47 +739,310 @@ fn rows_have_the_columns_of_their_table() {
 }
 
 #[test]
-fn a_syntax_error_is_shown_in_the_clients_own_text() {
+fn a_fault_is_shown_in_the_clients_own_text() {
     let mut client = Client::connected();
-    let script = [
-        ("SHOW TABLE stock", STOCK),
-        ("SELECT id FROM stock", "ERR 11 syntax column 9\n"),
-    ];
     assert_eq!(
-        client.ask("/* \u{e4} */ SELECT\n  id FROM stock", &script),
-        ["ERROR 42601 P=18", "ready I"]
+        client.ask("/* \u{e4} */ DELETE FROM stock\n  id = 1", &[]),
+        ["ERROR 42601 P=32", "ready I"]
     );
-    let script = [("DELETE FROM stock WHERE id = 'x'", "ERR 23 bad value\n")];
+    let script = [("SHOW TABLE stock", STOCK)];
     assert_eq!(
         client.ask("DELETE FROM stock WHERE id = 'x'", &script),
-        ["ERROR 22P02 P=30 t=stock c=id", "ready I"]
+        ["ERROR 22P02 P=30", "ready I"]
+    );
+    let script = [("DELETE FROM stock WHERE name = 'x'", "ERR 25 not the key\n")];
+    assert_eq!(
+        client.ask("DELETE FROM stock WHERE name = 'x'", &script),
+        ["ERROR 0A000 t=stock", "ready I"]
+    );
+    let script = [(
+        "UPDATE stock SET x = 1 WHERE id = 1",
+        "ERR 24 bad assignment\n",
+    )];
+    assert_eq!(
+        client.ask("UPDATE stock SET x = 1 WHERE id = 1", &script),
+        ["ERROR 42703 P=18 t=stock", "ready I"]
+    );
+    // What the tree prints is always read; that it isn't is no fault of the client's.
+    let script = [
+        (TAKE, "ERR 11 syntax column 3\n"),
+        ("COMMIT", "OK committed 0\n"),
+    ];
+    assert_eq!(client.ask(TAKE, &script), ["ERROR XX000", "ready I"]);
+}
+
+#[test]
+fn a_number_in_quotes_is_written_as_its_column_wants_it() {
+    let mut client = Client::connected();
+    let line = "UPDATE stock SET pieces = pieces - 2 WHERE id = 1";
+    let script = [
+        ("SHOW TABLE stock", STOCK),
+        (line, RESERVED),
+        ("COMMIT", COMMITTED),
+    ];
+    let text = "UPDATE stock SET pieces = pieces - '2' WHERE id = ' 1 '";
+    assert_eq!(client.ask(text, &script), ["complete UPDATE 1", "ready I"]);
+
+    // Another connection makes the table anew before the statement is served: then it is written again.
+    client.send(&query("DELETE FROM stock WHERE id = '1'"));
+    client.take();
+    assert_eq!(client.lines(), ["DELETE FROM stock WHERE id = 1"]);
+    client.learn(&STOCK.replace("ID NUMBER(15)", "ID VARCHAR2(9)"));
+    client.answer("ERR 23 bad value\n");
+    client.serve(&[("DELETE FROM stock WHERE id = '1'", "OK deleted\n")]);
+    assert_eq!(client.output(), ["complete DELETE 1", "ready I"]);
+}
+
+#[test]
+fn rows_are_picked_ordered_and_counted() {
+    let mut client = Client::connected();
+    client.learn(STOCK);
+    let all = [("SELECT * FROM stock", ROWS)];
+    for (text, expected) in [
+        (
+            "SELECT s.name AS n, id, 7, 'x' y FROM public.stock s ORDER BY s.id DESC LIMIT 2",
+            vec![
+                "columns 4",
+                "row x | y|3|7|x",
+                "row it's|2|7|x",
+                "complete SELECT 2",
+            ],
+        ),
+        (
+            "SELECT stock.* FROM stock ORDER BY 1 OFFSET 1 ROWS FETCH FIRST ROW ONLY",
+            vec!["columns 4", "row 2|7|-0.05|it's", "complete SELECT 1"],
+        ),
+        (
+            "SELECT count(*) FROM stock",
+            vec!["columns 1", "row 3", "complete SELECT 1"],
+        ),
+        (
+            "SELECT (1) AS a FROM stock LIMIT 1",
+            vec!["columns 1", "row 1", "complete SELECT 1"],
+        ),
+        (
+            "TABLE stock LIMIT 0",
+            vec!["columns 4", "complete SELECT 0"],
+        ),
+    ] {
+        assert_eq!(
+            client.ask(text, &all),
+            [&expected[..], &["ready I"]].concat(),
+            "{}",
+            text
+        );
+    }
+    // Each key is a line; together they are one result, in the order of the keys and each once.
+    let row = |id: u8| {
+        format!(
+            "ID | PIECES | PRICE | NAME\n{} | 5 | 9.50 | 'tea'\nOK rows 1\n",
+            id
+        )
+    };
+    let none = "ID | PIECES | PRICE | NAME\nOK rows 0\n";
+    let (first, third) = (row(1), row(3));
+    client.send(&query(
+        "SELECT id FROM stock WHERE id IN (3, '1', 20, 3.0) FOR UPDATE",
+    ));
+    client.serve(&[
+        ("SELECT * FROM stock WHERE id = 1", &first),
+        ("SELECT * FROM stock WHERE id = 3", &third),
+        ("SELECT * FROM stock WHERE id = 20", none),
+    ]);
+    assert_eq!(
+        client.output(),
+        [
+            "columns 1",
+            "row 1",
+            "row 3",
+            "complete SELECT 2",
+            "ready I"
+        ]
+    );
+    for (text, error) in [
+        ("SELECT nothing FROM stock", "ERROR 42703 P=8"),
+        ("SELECT id FROM stock ORDER BY name", "ERROR 0A000 P=31"),
+        ("SELECT id FROM stock ORDER BY 2", "ERROR 42P10 P=31"),
+        ("SELECT id FROM stock LIMIT -1", "ERROR 2201W"),
+        ("SELECT id, count(*) FROM stock", "ERROR 42803 P=8"),
+        ("SELECT s.id FROM stock", "ERROR 42P01 P=8"),
+        ("SELECT id FROM stock WHERE pieces > 1", "ERROR 0A000 P=28"),
+        ("SELECT id FROM stock a, stock b", "ERROR 0A000 P=1"),
+        ("SELECT id FROM \"Stock\"", "ERROR 42P01 P=16 t=Stock"),
+    ] {
+        assert_eq!(client.ask(text, &[]), [error, "ready I"], "{}", text);
+    }
+}
+
+#[test]
+fn rows_of_an_insert_are_written_one_by_one() {
+    let mut client = Client::connected();
+    client.learn(STOCK);
+    let line = |id: u8| {
+        format!(
+            "INSERT INTO stock (id, pieces, price, name) VALUES ({}, 2, 0.5, 'x')",
+            id
+        )
+    };
+    let lines: Vec<String> = (1..=3).map(line).collect();
+    let text =
+        "INSERT INTO stock (id, pieces, price, name) VALUES (1, 2, .5, 'x'), (2, '2', 0.50, 'x'), \
+                (3, 2, '.5', 'x') RETURNING id, price AS p, 1";
+    let script: Vec<(&str, &str)> = lines
+        .iter()
+        .map(|line| (&line[..], "OK inserted\n"))
+        .collect();
+    assert_eq!(
+        client.ask(text, &script),
+        [
+            "columns 3",
+            "row 1|0.50|1",
+            "row 2|0.50|1",
+            "row 3|0.50|1",
+            "complete INSERT 0 3",
+            "ready I"
+        ]
+    );
+    let script = [script[0], (&lines[1], "ERR 30 row exists\n")];
+    client.send(&query(text));
+    client.serve(&script);
+    let output = client.connection.output().to_vec();
+    let output = String::from_utf8_lossy(&output);
+    assert!(
+        output.contains("The row before it was inserted, and stays."),
+        "{}",
+        output
+    );
+    assert_eq!(
+        client.output(),
+        ["ERROR 23505 t=stock n=stock_pkey", "ready I"]
     );
 }
 
 #[test]
-fn a_number_in_quotes_is_asked_once_more_without_them() {
+fn returning_shows_what_the_statement_itself_tells() {
     let mut client = Client::connected();
-    let refused = "ERR 23 bad value\n";
-    let taken = "UPDATE stock SET pieces = pieces - 2 WHERE id = ";
-    let script = [
-        (format!("{}'1'", taken), refused),
-        ("COMMIT".to_owned(), "OK committed 0\n"),
-        ("SHOW TABLE stock".to_owned(), STOCK),
-        (format!("{}1", taken), RESERVED),
-        ("COMMIT".to_owned(), COMMITTED),
-    ];
-    let script: Vec<(&str, &str)> = script.iter().map(|(it, reply)| (&it[..], *reply)).collect();
-    let text = "UPDATE stock SET pieces = pieces - '2' WHERE id = '1'";
-    assert_eq!(client.ask(text, &script), ["complete UPDATE 1", "ready I"]);
-
-    // It is refused again: there is no third time.
-    let again = [
-        ("DELETE FROM stock WHERE id = '1'", refused),
-        ("DELETE FROM stock WHERE id = 1", refused),
-    ];
+    client.learn(STOCK);
+    let update = "UPDATE stock SET price = 2 WHERE id = 1";
     assert_eq!(
-        client.ask("DELETE FROM stock WHERE id = '1'", &again),
-        ["ERROR 22023 t=stock", "ready I"]
+        client.ask(
+            &format!("{} RETURNING id, price", update),
+            &[(update, "OK updated\n")]
+        ),
+        ["columns 2", "row 1|2.00", "complete UPDATE 1", "ready I"]
+    );
+    let delete = "DELETE FROM stock WHERE id = 9";
+    assert_eq!(
+        client.ask(
+            &format!("{} RETURNING id", delete),
+            &[(delete, "ERR 31 no such row\n")]
+        ),
+        ["columns 1", "complete DELETE 0", "ready I"]
+    );
+    assert_eq!(
+        client.ask(&format!("{} RETURNING pieces", TAKE), &[]),
+        ["ERROR 0A000 P=61", "ready I"]
+    );
+}
+
+#[test]
+fn cursors_are_read_in_steps() {
+    let mut client = Client::connected();
+    client.learn(STOCK);
+    let declare = "DECLARE c NO SCROLL CURSOR FOR SELECT id FROM stock";
+    assert_eq!(client.ask(declare, &[]), ["ERROR 25P01", "ready I"]);
+    client.ask("BEGIN", &[]);
+    let script = [("SELECT * FROM stock", ROWS)];
+    assert_eq!(
+        client.ask(declare, &script),
+        ["complete DECLARE CURSOR", "ready T"]
+    );
+    assert_eq!(
+        client.ask("FETCH 2 FROM c; MOVE c; FETCH ALL IN c", &[]),
+        [
+            "columns 1",
+            "row 1",
+            "row 2",
+            "complete FETCH 2",
+            "complete MOVE 1",
+            "columns 1",
+            "complete FETCH 0",
+            "ready T"
+        ]
+    );
+    client.send(
+        &[
+            parse("", "DECLARE d CURSOR FOR SELECT 5", &[]),
+            bind("", "", &[], 0, 0),
+        ]
+        .concat(),
+    );
+    client.send(
+        &[
+            execute("", 0),
+            parse("", "FETCH d", &[]),
+            bind("", "", &[], 0, 0),
+        ]
+        .concat(),
+    );
+    client.send(&[describe('P', ""), execute("", 0), sync()].concat());
+    assert_eq!(
+        client.output(),
+        [
+            "parsed",
+            "bound",
+            "complete DECLARE CURSOR",
+            "parsed",
+            "bound",
+            "columns 1",
+            "row 5",
+            "complete FETCH 1",
+            "ready T"
+        ]
+    );
+    assert_eq!(
+        client.ask("CLOSE d", &[]),
+        ["complete CLOSE CURSOR", "ready T"]
+    );
+    assert_eq!(
+        client.ask("FETCH PRIOR FROM c", &[]),
+        ["ERROR 55000", "ready E"]
+    );
+    client.ask("ROLLBACK", &[]);
+    assert_eq!(client.ask("FETCH c", &[]), ["ERROR 34000", "ready I"]);
+}
+
+#[test]
+fn definitions_may_be_conditional() {
+    let mut client = Client::connected();
+    let create =
+        "CREATE TABLE t (id NUMBER(15) PRIMARY KEY, n NUMBER(8,2) RESERVABLE, CHECK (n >= 0))";
+    let text = "CREATE TABLE IF NOT EXISTS t (id BIGINT, n DECIMAL(8, 2) RESERVABLE, \
+                CONSTRAINT t_pkey PRIMARY KEY (id), CHECK ((n) >= (0)))";
+    let create = create
+        .replace("id NUMBER(15) PRIMARY KEY, n", "id NUMBER(15), n")
+        .replace("CHECK", "PRIMARY KEY (id), CHECK");
+    let table = "CREATE TABLE T (ID NUMBER(15) PRIMARY KEY, N NUMBER(8,2) RESERVABLE)\nOK table\n";
+    assert_eq!(
+        client.ask(
+            text,
+            &[(&create, "OK created T\n"), ("SHOW TABLE t", table)]
+        ),
+        ["NOTICE 00000", "complete CREATE TABLE", "ready I"]
+    );
+    assert_eq!(
+        client.ask(
+            text,
+            &[(&create, "ERR 20 table exists\n"), ("SHOW TABLE t", table)]
+        ),
+        ["NOTICE 42P07", "complete CREATE TABLE", "ready I"]
+    );
+    assert_eq!(
+        client.ask(
+            "DROP TABLE IF EXISTS x",
+            &[("DROP TABLE x", "ERR 21 no such table\n")]
+        ),
+        ["NOTICE 00000", "complete DROP TABLE", "ready I"]
     );
 }
 
@@ -898,6 +1162,7 @@ fn a_pipeline_is_one_transaction() {
         "ready I",
     ];
     assert_eq!(client.output(), [&one[..], &failed[..]].concat());
+    client.learn(STOCK);
     let insert = "INSERT INTO stock VALUES (1, 2, 3, 'x')";
     let step = [
         parse("", insert, &[]),

@@ -4,20 +4,19 @@ use std::rc::Rc;
 
 use crate::connection::activity::Evaluate;
 use crate::connection::channel::Output;
-use crate::connection::prepared::{other_columns, Binding, Progress, Statement};
+use crate::connection::prepared::{
+    other_columns, Arguments, Binding, Portal, Progress, Statement as Prepared,
+};
 use crate::connection::results::Rows;
-use crate::connection::simple::Query;
 use crate::connection::transaction::{savepoint_name, Block};
 use crate::connection::{Connection, Event};
 use crate::reply::{self, Done, Outcome, Question, Refusal};
-use crate::rows::shape::Shape;
 use crate::rows::{Definition, Reader, ResultSet};
 use crate::sqlstate::{self, Failure, Refused, Report, SqlState};
-use crate::statement::explain::{self, Explanation};
-use crate::statement::lexer::Token;
-use crate::statement::line::{self, Source};
-use crate::statement::{literal, Command, Verb};
-use crate::value::Value;
+use crate::statement::constant::Input;
+use crate::statement::query::Name;
+use crate::statement::served::{Insert, Served, Verb};
+use crate::statement::{explain, line, select, Cursor, Parsed, Statement, Step};
 use crate::wire::backend;
 
 /// What the next reply of the program answers, and what is done then.
@@ -87,22 +86,53 @@ pub enum Target {
         /// The portal.
         portal: String,
     },
+    /// DECLARE, which reads its cursor's rows ahead.
+    Declare {
+        /// The cursor.
+        cursor: String,
+        /// What asked for DECLARE.
+        by: Box<Target>,
+    },
+    /// FETCH.
+    Fetch {
+        /// The cursor.
+        cursor: String,
+        /// What asked for FETCH.
+        by: Box<Target>,
+    },
 }
 
-/// Where a statement's text and values are.
+/// A statement that is run, with its values.
 #[derive(Clone, Debug)]
 pub enum Subject {
-    /// The statement of the simple query.
-    Simple,
+    /// A statement of the simple query.
+    Simple(Rc<Statement>),
     /// A prepared statement with its values.
-    Prepared(Rc<Statement>, Rc<[Value]>),
+    Prepared(Rc<Prepared>, Rc<Arguments>),
 }
 
 impl Subject {
-    fn values(&self) -> &[Value] {
+    /// Returns the statement. None: its text is empty.
+    pub fn statement(&self) -> Option<&Statement> {
         match self {
-            Subject::Simple => &[],
-            Subject::Prepared(_, values) => values,
+            Subject::Simple(statement) => Some(statement),
+            Subject::Prepared(prepared, _) => Some(&prepared.parsed.as_ref()?.statement),
+        }
+    }
+
+    /// Returns what the program does for it: for DECLARE, the SELECT.
+    fn served(&self) -> Option<&Served> {
+        match self.statement()? {
+            Statement::Declare(cursor) => cursor.read.served(),
+            statement => statement.served(),
+        }
+    }
+
+    /// Returns the values of its parameters.
+    pub fn input(&self) -> Input<'_> {
+        match self {
+            Subject::Simple(_) => Input::default(),
+            Subject::Prepared(_, arguments) => arguments.input(),
         }
     }
 }
@@ -131,35 +161,40 @@ impl Completed {
 pub enum Tag {
     /// These words.
     Plain(&'static str),
-    /// SELECT and how many rows were given.
-    Rows,
+    /// SELECT or FETCH, and how many rows were given.
+    Rows(&'static str),
+    /// INSERT or MOVE, and how many rows it was.
+    Count(&'static str, u64),
 }
 
 /// A statement that the program serves for the client.
 #[derive(Debug)]
 pub struct Running {
     verb: Verb,
-    table: Option<usize>,
     target: Target,
     subject: Subject,
     /// Whether it is a transaction by itself.
     commits: bool,
+    /// The row of an INSERT that is served, from 0.
+    row: usize,
+    /// The definition of its table by which it was written, if one was known.
+    definition: Option<Rc<Definition>>,
     /// How many replies are still to come. A result may be that of several lines.
     replies: usize,
     /// What makes rows of the replies, if they have some.
     reader: Option<Reader>,
     /// The result, once it is begun.
     rows: Option<Rows>,
+    /// What RETURNING shows of the rows that were written, and of the one that is.
+    returned: Option<(ResultSet, Vec<Option<String>>)>,
     /// Why rows that came can't be given. What still comes is passed over.
     failed: Option<Failure>,
     /// Whether its table was defined anew before the program served it.
     is_stale: bool,
     /// How often it was asked again for that.
     repeats: u32,
-    /// Whether it was refused for a value, which the table's definition may tell.
-    bad_value: bool,
-    /// Whether the program was asked once more, for a line without quotes around numbers.
-    is_unquoted: bool,
+    /// Whether it was refused for something that the table's definition may tell.
+    is_explained: bool,
 }
 
 impl Running {
@@ -192,53 +227,17 @@ pub enum AfterCommit {
 #[derive(Debug)]
 pub enum AfterDefinition {
     /// Bind of this statement.
-    Bind(Binding, Rc<Statement>),
+    Bind(Binding, Rc<Prepared>),
     /// Describe of a prepared statement of this name.
-    Describe(String, Rc<Statement>),
+    Describe(String, Rc<Prepared>),
+    /// Describe of a portal of this name.
+    DescribePortal(String, Rc<Prepared>),
     /// A statement.
     Run(Box<Running>),
     /// The report of a statement that was refused for a value.
     Explain(Box<Running>, Failure),
     /// Nothing: it is asked for behind a statement that defines the table.
     Nothing,
-}
-
-/// Returns where a statement's text and tokens are.
-fn source<'a>(
-    query: &'a Option<Query>,
-    tokens: &'a [Token],
-    subject: &'a Subject,
-    verb: Verb,
-    table: Option<usize>,
-) -> Source<'a> {
-    match subject {
-        Subject::Simple => {
-            let text = query.as_ref().map_or("", |query| query.text.as_str());
-            Source {
-                text,
-                tokens,
-                verb,
-                table,
-            }
-        }
-        Subject::Prepared(statement, _) => Source {
-            text: &statement.text,
-            tokens: &statement.tokens,
-            verb,
-            table,
-        },
-    }
-}
-
-/// Returns the name of a statement's table, if the program can be asked for it.
-fn table_name(source: Source<'_>) -> Option<String> {
-    let token = source.tokens.get(source.table?)?;
-    let name = literal::name(source.text, token);
-    if line::is_legal_name(&name) {
-        Some(name)
-    } else {
-        None
-    }
 }
 
 /// Makes the report of a reply that isn't understood.
@@ -248,111 +247,143 @@ pub fn not_understood() -> Failure {
 
 impl Connection {
     /// Runs a statement. `commits`: it is a transaction by itself, and its end is sure, so it may be committed at once.
-    pub(super) fn execute(
-        &mut self,
-        command: &Command,
-        target: Target,
-        subject: Subject,
-        commits: bool,
-    ) {
-        self.events.push(Event::Statement(command.kind()));
-        if self.transaction.block == Block::Failed && !command.leaves_failed_block() {
+    pub(super) fn execute(&mut self, subject: Subject, target: Target, commits: bool) {
+        let owner = subject.clone();
+        let statement = match owner.statement() {
+            Some(statement) => statement,
+            None => return backend::empty_query(self.output.buffer()),
+        };
+        self.events.push(Event::Statement(statement.kind()));
+        if self.transaction.block == Block::Failed && !statement.leaves_failed_block() {
             return self.finish(target, &subject, Err(failed_block()));
         }
-        match command {
-            Command::Program { verb, table } => {
-                self.run(*verb, *table, target, subject, commits);
-            }
-            Command::Commit { chain } => self.commit_block(*chain, target, &subject),
-            Command::Rollback { chain } => self.roll_back_block(*chain, target, &subject),
-            Command::Savepoint(name) => self.savepoint(*name, target, &subject),
-            Command::RollbackTo(name) => self.roll_back_to(*name, target, &subject),
-            command => {
-                let result = self.run_locally(command, &subject);
+        match statement {
+            Statement::Served(served) => self.run(served.verb(), target, subject, commits),
+            Statement::Commit { chain } => self.commit_block(*chain, target, &subject),
+            Statement::Rollback { chain } => self.roll_back_block(*chain, target, &subject),
+            Statement::Savepoint(name) => self.savepoint(&name.text, target, &subject),
+            Statement::RollbackTo(name) => self.roll_back_to(&name.text, target, &subject),
+            Statement::Declare(cursor) => self.declare(cursor, target, subject),
+            Statement::Fetch {
+                name,
+                step,
+                is_move,
+            } => self.fetch(&name.text, *step, *is_move, target, &subject),
+            statement => {
+                let result = self.run_locally(statement, subject.input());
                 self.finish(target, &subject, result);
             }
         }
     }
 
-    /// Returns the name at the place of a token of the statement.
-    pub(super) fn name_at(&self, place: usize, subject: &Subject) -> String {
-        let source = source(&self.query, &self.tokens, subject, Verb::Select, None);
-        source
-            .tokens
-            .get(place)
-            .map_or_else(String::new, |token| literal::name(source.text, token))
-    }
-
-    fn run(
-        &mut self,
-        verb: Verb,
-        table: Option<usize>,
-        target: Target,
-        subject: Subject,
-        commits: bool,
-    ) {
+    fn run(&mut self, verb: Verb, target: Target, subject: Subject, commits: bool) {
         if let Err(report) = self.may_run(verb) {
             return self.finish(target, &subject, Err(report));
         }
         self.run_by_definition(Box::new(Running {
             verb,
-            table,
             target,
             subject,
             commits,
+            row: 0,
+            definition: None,
             replies: 1,
             reader: None,
             rows: None,
+            returned: None,
             failed: None,
             is_stale: false,
             repeats: 0,
-            bad_value: false,
-            is_unquoted: false,
+            is_explained: false,
         }));
     }
 
     /// Asks the program for a statement. If that needs the definition of its table, and it isn't known, it is asked for
     /// first.
     fn run_by_definition(&mut self, mut running: Box<Running>) {
-        let Running { verb, table, .. } = *running;
-        let source = source(&self.query, &self.tokens, &running.subject, verb, table);
-        let table = table_name(source);
-        running.reader = match verb {
-            Verb::Select => match table
-                .as_ref()
-                .map(|table| (table, self.definitions().get(table)))
-            {
-                Some((table, None)) => {
-                    let table = table.clone();
-                    return self.ask_definition(&table, AfterDefinition::Run(running));
-                }
-                Some((_, Some(definition))) => {
-                    let shape = Shape::all(definition.result_columns().into());
-                    Some(Reader::of_table(definition, shape))
-                }
-                None => None,
-            },
-            verb if Question::from(verb) != Question::Order => Some(Reader::of_show(verb.into())),
-            _ => None,
+        let subject = running.subject.clone();
+        let (served, input) = match subject.served() {
+            Some(served) => (served, subject.input()),
+            None => return self.die(not_understood()),
         };
-        let values = running.subject.values();
-        let written = self
-            .requests
-            .line(verb.into(), |out| line::write(source, values, out, None));
-        if let Err(report) = written {
-            return self.finish(running.target, &running.subject, Err(report));
+        let table = served.table().map(|table| table.text.as_str());
+        running.definition = table.and_then(|table| self.definitions().get(table));
+        if let (Some(table), None) = (table, &running.definition) {
+            if line::needs_definition(served, input) {
+                return self.ask_definition(table, AfterDefinition::Run(running));
+            }
         }
+        if let Err(report) = self.ask_statement(&mut running, served, input) {
+            return self.fail_statement(running, report);
+        }
+        let verb = running.verb;
         self.await_statement(running);
         if let (Verb::CreateTable | Verb::AlterTable, Some(table)) = (verb, table) {
             // Nobody's statement comes in between. So no SELECT has to ask for it.
-            self.ask_definition(&table, AfterDefinition::Nothing);
+            self.ask_definition(table, AfterDefinition::Nothing);
         }
+    }
+
+    /// Writes the lines of a statement, and makes ready what their replies need.
+    fn ask_statement(
+        &mut self,
+        running: &mut Running,
+        served: &Served,
+        input: Input<'_>,
+    ) -> Result<(), Failure> {
+        let question = Question::from(running.verb);
+        running.replies = 1;
+        let definition = running.definition.clone();
+        if let (Served::Select(select), Some(definition)) = (served, &definition) {
+            let shape = select.shape(definition, input)?;
+            let lines = line::of_select(select, definition, input)?;
+            running.reader = Some(Reader::of_table(Rc::clone(definition), shape));
+            running.replies = lines.len();
+            for line in &lines {
+                self.requests.push(question, &[line]);
+            }
+            return Ok(());
+        }
+        if question != Question::Order {
+            running.reader = Some(Reader::of_show(question));
+        }
+        self.prepare_returned(running, served, input)?;
+        let (row, definition) = (running.row, definition.as_deref());
+        self.requests.line(question, |out| {
+            line::write(served, row, definition, input, out)
+        })
+    }
+
+    /// Computes what RETURNING shows of a row before that is written: what is wrong with it changes nothing.
+    fn prepare_returned(
+        &self,
+        running: &mut Running,
+        served: &Served,
+        input: Input<'_>,
+    ) -> Result<(), Failure> {
+        let shown = served.returning();
+        let definition = match &running.definition {
+            Some(definition) if !shown.is_empty() => definition,
+            _ => return Ok(()),
+        };
+        let known = line::known_values(served, running.row, definition, input)?;
+        let row = select::returned_row(shown, definition, input, |place| known[place].clone())?;
+        let rows = match running.returned.take() {
+            Some((rows, _)) => rows,
+            None => ResultSet::new(select::columns(shown, definition, input.types)?),
+        };
+        running.returned = Some((rows, row));
+        Ok(())
     }
 
     /// Awaits the reply to a statement's line, with its COMMIT behind it if it is a transaction by itself.
     fn await_statement(&mut self, running: Box<Running>) {
         let is_alone = self.transaction.block == Block::None && !self.transaction.dirty;
-        let commits = running.verb == Verb::Reserve && running.commits && is_alone;
+        // A portal with rows stays until Sync.
+        let commits = running.verb == Verb::Reserve
+            && running.commits
+            && is_alone
+            && running.returned.is_none();
         self.awaited.push_back(Awaited::Statement(running));
         if commits {
             self.ask(Question::Order, &["COMMIT"], Awaited::OwnCommit(None));
@@ -421,9 +452,9 @@ impl Connection {
         result
     }
 
-    /// Returns whether the table of a SELECT has other columns than the ones by which it was asked.
+    /// Returns whether the table of a statement has other columns than the ones by which it was asked.
     fn is_stale(&self, running: &Running) -> bool {
-        let asked = running.reader.as_ref().and_then(Reader::definition);
+        let asked = running.definition.as_ref();
         asked.map_or(false, |asked| match self.definitions().get(&asked.table) {
             Some(now) => !Rc::ptr_eq(&now, asked) && now.columns != asked.columns,
             None => true,
@@ -433,7 +464,7 @@ impl Connection {
     fn begin_rows_of(&mut self, running: &mut Running) -> Result<(), Failure> {
         if let (None, Some(reader)) = (&running.rows, &running.reader) {
             let tag = match running.verb {
-                Verb::Select => Tag::Rows,
+                Verb::Select => Tag::Rows("SELECT"),
                 _ => Tag::Plain("SHOW"),
             };
             let shape = reader.shape().clone();
@@ -488,11 +519,17 @@ impl Connection {
                 self.explain(running, report, definition.as_deref());
             }
             (AfterDefinition::Run(mut running), Outcome::Refused(refusal)) => {
-                let result = self.refused(&mut running, &refusal);
-                self.finish(running.target, &running.subject, result);
+                match self.refused(&mut running, &refusal) {
+                    Ok(completed) => self.finish(running.target, &running.subject, Ok(completed)),
+                    Err(report) => self.fail_statement(running, report),
+                }
             }
-            (AfterDefinition::Bind(_, statement), Outcome::Refused(refusal))
-            | (AfterDefinition::Describe(_, statement), Outcome::Refused(refusal)) => {
+            (
+                AfterDefinition::Bind(_, statement)
+                | AfterDefinition::Describe(_, statement)
+                | AfterDefinition::DescribePortal(_, statement),
+                Outcome::Refused(refusal),
+            ) => {
                 let report = refusal_of_table(&refusal, &statement);
                 self.fail(report, Some(&statement.text));
             }
@@ -502,6 +539,7 @@ impl Connection {
                 self.bind_now(binding, definition.as_deref());
             }
             (AfterDefinition::Describe(name, _), _) => self.describe_now(&name),
+            (AfterDefinition::DescribePortal(name, _), _) => self.describe_portal(&name),
         }
     }
 
@@ -531,23 +569,26 @@ impl Connection {
             return self.run_by_definition(running);
         }
         match result {
-            Err(report) if running.bad_value => {
-                let Running {
-                    verb,
-                    table,
-                    subject,
-                    ..
-                } = &*running;
-                let source = source(&self.query, &self.tokens, subject, *verb, *table);
-                let table = table_name(source).unwrap_or_default();
-                match self.definitions().get(&table) {
-                    None if !table.is_empty() => {
+            Err(report) if running.is_explained => {
+                let served = running.subject.served();
+                let table = served
+                    .and_then(Served::table)
+                    .map(|table| table.text.clone());
+                match table.map(|table| (self.definitions().get(&table), table)) {
+                    Some((None, table)) => {
                         self.ask_definition(&table, AfterDefinition::Explain(running, report));
                     }
-                    definition => self.explain(running, report, definition.as_deref()),
+                    known => {
+                        let definition = known.and_then(|(definition, _)| definition);
+                        self.explain(running, report, definition.as_deref());
+                    }
                 }
             }
-            Err(report) => self.finish(running.target, &running.subject, Err(report)),
+            Err(report) => self.fail_statement(running, report),
+            Ok(_) if self.has_further_row(&running) => {
+                running.row += 1;
+                self.run_by_definition(running);
+            }
             Ok(completed) => match running.rows {
                 None => self.finish(running.target, &running.subject, Ok(completed)),
                 Some(rows) => {
@@ -559,35 +600,36 @@ impl Connection {
         }
     }
 
-    /// Tells which value was refused, or asks once more if there are but numbers in quotes: the refusal changed nothing.
-    fn explain(
-        &mut self,
-        mut running: Box<Running>,
-        report: Failure,
-        definition: Option<&Definition>,
-    ) {
-        let Running {
-            verb,
-            table,
-            subject,
-            ..
-        } = &*running;
-        let explanation = definition.and_then(|definition| {
-            let source = source(&self.query, &self.tokens, subject, *verb, *table);
-            explain::bad_value(definition, source, subject.values())
-        });
-        let report = match explanation {
-            Some(Explanation::Unquoted(line)) if !running.is_unquoted => {
-                running.bad_value = false;
-                running.is_unquoted = true;
-                running.replies = 1;
-                self.requests.push(running.verb.into(), &[&line]);
-                return self.await_statement(running);
-            }
-            Some(Explanation::Report(report)) => report,
-            _ => report,
-        };
+    /// Returns whether an INSERT has more rows than were written.
+    fn has_further_row(&self, running: &Running) -> bool {
+        match running.subject.served() {
+            Some(Served::Insert(insert)) => running.row + 1 < insert.rows.len(),
+            _ => false,
+        }
+    }
+
+    /// Tells the client that a statement was refused, and how many rows of it were written before.
+    fn fail_statement(&mut self, running: Box<Running>, mut report: Failure) {
+        if running.row > 0 {
+            let before = match running.row {
+                1 => "The row before it was inserted, and stays.".to_owned(),
+                rows => format!("The {} rows before it were inserted, and stay.", rows),
+            };
+            report.detail = Some(match report.detail.take() {
+                Some(detail) => format!("{} {}", detail, before),
+                None => before,
+            });
+        }
         self.finish(running.target, &running.subject, Err(report));
+    }
+
+    /// Tells what was wrong with a statement that was refused, as far as its table's definition tells it.
+    fn explain(&mut self, running: Box<Running>, report: Failure, definition: Option<&Definition>) {
+        let (row, input) = (running.row, running.subject.input());
+        let explained = definition
+            .zip(running.subject.served())
+            .and_then(|(definition, served)| explain::refusal(definition, served, row, input));
+        self.fail_statement(running, explained.unwrap_or(report));
     }
 
     /// Takes the reply to the COMMIT behind an UPDATE.
@@ -623,7 +665,7 @@ impl Connection {
         };
         match (after, failed) {
             (AfterCommit::Command { target, .. }, None) => {
-                self.finish(target, &Subject::Simple, Ok(Completed::plain("COMMIT")));
+                self.complete(&target, Tag::Plain("COMMIT"));
             }
             (AfterCommit::Command { .. } | AfterCommit::Query, Some(report)) => {
                 self.fail(report, None);
@@ -663,7 +705,7 @@ impl Connection {
             }
             _ => return self.die(not_understood()),
         };
-        self.finish(target, &Subject::Simple, Ok(Completed::plain(tag)));
+        self.complete(&target, Tag::Plain(tag));
     }
 
     /// Returns what the reply to a statement means.
@@ -675,7 +717,10 @@ impl Connection {
         match outcome {
             Outcome::Done(done) => self.done(running, done),
             Outcome::Refused(refusal) => {
-                running.bad_value = refusal == Refusal::BadValue;
+                running.is_explained = matches!(
+                    refusal,
+                    Refusal::BadValue | Refusal::BadAssignment | Refusal::NotTheKey
+                );
                 running.is_stale |= refusal.is_of_definition() && self.is_stale(running);
                 self.refused(running, &refusal)
             }
@@ -686,14 +731,14 @@ impl Connection {
         let tag = match done {
             Done::Reserved => {
                 self.transaction.reserves(self.now);
-                return Ok(Completed::plain("UPDATE 1"));
+                return Ok(written(running, Tag::Plain("UPDATE 1")));
             }
-            Done::Inserted => "INSERT 0 1",
-            Done::Deleted => "DELETE 1",
-            Done::Updated => "UPDATE 1",
-            Done::Created => "CREATE TABLE",
-            Done::Altered => "ALTER TABLE",
-            Done::Dropped => "DROP TABLE",
+            Done::Inserted => Tag::Count("INSERT 0", running.row as u64 + 1),
+            Done::Deleted => Tag::Plain("DELETE 1"),
+            Done::Updated => Tag::Plain("UPDATE 1"),
+            Done::Created => Tag::Plain("CREATE TABLE"),
+            Done::Altered => Tag::Plain("ALTER TABLE"),
+            Done::Dropped => Tag::Plain("DROP TABLE"),
             Done::Rows(lines) | Done::Reservations(lines) => {
                 return self.rows_done(running, Some(lines));
             }
@@ -701,7 +746,13 @@ impl Connection {
             Done::Committed | Done::RolledBack | Done::Savepoint => return Err(not_understood()),
         };
         self.events.push(Event::Committed);
-        Ok(Completed::plain(tag))
+        if let Some(Served::Define(define)) = running.subject.served() {
+            for notice in &define.notices {
+                let report = Report::notice(SqlState::SUCCESS, notice.clone());
+                self.report(&report, None);
+            }
+        }
+        Ok(written(running, tag))
     }
 
     /// Ends the rows of a reply that says how many lines it has.
@@ -731,44 +782,52 @@ impl Connection {
     ) -> Result<Completed, Failure> {
         match (refusal, running.verb) {
             (Refusal::NoSuchRow, Verb::Reserve | Verb::Replace) => {
-                return Ok(Completed::plain("UPDATE 0"));
+                return Ok(unwritten(running, "UPDATE 0"));
             }
-            (Refusal::NoSuchRow, Verb::Delete) => return Ok(Completed::plain("DELETE 0")),
+            (Refusal::NoSuchRow, Verb::Delete) => return Ok(unwritten(running, "DELETE 0")),
             (Refusal::NoSuchRow, Verb::ShowBounds) => {
                 self.begin_rows_of(running)?;
                 return Ok(Completed::plain("SHOW"));
             }
+            // The tree has no statement that the program does not read.
+            (Refusal::Syntax { .. }, _) => {
+                let text = "the server did not read the statement";
+                return Err(Report::error(SqlState::INTERNAL_ERROR, text));
+            }
             _ => {}
         }
-        let Running {
-            verb,
-            table,
-            subject,
-            ..
-        } = running;
-        let source = source(&self.query, &self.tokens, subject, *verb, *table);
-        if let Refusal::Syntax { column } = *refusal {
-            // The column counts the blank behind the prefix.
-            return Err(line::syntax_error(
-                source,
-                subject.values(),
-                column.saturating_sub(1),
-            ));
+        let (table, constraint, is_conditional) = match running.subject.served() {
+            Some(Served::Define(define)) => (
+                Some(&define.table),
+                define.constraint.as_ref(),
+                define.is_conditional,
+            ),
+            served => (served.and_then(Served::table), None, false),
+        };
+        let report = sqlstate::refusal(
+            refusal,
+            Refused {
+                verb: running.verb.words(),
+                table: table.map(|table| (table.text.as_str(), table.span.start)),
+                constraint: constraint.map(|name| name.text.as_str()),
+            },
+        );
+        let skips = match refusal {
+            Refusal::TableExists => running.verb == Verb::CreateTable,
+            Refusal::NoSuchTable => running.verb == Verb::DropTable,
+            Refusal::NoSuchConstraint => running.verb == Verb::AlterTable,
+            _ => false,
+        };
+        if is_conditional && skips {
+            let state = match refusal {
+                Refusal::TableExists => report.state,
+                _ => SqlState::SUCCESS,
+            };
+            let text = format!("{}, skipping", report.message);
+            self.report(&Report::notice(state, text), None);
+            return Ok(Completed::plain(running.verb.words()));
         }
-        let table = table
-            .and_then(|place| source.tokens.get(place))
-            .map(|token| (literal::name(source.text, token), token.start));
-        let constraint = match verb {
-            Verb::AlterTable => source.tokens.last().filter(|token| token.is_name()),
-            _ => None,
-        };
-        let constraint = constraint.map(|token| literal::name(source.text, token));
-        let refused = Refused {
-            verb: verb.words(),
-            table: table.as_ref().map(|(name, place)| (name.as_str(), *place)),
-            constraint: constraint.as_deref(),
-        };
-        Err(sqlstate::refusal(refusal, refused))
+        Err(report)
     }
 
     /// Tells the client how its statement ended.
@@ -791,7 +850,7 @@ impl Connection {
     }
 
     /// Tells the client that its statement, which has no rows, was served.
-    fn complete(&mut self, target: &Target, tag: Tag) {
+    pub(super) fn complete(&mut self, target: &Target, tag: Tag) {
         match target {
             Target::Describe { portal } => return self.write_description(portal, None),
             Target::Execute { portal, .. } => {
@@ -799,25 +858,99 @@ impl Connection {
                     portal.progress = Progress::Done;
                 }
             }
+            Target::Declare { by, .. } | Target::Fetch { by, .. } => return self.complete(by, tag),
             Target::Simple => {}
         }
+        let out = self.output.buffer();
         match tag {
-            Tag::Plain(tag) => backend::command_complete(self.output.buffer(), tag),
-            Tag::Rows => backend::command_complete_of(self.output.buffer(), "SELECT", 0),
+            Tag::Plain(tag) => backend::command_complete(out, tag),
+            Tag::Rows(words) => backend::command_complete_of(out, words, 0),
+            Tag::Count(words, count) => {
+                backend::command_complete_of(out, words, count as usize);
+            }
         }
     }
 
     /// Tells the client that its statement failed, with the place in its text.
     pub(super) fn fail_of(&mut self, report: Failure, subject: &Subject) {
         match subject {
-            Subject::Simple => {
-                let text = self
-                    .query
-                    .as_mut()
-                    .map(|query| std::mem::take(&mut query.text));
-                self.fail(report, text.as_deref());
+            Subject::Simple(_) => self.fail_query(report),
+            Subject::Prepared(prepared, _) => self.fail(report, Some(&prepared.text)),
+        }
+    }
+
+    /// Tells the client that a statement of its simple query failed, with the place in its text.
+    pub(super) fn fail_query(&mut self, report: Failure) {
+        let text = self
+            .query
+            .as_mut()
+            .map(|query| std::mem::take(&mut query.text));
+        self.fail(report, text.as_deref());
+    }
+
+    /// Runs FETCH or MOVE.
+    fn fetch(&mut self, name: &str, step: Step, is_move: bool, target: Target, subject: &Subject) {
+        let rows = match step {
+            Step::Rows(count) => Ok(Some(u64::from(count))),
+            Step::All => Ok(None),
+            Step::Back => {
+                let text = "cursor can only scan forward";
+                let report = Report::error(SqlState::NOT_IN_PREREQUISITE_STATE, text);
+                Err(report.hint("Cursors are as with NO SCROLL: read the query again."))
             }
-            Subject::Prepared(statement, _) => self.fail(report, Some(&statement.text)),
+            Step::Other => {
+                let report = Report::missing("FETCH or MOVE to a row by its number");
+                Err(report.hint("FETCH n, FETCH ALL and MOVE n go forward."))
+            }
+        };
+        let by = Box::new(target.clone());
+        let cursor = name.to_owned();
+        let begun = rows
+            .and_then(|rows| self.begin_fetch(name, rows, is_move, Target::Fetch { cursor, by }));
+        if let Err(report) = begun {
+            self.finish(target, subject, Err(report));
+        }
+    }
+
+    /// Runs DECLARE: its query is read, and its rows wait in a portal of the cursor's name.
+    fn declare(&mut self, cursor: &Cursor, target: Target, subject: Subject) {
+        if self.transaction.block == Block::None {
+            let report = outside_of_block("DECLARE CURSOR");
+            return self.finish(target, &subject, Err(report));
+        }
+        let name = cursor.name.text.as_str();
+        let statement = Statement::Fetch {
+            name: cursor.name.clone(),
+            step: Step::All,
+            is_move: false,
+        };
+        let parsed = Parsed {
+            statement,
+            places: Vec::new(),
+            parameter: None,
+            size: name.len(),
+        };
+        let prepared = Rc::new(Prepared::new("", Some(parsed), Vec::new()));
+        let portal = Portal::new(
+            prepared,
+            Arguments::default(),
+            Default::default(),
+            Progress::Done,
+        );
+        if let Err(report) = self.prepared.add_portal(name, portal) {
+            return self.finish(target, &subject, Err(report));
+        }
+        let by = Box::new(target);
+        let cursor_target = Target::Declare {
+            cursor: name.to_owned(),
+            by,
+        };
+        match &*cursor.read {
+            Statement::Served(served) => self.run(served.verb(), cursor_target, subject, false),
+            read => {
+                let result = self.run_locally(read, subject.input());
+                self.finish(cursor_target, &subject, result);
+            }
         }
     }
 
@@ -866,24 +999,23 @@ impl Connection {
         Ok(())
     }
 
-    fn savepoint(&mut self, name: usize, target: Target, subject: &Subject) {
+    fn savepoint(&mut self, name: &str, target: Target, subject: &Subject) {
         if self.transaction.block == Block::None {
             let report = outside_of_block("SAVEPOINT");
             return self.finish(target, subject, Err(report));
         }
-        let name = self.name_at(name, subject);
+        let name = name.to_owned();
         let words = ["SAVEPOINT ", &savepoint_name(self.savepoints())];
         self.ask(Question::Order, &words, Awaited::Savepoint { target, name });
     }
 
-    fn roll_back_to(&mut self, name: usize, target: Target, subject: &Subject) {
+    fn roll_back_to(&mut self, name: &str, target: Target, subject: &Subject) {
         if self.transaction.block == Block::None {
             let report = outside_of_block("ROLLBACK TO SAVEPOINT");
             return self.finish(target, subject, Err(report));
         }
-        let name = self.name_at(name, subject);
-        match self.transaction.savepoint(&name) {
-            None => self.finish(target, subject, Err(no_savepoint(&name))),
+        match self.transaction.savepoint(name) {
+            None => self.finish(target, subject, Err(no_savepoint(name))),
             Some(place) => {
                 let words = ["ROLLBACK TO ", &savepoint_name(place)];
                 let awaited = Awaited::RollbackTo { target, place };
@@ -909,12 +1041,42 @@ fn commit_outcome(outcome: Outcome<'_>) -> Result<(), Failure> {
     }
 }
 
+/// Returns what a statement that wrote a row tells, with what its RETURNING shows if all rows are written.
+fn written(running: &mut Running, tag: Tag) -> Completed {
+    let (mut rows, row) = match running.returned.take() {
+        Some(returned) => returned,
+        None => return Completed { tag, rows: None },
+    };
+    let row: Vec<Option<&str>> = row.iter().map(Option::as_deref).collect();
+    rows.push_row(&row);
+    let is_last = match running.subject.served() {
+        Some(Served::Insert(Insert { rows, .. })) => running.row + 1 == rows.len(),
+        _ => true,
+    };
+    if is_last {
+        let rows = Some(rows);
+        return Completed { tag, rows };
+    }
+    running.returned = Some((rows, Vec::new()));
+    Completed { tag, rows: None }
+}
+
+/// Returns what a statement that wrote no row tells.
+fn unwritten(running: &mut Running, tag: &'static str) -> Completed {
+    Completed {
+        tag: Tag::Plain(tag),
+        rows: running.returned.take().map(|(rows, _)| rows),
+    }
+}
+
 /// Makes the report of a prepared statement whose table can't be shown.
-fn refusal_of_table(refusal: &Refusal<'_>, statement: &Statement) -> Failure {
-    let table = statement.table_and_place();
+fn refusal_of_table(refusal: &Refusal<'_>, statement: &Prepared) -> Failure {
+    let served = statement.served();
     let refused = Refused {
-        verb: statement.verb().map_or("", Verb::words),
-        table: table.as_ref().map(|(name, place)| (name.as_str(), *place)),
+        verb: served.map_or("", |served| served.verb().words()),
+        table: served
+            .and_then(Served::table)
+            .map(|Name { text, span }| (text.as_str(), span.start)),
         constraint: None,
     };
     sqlstate::refusal(refusal, refused)

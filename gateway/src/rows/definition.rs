@@ -1,6 +1,6 @@
 //! A table's definition, as SHOW TABLE prints it.
 
-use crate::value::oid;
+use crate::value::{oid, Value};
 use crate::wire::backend::Column;
 
 /// A type of a column.
@@ -27,6 +27,17 @@ pub struct DefinedColumn {
     pub name: String,
     /// Its type.
     pub column_type: ColumnType,
+    /// Whether it is RESERVABLE.
+    pub is_reservable: bool,
+}
+
+/// A check that was declared.
+#[derive(Clone, Debug, PartialEq, Eq)]
+pub struct Check {
+    /// Its name, in lower case.
+    pub name: String,
+    /// Its condition, in lower case, as SHOW TABLE prints it: `2 * a + b <= 100`.
+    pub condition: String,
 }
 
 /// A table's definition.
@@ -36,6 +47,10 @@ pub struct Definition {
     pub table: String,
     /// Its columns, in order.
     pub columns: Vec<DefinedColumn>,
+    /// The place of its key among the columns, from 0.
+    pub key: usize,
+    /// The checks that were declared, in order.
+    pub checks: Vec<Check>,
 }
 
 /// The bytes that PostgreSQL counts in a type's modifier beside the size.
@@ -45,6 +60,25 @@ impl DefinedColumn {
     /// Returns whether its values are numbers.
     pub fn is_number(&self) -> bool {
         matches!(self.column_type, ColumnType::Number { .. })
+    }
+
+    /// Returns a value as SELECT shows it in this column: a number with all digits behind its point.
+    pub fn printed(&self, value: &Value) -> String {
+        let number = match value {
+            Value::Number(number) => number,
+            Value::Text(text) => return text.clone(),
+            Value::Null => return String::new(),
+        };
+        let written = number.to_string();
+        let scale = match self.column_type {
+            ColumnType::Number { scale, .. } => scale as usize,
+            ColumnType::Text { .. } => 0,
+        };
+        if scale == 0 {
+            return written;
+        }
+        let (whole, fraction) = written.split_once('.').unwrap_or((&written, ""));
+        format!("{}.{:0<width$}", whole, fraction, width = scale)
     }
 
     /// Returns the column as a result describes it.
@@ -71,29 +105,25 @@ impl Definition {
     /// Reads what SHOW TABLE prints. None: this is something else.
     pub fn parse(printed: &str) -> Option<Definition> {
         let rest = printed.strip_prefix("CREATE TABLE ")?;
-        let open = rest.find(" (")?;
-        let (table, mut rest) = (&rest[..open], &rest[open + 2..]);
-        let mut columns = Vec::new();
-        loop {
-            let end = rest.find(' ')?;
-            let name = &rest[..end];
-            if name == "CONSTRAINT" {
-                break;
+        let (table, rest) = rest.split_once(" (")?;
+        let items = rest.strip_suffix(')')?;
+        let (mut columns, mut checks, mut key) = (Vec::new(), Vec::new(), None);
+        for item in items_of(items) {
+            if let Some(check) = item.strip_prefix("CONSTRAINT ") {
+                checks.push(read_check(check)?);
+                continue;
             }
-            let (column_type, behind) = column_type(&rest[end + 1..])?;
-            columns.push(DefinedColumn {
-                name: name.to_ascii_lowercase(),
-                column_type,
-            });
-            let end = behind.find([',', ')'])?;
-            match behind[end..].strip_prefix(", ") {
-                Some(next) => rest = next,
-                None => break,
+            let (column, is_key) = read_column(item)?;
+            if is_key {
+                key = Some(columns.len());
             }
+            columns.push(column);
         }
         Some(Definition {
             table: table.to_ascii_lowercase(),
             columns,
+            key: key?,
+            checks,
         })
     }
 
@@ -109,6 +139,51 @@ impl Definition {
             .map(DefinedColumn::result_column)
             .collect()
     }
+}
+
+/// Cuts the items of a CREATE TABLE apart, at commas outside of parentheses.
+fn items_of(items: &str) -> Vec<&str> {
+    let (mut depth, mut start, mut cut) = (0_usize, 0, Vec::new());
+    for (place, mark) in items.char_indices() {
+        match mark {
+            '(' => depth += 1,
+            ')' => depth = depth.saturating_sub(1),
+            ',' if depth == 0 => {
+                cut.push(items[start..place].trim());
+                start = place + 1;
+            }
+            _ => {}
+        }
+    }
+    cut.push(items[start..].trim());
+    cut
+}
+
+/// Reads `NAME CHECK (CONDITION)`.
+fn read_check(item: &str) -> Option<Check> {
+    let (name, condition) = item.split_once(" CHECK (")?;
+    Some(Check {
+        name: name.to_ascii_lowercase(),
+        condition: condition.strip_suffix(')')?.to_ascii_lowercase(),
+    })
+}
+
+/// Reads `NAME TYPE`, and whether it is the key.
+fn read_column(item: &str) -> Option<(DefinedColumn, bool)> {
+    let (name, rest) = item.split_once(' ')?;
+    let (column_type, behind) = column_type(rest)?;
+    let (is_key, is_reservable) = match behind {
+        "" => (false, false),
+        " PRIMARY KEY" => (true, false),
+        " RESERVABLE" => (false, true),
+        _ => return None,
+    };
+    let column = DefinedColumn {
+        name: name.to_ascii_lowercase(),
+        column_type,
+        is_reservable,
+    };
+    Some((column, is_key))
 }
 
 /// Reads a type, and returns what is behind it.
@@ -168,6 +243,27 @@ mod tests {
                 precision: 4,
                 scale: 0
             }
+        );
+    }
+
+    #[test]
+    fn reads_key_checks_and_what_is_reservable() {
+        let shop = Definition::parse(SHOP).unwrap();
+        assert_eq!(shop.key, 0);
+        let reservable: Vec<bool> = shop
+            .columns
+            .iter()
+            .map(|column| column.is_reservable)
+            .collect();
+        assert_eq!(reservable, [false, false, true]);
+        let checks: Vec<(&str, &str)> = shop
+            .checks
+            .iter()
+            .map(|check| (check.name.as_str(), check.condition.as_str()))
+            .collect();
+        assert_eq!(
+            checks,
+            [("in_stock", "stock >= 0"), ("d", "stock between -5 and 5")]
         );
     }
 

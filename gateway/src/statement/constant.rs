@@ -1,446 +1,514 @@
-//! SELECT without a table, and the queries of the catalog that drivers send at a connect.
+//! Values that a statement itself tells: literals, parameters, signs and casts, evaluated as PostgreSQL does.
 
 use postgres_protocol::Oid;
 
-use crate::sqlstate::{Failure, Report};
-use crate::statement::cursor::Cursor;
-use crate::statement::lexer::TokenKind;
-use crate::statement::literal;
-use crate::value::oid;
+use crate::decimal::Decimal;
+use crate::rows::{ColumnType, DefinedColumn};
+use crate::sqlstate::{Failure, Report, SqlState};
+use crate::statement::query::{Expression, ExpressionKind, Span, TypeName};
+use crate::statement::served::Verb;
+use crate::value::{self, oid, Number, Value};
 
-/// A column of a SELECT without a table.
-#[derive(Clone, Debug, PartialEq, Eq)]
-pub struct Item {
-    /// The column's name.
-    pub name: String,
-    /// The Oid of its type.
-    pub oid: Oid,
-    /// Its value.
-    pub expression: Expression,
+/// The values of a statement's parameters and their types, as far as it has any.
+#[derive(Clone, Copy, Debug, Default)]
+pub struct Input<'a> {
+    /// The values.
+    pub values: &'a [Value],
+    /// The types, each of which is one that the client told or that follows from the place.
+    pub types: &'a [Oid],
 }
 
-/// A value that needs no table.
+/// A value of one of PostgreSQL's types.
 #[derive(Clone, Debug, PartialEq, Eq)]
-pub enum Expression {
-    /// NULL.
+pub enum Datum {
+    /// NULL
     Null,
-    /// A value, as text.
-    Literal(String),
-    /// version()
-    Version,
-    /// current_schema()
-    Schema,
-    /// current_database(), current_catalog
-    Database,
-    /// current_user, session_user, user, current_role
-    User,
-    /// pg_backend_pid()
-    ProcessId,
-    /// pg_is_in_recovery()
-    InRecovery,
-    /// current_setting(name)
-    Setting(String),
+    /// boolean
+    Boolean(bool),
+    /// smallint, integer or bigint, which the Oid tells.
+    Integer(i64, Oid),
+    /// numeric
+    Numeric(Decimal),
+    /// A text in quotes, which becomes what its place wants.
+    Unknown(String),
+    /// A text of this type.
+    Text(String, Oid),
 }
 
-/// The columns of a result without rows.
-#[derive(Clone, Debug, PartialEq, Eq)]
-pub struct EmptyResult {
-    /// Names and types.
-    pub columns: Vec<(String, Oid)>,
+/// What a value is for.
+#[derive(Clone, Copy, Debug, PartialEq, Eq)]
+pub enum Usage {
+    /// A column takes it.
+    Assigned,
+    /// It is added to a column or subtracted.
+    Changed,
+    /// A column is compared with it.
+    Compared,
 }
 
-/// Reads the columns of a SELECT without a table, from behind that word.
+/// A type to which a value may be cast.
+#[derive(Clone, Copy, Debug, PartialEq, Eq)]
+enum CastTo {
+    Integer(Oid),
+    Numeric(Option<(i32, i32)>),
+    Text,
+    Varchar(Option<usize>),
+}
+
+/// Returns the type that a cast names.
 ///
 /// # Errors
 ///
-/// Fails at what is no value, or none that is known here.
-pub fn items(mut cursor: Cursor<'_>) -> Result<Vec<Item>, Failure> {
-    let mut items = Vec::new();
-    loop {
-        let mut item = expression(&mut cursor)?;
-        if cursor.keyword("AS") || cursor.at_name() {
-            let place = cursor.name()?;
-            item.name = literal::name(cursor.text(), &cursor.tokens()[place]);
-        }
-        items.push(item);
-        if !cursor.symbol(b',') {
-            return cursor.end(items);
-        }
-    }
-}
-
-fn item(name: &str, oid: Oid, expression: Expression) -> Item {
-    Item {
-        name: name.to_owned(),
-        oid,
-        expression,
-    }
-}
-
-fn expression(cursor: &mut Cursor<'_>) -> Result<Item, Failure> {
-    let mut item = value(cursor)?;
-    while cursor.symbol(b':') {
-        if !cursor.symbol(b':') {
-            return Err(cursor.fault());
-        }
-        item = cast(item, cursor)?;
-    }
-    Ok(item)
-}
-
-fn value(cursor: &mut Cursor<'_>) -> Result<Item, Failure> {
-    const NAMELESS: &str = "?column?";
-    let text = cursor.text();
-    if cursor.symbol(b'(') {
-        let item = expression(cursor)?;
-        return if cursor.symbol(b')') {
-            Ok(item)
-        } else {
-            Err(cursor.fault())
-        };
-    }
-    let minus = cursor.symbol(b'-');
-    let token = match cursor.peek() {
-        Some(token) if !minus || token.kind == TokenKind::Number => token,
-        _ => return Err(cursor.fault()),
+/// Fails if values are not cast to it here.
+fn cast_to(to: &TypeName) -> Result<CastTo, Failure> {
+    let schema = to.name.schema.as_ref().map(|schema| schema.text.as_str());
+    let is_known = matches!(schema, None | Some("pg_catalog")) && !to.is_array;
+    let invalid = |text: String| {
+        Err(Report::error(SqlState::INVALID_PARAMETER_VALUE, text).at(to.span.start))
     };
-    match token.kind {
-        TokenKind::Number => {
-            cursor.skip();
-            let written = format!("{}{}", if minus { "-" } else { "" }, token.text(text));
-            let oid = if written.parse::<i32>().is_ok() {
-                oid::INT4
-            } else if written.parse::<i64>().is_ok() {
-                oid::INT8
-            } else if written.contains(['e', 'E']) {
-                return Err(Report::missing("a number with an exponent").at(token.start));
-            } else {
-                oid::NUMERIC
-            };
-            Ok(item(
-                NAMELESS,
-                oid,
-                Expression::Literal(plain_number(&written)),
-            ))
-        }
-        TokenKind::Text | TokenKind::EscapedText => {
-            cursor.skip();
-            let value = literal::text_value(text, token)?;
-            Ok(item(NAMELESS, oid::TEXT, Expression::Literal(value)))
-        }
-        TokenKind::Word => word(cursor),
-        TokenKind::Parameter(_) => {
-            Err(Report::missing("a parameter in a SELECT without a table").at(token.start))
-        }
-        _ => Err(cursor.fault()),
-    }
-}
-
-/// Writes a number as PostgreSQL prints it: with a digit on each side of its point.
-fn plain_number(written: &str) -> String {
-    let (sign, digits) = match written.strip_prefix('-') {
-        Some(digits) => ("-", digits),
-        None => ("", written),
-    };
-    let digits = digits.strip_suffix('.').unwrap_or(digits);
-    let digits = match digits.find('.') {
-        Some(0) => format!("0{}", digits),
-        Some(point) => {
-            let whole = digits[..point].trim_start_matches('0');
-            format!(
-                "{}{}",
-                if whole.is_empty() { "0" } else { whole },
-                &digits[point..]
-            )
-        }
-        None => {
-            let whole = digits.trim_start_matches('0');
-            (if whole.is_empty() { "0" } else { whole }).to_owned()
-        }
-    };
-    let is_zero = digits.bytes().all(|byte| byte == b'0' || byte == b'.');
-    format!("{}{}", if is_zero { "" } else { sign }, digits)
-}
-
-fn word(cursor: &mut Cursor<'_>) -> Result<Item, Failure> {
-    let start = cursor.peek().map_or(0, |token| token.start);
-    if cursor.keyword("NULL") {
-        return Ok(item("?column?", oid::TEXT, Expression::Null));
-    }
-    for (word, value) in [("TRUE", "t"), ("FALSE", "f")] {
-        if cursor.keyword(word) {
-            return Ok(item(
-                "bool",
-                oid::BOOL,
-                Expression::Literal(value.to_owned()),
-            ));
-        }
-    }
-    if cursor.keyword("CAST") {
-        let is_open = cursor.symbol(b'(');
-        let value = expression(cursor)?;
-        cursor.expect("AS")?;
-        let value = cast(value, cursor)?;
-        return if is_open && cursor.symbol(b')') {
-            Ok(value)
-        } else {
-            Err(cursor.fault())
-        };
-    }
-    for (word, name, expression) in [
-        ("CURRENT_USER", "current_user", Expression::User),
-        ("SESSION_USER", "session_user", Expression::User),
-        ("USER", "user", Expression::User),
-        ("CURRENT_ROLE", "current_role", Expression::User),
-        ("CURRENT_CATALOG", "current_catalog", Expression::Database),
-    ] {
-        if cursor.keyword(word) {
-            return Ok(item(name, oid::NAME, expression));
-        }
-    }
-    function(cursor).map_err(|report| {
-        if report.place.is_none() {
-            report.at(start)
-        } else {
-            report
-        }
-    })
-}
-
-fn function(cursor: &mut Cursor<'_>) -> Result<Item, Failure> {
-    let text = cursor.text();
-    if cursor.keyword("CURRENT_SCHEMA") {
-        if cursor.symbol(b'(') && !cursor.symbol(b')') {
-            return Err(cursor.fault());
-        }
-        return Ok(item("current_schema", oid::NAME, Expression::Schema));
-    }
-    let last = match cursor.qualified_name() {
-        Some(place) => &cursor.tokens()[place],
-        None => return Err(cursor.fault()),
-    };
-    let name = literal::name(text, last);
-    if !cursor.symbol(b'(') {
-        return Err(Report::error(
-            crate::sqlstate::SqlState::FEATURE_NOT_SUPPORTED,
-            format!("column \"{}\" does not belong to a table", name),
-        )
-        .hint("The form is SELECT * FROM table [WHERE key = value]."));
-    }
-    let (oid, expression) = match name.as_str() {
-        "version" => (oid::TEXT, Expression::Version),
-        "current_schema" => (oid::NAME, Expression::Schema),
-        "current_database" => (oid::NAME, Expression::Database),
-        "pg_backend_pid" => (oid::INT4, Expression::ProcessId),
-        "pg_is_in_recovery" => (oid::BOOL, Expression::InRecovery),
-        "current_setting" => {
-            let setting = match cursor.take() {
-                Some(token) if matches!(token.kind, TokenKind::Text | TokenKind::EscapedText) => {
-                    literal::text_value(text, token)?
-                }
-                _ => return Err(Report::missing("a name of a setting that is not a text")),
-            };
-            (oid::TEXT, Expression::Setting(setting))
-        }
-        _ => {
-            return Err(Report::missing(&format!("the function {}", name))
-                .hint("The form is SELECT * FROM table [WHERE key = value]."))
-        }
-    };
-    if !cursor.symbol(b')') {
-        return Err(cursor.fault());
-    }
-    Ok(item(&name, oid, expression))
-}
-
-/// Gives a value the type that is written next.
-fn cast(value: Item, cursor: &mut Cursor<'_>) -> Result<Item, Failure> {
-    let start = cursor.peek().map_or(0, |token| token.start);
-    let place = cursor.name()?;
-    let name = literal::name(cursor.text(), &cursor.tokens()[place]);
-    if name == "character" {
-        cursor.keyword("VARYING");
-    }
-    if cursor.symbol(b'(') {
-        while !cursor.symbol(b')') {
-            if cursor.take().is_none() {
-                return Err(cursor.fault());
+    Ok(match (to.name.name.text.as_str(), &to.modifiers[..]) {
+        ("int2", []) if is_known => CastTo::Integer(oid::INT2),
+        ("int4", []) if is_known => CastTo::Integer(oid::INT4),
+        ("int8", []) if is_known => CastTo::Integer(oid::INT8),
+        ("text", []) if is_known => CastTo::Text,
+        ("varchar", []) if is_known => CastTo::Varchar(None),
+        ("varchar", [length]) if is_known => match usize::try_from(*length) {
+            Ok(length) if length > 0 => CastTo::Varchar(Some(length)),
+            _ => return invalid("length for type varchar must be at least 1".to_owned()),
+        },
+        ("numeric", []) if is_known => CastTo::Numeric(None),
+        ("numeric", [precision] | [precision, _]) if is_known => {
+            let scale = to.modifiers.get(1).copied().unwrap_or(0);
+            if !(1..=1000).contains(precision) {
+                let text = format!("NUMERIC precision {} must be between 1 and 1000", precision);
+                return invalid(text);
             }
+            if !(0..=30).contains(&scale) {
+                return Err(Report::missing("a cast to numeric of such a scale").at(to.span.start));
+            }
+            CastTo::Numeric(Some((*precision, scale)))
         }
-    }
-    let (name, oid) = match name.as_str() {
-        "text" => ("text", oid::TEXT),
-        "varchar" | "character" => ("varchar", oid::VARCHAR),
-        "int" | "integer" | "int4" => ("int4", oid::INT4),
-        "bigint" | "int8" => ("int8", oid::INT8),
-        "numeric" | "decimal" => ("numeric", oid::NUMERIC),
-        _ => return Err(Report::missing(&format!("a cast to {}", name)).at(start)),
-    };
-    if let Expression::Literal(text) = &value.expression {
-        let fits = match oid {
-            oid::INT4 => text.parse::<i32>().is_ok(),
-            oid::INT8 => text.parse::<i64>().is_ok(),
-            oid::NUMERIC => crate::value::Number::from_text(text).is_ok(),
-            _ => true,
-        };
-        if !fits {
-            return Err(Report::error(
-                crate::sqlstate::SqlState::INVALID_TEXT_REPRESENTATION,
-                format!("invalid input syntax for type {}: \"{}\"", name, text),
-            )
-            .at(start));
+        (name, _) => {
+            return Err(Report::missing(&format!("a cast to {}", name)).at(to.span.start));
         }
-    }
-    let column = if value.name == "?column?" {
-        name.to_owned()
-    } else {
-        value.name
-    };
-    Ok(Item {
-        name: column,
-        oid,
-        expression: value.expression,
     })
 }
 
-/// Returns the empty result of a query for the types of an extension, which drivers send at a connect.
+/// Checks that an expression is a value that can be told without reading anything.
 ///
-/// `from` is the place of its FROM. None: it is another query.
-pub fn known_query(cursor: &Cursor<'_>, from: usize) -> Option<EmptyResult> {
-    let text = cursor.text();
-    let tokens = cursor.tokens();
-    let of_types = tokens[from..].iter().any(|token| token.is(text, "pg_type"));
-    let of_one_name = tokens[from..].iter().any(|token| {
-        token.is(text, "to_regtype") || token.text(text).eq_ignore_ascii_case("'hstore'")
-    });
-    if !of_types || !of_one_name {
-        return None;
-    }
-    let mut columns = Vec::new();
-    let mut depth = 0_usize;
-    for place in 1..from {
-        let ends = |token: &crate::statement::lexer::Token| token.is_symbol(b',');
-        match tokens[place].kind {
-            TokenKind::Symbol(b'(') => depth += 1,
-            TokenKind::Symbol(b')') => depth = depth.saturating_sub(1),
-            _ => {}
+/// # Errors
+///
+/// Fails if it isn't.
+pub fn check(expression: &Expression, verb: Verb) -> Result<(), Failure> {
+    match &expression.kind {
+        ExpressionKind::Null
+        | ExpressionKind::Boolean(_)
+        | ExpressionKind::Number(_)
+        | ExpressionKind::Text(_)
+        | ExpressionKind::Parameter(_) => Ok(()),
+        ExpressionKind::Unary(sign, operand) if is_sign(sign) => check(operand, verb),
+        ExpressionKind::Cast(operand, to) => {
+            cast_to(to)?;
+            check(operand, verb)
         }
-        let is_last = place + 1 == from || (depth == 0 && ends(&tokens[place + 1]));
-        if is_last && tokens[place].is_name() {
-            let name = literal::name(text, &tokens[place]);
-            let oid = if name.ends_with("oid") || name == "typarray" {
-                oid::OID
-            } else {
-                oid::TEXT
-            };
-            columns.push((name, oid));
+        ExpressionKind::Column(names) => {
+            let name = names.last().map_or("", |name| name.text.as_str());
+            let what = format!("column \"{}\" in place of a value", name);
+            Err(verb.missing(&what, expression.span.start))
         }
+        _ => Err(verb.missing("an expression in place of a value", expression.span.start)),
     }
-    Some(EmptyResult { columns })
 }
 
-#[cfg(test)]
-mod tests {
-    use super::*;
-    use crate::statement::lexer::next_statement;
-    use crate::statement::{classify, Command};
+fn is_sign(operator: &str) -> bool {
+    matches!(operator, "-" | "+")
+}
 
-    fn columns(text: &str) -> Vec<(String, Oid, Expression)> {
-        let (mut at, mut tokens) = (0, Vec::new());
-        next_statement(text, &mut at, &mut tokens).unwrap();
-        match classify(text, &tokens) {
-            Ok(Command::Constant(items)) => items
-                .into_iter()
-                .map(|item| (item.name, item.oid, item.expression))
-                .collect(),
-            other => panic!("{:?}", other),
+/// Returns whether an expression is a value that can be told without reading anything.
+pub fn is_constant(expression: &Expression) -> bool {
+    check(expression, Verb::Select).is_ok()
+}
+
+/// Returns whether a value is a number, whatever its column is.
+pub fn is_number(expression: &Expression, types: &[Oid]) -> bool {
+    matches!(
+        type_of(expression, types).0,
+        oid::INT2 | oid::INT4 | oid::INT8 | oid::NUMERIC
+    )
+}
+
+/// Returns the type of a value, and its modifier, or -1. A text in quotes is `unknown`.
+pub fn type_of(expression: &Expression, types: &[Oid]) -> (Oid, i32) {
+    let oid = match &expression.kind {
+        ExpressionKind::Boolean(_) => oid::BOOL,
+        ExpressionKind::Number(written) => number_type(written),
+        ExpressionKind::Parameter(number) => types
+            .get(usize::from(*number) - 1)
+            .copied()
+            .unwrap_or(oid::UNKNOWN),
+        ExpressionKind::Unary(sign, operand) => match &operand.kind {
+            ExpressionKind::Number(written) => number_type(&format!("{}{}", sign, written)),
+            _ => type_of(operand, types).0,
+        },
+        ExpressionKind::Cast(_, to) => match cast_to(to) {
+            Ok(CastTo::Integer(oid)) => oid,
+            Ok(CastTo::Numeric(None)) => oid::NUMERIC,
+            Ok(CastTo::Numeric(Some((precision, scale)))) => {
+                return (oid::NUMERIC, (precision << 16 | scale) + 4);
+            }
+            Ok(CastTo::Varchar(length)) => {
+                let modifier = length.and_then(|length| i32::try_from(length + 4).ok());
+                return (oid::VARCHAR, modifier.unwrap_or(-1));
+            }
+            _ => oid::TEXT,
+        },
+        _ => oid::UNKNOWN,
+    };
+    (oid, -1)
+}
+
+/// Returns the type of a number as it is written.
+fn number_type(written: &str) -> Oid {
+    let written = written.strip_prefix('+').unwrap_or(written);
+    if written.parse::<i32>().is_ok() {
+        oid::INT4
+    } else if written.parse::<i64>().is_ok() {
+        oid::INT8
+    } else {
+        oid::NUMERIC
+    }
+}
+
+/// Returns the type that a cast gives a parameter. None: the type follows from elsewhere.
+pub fn parameter_cast(to: &TypeName) -> Option<Oid> {
+    Some(match cast_to(to).ok()? {
+        CastTo::Integer(oid) => oid,
+        CastTo::Numeric(_) => oid::NUMERIC,
+        CastTo::Text => oid::TEXT,
+        CastTo::Varchar(_) => oid::VARCHAR,
+    })
+}
+
+/// Returns the value of an expression that passed [`check`].
+///
+/// # Errors
+///
+/// Fails if a cast does, or at a number with too many digits.
+pub fn evaluate(expression: &Expression, input: Input<'_>) -> Result<Datum, Failure> {
+    let place = expression.span.start;
+    match &expression.kind {
+        ExpressionKind::Boolean(value) => Ok(Datum::Boolean(*value)),
+        ExpressionKind::Number(written) => number(written, place),
+        ExpressionKind::Text(text) => Ok(Datum::Unknown(text.clone())),
+        ExpressionKind::Parameter(number) => parameter(*number, input, place),
+        ExpressionKind::Unary(sign, operand) => {
+            signed(sign, operand, input).map_err(|report| at(report, expression.span))
         }
+        ExpressionKind::Cast(operand, to) => {
+            let datum = evaluate(operand, input)?;
+            cast(datum, cast_to(to)?).map_err(|report| at(report, operand.span))
+        }
+        _ => Ok(Datum::Null),
     }
+}
 
-    fn literal(name: &str, oid: Oid, value: &str) -> (String, Oid, Expression) {
-        (name.to_owned(), oid, Expression::Literal(value.to_owned()))
+fn at(report: Failure, span: Span) -> Failure {
+    if report.place.is_some() {
+        report
+    } else {
+        report.at(span.start)
     }
+}
 
-    #[test]
-    fn names_and_types_are_those_of_postgresql_15() {
-        assert_eq!(columns("SELECT 1"), [literal("?column?", oid::INT4, "1")]);
-        assert_eq!(
-            columns("SELECT -2147483649 AS a, 1.50 b, .5, 'it''s', true"),
-            [
-                literal("a", oid::INT8, "-2147483649"),
-                literal("b", oid::NUMERIC, "1.50"),
-                literal("?column?", oid::NUMERIC, "0.5"),
-                literal("?column?", oid::TEXT, "it's"),
-                literal("bool", oid::BOOL, "t"),
-            ]
-        );
-        assert_eq!(
-            columns(
-                "SELECT CAST('test plain returns' AS VARCHAR(60)) AS anon_1, '5'::int4, 'a'::text"
-            ),
-            [
-                literal("anon_1", oid::VARCHAR, "test plain returns"),
-                literal("int4", oid::INT4, "5"),
-                literal("text", oid::TEXT, "a"),
-            ]
-        );
+fn number(written: &str, place: usize) -> Result<Datum, Failure> {
+    let oid = number_type(written);
+    match (oid, written.strip_prefix('+').unwrap_or(written).parse()) {
+        (oid::INT4 | oid::INT8, Ok(integer)) => Ok(Datum::Integer(integer, oid)),
+        _ => match Decimal::parse(written) {
+            Some(decimal) => Ok(Datum::Numeric(decimal)),
+            None => Err(value::out_of_range(written).at(place)),
+        },
     }
+}
 
-    #[test]
-    fn knows_what_drivers_ask() {
-        let name = |name: &str, oid, expression| vec![(name.to_owned(), oid, expression)];
-        assert_eq!(
-            columns("select pg_catalog.version()"),
-            name("version", oid::TEXT, Expression::Version)
-        );
-        assert_eq!(
-            columns("select current_schema()"),
-            name("current_schema", oid::NAME, Expression::Schema)
-        );
-        assert_eq!(
-            columns("SELECT current_setting('search_path')"),
-            name(
-                "current_setting",
-                oid::TEXT,
-                Expression::Setting("search_path".to_owned())
-            )
-        );
-        assert_eq!(
-            columns("SELECT session_user"),
-            name("session_user", oid::NAME, Expression::User)
-        );
-    }
+/// Makes the report of a parameter that the message lacks.
+pub fn no_parameter(number: u16, place: usize) -> Failure {
+    let text = format!("there is no parameter ${}", number);
+    Report::error(SqlState::UNDEFINED_PARAMETER, text).at(place)
+}
 
-    #[test]
-    fn the_type_of_an_extension_is_taken_empty() {
-        for (text, expected) in [
-            (
-                "SELECT t.oid, typarray FROM pg_type t JOIN pg_namespace ns ON typnamespace = ns.oid \
-                 WHERE typname = 'hstore'",
-                vec![("oid", oid::OID), ("typarray", oid::OID)],
-            ),
-            (
-                "SELECT typname AS name, oid, typarray AS array_oid, oid::regtype::text AS regtype, \
-                 typdelim AS delimiter FROM pg_type t WHERE t.oid = to_regtype($1) ORDER BY t.oid",
-                vec![
-                    ("name", oid::TEXT),
-                    ("oid", oid::OID),
-                    ("array_oid", oid::OID),
-                    ("regtype", oid::TEXT),
-                    ("delimiter", oid::TEXT),
-                ],
-            ),
-        ] {
-            let (mut at, mut tokens) = (0, Vec::new());
-            next_statement(text, &mut at, &mut tokens).unwrap();
-            match classify(text, &tokens) {
-                Ok(Command::Empty(result)) => {
-                    let columns: Vec<(&str, Oid)> =
-                        result.columns.iter().map(|(name, oid)| (name.as_str(), *oid)).collect();
-                    assert_eq!(columns, expected);
-                }
-                other => panic!("{:?}", other),
+fn parameter(number: u16, input: Input<'_>, place: usize) -> Result<Datum, Failure> {
+    let index = usize::from(number) - 1;
+    let value = input
+        .values
+        .get(index)
+        .ok_or_else(|| no_parameter(number, place))?;
+    let oid = input.types.get(index).copied().unwrap_or(oid::UNKNOWN);
+    Ok(match value {
+        Value::Null => Datum::Null,
+        Value::Text(text) if oid == oid::UNKNOWN => Datum::Unknown(text.clone()),
+        Value::Text(text) => Datum::Text(text.clone(), oid),
+        Value::Number(number) => {
+            let written = number.to_string();
+            match (oid, written.parse()) {
+                (oid::INT2 | oid::INT4 | oid::INT8, Ok(integer)) => Datum::Integer(integer, oid),
+                _ => match Decimal::parse(&written) {
+                    Some(decimal) => Datum::Numeric(decimal),
+                    None => return Err(value::out_of_range(&written).at(place)),
+                },
             }
         }
+    })
+}
+
+fn signed(sign: &str, operand: &Expression, input: Input<'_>) -> Result<Datum, Failure> {
+    if let ExpressionKind::Number(written) = &operand.kind {
+        return number(&format!("{}{}", sign, written), operand.span.start);
     }
+    let datum = evaluate(operand, input)?;
+    let is_minus = sign == "-";
+    Ok(match datum {
+        Datum::Integer(integer, oid) if is_minus => {
+            let negated = integer
+                .checked_neg()
+                .filter(|negated| is_in_range(*negated, oid));
+            Datum::Integer(negated.ok_or_else(|| out_of_type(oid))?, oid)
+        }
+        Datum::Numeric(decimal) if is_minus => Datum::Numeric(decimal.negated()),
+        Datum::Integer(..) | Datum::Numeric(_) | Datum::Null => datum,
+        Datum::Unknown(_) => return Err(sign_of_unknown(sign)),
+        datum => {
+            let text = format!(
+                "operator does not exist: {} {}",
+                sign,
+                type_name(datum.oid())
+            );
+            return Err(no_operator(text));
+        }
+    })
+}
+
+/// Makes the report of a sign in front of a text, or of a parameter whose type nothing tells.
+pub fn sign_of_unknown(sign: &str) -> Failure {
+    let text = format!("operator is not unique: {} unknown", sign);
+    let hint =
+        "Could not choose a best candidate operator. You might need to add explicit type casts.";
+    Report::error(SqlState::AMBIGUOUS_FUNCTION, text).hint(hint)
+}
+
+fn no_operator(text: String) -> Failure {
+    Report::error(SqlState::UNDEFINED_FUNCTION, text).hint(
+        "No operator matches the given name and argument types. You might need to add explicit type casts.",
+    )
+}
+
+fn is_in_range(integer: i64, oid: Oid) -> bool {
+    match oid {
+        oid::INT2 => i16::try_from(integer).is_ok(),
+        oid::INT4 => i32::try_from(integer).is_ok(),
+        _ => true,
+    }
+}
+
+fn out_of_type(oid: Oid) -> Failure {
+    let text = format!("{} out of range", type_name(oid));
+    Report::error(SqlState::NUMBER_OUT_OF_RANGE, text)
+}
+
+/// Returns the name of a type as PostgreSQL's texts have it.
+pub fn type_name(oid: Oid) -> &'static str {
+    match oid {
+        oid::BOOL => "boolean",
+        oid::INT2 => "smallint",
+        oid::INT4 => "integer",
+        oid::INT8 => "bigint",
+        oid::NUMERIC => "numeric",
+        oid::VARCHAR => "character varying",
+        oid::BPCHAR => "character",
+        oid::NAME => "name",
+        oid::TEXT => "text",
+        _ => "unknown",
+    }
+}
+
+fn cast(datum: Datum, to: CastTo) -> Result<Datum, Failure> {
+    let text = match (&datum, to) {
+        (Datum::Null, _) => return Ok(datum),
+        (Datum::Boolean(_), _) => return Err(Report::missing("a cast of a boolean")),
+        (Datum::Integer(integer, _), CastTo::Integer(oid)) => {
+            return if is_in_range(*integer, oid) {
+                Ok(Datum::Integer(*integer, oid))
+            } else {
+                Err(out_of_type(oid))
+            };
+        }
+        (Datum::Numeric(decimal), CastTo::Integer(oid)) => {
+            let rounded = decimal
+                .rounded()
+                .filter(|rounded| is_in_range(*rounded, oid));
+            let rounded = rounded.ok_or_else(|| out_of_type(oid))?;
+            return Ok(Datum::Integer(rounded, oid));
+        }
+        (Datum::Integer(integer, _), CastTo::Numeric(size)) => {
+            return sized(Decimal::from(*integer), size);
+        }
+        (Datum::Numeric(decimal), CastTo::Numeric(size)) => return sized(*decimal, size),
+        _ => datum.text().unwrap_or_default(),
+    };
+    Ok(match to {
+        CastTo::Integer(oid) => Datum::Integer(value::integer(oid, &text)?, oid),
+        CastTo::Numeric(size) => match Decimal::parse(text.trim()) {
+            Some(decimal) => return sized(decimal, size),
+            None => return Err(value::no_number(&text)),
+        },
+        CastTo::Varchar(Some(length)) => {
+            Datum::Text(text.chars().take(length).collect(), oid::VARCHAR)
+        }
+        CastTo::Varchar(None) => Datum::Text(text, oid::VARCHAR),
+        CastTo::Text => Datum::Text(text, oid::TEXT),
+    })
+}
+
+/// Returns a number of a type with precision and scale.
+fn sized(decimal: Decimal, size: Option<(i32, i32)>) -> Result<Datum, Failure> {
+    let (precision, scale) = match size {
+        Some(size) => size,
+        None => return Ok(Datum::Numeric(decimal)),
+    };
+    let rounded = decimal
+        .with_scale(scale as u32)
+        .filter(|rounded| rounded.digits_in_front() as i32 <= precision - scale);
+    rounded.map(Datum::Numeric).ok_or_else(|| {
+        let detail = format!(
+            "A field with precision {}, scale {} must round to an absolute value less than {}.",
+            precision,
+            scale,
+            if precision == scale {
+                "1".to_owned()
+            } else {
+                format!("10^{}", precision - scale)
+            }
+        );
+        Report::error(SqlState::NUMBER_OUT_OF_RANGE, "numeric field overflow").detail(detail)
+    })
+}
+
+impl Datum {
+    /// Returns the value as PostgreSQL prints it. None: NULL.
+    pub fn text(&self) -> Option<String> {
+        Some(match self {
+            Datum::Null => return None,
+            Datum::Boolean(true) => "t".to_owned(),
+            Datum::Boolean(false) => "f".to_owned(),
+            Datum::Integer(integer, _) => integer.to_string(),
+            Datum::Numeric(decimal) => decimal.to_string(),
+            Datum::Unknown(text) | Datum::Text(text, _) => text.clone(),
+        })
+    }
+
+    fn oid(&self) -> Oid {
+        match self {
+            Datum::Null | Datum::Unknown(_) => oid::UNKNOWN,
+            Datum::Boolean(_) => oid::BOOL,
+            Datum::Numeric(_) => oid::NUMERIC,
+            Datum::Integer(_, oid) | Datum::Text(_, oid) => *oid,
+        }
+    }
+
+    /// Returns the value as the program takes it for a column. Without the column it has to be a number.
+    ///
+    /// # Errors
+    ///
+    /// Fails if the column's type does not take the value's, or if it is NULL.
+    pub fn fit(self, column: Option<&DefinedColumn>, usage: Usage) -> Result<Value, Failure> {
+        let is_number = matches!(self, Datum::Integer(..) | Datum::Numeric(_));
+        match (column, &self) {
+            (_, Datum::Null) => Err(null_value()),
+            (None, _) => self.value(),
+            (Some(column), Datum::Boolean(_)) => Err(mismatch(column, usage, self.oid())),
+            (Some(column), _) => match (column.column_type, &self) {
+                (ColumnType::Text { .. }, _) if is_number && usage == Usage::Compared => {
+                    Err(mismatch(column, usage, self.oid()))
+                }
+                (ColumnType::Text { .. }, _) if is_number => {
+                    let text = format!("column \"{}\" takes a text in quotes", column.name);
+                    let report = Report::error(SqlState::INVALID_PARAMETER_VALUE, text);
+                    Err(report.column(column.name.as_str()))
+                }
+                (ColumnType::Number { .. }, Datum::Unknown(text)) => {
+                    value::number(column.result_column().oid, text).map(Value::Number)
+                }
+                (ColumnType::Number { .. }, Datum::Text(_, oid)) => {
+                    Err(mismatch(column, usage, *oid))
+                }
+                _ => self.value(),
+            },
+        }
+    }
+
+    /// Returns the value as the program takes it, whatever the column.
+    fn value(self) -> Result<Value, Failure> {
+        match self {
+            Datum::Integer(integer, _) => Number::from_integer(integer)
+                .map(Value::Number)
+                .map_err(|_| value::out_of_range(&integer.to_string())),
+            Datum::Numeric(decimal) => {
+                let written = decimal.to_string();
+                Number::from_text(&written)
+                    .map(Value::Number)
+                    .map_err(|_| value::out_of_range(&written))
+            }
+            Datum::Unknown(text) | Datum::Text(text, _) => Ok(Value::Text(text)),
+            Datum::Boolean(_) => Err(Report::missing("a boolean")),
+            Datum::Null => Err(null_value()),
+        }
+    }
+}
+
+/// Makes the report of a value whose type a column doesn't take, in PostgreSQL's words.
+fn mismatch(column: &DefinedColumn, usage: Usage, oid: Oid) -> Failure {
+    let of_column = type_name(column.result_column().oid);
+    let sign = match usage {
+        Usage::Assigned => {
+            let text = format!(
+                "column \"{}\" is of type {} but expression is of type {}",
+                column.name,
+                of_column,
+                type_name(oid)
+            );
+            let report = Report::error(SqlState::DATATYPE_MISMATCH, text);
+            return report.hint("You will need to rewrite or cast the expression.");
+        }
+        Usage::Changed => "+",
+        Usage::Compared => "=",
+    };
+    no_operator(format!(
+        "operator does not exist: {} {} {}",
+        of_column,
+        sign,
+        type_name(oid)
+    ))
+}
+
+/// Makes the report of a NULL, which no column takes.
+pub fn null_value() -> Failure {
+    let text = "NULL is not allowed in any column";
+    Report::error(SqlState::NOT_NULL_VIOLATION, text).hint("Every column is NOT NULL.")
+}
+
+/// Returns the value of an expression as the program takes it for a column.
+///
+/// # Errors
+///
+/// Fails at its place if the column doesn't take it.
+pub fn value_for(
+    expression: &Expression,
+    input: Input<'_>,
+    column: Option<&DefinedColumn>,
+    usage: Usage,
+) -> Result<Value, Failure> {
+    let datum = evaluate(expression, input)?;
+    datum
+        .fit(column, usage)
+        .map_err(|report| at(report, expression.span))
 }

@@ -3,19 +3,13 @@
 use std::borrow::Cow;
 
 use crate::sqlstate::{Failure, Report, SqlState};
-use crate::statement::lexer::{Token, TokenKind};
 use crate::statement::parser;
 
 /// The most bytes of a name, as in PostgreSQL. Longer ones are cut.
 pub const LONGEST_NAME: usize = 63;
 
-/// Returns a name as PostgreSQL means it: in lower case unless it is in quotes, and cut to 63 bytes.
-pub fn name(text: &str, token: &Token) -> String {
-    let written = token.text(text);
-    folded(written, token.kind == TokenKind::QuotedName)
-}
-
-/// Returns a name as PostgreSQL means it, from how it is written.
+/// Returns a name as PostgreSQL means it, from how it is written: in lower case unless it is in quotes, and cut to 63
+/// bytes.
 pub fn folded(written: &str, is_quoted: bool) -> String {
     let mut name = if is_quoted {
         written[1..written.len() - 1].replace("\"\"", "\"")
@@ -30,21 +24,6 @@ pub fn folded(written: &str, is_quoted: bool) -> String {
         name.truncate(end);
     }
     name
-}
-
-/// Returns the text that a text token means.
-///
-/// # Errors
-///
-/// Fails if an escape of `E'..'` is none, or stands for no character.
-pub fn text_value(text: &str, token: &Token) -> Result<String, Failure> {
-    let written = token.text(text);
-    match token.kind {
-        TokenKind::EscapedText => {
-            unescape(&written[2..written.len() - 1]).map_err(|report| report.at(token.start))
-        }
-        _ => Ok(written[1..written.len() - 1].replace("''", "'")),
-    }
 }
 
 /// Returns the delimiter of a text in dollar quotes with which `text` begins: `$$`, `$tag$`. None: there is none.
@@ -257,28 +236,26 @@ pub fn append_text(out: &mut Vec<u8>, value: &str) -> Result<(), Failure> {
 #[cfg(test)]
 mod tests {
     use super::*;
-    use crate::statement::lexer::next_statement;
-
-    fn first(text: &str) -> Token {
-        let (mut at, mut tokens) = (0, Vec::new());
-        next_statement(text, &mut at, &mut tokens).unwrap();
-        tokens[0]
-    }
-
     fn value(text: &str) -> Result<String, Failure> {
-        text_value(text, &first(text))
+        let tokens = parser::lexer::next_statement(text, &mut 0).unwrap();
+        text_of(tokens.list[0].kind, text)
     }
 
     #[test]
     fn names_are_folded_unless_quoted_and_cut_to_63_bytes() {
-        let name = |text: &str| name(text, &first(text));
-        assert_eq!(name("Account"), "account");
-        assert_eq!(name("\"Account \"\"x\"\"\""), "Account \"x\"");
-        assert_eq!(name(&"a".repeat(70)), "a".repeat(63));
-        assert_eq!(
-            name(&format!("\"{}\"", "\u{e4}".repeat(40))),
-            "\u{e4}".repeat(31)
-        );
+        assert_eq!(folded("Account", false), "account");
+        assert_eq!(folded("\"Account \"\"x\"\"\"", true), "Account \"x\"");
+        assert_eq!(folded(&"a".repeat(70), false), "a".repeat(63));
+        let long = format!("\"{}\"", "\u{e4}".repeat(40));
+        assert_eq!(folded(&long, true), "\u{e4}".repeat(31));
+    }
+
+    #[test]
+    fn texts_go_on_on_another_line() {
+        let continued = "'it''s' -- it's\n  'a''b'";
+        assert_eq!(value(continued).unwrap(), "it'sa'b");
+        assert_eq!(value("E'\\x41'\r\n'\\x42'").unwrap(), "AB");
+        assert_eq!(value("$a$ ' $$ \\n$a$").unwrap(), " ' $$ \\n");
     }
 
     #[test]

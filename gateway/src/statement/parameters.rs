@@ -1,106 +1,136 @@
 //! What the parameters of a statement stand for.
 
-use crate::rows::Definition;
-use crate::statement::lexer::{Token, TokenKind};
-use crate::statement::literal;
-use crate::statement::Verb;
-use crate::value::oid;
-use crate::wire::backend::Format;
 use postgres_protocol::Oid;
+
+use crate::rows::Definition;
+use crate::sqlstate::{Failure, Report, SqlState};
+use crate::statement::constant;
+use crate::statement::parser::lexer::Token;
+use crate::statement::parser::TokenKind;
+use crate::statement::query::{Expression, ExpressionKind};
+use crate::statement::select::{Shown, What};
+use crate::statement::served::{Served, Show, Update};
+use crate::statement::Statement;
+use crate::value::oid;
 
 /// What a parameter stands for.
 #[derive(Clone, Debug, PartialEq, Eq)]
 pub enum Place {
-    /// A value of this column.
+    /// A value of this column, or what is added to it.
     Column(String),
-    /// What is added to this column or taken from it.
-    Change(String),
+    /// What this column is compared with.
+    Compared(String),
     /// The value at this place of an INSERT that lists no columns.
     Inserted(usize),
-    /// Nothing that is known.
-    Unknown,
+    /// What is cast to this type.
+    Cast(Oid),
+    /// How many rows: LIMIT, OFFSET.
+    Bound,
+    /// What has a sign in front, at this byte: so its type follows from nothing.
+    Signed(usize),
+    /// A value by itself, or one of a query that reads no table.
+    Alone,
     /// Nothing: the text doesn't have it.
     Unused,
 }
 
 /// Returns what `$1`, `$2` and so on stand for.
-pub fn places(text: &str, tokens: &[Token], verb: Verb) -> Vec<Place> {
-    let mut places = Vec::new();
-    for (at, token) in tokens.iter().enumerate() {
-        if let TokenKind::Parameter(number) = token.kind {
-            let number = usize::from(number);
-            if places.len() < number {
-                places.resize(number, Place::Unused);
-            }
-            if matches!(places[number - 1], Place::Unused | Place::Unknown) {
-                places[number - 1] = match verb {
-                    Verb::Insert => inserted(text, tokens, at),
-                    _ => compared(text, tokens, at),
-                };
+pub fn places(statement: &Statement, tokens: &[Token]) -> Vec<Place> {
+    let numbers = tokens.iter().filter_map(|token| match token.kind {
+        TokenKind::Parameter(number) => Some(usize::from(number)),
+        _ => None,
+    });
+    let count = match numbers.max() {
+        Some(count) => count,
+        None => return Vec::new(),
+    };
+    let mut places = vec![Place::Unused; count];
+    match statement {
+        Statement::Served(served) => note_served(&mut places, served),
+        Statement::Declare(cursor) => match &*cursor.read {
+            Statement::Served(served) => note_served(&mut places, served),
+            _ => places.fill(Place::Alone),
+        },
+        Statement::Query(_) => {
+            for token in tokens {
+                if let TokenKind::Parameter(number) = token.kind {
+                    places[usize::from(number) - 1] = Place::Alone;
+                }
             }
         }
+        _ => {}
     }
     places
 }
 
-/// What a parameter behind `column =` or behind `column +` stands for.
-fn compared(text: &str, tokens: &[Token], at: usize) -> Place {
-    let mut signs = 0;
-    for token in tokens[..at].iter().rev() {
-        match token.kind {
-            TokenKind::Symbol(b'(') => {}
-            TokenKind::Symbol(b'+' | b'-') => signs += 1,
-            TokenKind::Symbol(b'=') => {
-                let before = tokens[..at].iter().rposition(|token| token.is_symbol(b'='));
-                return match before.and_then(|equal| tokens[..equal].last()) {
-                    Some(token) if token.is_name() => Place::Column(literal::name(text, token)),
-                    _ => Place::Unknown,
-                };
-            }
-            TokenKind::Word | TokenKind::QuotedName if signs > 0 => {
-                return Place::Change(literal::name(text, token));
-            }
-            _ => return Place::Unknown,
+fn note_served(places: &mut [Place], served: &Served) {
+    if let Some(keys) = served.keys() {
+        for value in &keys.values {
+            let column = keys.column.text.clone();
+            // Several members have the type of what they are compared with.
+            let place = match keys.values.len() {
+                1 => Place::Compared(column),
+                _ => Place::Column(column),
+            };
+            note(places, value, place);
         }
     }
-    Place::Unknown
-}
-
-/// What a parameter among the values of an INSERT stands for.
-fn inserted(text: &str, tokens: &[Token], at: usize) -> Place {
-    let values = match tokens.iter().position(|token| token.is(text, "VALUES")) {
-        Some(values) if values < at => values,
-        _ => return Place::Unknown,
-    };
-    let place = commas(&tokens[values..at]);
-    let listed: Vec<&Token> = match tokens[..values]
-        .iter()
-        .position(|token| token.is_symbol(b'('))
-    {
-        Some(open) => tokens[open..values]
-            .iter()
-            .filter(|token| token.is_name())
-            .collect(),
-        None => return Place::Inserted(place),
-    };
-    match listed.get(place) {
-        Some(token) => Place::Column(literal::name(text, token)),
-        None => Place::Unknown,
+    match served {
+        Served::Select(select) => {
+            note_shown(places, &select.shown);
+            for bound in select.bounds() {
+                note(places, bound, Place::Bound);
+            }
+        }
+        Served::Insert(insert) => {
+            for row in &insert.rows {
+                for (at, value) in row.iter().enumerate() {
+                    let place = match insert.columns.get(at) {
+                        Some(column) => Place::Column(column.text.clone()),
+                        None => Place::Inserted(at),
+                    };
+                    note(places, value, place);
+                }
+            }
+        }
+        Served::Update(Update { assignments, .. }) => {
+            for assignment in assignments {
+                let place = Place::Column(assignment.column.text.clone());
+                note(places, &assignment.value, place);
+            }
+        }
+        Served::Delete(_)
+        | Served::Define(_)
+        | Served::Show(Show::Bounds(..))
+        | Served::Show(_) => {}
     }
+    note_shown(places, served.returning());
 }
 
-/// Returns how many commas are between the values, and not inside of one.
-fn commas(tokens: &[Token]) -> usize {
-    let (mut depth, mut count) = (0_usize, 0);
-    for token in tokens {
-        match token.kind {
-            TokenKind::Symbol(b'(') => depth += 1,
-            TokenKind::Symbol(b')') => depth = depth.saturating_sub(1),
-            TokenKind::Symbol(b',') if depth == 1 => count += 1,
-            _ => {}
+fn note_shown(places: &mut [Place], shown: &[Shown]) {
+    for shown in shown {
+        if let What::Constant(expression) = &shown.what {
+            note(places, expression, Place::Alone);
         }
     }
-    count
+}
+
+/// Notes what the parameter of a value stands for, if it is one and nothing is known of it before.
+fn note(places: &mut [Place], value: &Expression, place: Place) {
+    match &value.kind {
+        ExpressionKind::Parameter(number) => {
+            let known = &mut places[usize::from(*number) - 1];
+            if *known == Place::Unused {
+                *known = place;
+            }
+        }
+        ExpressionKind::Unary(_, operand) => note(places, operand, Place::Signed(value.span.start)),
+        ExpressionKind::Cast(operand, to) => {
+            let place = constant::parameter_cast(to).map_or(Place::Alone, Place::Cast);
+            note(places, operand, place);
+        }
+        _ => {}
+    }
 }
 
 /// Returns whether the client leaves a type open.
@@ -108,30 +138,48 @@ pub fn is_open(oid: Oid) -> bool {
     oid == oid::UNSPECIFIED || oid == oid::UNKNOWN
 }
 
-/// Returns whether the table's definition has to be known before a value of this type can be read.
-pub fn needs_definition(place: &Place, oid: Oid, format: Format) -> bool {
+/// Checks that the type of a parameter is told by the client or follows from its place.
+///
+/// # Errors
+///
+/// Fails if neither is so.
+pub fn check_type(number: usize, place: &Place, oid: Oid) -> Result<(), Failure> {
     match place {
-        _ if !is_open(oid) => false,
-        Place::Column(_) | Place::Inserted(_) => true,
-        // As text a change is a number, whatever its column.
-        Place::Change(_) => format == Format::Binary,
-        Place::Unknown | Place::Unused => false,
+        _ if !is_open(oid) => Ok(()),
+        Place::Signed(place) => Err(constant::sign_of_unknown("-").at(*place)),
+        Place::Unused => {
+            let text = format!("could not determine data type of parameter ${}", number);
+            Err(Report::error(SqlState::INDETERMINATE_TYPE, text))
+        }
+        _ => Ok(()),
     }
 }
 
-/// Returns the type of a parameter: the one that the client tells, otherwise that of its column.
+/// Returns whether the type of a parameter is that of a column, so that the table's definition has to be known.
+pub fn needs_definition(place: &Place, oid: Oid) -> bool {
+    is_open(oid)
+        && matches!(
+            place,
+            Place::Column(_) | Place::Compared(_) | Place::Inserted(_)
+        )
+}
+
+/// Returns the type of a parameter: the one that the client tells, otherwise the one that follows from its place.
 pub fn parameter_type(place: &Place, oid: Oid, definition: Option<&Definition>) -> Oid {
     if !is_open(oid) {
         return oid;
     }
     let column = definition.and_then(|definition| match place {
-        Place::Column(name) | Place::Change(name) => definition.column(name),
+        Place::Column(name) | Place::Compared(name) => definition.column(name),
         Place::Inserted(at) => definition.columns.get(*at),
-        Place::Unknown | Place::Unused => None,
+        _ => None,
     });
     match (column, place) {
+        // Texts of all types are compared as text.
+        (Some(column), Place::Compared(_)) if !column.is_number() => oid::TEXT,
         (Some(column), _) => column.result_column().oid,
-        (None, Place::Change(_)) => oid::NUMERIC,
+        (None, Place::Cast(oid)) => *oid,
+        (None, Place::Bound) => oid::INT8,
         (None, _) => oid::TEXT,
     }
 }
@@ -139,69 +187,53 @@ pub fn parameter_type(place: &Place, oid: Oid, definition: Option<&Definition>) 
 #[cfg(test)]
 mod tests {
     use super::*;
-    use crate::statement::lexer::next_statement;
-    use crate::statement::{classify, Command};
+    use crate::statement::parser::next_statement;
 
     fn places_of(text: &str) -> Vec<Place> {
-        let (mut at, mut tokens) = (0, Vec::new());
-        next_statement(text, &mut at, &mut tokens).unwrap();
-        match classify(text, &tokens).unwrap() {
-            Command::Program { verb, .. } => places(text, &tokens, verb),
-            command => panic!("{:?}", command),
-        }
+        next_statement(text, &mut 0).unwrap().unwrap().places
     }
 
     fn column(name: &str) -> Place {
         Place::Column(name.to_owned())
     }
 
-    fn change(name: &str) -> Place {
-        Place::Change(name.to_owned())
+    fn key() -> Place {
+        Place::Compared("id".to_owned())
     }
 
     #[test]
-    fn finds_the_column_of_each_parameter() {
-        assert_eq!(
-            places_of("UPDATE t SET Free = t.free - $2, \"Sold\" = sold + $3 WHERE id = $1"),
-            vec![column("id"), change("free"), change("sold")]
-        );
-        assert_eq!(
-            places_of("UPDATE t SET a = $1, b = -$2 WHERE id = ($3)"),
-            vec![column("a"), column("b"), column("id")]
-        );
-        assert_eq!(
-            places_of("UPDATE t SET a = (a - (-$1)) WHERE id = 1"),
-            vec![change("a")]
-        );
-        assert_eq!(places_of("DELETE FROM t WHERE id = $1"), vec![column("id")]);
-        assert_eq!(places_of("SHOW BOUNDS t WHERE id = $1"), vec![column("id")]);
-    }
-
-    #[test]
-    fn finds_the_places_of_an_insert() {
-        assert_eq!(
-            places_of("INSERT INTO t VALUES (($1::numeric(8, 2)), 'a,b', $2)"),
-            vec![Place::Inserted(0), Place::Inserted(2)]
-        );
-        assert_eq!(
-            places_of("INSERT INTO t (b, A) VALUES ($2, $1)"),
-            vec![column("a"), column("b")]
-        );
-        assert_eq!(
-            places_of("INSERT INTO t (b) VALUES (1, $1)"),
-            vec![Place::Unknown]
-        );
-    }
-
-    #[test]
-    fn a_number_that_is_left_out_is_unused() {
-        assert_eq!(
-            places_of("DELETE FROM t WHERE id = $2"),
-            vec![Place::Unused, column("id")]
-        );
-        assert_eq!(
-            places_of("DELETE FROM t WHERE $1 = id"),
-            vec![Place::Unknown]
-        );
+    fn finds_what_each_parameter_stands_for() {
+        for (text, expected) in [
+            (
+                "UPDATE t SET Free = t.free - $2, \"sold\" = sold + $3 WHERE id = $1",
+                vec![key(), column("free"), column("sold")],
+            ),
+            (
+                "UPDATE t SET a = (a - ($1)) WHERE $2 = (t.id)",
+                vec![column("a"), key()],
+            ),
+            (
+                "UPDATE t SET a = a - $1::int WHERE id = 1",
+                vec![Place::Cast(oid::INT4)],
+            ),
+            ("UPDATE t SET a = -$1 WHERE id = 1", vec![Place::Signed(17)]),
+            ("DELETE FROM t WHERE id = $2", vec![Place::Unused, key()]),
+            ("SHOW BOUNDS t WHERE id = $1", vec![key()]),
+            (
+                "INSERT INTO t VALUES (($1::numeric(8, 2)), 'a,b', $2)",
+                vec![Place::Cast(oid::NUMERIC), Place::Inserted(2)],
+            ),
+            (
+                "INSERT INTO t (b, A) VALUES ($2, $1)",
+                vec![column("a"), column("b")],
+            ),
+            (
+                "SELECT $1 FROM t WHERE id IN ($2, $3) LIMIT $4",
+                vec![Place::Alone, column("id"), column("id"), Place::Bound],
+            ),
+            ("SELECT $2", vec![Place::Unused, Place::Alone]),
+        ] {
+            assert_eq!(places_of(text), expected, "{}", text);
+        }
     }
 }

@@ -1,5 +1,7 @@
 //! Reads statements into trees, by the names and the rules of PostgreSQL's grammar (`gram.y` of version 15).
 
+mod command;
+mod definition;
 mod expression;
 mod keywords;
 pub mod lexer;
@@ -7,8 +9,9 @@ mod query;
 mod types;
 
 use crate::sqlstate::{Failure, Report, SqlState};
-use crate::statement::literal;
+use crate::statement::parameters::{self, Place};
 use crate::statement::query::{Name, QualifiedName, Query, Span};
+use crate::statement::{literal, Parsed};
 pub use lexer::TokenKind;
 use lexer::{Token, Tokens};
 
@@ -43,6 +46,32 @@ pub fn parse_query(text: &str) -> Result<Query, Failure> {
     Ok(query)
 }
 
+/// Reads the next statement of `text`, from the byte `at`, and moves `at` behind it and its semicolon. None: there is none.
+///
+/// # Errors
+///
+/// Fails at what PostgreSQL's grammar doesn't have, and at what is missing here.
+pub fn next_statement(text: &str, at: &mut usize) -> Result<Option<Parsed>, Failure> {
+    let tokens = match lexer::next_statement(text, at) {
+        Some(tokens) => tokens,
+        None => return Ok(None),
+    };
+    let mut parser = Parser::new(text, &tokens);
+    let statement = parser.statement()?;
+    let places = parameters::places(&statement, &tokens.list);
+    let parameter = tokens.list.iter().find_map(|token| match token.kind {
+        TokenKind::Parameter(number) => Some((number, token.span.start)),
+        _ => None,
+    });
+    let size = parser.size + places.capacity() * std::mem::size_of::<Place>();
+    Ok(Some(Parsed {
+        statement,
+        places,
+        parameter,
+        size,
+    }))
+}
+
 impl<'a> Parser<'a> {
     /// Begins at the first token of a statement.
     pub fn new(text: &'a str, tokens: &'a Tokens) -> Parser<'a> {
@@ -53,11 +82,6 @@ impl<'a> Parser<'a> {
             depth: 0,
             size: 0,
         }
-    }
-
-    /// Returns how many bytes the trees take that it read: a bound from above, near the truth.
-    pub fn size(&self) -> usize {
-        self.size
     }
 
     /// Returns the next token.

@@ -3,6 +3,7 @@
 use postgres_protocol::Oid;
 
 use crate::sqlstate::Report;
+use crate::value::oid;
 
 /// What ReadyForQuery tells of the transaction.
 #[derive(Clone, Copy, Debug, PartialEq, Eq)]
@@ -35,6 +36,26 @@ pub struct Column {
     pub size: i16,
     /// The type's modifier; -1: none.
     pub modifier: i32,
+}
+
+impl Column {
+    /// Makes a column of a type without a modifier.
+    pub fn plain(name: &str, oid: Oid) -> Column {
+        let size = match oid {
+            oid::BOOL => 1,
+            oid::INT2 => 2,
+            oid::INT4 | oid::OID => 4,
+            oid::INT8 => 8,
+            oid::NAME => 64,
+            _ => -1,
+        };
+        Column {
+            name: name.to_owned(),
+            oid,
+            size,
+            modifier: -1,
+        }
+    }
 }
 
 /// Writes a message of this kind; `body` writes what is behind the length.

@@ -3,6 +3,7 @@
 use super::*;
 use crate::activity::{Activity, Clock, State};
 use crate::connection::work::{Completed, Subject, Target};
+use crate::statement::Statement;
 use std::time::SystemTime;
 
 impl Client {
@@ -130,9 +131,10 @@ fn a_connection_is_active_up_to_its_sync() {
 fn the_engine_tells_what_all_connections_do() {
     let mut client = Client::connected();
     client.connection.query = None;
+    let subject = Subject::Simple(Rc::new(Statement::ShowAll));
     client
         .connection
-        .ask_activities(Target::Simple, Subject::Simple, |it, all| {
+        .ask_activities(Target::Simple, subject, |it, all| {
             it.terminate(all[0].process_id);
             Ok(Completed::plain("SELECT"))
         });

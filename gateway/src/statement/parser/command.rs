@@ -1,0 +1,705 @@
+//! Statements (manual, SQL Commands), with those of the program and without the queries.
+
+use crate::sqlstate::{Failure, Report};
+use crate::statement::parser::{keywords, Parser, TokenKind};
+use crate::statement::query::{Expression, ExpressionKind, Name, QualifiedName};
+use crate::statement::select::Shown;
+use crate::statement::served::{
+    returned, Assignment, Delete, Insert, Keys, Served, Show, Table, Update, Verb,
+};
+use crate::statement::session::{Isolation, Modes, Setting};
+use crate::statement::{constant, relations, Cursor, Discard, Statement, Step};
+
+impl<'a> Parser<'a> {
+    /// Reads a statement to its end.
+    pub(super) fn statement(&mut self) -> Result<Statement, Failure> {
+        let statement = self.unended()?;
+        self.expect_end()?;
+        Ok(statement)
+    }
+
+    fn unended(&mut self) -> Result<Statement, Failure> {
+        let word = match self.peek().map(|token| token.kind) {
+            Some(TokenKind::Symbol(b'(')) => return self.read(),
+            Some(TokenKind::Word) => self.word().unwrap_or("").to_ascii_uppercase(),
+            _ => return Err(self.fault()),
+        };
+        match word.as_str() {
+            "SELECT" | "VALUES" | "WITH" | "TABLE" => return self.read(),
+            _ => self.at += 1,
+        }
+        let start = self.tokens.list[0].span.start;
+        match word.as_str() {
+            "UPDATE" => self.update(),
+            "INSERT" => self.insert(),
+            "DELETE" => self.delete(),
+            "BEGIN" => {
+                self.keyword_of(&["WORK", "TRANSACTION"]);
+                let modes = self.modes()?;
+                Ok(Statement::Begin {
+                    start: false,
+                    modes,
+                })
+            }
+            "START" => {
+                self.expect_keyword("TRANSACTION")?;
+                let modes = self.modes()?;
+                Ok(Statement::Begin { start: true, modes })
+            }
+            "COMMIT" | "END" => {
+                self.refuse_two_phases(start)?;
+                self.keyword_of(&["WORK", "TRANSACTION"]);
+                let chain = self.chain()?;
+                Ok(Statement::Commit { chain })
+            }
+            "ROLLBACK" | "ABORT" => self.rollback(start, word == "ROLLBACK"),
+            "SAVEPOINT" => self.name().map(Statement::Savepoint),
+            "RELEASE" => {
+                self.optional_word("SAVEPOINT");
+                self.name().map(Statement::Release)
+            }
+            "SHOW" => self.show(),
+            "SET" => self.set(),
+            "RESET" => {
+                if self.keyword("ALL") {
+                    return Ok(Statement::ResetAll);
+                }
+                let name = self.shown_name()?;
+                Ok(Statement::Set(Setting {
+                    name,
+                    value: None,
+                    local: false,
+                    reset: true,
+                }))
+            }
+            "CREATE" => self.create(start),
+            "ALTER" => self.alter(start),
+            "DROP" => self.drop(start),
+            "DISCARD" => {
+                let what = self.keyword_of(&["ALL", "PLANS", "SEQUENCES", "TEMP", "TEMPORARY"]);
+                Ok(Statement::Discard(match what {
+                    Some("ALL") => Discard::All,
+                    Some("PLANS") => Discard::Plans,
+                    Some("SEQUENCES") => Discard::Sequences,
+                    Some(_) => Discard::Temporary,
+                    None => return Err(self.fault()),
+                }))
+            }
+            "DEALLOCATE" => {
+                self.optional_word("PREPARE");
+                if self.keyword("ALL") {
+                    return Ok(Statement::Deallocate(None));
+                }
+                self.name().map(Some).map(Statement::Deallocate)
+            }
+            "UNLISTEN" => {
+                if !self.take_operator("*") {
+                    self.name()?;
+                }
+                Ok(Statement::Unlisten)
+            }
+            "DECLARE" => self.declare(),
+            "FETCH" => self.fetch(false),
+            "MOVE" => self.fetch(true),
+            "CLOSE" => {
+                if self.keyword("ALL") {
+                    return Ok(Statement::Close(None));
+                }
+                self.name().map(Some).map(Statement::Close)
+            }
+            word => {
+                let report = self.unknown(word);
+                Err(match report.place {
+                    Some(_) => report,
+                    None => report.at(start),
+                })
+            }
+        }
+    }
+
+    /// Reads a query, which reads a table of the program or none.
+    fn read(&mut self) -> Result<Statement, Failure> {
+        let query = self.query()?;
+        self.expect_end()?;
+        if relations::reads_table(&query) {
+            Served::select(query).map(Statement::Served)
+        } else {
+            Ok(Statement::Query(Box::new(query)))
+        }
+    }
+
+    /// Makes the report of a first word that begins no statement that is served.
+    fn unknown(&mut self, word: &str) -> Failure {
+        match word {
+            "COPY" => Report::missing("COPY")
+                .hint("Load rows by INSERT, each outside a block (autocommit)."),
+            "LISTEN" | "NOTIFY" => Report::missing(word).hint(
+                "There are no notifications. SHOW BOUNDS shows how much can still be reserved.",
+            ),
+            "PREPARE" if self.at_keyword("TRANSACTION") => two_phases(),
+            "PREPARE" | "EXECUTE" => Report::missing(word)
+                .hint("Let the driver prepare statements: the protocol's own are served."),
+            "TRUNCATE" => Report::missing("TRUNCATE").hint("Drop the table and create it again."),
+            "EXPLAIN" | "ANALYZE" | "VACUUM" | "ANALYSE" | "REINDEX" | "CLUSTER" | "CHECKPOINT" => {
+                Report::missing(word).hint("There is no planner, and nothing to clean up.")
+            }
+            "LOCK" => Report::missing("LOCK").hint("Reservations need no lock."),
+            "GRANT" | "REVOKE" | "REASSIGN" | "COMMENT" | "SECURITY" | "IMPORT" | "REFRESH"
+            | "CALL" | "DO" | "MERGE" | "LOAD" => Report::missing(word),
+            _ => {
+                self.at = 0;
+                self.fault()
+            }
+        }
+    }
+
+    /// Moves behind a word that may be left out, and that may be a name too.
+    fn optional_word(&mut self, word: &str) {
+        if self.at_keyword(word) && self.peek_at(1).is_some() {
+            self.at += 1;
+        }
+    }
+
+    fn refuse_two_phases(&self, start: usize) -> Result<(), Failure> {
+        if self.at_keyword("PREPARED") {
+            return Err(two_phases().at(start));
+        }
+        Ok(())
+    }
+
+    fn rollback(&mut self, start: usize, may_be_partial: bool) -> Result<Statement, Failure> {
+        self.refuse_two_phases(start)?;
+        self.keyword_of(&["WORK", "TRANSACTION"]);
+        if may_be_partial && self.keyword("TO") {
+            self.optional_word("SAVEPOINT");
+            return self.name().map(Statement::RollbackTo);
+        }
+        let chain = self.chain()?;
+        Ok(Statement::Rollback { chain })
+    }
+
+    fn chain(&mut self) -> Result<bool, Failure> {
+        if !self.keyword("AND") {
+            return Ok(false);
+        }
+        let no = self.keyword("NO");
+        self.expect_keyword("CHAIN")?;
+        Ok(!no)
+    }
+
+    /// Reads modes of a transaction.
+    fn modes(&mut self) -> Result<Modes, Failure> {
+        let mut modes = Modes::default();
+        while self.peek().is_some() {
+            if self.keywords(&["ISOLATION", "LEVEL"]) {
+                modes.isolation = Some(self.isolation()?);
+            } else if self.keyword("READ") {
+                match self.keyword_of(&["ONLY", "WRITE"]) {
+                    Some(word) => modes.read_only = Some(word == "ONLY"),
+                    None => return Err(self.fault()),
+                }
+            } else {
+                // Nothing is deferred.
+                self.keyword("NOT");
+                self.expect_keyword("DEFERRABLE")?;
+            }
+            if self.symbol(b',') && self.peek().is_none() {
+                return Err(self.fault());
+            }
+        }
+        Ok(modes)
+    }
+
+    fn isolation(&mut self) -> Result<Isolation, Failure> {
+        if self.keyword("SERIALIZABLE") {
+            return Ok(Isolation::Serializable);
+        }
+        if self.keywords(&["REPEATABLE", "READ"]) {
+            return Ok(Isolation::RepeatableRead);
+        }
+        self.expect_keyword("READ")?;
+        match self.keyword_of(&["UNCOMMITTED", "COMMITTED"]) {
+            Some("COMMITTED") => Ok(Isolation::ReadCommitted),
+            Some(_) => Ok(Isolation::ReadUncommitted),
+            None => Err(self.fault()),
+        }
+    }
+
+    /// Reads SET, from behind that word.
+    fn set(&mut self) -> Result<Statement, Failure> {
+        let start = self.tokens.list[0].span.start;
+        if self.keyword("TRANSACTION") {
+            return self.modes().map(Statement::SetTransaction);
+        }
+        let local = self.keyword("LOCAL");
+        if !local && self.keyword("SESSION") {
+            if self.keywords(&["CHARACTERISTICS", "AS", "TRANSACTION"]) {
+                return self.modes().map(Statement::SetCharacteristics);
+            }
+            if self.at_keyword("AUTHORIZATION") {
+                return Err(Report::missing("SET SESSION AUTHORIZATION").at(start));
+            }
+        }
+        if self.at_keyword("ROLE") {
+            if self.at_keyword_ahead(1, "NONE") {
+                self.at += 2;
+                return Ok(Statement::SetRoleNone);
+            }
+            return Err(Report::missing("SET ROLE").at(start));
+        }
+        let (name, value) = if self.keywords(&["TIME", "ZONE"]) {
+            let value = if self.keyword("LOCAL") {
+                None
+            } else {
+                self.setting_value()?
+            };
+            ("timezone".to_owned(), value)
+        } else if self.keyword("NAMES") {
+            let value = if self.peek().is_none() {
+                None
+            } else {
+                self.setting_value()?
+            };
+            ("client_encoding".to_owned(), value)
+        } else {
+            let name = self.setting_name()?;
+            if !self.keyword("TO") && !self.take_operator("=") {
+                return Err(self.fault());
+            }
+            (name, self.setting_value()?)
+        };
+        Ok(Statement::Set(Setting {
+            name,
+            value,
+            local,
+            reset: false,
+        }))
+    }
+
+    /// Reads the name of a setting behind SHOW or RESET.
+    fn shown_name(&mut self) -> Result<String, Failure> {
+        if self.keywords(&["TIME", "ZONE"]) {
+            Ok("timezone".to_owned())
+        } else if self.keywords(&["TRANSACTION", "ISOLATION", "LEVEL"]) {
+            Ok("transaction_isolation".to_owned())
+        } else if self.keywords(&["SESSION", "AUTHORIZATION"]) {
+            Ok("session_authorization".to_owned())
+        } else {
+            self.setting_name()
+        }
+    }
+
+    fn setting_name(&mut self) -> Result<String, Failure> {
+        let mut name = self.name()?.text;
+        while self.symbol(b'.') {
+            name.push('.');
+            name.push_str(&self.name()?.text);
+        }
+        Ok(name)
+    }
+
+    /// Reads one value of a setting or several. None: DEFAULT.
+    fn setting_value(&mut self) -> Result<Option<String>, Failure> {
+        if self.keyword("DEFAULT") {
+            return Ok(None);
+        }
+        let values = self.list(|parser| {
+            let is_negative = parser.take_operator("-");
+            let has_sign = is_negative || parser.take_operator("+");
+            let token = match parser.peek() {
+                Some(token) => token,
+                None => return Err(parser.fault()),
+            };
+            let value = match token.kind {
+                TokenKind::Number => {
+                    parser.at += 1;
+                    token.text(parser.text).to_owned()
+                }
+                _ if has_sign => return Err(parser.fault()),
+                _ if parser.at_text() => parser.text_value()?,
+                TokenKind::QuotedName => {
+                    parser.at += 1;
+                    token.text(parser.text).to_owned()
+                }
+                _ => {
+                    let is_on = parser.keyword("ON");
+                    if is_on || parser.keyword_of(&["TRUE", "FALSE"]).is_some() {
+                        token.text(parser.text).to_owned()
+                    } else {
+                        parser.name_if(keywords::may_be_name)?;
+                        token.text(parser.text).to_owned()
+                    }
+                }
+            };
+            Ok(format!("{}{}", if is_negative { "-" } else { "" }, value))
+        })?;
+        Ok(Some(values.join(", ")))
+    }
+
+    /// Reads SHOW, from behind that word.
+    fn show(&mut self) -> Result<Statement, Failure> {
+        let has_more = self.peek_at(1).is_some();
+        if self.keyword("TABLE") {
+            let table = self.plain_table()?;
+            return Ok(Statement::Served(Served::Show(Show::Table(table))));
+        }
+        if has_more && self.keyword("BOUNDS") {
+            let table = self.plain_table()?;
+            let keys = self.keys(&table, Verb::ShowBounds)?;
+            return Ok(Statement::Served(Served::Show(Show::Bounds(table, keys))));
+        }
+        if self.keyword("JOURNAL") {
+            let table = if has_more {
+                Some(self.plain_table()?)
+            } else {
+                None
+            };
+            return Ok(Statement::Served(Served::Show(Show::Journal(table))));
+        }
+        if self.keyword("STATISTICS") {
+            return Ok(Statement::Served(Served::Show(Show::Statistics)));
+        }
+        if self.keyword("ALL") {
+            return Ok(Statement::ShowAll);
+        }
+        self.shown_name().map(Statement::ShowSetting)
+    }
+
+    fn plain_table(&mut self) -> Result<Table, Failure> {
+        let name = self.qualified_name()?;
+        Table::new(name, None)
+    }
+
+    /// Reads the table of a statement that changes it. `keyword`: a word that is no alias.
+    fn changed_table(&mut self, keyword: &str) -> Result<(QualifiedName, Option<Name>), Failure> {
+        self.keyword("ONLY");
+        let name = self.qualified_name()?;
+        self.take_operator("*");
+        let alias = if self.keyword("AS") {
+            Some(self.name()?)
+        } else if self.at_keyword(keyword) {
+            None
+        } else {
+            self.optional_name()
+        };
+        Ok((name, alias))
+    }
+
+    /// Reads the WHERE of a statement that is about one row.
+    fn keys(&mut self, table: &Table, verb: Verb) -> Result<Keys, Failure> {
+        if !self.keyword("WHERE") {
+            if self.peek().is_some() && !self.at_keyword("RETURNING") {
+                return Err(self.fault());
+            }
+            let what = format!("{} without WHERE", verb.words());
+            return Err(verb.missing(&what, self.tokens.list[0].span.start));
+        }
+        if self.at_keywords(&["CURRENT", "OF"]) {
+            return Err(self.missing("WHERE CURRENT OF"));
+        }
+        let condition = self.expression()?;
+        if self.peek().is_some() && !self.at_keyword("RETURNING") {
+            return Err(self.fault());
+        }
+        Keys::new(table, condition, verb, false)
+    }
+
+    fn returning(&mut self, table: &Table, verb: Verb) -> Result<Vec<Shown>, Failure> {
+        if !self.keyword("RETURNING") {
+            return Ok(Vec::new());
+        }
+        let targets = self.targets()?;
+        self.expect_end()?;
+        returned(table, targets, verb)
+    }
+
+    fn update(&mut self) -> Result<Statement, Failure> {
+        let (name, alias) = self.changed_table("SET")?;
+        self.expect_keyword("SET")?;
+        let changes = self.list(|parser| {
+            if parser.at_symbol(0, b'(') {
+                return Err(Verb::Replace.missing("SET of several columns at once", parser.start()));
+            }
+            let column = parser.name()?;
+            if parser.at_symbol(0, b'.') || parser.at_symbol(0, b'[') {
+                return Err(parser.missing("SET of a part of a column"));
+            }
+            if !parser.take_operator("=") {
+                return Err(parser.fault());
+            }
+            Ok((column, parser.expression()?))
+        })?;
+        if self.at_keyword("FROM") {
+            return Err(self.missing("UPDATE .. FROM"));
+        }
+        let table = Table::new(name, alias)?;
+        let keys = self.keys(&table, Verb::Replace)?;
+        let returning = self.returning(&table, Verb::Replace)?;
+        let mut reserves = None;
+        let mut assignments = Vec::with_capacity(changes.len());
+        for (column, value) in changes {
+            table.check_column(&column)?;
+            let place = value.span.start;
+            let (is_change, assignment) = assignment(&table, column, value)?;
+            if *reserves.get_or_insert(is_change) != is_change {
+                let text = "an UPDATE of RESERVABLE and plain columns at once";
+                return Err(Verb::Replace.missing(text, place));
+            }
+            assignments.push(assignment);
+        }
+        Ok(Statement::Served(Served::Update(Update {
+            table,
+            reserves: reserves.unwrap_or(false),
+            assignments,
+            keys,
+            returning,
+        })))
+    }
+
+    fn insert(&mut self) -> Result<Statement, Failure> {
+        self.expect_keyword("INTO")?;
+        let name = self.qualified_name()?;
+        let alias = if self.keyword("AS") {
+            Some(self.name()?)
+        } else {
+            None
+        };
+        let columns = if self.at_symbol(0, b'(') && !self.at_query(0) {
+            self.list_in_parentheses(|parser| {
+                let column = parser.name()?;
+                if parser.at_symbol(0, b'.') || parser.at_symbol(0, b'[') {
+                    return Err(parser.missing("a part of a column"));
+                }
+                Ok(column)
+            })?
+        } else {
+            Vec::new()
+        };
+        if self.at_keyword("OVERRIDING") {
+            return Err(self.missing("OVERRIDING"));
+        }
+        if self.at_keyword("DEFAULT") {
+            return Err(Verb::Insert.missing("DEFAULT VALUES", self.start()));
+        }
+        if !self.at_keyword("VALUES") {
+            if self.at_query(0) {
+                return Err(Verb::Insert.missing("INSERT of a query", self.start()));
+            }
+            return Err(self.fault());
+        }
+        self.at += 1;
+        let rows = self.list(|parser| parser.list_in_parentheses(Self::expression))?;
+        if self.at_keyword("ON") {
+            return Err(Verb::Insert.missing("ON CONFLICT", self.start()));
+        }
+        if self.peek().is_some() && !self.at_keyword("RETURNING") {
+            if self.at_query_end() {
+                return Err(Verb::Insert.missing("INSERT of a query", self.start()));
+            }
+            return Err(self.fault());
+        }
+        let table = Table::new(name, alias)?;
+        let returning = self.returning(&table, Verb::Insert)?;
+        for column in &columns {
+            table.check_column(column)?;
+        }
+        for value in rows.iter().flatten() {
+            constant::check(value, Verb::Insert)?;
+        }
+        let length = rows.first().map_or(0, Vec::len);
+        if let Some(other) = rows.iter().find(|row| row.len() != length) {
+            let text = "VALUES lists must all be the same length";
+            let place = other.first().map_or(0, |value| value.span.start);
+            return Err(Report::error(crate::sqlstate::SqlState::SYNTAX_ERROR, text).at(place));
+        }
+        Ok(Statement::Served(Served::Insert(Insert {
+            table,
+            columns,
+            rows,
+            returning,
+        })))
+    }
+
+    fn delete(&mut self) -> Result<Statement, Failure> {
+        self.expect_keyword("FROM")?;
+        let (name, alias) = self.changed_table("USING")?;
+        if self.at_keyword("USING") {
+            return Err(self.missing("DELETE .. USING"));
+        }
+        let table = Table::new(name, alias)?;
+        let keys = self.keys(&table, Verb::Delete)?;
+        let returning = self.returning(&table, Verb::Delete)?;
+        Ok(Statement::Served(Served::Delete(Delete {
+            table,
+            keys,
+            returning,
+        })))
+    }
+
+    /// Reads DECLARE, from behind that word.
+    fn declare(&mut self) -> Result<Statement, Failure> {
+        let name = self.name()?;
+        loop {
+            if self.at_keyword("BINARY") {
+                return Err(self.missing("a binary cursor"));
+            }
+            if self.keywords(&["NO", "SCROLL"])
+                || self.keyword_of(&["ASENSITIVE", "INSENSITIVE"]).is_some()
+            {
+                continue;
+            }
+            if self.at_keyword("SCROLL") {
+                return Err(self.missing("a cursor that goes backward (SCROLL)"));
+            }
+            break;
+        }
+        self.expect_keyword("CURSOR")?;
+        if self.at_keywords(&["WITH", "HOLD"]) {
+            return Err(self.missing("a cursor that stays behind its transaction (WITH HOLD)"));
+        }
+        self.keywords(&["WITHOUT", "HOLD"]);
+        self.expect_keyword("FOR")?;
+        if !self.at_query(0) {
+            return Err(self.fault());
+        }
+        let read = self.read()?;
+        Ok(Statement::Declare(Cursor {
+            name,
+            read: Box::new(read),
+        }))
+    }
+
+    /// Reads FETCH or MOVE, from behind that word.
+    fn fetch(&mut self, is_move: bool) -> Result<Statement, Failure> {
+        let is_number = |parser: &Self, ahead| {
+            parser.peek_at(ahead).map(|token| token.kind) == Some(TokenKind::Number)
+        };
+        let has_more = self.peek_at(1).is_some();
+        let direction = if has_more {
+            self.keyword_of(&[
+                "NEXT", "FORWARD", "ALL", "PRIOR", "FIRST", "LAST", "ABSOLUTE", "RELATIVE",
+                "BACKWARD",
+            ])
+        } else {
+            None
+        };
+        let step = match direction {
+            None | Some("FORWARD" | "RELATIVE" | "BACKWARD" | "ABSOLUTE") => {
+                let is_relative = direction == Some("RELATIVE");
+                let is_signed = matches!(self.operator(), Some("-" | "+")) && is_number(self, 1);
+                let is_back = is_signed && self.operator() == Some("-");
+                self.at += usize::from(is_signed);
+                let count = if is_number(self, 0) {
+                    Some(self.integer()?)
+                } else {
+                    None
+                };
+                match (direction, count) {
+                    (Some("ABSOLUTE"), _) => Step::Other,
+                    (Some("BACKWARD"), count) if !is_back => {
+                        if count.is_none() {
+                            self.keyword("ALL");
+                        }
+                        Step::Back
+                    }
+                    (_, Some(count)) if is_back && count > 0 => Step::Back,
+                    (_, Some(0)) => Step::Other,
+                    (_, Some(_)) if is_relative => Step::Other,
+                    (_, Some(count)) => Step::Rows(count.unsigned_abs()),
+                    (Some("FORWARD"), None) if self.keyword("ALL") => Step::All,
+                    (Some("RELATIVE"), None) => return Err(self.fault()),
+                    (_, None) => Step::Rows(1),
+                }
+            }
+            Some("NEXT") => Step::Rows(1),
+            Some("ALL") => Step::All,
+            Some("PRIOR") => Step::Back,
+            Some(_) => Step::Other,
+        };
+        self.keyword_of(&["FROM", "IN"]);
+        let name = self.name()?;
+        Ok(Statement::Fetch {
+            name,
+            step,
+            is_move,
+        })
+    }
+}
+
+fn two_phases() -> Failure {
+    Report::missing("a two-phase commit").hint("COMMIT ends a transaction at once.")
+}
+
+/// Makes what an UPDATE does with a column, and returns whether it adds to it or subtracts.
+fn assignment(
+    table: &Table,
+    column: Name,
+    value: Expression,
+) -> Result<(bool, Assignment), Failure> {
+    let span = value.span;
+    let (left, operator, right) = match value.kind {
+        ExpressionKind::Binary(left, operator, right) if matches!(operator.as_str(), "+" | "-") => {
+            (*left, operator, *right)
+        }
+        kind => {
+            let value = Expression { kind, span };
+            constant::check(&value, Verb::Replace)?;
+            let is_subtracted = false;
+            return Ok((
+                false,
+                Assignment {
+                    column,
+                    value,
+                    is_subtracted,
+                },
+            ));
+        }
+    };
+    let is_subtracted = operator == "-";
+    let (own, value) = match own_value(table, left)? {
+        (Some(own), _) => (own, right),
+        // `5 + n` is `n + 5`.
+        (None, Some(left)) if !is_subtracted => match own_value(table, right)? {
+            (Some(own), _) => (own, left),
+            _ => return Err(Verb::Reserve.missing("an expression in place of a value", span.start)),
+        },
+        _ => return Err(Verb::Reserve.missing("an expression in place of a value", span.start)),
+    };
+    if own.text != column.text {
+        let what = "a column that becomes another one plus a number";
+        return Err(Verb::Reserve.missing(what, own.span.start));
+    }
+    constant::check(&value, Verb::Reserve)?;
+    Ok((
+        true,
+        Assignment {
+            column,
+            value,
+            is_subtracted,
+        },
+    ))
+}
+
+/// Returns the column that an expression is the value of, as `n` and `COALESCE(n, 0)` are: no column is NULL. None: it is
+/// another expression, which is returned.
+fn own_value(
+    table: &Table,
+    expression: Expression,
+) -> Result<(Option<Name>, Option<Expression>), Failure> {
+    let span = expression.span;
+    match expression.kind {
+        ExpressionKind::Column(names) => Ok((Some(table.column(names)?), None)),
+        ExpressionKind::Function(mut call)
+            if call.name.schema.is_none()
+                && call.name.name.text == "coalesce"
+                && call.arguments.len() > 1
+                && matches!(call.arguments[0].kind, ExpressionKind::Column(_))
+                && call.arguments[1..]
+                    .iter()
+                    .all(|argument| matches!(argument.kind, ExpressionKind::Number(_))) =>
+        {
+            own_value(table, call.arguments.swap_remove(0))
+        }
+        kind => Ok((None, Some(Expression { kind, span }))),
+    }
+}
