@@ -1,0 +1,438 @@
+"""Statements at random to the gateway and to PostgreSQL 15, over equal tables: what the gateway acts on, PostgreSQL has to act on in the same way.
+
+    python3 -m clients.with_grammar --minutes 60 --seed 7 [--parser]
+
+For each statement that the gateway accepts, PostgreSQL has to accept it too, with the same tag, the same columns and rows, and the same rows behind it.
+What the gateway refuses and PostgreSQL accepts has to have an SQLSTATE of REFUSALS. What differs on purpose is in ON_PURPOSE. A difference is made as
+short as possible and printed. `--parser` compares with PostgreSQL's parser alone, which needs no server: whatever the gateway accepts has to be in
+PostgreSQL's grammar.
+"""
+from __future__ import annotations
+
+import argparse
+import random
+import re
+import struct
+import sys
+import time
+from collections import Counter
+from dataclasses import dataclass, field
+from pathlib import Path
+from typing import Callable, Dict, List, Optional, Sequence, Tuple
+
+from clients import wire
+from clients.grammar import MADE, TABLES, Grammar, Statement
+from clients.servers import LOAD, Gateway, Postgres
+from clients.suite import Part, Skipped, main
+
+PART = Part("with_grammar")
+# The seconds of a case in the gate, and the seeds of its generators.
+WITH_POSTGRES, WITH_ITS_PARSER, SEED = 100.0 * LOAD, 15.0 * LOAD, 82
+# The statements that are on their way at once, and the batches behind which both servers get new tables.
+A_BATCH, A_TABLE = 24, 6
+# The differences that are shown before a run ends.
+MOST_SHOWN = 12
+CHANGES = re.compile(r"insert|update|delete|drop|alter|create|truncate", re.IGNORECASE)
+
+# What the gateway may answer where PostgreSQL acts, each with its reason.
+REFUSALS: Dict[str, str] = {
+    "0A000": "what the gateway or the server does not have, by its name",
+    "42601": "what the gateway's grammar does not have, with its position",
+    "22001": "a text of more bytes than its column has: PostgreSQL counts characters",
+    "22003": "a number of more than 15 digits, or out of the range of the server's nearest type",
+    "22023": "digits behind the point that the column does not have, which PostgreSQL rounds; a value of another type; an empty text",
+    "22021": "control characters in a text, which the server's lines cannot hold",
+    "22P02": "a text that is no number where the server needs one",
+    "23502": "a column that an INSERT leaves out: the server has no NULL",
+    "23514": "the worst of all choices of open reservations counts, and the type of a column is a check",
+    "42602": "a name with letters that the server's names cannot have",
+    "42622": "a name of more than 30 bytes, which the server has at most",
+    "42P16": "a rule or a limit of the server's tables",
+    "42701": "a column that a list has twice",
+    "42704": "a constraint whose name is another in the server",
+    "42P18": "a parameter whose type does not follow from its place",
+    "54000": "a statement that is longer than a line of the server",
+    "55006": "a row that another session has reserved",
+    "25001": "what commits by itself beside other statements of a message",
+}
+
+
+@dataclass(frozen=True)
+class Answer:
+    """What came back for a statement: tags, SQLSTATE of an error, and the bodies of the messages that are compared."""
+
+    tags: Tuple[bytes, ...] = ()
+    error: str = ""
+    text: str = ""
+    columns: Tuple[bytes, ...] = ()
+    rows: Tuple[bytes, ...] = ()
+    others: Tuple[bytes, ...] = ()
+
+    @property
+    def acted(self) -> bool:
+        return not self.error
+
+
+@dataclass(frozen=True)
+class Purpose:
+    """A difference that is meant: its reason, and when it is the case."""
+
+    reason: str
+    applies: Callable[[Statement, Answer, Answer], bool]
+
+
+def has(pattern: str) -> Callable[[Statement, Answer, Answer], bool]:
+    """Returns whether a statement's text has a pattern."""
+    found = re.compile(pattern, re.IGNORECASE | re.DOTALL)
+    return lambda it, _ours, _theirs: bool(found.search(it.text))
+
+
+# What differs where both act, or where the gateway alone does.
+ON_PURPOSE = [
+    Purpose("SHOW TABLE, BOUNDS, JOURNAL and STATISTICS are the server's own statements", has(r"^[\s(;]*show\s+(table|bounds|journal|statistics)\b")),
+    Purpose("a table needs a RESERVABLE column, and its types are the server's nearest: INT is 15 digits", has(rf"\b{MADE}\b")),
+]
+
+
+class Client:
+    """A connection that sends many messages at once and takes their answers apart quickly."""
+
+    def __init__(self, path: Path) -> None:
+        self.connection = wire.Connection(path, timeout=60.0)
+
+    def ask(self, requests: Sequence[bytes]) -> List[Answer]:
+        """Sends requests, each of which ends with one ReadyForQuery, and returns their answers."""
+        self.connection.send(b"".join(requests))
+        found: List[Answer] = []
+        tags: List[bytes] = []
+        columns: List[bytes] = []
+        rows: List[bytes] = []
+        others: List[bytes] = []
+        error = text = ""
+        buffer, at = self.connection.unread, 0
+        while len(found) < len(requests):
+            if len(buffer) - at < 5 or len(buffer) - at <= (length := struct.unpack_from("!i", buffer, at + 1)[0]):
+                more = self.connection.socket.recv(1 << 18)
+                if not more:
+                    raise wire.Ended(f"the server closed the connection behind answer {len(found)} of {len(requests)}: {error} {text}")
+                buffer, at = buffer[at:] + more, 0
+                continue
+            kind, body = buffer[at], buffer[at + 5:at + 1 + length]
+            at += 1 + length
+            if kind == 68:  # D
+                rows.append(body)
+            elif kind == 90:  # Z
+                found.append(Answer(tuple(tags), error, text, tuple(columns), tuple(rows), tuple(others)))
+                tags, columns, rows, others, error, text = [], [], [], [], "", ""
+            elif kind == 67:  # C
+                tags.append(body)
+            elif kind == 69:  # E
+                fields = wire.Message("E", body).fields()
+                error, text = fields["C"], f"{fields['C']} {fields['M']}"
+            elif kind == 84:  # T
+                columns.append(described(body))
+            elif kind in b"tsnI":
+                others.append(bytes([kind]) + body)
+        self.connection.unread = buffer[at:]
+        return found
+
+    def do(self, *statements: str) -> None:
+        """Runs statements, each of which has to succeed."""
+        for statement, answer in zip(statements, self.ask([wire.query(it) for it in statements])):
+            if answer.error:
+                raise AssertionError(f"{statement}: {answer.text}")
+
+
+def described(body: bytes) -> bytes:
+    """Returns a row description without the oids of tables."""
+    return repr(wire.Message("T", body).columns()).encode()
+
+
+BEGIN, COMMIT, ROLLBACK = (wire.query(it) for it in ("BEGIN", "COMMIT", "ROLLBACK"))
+LOOK_AT_OURS = wire.query("; ".join(f"SELECT * FROM {it.name}" for it in TABLES))
+LOOK_AT_THEIRS = wire.query("; ".join(f"SELECT * FROM {it.name} ORDER BY {it.key.name}" for it in TABLES))
+LEFT = f"SELECT tablename FROM pg_tables WHERE schemaname = 'public' AND tablename NOT IN ({', '.join(repr(it.name) for it in TABLES)})"
+
+
+@dataclass
+class Difference:
+    """A statement with what both answered, and what is wrong with that."""
+
+    statement: Statement
+    what: str
+    before: Tuple[Statement, ...] = ()
+
+
+@dataclass
+class Counts:
+    """How many statements both acted on, and how they were refused."""
+
+    statements: int = 0
+    both: int = 0
+    refused: Counter[str] = field(default_factory=Counter)
+    tags: Counter[str] = field(default_factory=Counter)
+
+    def shown(self, seconds: float) -> str:
+        tags = ", ".join(f"{tag} {count}" for tag, count in self.tags.most_common(12))
+        refused = ", ".join(f"{code} {count}" for code, count in self.refused.most_common(12))
+        return (f"{self.statements} statements in {seconds:.0f} s, {self.statements / max(seconds, 0.01):.0f} a second; both acted on {self.both} ({tags}); "
+                f"refused by the gateway alone: {refused or 'none'}")
+
+
+class Pair:
+    """The gateway and PostgreSQL with equal tables."""
+
+    def __init__(self, gateway: Path, postgres: Path) -> None:
+        self.paths = gateway, postgres
+        self.ours, self.theirs = Client(gateway), Client(postgres)
+        self.theirs.do("SET client_min_messages = warning")
+        self.counts = Counts()
+
+    def renew(self) -> None:
+        """Gives both new tables, and takes away those that statements created."""
+        left = [wire.Message("D", it).values()[0] or b"" for it in self.theirs.ask([wire.query(LEFT)])[0].rows]
+        names = ['"' + it.decode() + '"' for it in left]
+        for client in (self.ours, self.theirs):
+            client.ask([wire.query(f"DROP TABLE {it}") for it in [*(table.name for table in TABLES), *names, MADE]])
+        for table in TABLES:
+            self.ours.do(table.ours, *table.rows)
+            self.theirs.do(table.theirs, *table.rows)
+
+    def reconnect(self) -> None:
+        """Opens the gateway's connection again, behind an end of it."""
+        self.ours = Client(self.paths[0])
+
+    def serve(self, statements: Sequence[Statement]) -> Optional[Difference]:
+        """Serves statements by both, one after another, and returns the first difference. Behind one, both need new tables."""
+        looks = [bool(CHANGES.search(it.text)) for it in statements]
+        requests: List[bytes] = []
+        for it, look in zip(statements, looks):
+            requests.append(it.messages(it.text))
+            if look:
+                requests.append(LOOK_AT_OURS)
+        try:
+            answers = self.ours.ask(requests)
+        except (wire.Ended, OSError) as error:
+            self.reconnect()
+            return Difference(statements[-1], f"the gateway ended the connection: {error}", tuple(statements[:-1]))
+        ours = apart(answers, looks)
+        requests = []
+        for it, look, (answer, _) in zip(statements, looks, ours):
+            requests += [BEGIN, it.messages(it.text_of_theirs), COMMIT if answer.acted else ROLLBACK]
+            if look:
+                requests.append(LOOK_AT_THEIRS)
+        came = iter(self.theirs.ask(requests))
+        for at, (it, look, (answer, rows)) in enumerate(zip(statements, looks, ours)):
+            next(came)
+            answer_of_theirs = next(came)
+            ended = next(came)
+            rows_of_theirs = next(came).rows if look else ()
+            if answer_of_theirs.acted and ended.error:
+                answer_of_theirs = ended
+            wrong = self.judge(it, answer, answer_of_theirs)
+            if not wrong and rows != rows_of_theirs:
+                wrong = f"rows behind it: gateway ({answer.text or answer.tags}) {readable(rows)}, PostgreSQL ({answer_of_theirs.text or answer_of_theirs.tags}) {readable(rows_of_theirs)}"
+                if partly(it, answer):
+                    return Difference(it, "")
+            if wrong:
+                return Difference(it, wrong, tuple(statements[:at]))
+        return None
+
+    def judge(self, it: Statement, ours: Answer, theirs: Answer) -> str:
+        """Returns what is wrong with two answers, or nothing."""
+        self.counts.statements += 1
+        if not ours.acted:
+            if theirs.acted:
+                self.counts.refused[ours.error] += 1
+                if ours.error not in REFUSALS:
+                    return f"the gateway refused it by {ours.text}, PostgreSQL answered {theirs.tags}"
+            return f"the gateway answered {ours.text}" if ours.error.startswith(("XX", "58", "57", "08")) and not theirs.error.startswith("08") else ""
+        if any(purpose.applies(it, ours, theirs) for purpose in ON_PURPOSE):
+            return ""
+        if not theirs.acted:
+            return f"the gateway acted ({ours.tags}), PostgreSQL did not: {theirs.text}"
+        self.counts.both += 1
+        for tag in ours.tags:
+            self.counts.tags[tag[:-1].decode().split(" ")[0]] += 1
+        if ours.tags != theirs.tags:
+            return f"tags: gateway {ours.tags}, PostgreSQL {theirs.tags}"
+        if ours.columns != theirs.columns:
+            return f"columns: gateway {ours.columns}, PostgreSQL {theirs.columns}"
+        if ours.others != theirs.others:
+            return f"parameters and the like: gateway {ours.others}, PostgreSQL {theirs.others}"
+        return compared(it, ours.rows, theirs.rows)
+
+
+def apart(answers: Sequence[Answer], looks: Sequence[bool]) -> List[Tuple[Answer, Tuple[bytes, ...]]]:
+    """Returns for each statement its answer, and the rows behind it if they were asked for."""
+    came = iter(answers)
+    return [(next(came), next(came).rows if look else ()) for look in looks]
+
+
+def compared(it: Statement, ours: Tuple[bytes, ...], theirs: Tuple[bytes, ...]) -> str:
+    """Returns what is wrong with rows. Without ORDER BY their order counts for nothing, and with a limit then not which ones they are."""
+    text = it.text.upper()
+    if ours == theirs or ("ORDER" not in text and sorted(ours) == sorted(theirs)):
+        return ""
+    if "ORDER" not in text and (it.most or any(word in text for word in ("LIMIT", "OFFSET", "FETCH"))) and len(ours) == len(theirs):
+        return ""
+    return f"rows: gateway {readable(ours)}, PostgreSQL {readable(theirs)}"
+
+
+def partly(it: Statement, ours: Answer) -> bool:
+    """Returns whether a refused statement may have acted before: of several rows each is an INSERT by itself, and so is a statement of several."""
+    return not ours.acted and (";" in it.tokens or it.text.upper().count("(") > 2)
+
+
+def readable(rows: Sequence[bytes]) -> List[str]:
+    """Returns rows as texts."""
+    return ["|".join("NULL" if it is None else it.decode("latin-1") for it in wire.Message("D", row).values()) for row in rows]
+
+
+def shortened(pair: Pair, found: Difference) -> Difference:
+    """Returns a difference with as few tokens as it needs. The statements before it are dropped if it does not need them."""
+
+    def tried(statement: Statement, before: Tuple[Statement, ...]) -> Optional[Difference]:
+        pair.renew()
+        for it in before:
+            pair.serve([it])
+        again = pair.serve([statement])
+        return Difference(again.statement, again.what, before) if again and again.what else None
+
+    best = tried(found.statement, ()) or tried(found.statement, found.before)
+    if best is None:
+        return Difference(found.statement, f"{found.what} (not seen again by itself)", found.before)
+    size = max(1, len(best.statement.tokens) // 2)
+    while size:
+        at = 0
+        while at < len(best.statement.tokens):
+            shorter = tried(best.statement.without(at, size), best.before)
+            best, at = (shorter, at) if shorter else (best, at + size)
+        size //= 2
+    return best
+
+
+def held_against_postgres(gateway: Gateway, seed: int, seconds: float, most: int = MOST_SHOWN) -> Tuple[List[Difference], Counts, float]:
+    """Serves statements for some seconds, and returns the differences, each once by its shape."""
+    found: Dict[str, Difference] = {}
+    with Postgres("fsync=off", "synchronous_commit=off", "full_page_writes=off", "autovacuum=off", "standard_conforming_strings=on", "log_min_messages=panic") as postgres:
+        pair = Pair(gateway.socket, postgres.socket)
+        grammar = Grammar(random.Random(seed))
+        begin, batches = time.monotonic(), 0
+        while time.monotonic() - begin < seconds and len(found) < most:
+            if batches % A_TABLE == 0:
+                pair.renew()
+            batches += 1
+            difference = pair.serve([grammar.any() for _ in range(A_BATCH)])
+            if difference:
+                if difference.what:
+                    counts, pair.counts = pair.counts, Counts()
+                    difference = shortened(pair, difference)
+                    pair.counts = counts
+                    found.setdefault(shape(difference), difference)
+                pair.renew()
+        return list(found.values()), pair.counts, time.monotonic() - begin
+
+
+def shape(difference: Difference) -> str:
+    """Returns what is equal of differences that have one cause: the kinds of tokens of the statement, and what is wrong."""
+    kinds = [re.sub(r"\d+", "0", it) if not it.startswith(("'", "$$", "E'", "e'")) else "'" for it in difference.statement.tokens]
+    return " ".join(kinds) + difference.what.split(":")[0]
+
+
+def expect_none(found: Sequence[Difference], counts: Counts, seconds: float, seed: int) -> None:
+    """Fails, and shows each difference, if there is one."""
+    print(counts.shown(seconds), file=sys.stderr, flush=True)
+    if found:
+        shown = "\n".join(f"{it.statement.shown()}\n    {it.what}" + "".join(f"\n    behind {before.shown()}" for before in it.before) for it in found)
+        raise AssertionError(f"{len(found)} differences, seed {seed}:\n{shown}")
+    if counts.both < counts.statements // 20:
+        raise AssertionError(f"both acted on too few statements: {counts.shown(seconds)}")
+
+
+@PART.served
+def as_postgres_does(gateway: Gateway) -> None:
+    found, counts, seconds = held_against_postgres(gateway, SEED, WITH_POSTGRES)
+    expect_none(found, counts, seconds, SEED)
+
+
+def held_against_its_parser(gateway: Gateway, seed: int, seconds: float, most: int = MOST_SHOWN) -> Tuple[List[Difference], Counts, float]:
+    """Serves statements that are mutated much for some seconds, and asks PostgreSQL's parser about each that the gateway acts on."""
+    try:
+        from pglast import parser
+    except ImportError:
+        raise Skipped("Debian's python3-pglast cannot be had") from None
+
+    def refusal(text: str) -> str:
+        """Returns what the parser has against a text, or nothing."""
+        try:
+            parser.parse_sql_json(text)
+        except parser.ParseError as error:
+            return str(error)
+        return ""
+
+    grammar, client, counts = Grammar(random.Random(seed)), Client(gateway.socket), Counts()
+    found: Dict[str, Difference] = {}
+    begin, batches = time.monotonic(), 0
+
+    def renew() -> None:
+        client.ask([wire.query(f"DROP TABLE {it}") for it in [*(table.name for table in TABLES), MADE]])
+        for table in TABLES:
+            client.do(table.ours, *table.rows)
+
+    while time.monotonic() - begin < seconds and len(found) < most:
+        if batches % A_TABLE == 0:
+            renew()
+        batches += 1
+        statements = [grammar.any(8) for _ in range(A_BATCH)]
+        for it, answer in zip(statements, client.ask([it.messages(it.text) for it in statements])):
+            counts.statements += 1
+            wrong = refusal(it.text_of_theirs) if answer.acted else ""
+            if answer.acted and not wrong:
+                counts.both += 1
+            if wrong and not any(purpose.applies(it, answer, answer) for purpose in ON_PURPOSE[:1]):
+
+                def differs(shorter: Statement) -> bool:
+                    return bool(refusal(shorter.text_of_theirs)) and client.ask([shorter.messages(shorter.text)])[0].acted
+
+                at = 0
+                while at < len(it.tokens):
+                    shorter = it.without(at)
+                    renew()
+                    it, at = (shorter, at) if differs(shorter) else (it, at + 1)
+                difference = Difference(it, f"the gateway acted, PostgreSQL's parser: {refusal(it.text_of_theirs)}")
+                found.setdefault(shape(difference), difference)
+    return list(found.values()), counts, time.monotonic() - begin
+
+
+@PART.served
+def as_its_parser_does(gateway: Gateway) -> None:
+    found, counts, seconds = held_against_its_parser(gateway, SEED, WITH_ITS_PARSER)
+    expect_none(found, counts, seconds, SEED)
+
+
+def by_hand(words: Sequence[str]) -> int:
+    """Runs for minutes or hours, each quarter of an hour with a seed of its own, and prints what it finds."""
+    parser = argparse.ArgumentParser(description=__doc__, formatter_class=argparse.RawDescriptionHelpFormatter)
+    parser.add_argument("--minutes", type=float, default=2.0)
+    parser.add_argument("--seed", type=int, default=SEED)
+    parser.add_argument("--parser", action="store_true")
+    parser.add_argument("--most", type=int, default=200, help="the differences behind which a run ends")
+    asked = parser.parse_args(words)
+    end, seed, status = time.monotonic() + 60 * asked.minutes, asked.seed, 0
+    while time.monotonic() < end:
+        with Gateway() as gateway:
+            act = held_against_its_parser if asked.parser else held_against_postgres
+            found, counts, seconds = act(gateway, seed, min(900.0, end - time.monotonic()), asked.most)
+        print(f"seed {seed}: {counts.shown(seconds)}")
+        for it in found:
+            status = 1
+            print(f"{it.statement.shown()}\n    {it.what}" + "".join(f"\n    behind {before.shown()}" for before in it.before), flush=True)
+        seed += 1
+    return status
+
+
+if __name__ == "__main__":
+    if any(it.startswith("-") for it in sys.argv[1:]):
+        sys.exit(by_hand(sys.argv[1:]))
+    main(PART)
