@@ -10,6 +10,7 @@ PostgreSQL's grammar.
 from __future__ import annotations
 
 import argparse
+import functools
 import random
 import re
 import struct
@@ -18,7 +19,7 @@ import time
 from collections import Counter
 from dataclasses import dataclass, field
 from pathlib import Path
-from typing import Callable, Dict, List, Optional, Sequence, Tuple
+from typing import Callable, Dict, Iterable, List, Optional, Sequence, Tuple
 
 from clients import wire
 from clients.grammar import MADE, TABLES, Grammar, Statement
@@ -143,6 +144,7 @@ class Client:
                 raise AssertionError(f"{statement}: {answer.text}")
 
 
+@functools.lru_cache(maxsize=4096)
 def described(body: bytes) -> bytes:
     """Returns a row description without the oids of tables."""
     return repr(wire.Message("T", body).columns()).encode()
@@ -216,24 +218,28 @@ class Pair:
             self.reconnect()
             return Difference(statements[-1], f"the gateway ended the connection: {error}", tuple(statements[:-1]))
         ours = apart(answers, looks)
-        requests = []
+        # PostgreSQL keeps what the gateway has done, and nothing else, so its rows are looked at behind that alone.
+        requests = [LOOK_AT_THEIRS]
         for it, look, (answer, _) in zip(statements, looks, ours):
             requests += [BEGIN, it.messages(it.text_of_theirs), COMMIT if answer.acted else ROLLBACK]
-            if look:
+            if look and answer.acted:
                 requests.append(LOOK_AT_THEIRS)
         came = iter(self.theirs.ask(requests))
+        rows_of_theirs = next(came).rows
         for at, (it, look, (answer, rows)) in enumerate(zip(statements, looks, ours)):
             next(came)
             answer_of_theirs = next(came)
             ended = next(came)
-            rows_of_theirs = next(came).rows if look else ()
+            if look and answer.acted:
+                rows_of_theirs = next(came).rows
             if answer_of_theirs.acted and ended.error:
                 answer_of_theirs = ended
             wrong = self.judge(it, answer, answer_of_theirs)
-            if not wrong and rows != rows_of_theirs:
-                wrong = f"rows behind it: gateway ({answer.text or answer.tags}) {readable(rows)}, PostgreSQL ({answer_of_theirs.text or answer_of_theirs.tags}) {readable(rows_of_theirs)}"
+            if not wrong and look and rows != rows_of_theirs:
                 if partly(it, answer):
                     return Difference(it, "")
+                only = [readable(set(one) - set(other)) for one, other in ((rows, rows_of_theirs), (rows_of_theirs, rows))]
+                wrong = f"rows behind it: gateway ({answer.text or answer.tags}) {only[0]}, PostgreSQL ({answer_of_theirs.text or answer_of_theirs.tags}) {only[1]}"
             if wrong:
                 return Difference(it, wrong, tuple(statements[:at]))
         return None
@@ -284,7 +290,7 @@ def partly(it: Statement, ours: Answer) -> bool:
     return not ours.acted and (";" in it.tokens or it.text.upper().count("(") > 2)
 
 
-def readable(rows: Sequence[bytes]) -> List[str]:
+def readable(rows: Iterable[bytes]) -> List[str]:
     """Returns rows as texts."""
     return ["|".join("NULL" if it is None else it.decode("latin-1") for it in wire.Message("D", row).values()) for row in rows]
 
@@ -301,7 +307,9 @@ def shortened(pair: Pair, found: Difference) -> Difference:
 
     best = tried(found.statement, ()) or tried(found.statement, found.before)
     if best is None:
-        return Difference(found.statement, f"{found.what} (not seen again by itself)", found.before)
+        return Difference(found.statement, f"{found.what} (not seen again)", found.before)
+    for it in best.before:
+        best = tried(best.statement, tuple(other for other in best.before if other is not it)) or best
     size = max(1, len(best.statement.tokens) // 2)
     while size:
         at = 0
