@@ -1,5 +1,6 @@
 import java.math.BigDecimal;
 import java.sql.Connection;
+import java.sql.DatabaseMetaData;
 import java.sql.DriverManager;
 import java.sql.PreparedStatement;
 import java.sql.ResultSet;
@@ -168,6 +169,24 @@ public final class WithJdbc {
         connection.setAutoCommit(true);
     }
 
+    /** What the driver asks of the catalog. */
+    private void metadata(Connection connection) throws SQLException {
+        DatabaseMetaData asked = connection.getMetaData();
+        same(column(asked.getTables(null, null, table, new String[] {"TABLE"}), "TABLE_NAME"), List.of(table));
+        same(column(asked.getColumns(null, "public", table, "%"), "COLUMN_NAME"), List.of("id", "pieces", "price", "name"));
+        same(column(asked.getColumns(null, "public", table, "%"), "TYPE_NAME"), List.of("int8", "int8", "numeric", "varchar"));
+        same(column(asked.getPrimaryKeys(null, "public", table), "COLUMN_NAME"), List.of("id"));
+        same(column(asked.getImportedKeys(null, "public", table), "FKCOLUMN_NAME"), List.of());
+    }
+
+    private static List<String> column(ResultSet rows, String name) throws SQLException {
+        List<String> found = new ArrayList<>();
+        while (rows.next()) {
+            found.add(rows.getString(name));
+        }
+        return found;
+    }
+
     public static void main(String[] words) throws SQLException {
         WithJdbc tried = new WithJdbc(words[1]);
         try (Connection connection = DriverManager.getConnection(words[0])) {
@@ -177,6 +196,7 @@ public final class WithJdbc {
             tried.changes(connection);
             tried.batches(connection);
             tried.cursor(connection);
+            tried.metadata(connection);
             tried.refused("42601", () -> connection.createStatement().execute("SELEC"));
             tried.refused("42P01", () -> connection.createStatement().execute("SELECT * FROM nothing"));
             tried.refused("23505", () -> connection.createStatement().execute("INSERT INTO " + tried.table + " VALUES (1, 1, 1, 'x')"));

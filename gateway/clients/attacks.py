@@ -11,9 +11,7 @@ from __future__ import annotations
 import argparse
 import os
 import resource
-import signal
 import socket
-import stat
 import statistics
 import struct
 import subprocess
@@ -24,7 +22,7 @@ from pathlib import Path
 from typing import Callable, Dict, FrozenSet, Iterator, List, Optional, Sequence, Tuple
 
 from clients import honest, wire
-from clients.servers import GATEWAY, IN_A_STORE, IN_MEMORY, PATIENCE, Gateway, resident, wait_until
+from clients.servers import GATEWAY, PATIENCE, Gateway, resident, wait_until
 from clients.suite import Part, expect, main
 from clients.wire import Connection
 
@@ -405,12 +403,13 @@ def signs_without_end(path: Path, end: float) -> None:
 
 @attack
 def parameters_without_values(path: Path, end: float) -> None:
-    """`INSERT INTO t ($1,$1,..)` of 64 KB, which is no statement."""
+    """`INSERT INTO t ($1,$1,..)`, which is no statement, 16 times in 100 KB."""
     with Connection(path, timeout=120.0) as it:
-        text = "INSERT INTO hot (" + ",".join(["$1"] * 16_000) + ")"
+        text = "INSERT INTO hot (" + ",".join(["$1"] * 2_000) + ")"
         for _ in until(end):
-            it.send(wire.parse(text), wire.describe_statement(), wire.sync())
-            it.until_ready()
+            it.send(*[wire.parse(text), wire.describe_statement(), wire.sync()] * 16)
+            for _ in range(16):
+                it.until_ready()
 
 
 @attack
@@ -692,73 +691,6 @@ def a_rollback_that_is_refused_behind_an_error() -> None:
             expect(watch.rows("SELECT * FROM stock")[0][1], wanted, f"{count} refused")
             watch.close()
             gateway.expect_clean_end()
-
-
-@PART.alone
-def signals_end_nothing_without_a_word() -> None:
-    for number in (signal.SIGHUP, signal.SIGUSR1, signal.SIGUSR2, signal.SIGQUIT, signal.SIGALRM):
-        with Gateway() as gateway:
-            before = len(gateway.said())
-            gateway.running().send_signal(number)
-            time.sleep(0.5)
-            status = gateway.running().poll()
-            said = gateway.said()[before:]
-            if status is None:
-                Connection(gateway.socket).close()
-            elif status < 0 or not said.strip():
-                raise AssertionError(f"{signal.Signals(number).name}: status {status}, said {said!r}")
-
-
-@PART.alone
-def metrics_in_a_pipe_or_through_a_link() -> None:
-    """Neither is written to, nor does the gateway stand still at one: it says so and ends, or serves and writes a file of its own."""
-    for kind in ("pipe", "link"):
-        for name in ("metrics.prom", "metrics.prom.new"):
-            with Gateway(IN_MEMORY, "--metrics", "{folder}/metrics.prom") as gateway:
-                pass
-            gateway.folder.mkdir()
-            try:
-                target = gateway.folder / "target"
-                target.write_text("mine\n")
-                if kind == "pipe":
-                    os.mkfifo(gateway.folder / name)
-                else:
-                    (gateway.folder / name).symlink_to(target)
-                gateway.launch(gateway.words())
-                wait_until("it says something", gateway.said, 10.0 * PATIENCE)
-                time.sleep(0.5)
-                if gateway.running().poll() is None:
-                    expect(stat.S_ISREG((gateway.folder / "metrics.prom").lstat().st_mode), True, f"a {kind} at {name}: there is no file of metrics")
-                    gateway.running().send_signal(signal.SIGTERM)
-                try:
-                    gateway.running().wait(10.0 * PATIENCE)
-                except subprocess.TimeoutExpired:
-                    raise AssertionError(f"a {kind} at {name}: SIGTERM does not end it") from None
-                expect(target.read_text(), "mine\n", f"a {kind} at {name}")
-            finally:
-                gateway.__exit__(None, None, None)
-
-
-@PART.alone
-def a_start_at_once_behind_a_kill() -> None:
-    """The store's lock is waited for, and the folders of a killed start are removed by the next."""
-    with Gateway(IN_A_STORE) as gateway:
-        with Connection(gateway.socket) as it:
-            it.do(STOCK, *ROWS)
-        for _ in range(5):
-            gateway.running().send_signal(signal.SIGKILL)
-            gateway.running().wait()
-            gateway.start()
-        gateway.kill()
-        gateway.launch(gateway.words())
-        time.sleep(0.02)
-        gateway.kill()
-        gateway.start()
-        with Connection(gateway.socket) as it:
-            expect(len(it.rows("SELECT * FROM stock")), len(ROWS))
-        left = [it.name for it in gateway.folder.iterdir() if it.is_dir()]
-        expect([it for it in left if f".{gateway.running().pid}." not in it], [], "folders of starts that were killed")
-        gateway.expect_clean_end()
 
 
 @PART.served

@@ -18,8 +18,9 @@ import sys
 import time
 from collections import Counter
 from dataclasses import dataclass, field
+from enum import Enum
 from pathlib import Path
-from typing import Callable, Dict, Iterable, List, Optional, Sequence, Tuple
+from typing import Dict, FrozenSet, Iterable, List, Optional, Pattern, Sequence, Tuple
 
 from clients import wire
 from clients.grammar import MADE, TABLES, Grammar, Statement
@@ -74,25 +75,41 @@ class Answer:
         return not self.error
 
 
+class Aspect(Enum):
+    """What is compared of a statement on which the gateway acts."""
+
+    ACTION = "that PostgreSQL acts"
+    TAGS = "tags"
+    COLUMNS = "names and types of columns and of parameters"
+    ROWS = "the rows of a result"
+
+
 @dataclass(frozen=True)
 class Purpose:
-    """A difference that is meant: its reason, and when it is the case."""
+    """A difference that is meant: its reason, the texts in which it is the case, and what differs."""
 
     reason: str
-    applies: Callable[[Statement, Answer, Answer], bool]
+    pattern: Pattern[str]
+    differs: FrozenSet[Aspect]
+
+    def excuses(self, aspect: Aspect, it: Statement) -> bool:
+        return aspect in self.differs and bool(self.pattern.search(it.text))
 
 
-def has(pattern: str) -> Callable[[Statement, Answer, Answer], bool]:
-    """Returns whether a statement's text has a pattern."""
-    found = re.compile(pattern, re.IGNORECASE | re.DOTALL)
-    return lambda it, _ours, _theirs: bool(found.search(it.text))
+def purpose(reason: str, pattern: str, *differs: Aspect) -> Purpose:
+    return Purpose(reason, re.compile(pattern, re.IGNORECASE | re.DOTALL), frozenset(differs))
 
 
-# What differs where both act, or where the gateway alone does.
+# What differs on purpose where the gateway acts.
 ON_PURPOSE = [
-    Purpose("SHOW TABLE, BOUNDS, JOURNAL and STATISTICS are the server's own statements", has(r"^[\s(;]*show\s+(table|bounds|journal|statistics)\b")),
-    Purpose("a table needs a RESERVABLE column, and its types are the server's nearest: INT is 15 digits", has(rf"\b{MADE}\b")),
+    purpose("SHOW TABLE, BOUNDS, JOURNAL and STATISTICS are the server's own statements", r"^[\s(;]*show\s+(table|bounds|journal|statistics)\b", *Aspect),
+    purpose("a column of a created table has the server's nearest type: INT has 15 digits and is int8", rf"\b{MADE}\b", Aspect.COLUMNS, Aspect.ROWS),
 ]
+
+
+def excused(aspect: Aspect, it: Statement) -> bool:
+    """Returns whether a difference in an aspect is meant."""
+    return any(found.excuses(aspect, it) for found in ON_PURPOSE)
 
 
 class Client:
@@ -235,7 +252,7 @@ class Pair:
             if answer_of_theirs.acted and ended.error:
                 answer_of_theirs = ended
             wrong = self.judge(it, answer, answer_of_theirs)
-            if not wrong and look and rows != rows_of_theirs:
+            if not wrong and look and sorted(rows) != sorted(rows_of_theirs):
                 if partly(it, answer):
                     return Difference(it, "")
                 only = [readable(set(one) - set(other)) for one, other in ((rows, rows_of_theirs), (rows_of_theirs, rows))]
@@ -253,20 +270,19 @@ class Pair:
                 if ours.error not in REFUSALS:
                     return f"the gateway refused it by {ours.text}, PostgreSQL answered {theirs.tags}"
             return f"the gateway answered {ours.text}" if ours.error.startswith(("XX", "58", "57", "08")) and not theirs.error.startswith("08") else ""
-        if any(purpose.applies(it, ours, theirs) for purpose in ON_PURPOSE):
-            return ""
         if not theirs.acted:
-            return f"the gateway acted ({ours.tags}), PostgreSQL did not: {theirs.text}"
+            return "" if excused(Aspect.ACTION, it) else f"the gateway acted ({ours.tags}), PostgreSQL did not: {theirs.text}"
         self.counts.both += 1
         for tag in ours.tags:
             self.counts.tags[tag[:-1].decode().split(" ")[0]] += 1
-        if ours.tags != theirs.tags:
+        if ours.tags != theirs.tags and not excused(Aspect.TAGS, it):
             return f"tags: gateway {ours.tags}, PostgreSQL {theirs.tags}"
-        if ours.columns != theirs.columns:
-            return f"columns: gateway {ours.columns}, PostgreSQL {theirs.columns}"
-        if ours.others != theirs.others:
-            return f"parameters and the like: gateway {ours.others}, PostgreSQL {theirs.others}"
-        return compared(it, ours.rows, theirs.rows)
+        if not excused(Aspect.COLUMNS, it):
+            if ours.columns != theirs.columns:
+                return f"columns: gateway {ours.columns}, PostgreSQL {theirs.columns}"
+            if ours.others != theirs.others:
+                return f"parameters and the like: gateway {ours.others}, PostgreSQL {theirs.others}"
+        return "" if excused(Aspect.ROWS, it) else compared(it, ours.rows, theirs.rows)
 
 
 def apart(answers: Sequence[Answer], looks: Sequence[bool]) -> List[Tuple[Answer, Tuple[bytes, ...]]]:
@@ -398,7 +414,7 @@ def held_against_its_parser(gateway: Gateway, seed: int, seconds: float, most: i
             wrong = refusal(it.text_of_theirs) if answer.acted else ""
             if answer.acted and not wrong:
                 counts.both += 1
-            if wrong and not any(purpose.applies(it, answer, answer) for purpose in ON_PURPOSE[:1]):
+            if wrong and not excused(Aspect.ACTION, it):
 
                 def differs(shorter: Statement) -> bool:
                     return bool(refusal(shorter.text_of_theirs)) and client.ask([shorter.messages(shorter.text)])[0].acted

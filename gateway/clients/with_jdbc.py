@@ -2,69 +2,18 @@
 that passes bytes on, so that the gateway hears the driver itself."""
 from __future__ import annotations
 
-import socket
 import subprocess
 import tempfile
-import threading
 from pathlib import Path
-from types import TracebackType
-from typing import Callable, Optional, Type
 
 from clients.packages import is_here
-from clients.servers import END, Gateway, Pgbouncer
+from clients.servers import END, Gateway, Pgbouncer, Relay
 from clients.suite import Part, expect, main
 
 PART = Part("with_jdbc")
 SOURCE = Path(__file__).parent / "WithJdbc.java"
 DRIVER = "/usr/share/java/postgresql.jar"
-CHECKS = "106 checks\n"
-
-
-class Relay:
-    """Passes bytes between a TCP port and a Unix socket."""
-
-    def __init__(self, path: Path) -> None:
-        self.path = path
-        self.listener = socket.create_server(("127.0.0.1", 0))
-        self.port = int(self.listener.getsockname()[1])
-
-    def __enter__(self) -> "Relay":
-        self.start(self.accept)
-        return self
-
-    def __exit__(self, kind: Optional[Type[BaseException]], value: Optional[BaseException], trace: Optional[TracebackType]) -> None:
-        self.listener.shutdown(socket.SHUT_RDWR)
-        self.listener.close()
-
-    @staticmethod
-    def start(act: Callable[..., None], *words: object) -> None:
-        """Starts a thread."""
-        threading.Thread(target=act, args=words, daemon=True).start()
-
-    def accept(self) -> None:
-        """Serves connections until the listener is closed."""
-        while True:
-            try:
-                client, _ = self.listener.accept()
-            except OSError:
-                return
-            server = socket.socket(socket.AF_UNIX)
-            server.connect(str(self.path))
-            self.start(self.carry, client, server)
-            self.start(self.carry, server, client)
-
-    @staticmethod
-    def carry(source: socket.socket, target: socket.socket) -> None:
-        """Passes bytes on in one direction, and then the end."""
-        try:
-            while True:
-                piece = source.recv(65536)
-                if not piece:
-                    break
-                target.sendall(piece)
-            target.shutdown(socket.SHUT_WR)
-        except OSError:
-            pass
+CHECKS = "111 checks\n"
 
 
 def compiled() -> "tempfile.TemporaryDirectory[str]":

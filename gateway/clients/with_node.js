@@ -56,6 +56,10 @@ async function main () {
   const several = await client.query('SELECT * FROM stock WHERE id = 1; UPDATE stock SET pieces = pieces - 1 WHERE id = 1')
   same(several.map(it => [it.command, it.rowCount]), [['SELECT', 1], ['UPDATE', 1]])
 
+  // What Sequelize and TypeORM ask first.
+  same((await client.query('SELECT 1+1 AS result')).rows, [{ result: 2 }])
+  same((await client.query('SELECT * FROM current_schema()')).rows, [{ current_schema: 'public' }])
+
   const pool = new Pool({ ...settings, max: 8 })
   await Promise.all(Array.from({ length: 40 }, () => pool.query(TAKE, [1, 2])))
   same((await pool.query(named.text, [2])).rows[0].pieces, '999999999999959')

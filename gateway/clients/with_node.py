@@ -23,7 +23,7 @@ def in_short(gateway: Gateway) -> None:
     try:
         env = {**os.environ, "NODE_PATH": str(modules)}
         done = subprocess.run(["node", str(SCRIPT), str(gateway.folder), str(PORT)], capture_output=True, text=True, timeout=END, env=env)
-        expect((done.returncode, done.stdout), (0, "16 checks\n"), done.stderr[:1500])
+        expect((done.returncode, done.stdout), (0, "18 checks\n"), done.stderr[:1500])
     finally:
         if not given:
             shutil.rmtree(modules.parents[2])
