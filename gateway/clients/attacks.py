@@ -104,7 +104,7 @@ TEXTS = [
 
 def rows_behind(it: Text, code: str) -> List[Tuple[str, ...]]:
     """Returns the rows that have to be there behind a text: those of before if it was refused."""
-    before = [(str(key), *UNCHANGED[1:]) for key in KEYS]
+    before: List[Tuple[str, ...]] = [(str(key), *UNCHANGED[1:]) for key in KEYS]
     if code or it.row is None:
         return before
     return [row for row in (it.row if row[0] == str(it.key) else row for row in before) if row]
@@ -117,7 +117,7 @@ def what_is_run_is_what_was_written(gateway: Gateway) -> None:
         connection.do(STOCK, STOCKS, "INSERT INTO stocks VALUES (15, 1)", *ROWS)
         wrong: List[str] = []
         for it in TEXTS:
-            for request in [wire.run(it.text, it.values) + wire.sync(), wire.query(it.text)][:1 if it.values else 2]:
+            for request in [wire.run(it.text, it.values) + wire.sync(), wire.query(it.text)][: 1 if it.values else 2]:
                 connection.send(request)
                 code = next((found.fields()["C"] for found in connection.until_ready() if found.kind == "E"), "")
                 found = connection.rows("SELECT * FROM stock")
@@ -185,11 +185,11 @@ def flood(connections: Sequence[Connection], request: bytes, end: float, reads: 
     while time.monotonic() < end and alive:
         moved = False
         for at in list(alive):
-            it = connections[at].socket
+            plug = connections[at].socket
             try:
                 if not left[at]:
                     left[at] = request
-                sent = it.send(left[at])
+                sent = plug.send(left[at])
                 left[at] = left[at][sent:]
                 moved = True
             except BlockingIOError:
@@ -199,7 +199,7 @@ def flood(connections: Sequence[Connection], request: bytes, end: float, reads: 
                 continue
             if reads:
                 try:
-                    moved = bool(it.recv(1 << 18)) or moved
+                    moved = bool(plug.recv(1 << 18)) or moved
                 except BlockingIOError:
                     pass
                 except OSError:
@@ -495,6 +495,7 @@ def finish(process: "subprocess.Popen[bytes]") -> str:
 
 # Memory
 
+
 def holds(process: int) -> int:
     """Returns the bytes of memory that a process holds now."""
     for line in Path(f"/proc/{process}/status").read_text().splitlines():
@@ -506,8 +507,15 @@ def holds(process: int) -> int:
 # The memory in MB that an attack may take while it lasts, beside what the gateway had: a connection has 256 KB on its way, and 64 MB of statements and
 # portals. What is left behind it has to be little.
 TAKES: Dict[str, float] = {
-    "pipelines_of_long_updates": 32, "long_statements_in_turn": 16, "readers_that_are_never_level": 8, "results_that_nobody_reads": 32, "whole_results": 16, "portals_with_rows_left": 96,
-    "portals_of_nulls": 96, "statements_of_many_tokens": 96, "statements_of_many_types": 96,
+    "pipelines_of_long_updates": 32,
+    "long_statements_in_turn": 16,
+    "readers_that_are_never_level": 8,
+    "results_that_nobody_reads": 32,
+    "whole_results": 16,
+    "portals_with_rows_left": 96,
+    "portals_of_nulls": 96,
+    "statements_of_many_tokens": 96,
+    "statements_of_many_types": 96,
 }
 LEAVES = 16.0
 # No attack may take the machine: past this the gateway gets no memory.
@@ -558,7 +566,9 @@ def expect_little(*names: str) -> None:
 
 @PART.alone
 def memory_of_what_is_on_its_way() -> None:
-    expect_little("pipelines_of_long_updates", "long_statements_in_turn", "readers_that_are_never_level", "results_that_nobody_reads", "whole_results")
+    expect_little(
+        "pipelines_of_long_updates", "long_statements_in_turn", "readers_that_are_never_level", "results_that_nobody_reads", "whole_results"
+    )
 
 
 @PART.alone
@@ -624,6 +634,7 @@ def a_new_client_beside_half_open_ones(gateway: Gateway) -> None:
 
 
 # Faults
+
 
 class Refusing(Gateway):
     """A gateway whose program answers `ERR 51 memory` to the first ROLLBACKs."""
@@ -723,6 +734,7 @@ def a_malformed_sync_commits_nothing(gateway: Gateway) -> None:
 
 # What clients send when they connect, and when a pool takes them back. Others than these are tried by the clients themselves.
 
+
 @dataclass(frozen=True)
 class Sent:
     """A query of a client, and the rows or tags that it needs."""
@@ -733,9 +745,17 @@ class Sent:
 
 
 SENT = [
-    Sent("asyncpg", "SELECT pg_advisory_unlock_all();\nCLOSE ALL;\nUNLISTEN *;\nRESET ALL;", ("columns pg_advisory_unlock_all:2278:-1:0", "row ", "complete SELECT 1", "complete CLOSE CURSOR ALL", "complete UNLISTEN", "complete RESET")),
+    Sent(
+        "asyncpg",
+        "SELECT pg_advisory_unlock_all();\nCLOSE ALL;\nUNLISTEN *;\nRESET ALL;",
+        ("columns pg_advisory_unlock_all:2278:-1:0", "row ", "complete SELECT 1", "complete CLOSE CURSOR ALL", "complete UNLISTEN", "complete RESET"),
+    ),
     Sent("psqlODBC", "select oid, typbasetype from pg_type where typname = 'lo'", ("columns oid:26:-1:0, typbasetype:26:-1:0", "complete SELECT 0")),
-    Sent("ActiveRecord", "SELECT t.oid, t.typname\nFROM pg_type as t\nWHERE t.typname IN ('int2', 'numeric')", ("columns oid:26:-1:0, typname:19:-1:0", "row 21|int2", "row 1700|numeric", "complete SELECT 2")),
+    Sent(
+        "ActiveRecord",
+        "SELECT t.oid, t.typname\nFROM pg_type as t\nWHERE t.typname IN ('int2', 'numeric')",
+        ("columns oid:26:-1:0, typname:19:-1:0", "row 21|int2", "row 1700|numeric", "complete SELECT 2"),
+    ),
     Sent("pg_dump", "SELECT pg_catalog.set_config('search_path', '', false)", ("columns set_config:25:-1:0", "row ", "complete SELECT 1")),
     Sent("Sequelize", "SELECT 1+1 AS result", ("columns result:23:-1:0", "row 2", "complete SELECT 1")),
     Sent("TypeORM", "SELECT * FROM current_schema()", ("columns current_schema:19:-1:0", "row public", "complete SELECT 1")),
@@ -769,8 +789,10 @@ def what_clients_send_first(gateway: Gateway) -> None:
 @PART.served
 def a_catalog_query_in_a_block(gateway: Gateway) -> None:
     """What psql asks at TAB does not fail the block."""
-    tab = ("SELECT pg_catalog.quote_ident(c.relname) FROM pg_catalog.pg_class c WHERE c.relkind IN ('r', 'p') AND pg_catalog.pg_table_is_visible(c.oid)"
-           " AND c.relnamespace <> (SELECT oid FROM pg_catalog.pg_namespace WHERE nspname = 'pg_catalog')")
+    tab = (
+        "SELECT pg_catalog.quote_ident(c.relname) FROM pg_catalog.pg_class c WHERE c.relkind IN ('r', 'p') AND pg_catalog.pg_table_is_visible(c.oid)"
+        " AND c.relnamespace <> (SELECT oid FROM pg_catalog.pg_namespace WHERE nspname = 'pg_catalog')"
+    )
     with Connection(gateway.socket) as it:
         it.do(STOCK, *ROWS, "BEGIN", TAKE.format(1))
         expect(it.ask(tab)[1:], ["row stock", "complete SELECT 1", "ready T"])
@@ -780,6 +802,7 @@ def a_catalog_query_in_a_block(gateway: Gateway) -> None:
 
 # By hand
 
+
 def table(rows: Sequence[Sequence[str]]) -> str:
     """Returns rows as lines whose columns begin below each other."""
     widths = [max(len(row[at]) for row in rows) for at in range(len(rows[0]))]
@@ -788,7 +811,8 @@ def table(rows: Sequence[Sequence[str]]) -> str:
 
 def print_p99(names: Sequence[str], rounds: int, seconds: float = 3.0) -> int:
     """Prints the times of honest clients without and beside each attack, in rounds by turns. Returns 1 if a median of p99 is over 2 times that without."""
-    shown, status = [("attack", "p50 without", "beside", "p99 without", "beside", "times", "longest", "")], 0
+    shown: List[Tuple[str, ...]] = [("attack", "p50 without", "beside", "p99 without", "beside", "times", "longest", "")]
+    status = 0
     for name in names:
         with Gateway() as gateway:
             resource.prlimit(gateway.running().pid, resource.RLIMIT_AS, (MOST_MEMORY, MOST_MEMORY))
@@ -804,10 +828,13 @@ def print_p99(names: Sequence[str], rounds: int, seconds: float = 3.0) -> int:
                     beside.append(honest.result(honest.apart(gateway.socket, HONEST, seconds)))
                 finally:
                     said = finish(attacker)
-            p50, p99 = ([statistics.median(times) for times in ([it.median for it in them], [it.p99 for it in them])] for them in (without, beside))
-            times = p99[1] / p50[1]
+            p50 = [statistics.median(it.median for it in them) for them in (without, beside)]
+            p99 = [statistics.median(it.p99 for it in them) for them in (without, beside)]
+            times = p99[1] / p99[0]
             status |= times > 2.0
-            shown.append((name, f"{p50[0]:.2f}", f"{p99[0]:.2f}", f"{p50[1]:.2f}", f"{p99[1]:.2f}", f"{times:.1f}", f"{max(it.longest for it in beside):.0f}", said[:60] or ("over" if times > 2.0 else "")))
+            longest = max(it.longest for it in beside)
+            note = said[:60] or ("over" if times > 2.0 else "")
+            shown.append((name, *(f"{it:.2f}" for it in (*p50, *p99)), f"{times:.1f}", f"{longest:.0f}", note))
             print(table(shown[:1] + shown[-1:]), file=sys.stderr, flush=True)
     print(table(shown))
     return status

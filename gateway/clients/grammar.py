@@ -1,7 +1,7 @@
 """Statements at random: what the gateway accepts in all its forms, and then with tokens glued, doubled, dropped, swapped, quoted and cast.
 
-A statement is a list of tokens with the blanks in front of them, so that a mutation and a minimisation work on tokens. Its values may be parameters of
-the extended protocol.
+A statement is a list of tokens with the blanks in front of them, so that a mutation and a search for the shortest text work on tokens. Its values may
+be parameters of the extended protocol.
 """
 from __future__ import annotations
 
@@ -60,12 +60,19 @@ class Table:
 _BIG = "bigint NOT NULL CHECK ({0} BETWEEN -999999999999999 AND 999999999999999)"
 STOCK = Table(
     "stock",
-    (Column("id", Role.WHOLE), Column("pieces", Role.WHOLE, True), Column("held", Role.WHOLE, True), Column("price", Role.EXACT), Column("note", Role.WORDS)),
+    (
+        Column("id", Role.WHOLE),
+        Column("pieces", Role.WHOLE, True),
+        Column("held", Role.WHOLE, True),
+        Column("price", Role.EXACT),
+        Column("note", Role.WORDS),
+    ),
     ("1", "2", "3", "5", "15"),
-    "CREATE TABLE stock (id INTEGER PRIMARY KEY, pieces INTEGER RESERVABLE CONSTRAINT in_stock CHECK (pieces >= 0), held INTEGER RESERVABLE "
-    "CHECK (held BETWEEN -50 AND 50), price NUMBER(8,2), note VARCHAR2(20), CONSTRAINT kept CHECK (held <= pieces + 40))",
-    f"CREATE TABLE stock (id {_BIG.format('id')} PRIMARY KEY, pieces {_BIG.format('pieces')} CONSTRAINT in_stock CHECK (pieces >= 0), held bigint NOT NULL "
-    "CHECK (held BETWEEN -50 AND 50), price numeric(8,2) NOT NULL, note varchar(20) NOT NULL CHECK (note <> ''), CONSTRAINT kept CHECK (held <= pieces + 40))",
+    "CREATE TABLE stock (id INTEGER PRIMARY KEY, pieces INTEGER RESERVABLE CONSTRAINT in_stock CHECK (pieces >= 0),"
+    " held INTEGER RESERVABLE CHECK (held BETWEEN -50 AND 50), price NUMBER(8,2), note VARCHAR2(20), CONSTRAINT kept CHECK (held <= pieces + 40))",
+    f"CREATE TABLE stock (id {_BIG.format('id')} PRIMARY KEY, pieces {_BIG.format('pieces')} CONSTRAINT in_stock CHECK (pieces >= 0),"
+    " held bigint NOT NULL CHECK (held BETWEEN -50 AND 50), price numeric(8,2) NOT NULL, note varchar(20) NOT NULL CHECK (note <> ''),"
+    " CONSTRAINT kept CHECK (held <= pieces + 40))",
     tuple(f"INSERT INTO stock VALUES ({key}, {key}0, 2, {key}.50, 'n{key}')" for key in (1, 2, 3, 5, 15)),
 )
 # An alias of one letter that is glued to `stock` names this one.
@@ -74,16 +81,18 @@ STOCKS = Table(
     (Column("id", Role.WHOLE), Column("pieces", Role.WHOLE, True), Column("name", Role.WORDS)),
     ("1", "2", "15"),
     "CREATE TABLE stocks (id INTEGER PRIMARY KEY, pieces INTEGER RESERVABLE CHECK (pieces >= 0), name VARCHAR2(10))",
-    f"CREATE TABLE stocks (id {_BIG.format('id')} PRIMARY KEY, pieces {_BIG.format('pieces')} CHECK (pieces >= 0), name varchar(10) NOT NULL CHECK (name <> ''))",
+    f"CREATE TABLE stocks (id {_BIG.format('id')} PRIMARY KEY, pieces {_BIG.format('pieces')} CHECK (pieces >= 0),"
+    " name varchar(10) NOT NULL CHECK (name <> ''))",
     tuple(f"INSERT INTO stocks VALUES ({key}, {key}1, 's{key}')" for key in (1, 2, 15)),
 )
 WORDED = Table(
     "t$1",
     (Column("k", Role.WORDS), Column("n", Role.EXACT, True), Column("m", Role.EXACT, True)),
     ("a", "b", "1"),
-    "CREATE TABLE t$1 (k VARCHAR2(8) PRIMARY KEY, n NUMBER(8,2) RESERVABLE CHECK (n >= -100.50), m NUMBER(4,1) RESERVABLE, CONSTRAINT sum CHECK (n + m <= 900))",
-    "CREATE TABLE t$1 (k varchar(8) PRIMARY KEY CHECK (k <> ''), n numeric(8,2) NOT NULL CHECK (n >= -100.50), m numeric(4,1) NOT NULL, "
-    "CONSTRAINT sum CHECK (n + m <= 900))",
+    "CREATE TABLE t$1 (k VARCHAR2(8) PRIMARY KEY, n NUMBER(8,2) RESERVABLE CHECK (n >= -100.50), m NUMBER(4,1) RESERVABLE,"
+    " CONSTRAINT sum CHECK (n + m <= 900))",
+    "CREATE TABLE t$1 (k varchar(8) PRIMARY KEY CHECK (k <> ''), n numeric(8,2) NOT NULL CHECK (n >= -100.50), m numeric(4,1) NOT NULL,"
+    " CONSTRAINT sum CHECK (n + m <= 900))",
     tuple(f"INSERT INTO t$1 VALUES ('{key}', {at}.25, -{at}.5)" for at, key in enumerate(("a", "b", "1"))),
 )
 TABLES = (STOCK, STOCKS, WORDED)
@@ -123,12 +132,12 @@ def numeric(value: Decimal) -> bytes:
     assert isinstance(exponent, int)
     scale = max(0, -exponent)
     whole = "".join(map(str, digits)) + "0" * max(0, exponent)
-    before, behind = (whole[:len(whole) - scale], whole[len(whole) - scale:]) if scale else (whole, "")
+    before, behind = (whole[: len(whole) - scale], whole[len(whole) - scale :]) if scale else (whole, "")
     before = "0" * (max(0, scale - len(whole))) + before if not before else before
     behind = behind.rjust(scale, "0")
     before = before.rjust(-(-len(before) // 4) * 4, "0")
     behind = behind.ljust(-(-len(behind) // 4) * 4, "0")
-    groups = [int((before + behind)[at:at + 4]) for at in range(0, len(before + behind), 4)]
+    groups = [int((before + behind)[at : at + 4]) for at in range(0, len(before + behind), 4)]
     weight = len(before) // 4 - 1
     while groups and groups[0] == 0:
         groups.pop(0)
@@ -160,7 +169,7 @@ class Statement:
 
     def without(self, at: int, count: int = 1) -> Statement:
         """Returns it without some tokens."""
-        return replace(self, tokens=self.tokens[:at] + self.tokens[at + count:], blanks=self.blanks[:at] + self.blanks[at + count:])
+        return replace(self, tokens=self.tokens[:at] + self.tokens[at + count :], blanks=self.blanks[:at] + self.blanks[at + count :])
 
     def messages(self, text: str) -> bytes:
         """Returns the messages that run a text as this statement is run."""
@@ -178,17 +187,134 @@ class Statement:
         return f"{self.text!r} with {values}" + (", result in binary" if self.result else "") + (f", at most {self.most} rows" if self.most else "")
 
 
-Tokens = List[str]
-# Words by which mutations replace others.
-STRANGE = [
-    "a", "s", "x", '"stock"', '"Stock"', "STOCK", "stock", "stocks", "public", ".", ",", "(", ")", ";", "=", "<", "<>", "==", "-", "+", "*", "/", "::", ":", "1", "1.", ".5",
-    "1..5", "1e2", "0x1", "1_0", "1a", "$1", "$2", "$1$2", "$0", "'", "''", "'a'", "E'a'", "e'\\'", "U&'a'", "N'a'", "B'1'", "X'1'", "$$", "$$a$$", "$a$b$a$", '"', '""', "--", "/*", "*/",
-    "NULL", "DEFAULT", "TRUE", "AND", "OR", "NOT", "IN", "IS", "AS", "FROM", "WHERE", "SET", "INTO", "VALUES", "ONLY", "ALL", "DISTINCT", "LIMIT", "OFFSET", "ORDER", "BY", "ASC", "DESC",
-    "id", "pieces", "n", "int", "numeric", "varchar", "text", "CAST", "COLLATE", "AT", "[", "]", "{", "\\", "@", "#", "%", "^", "&", "|", "~", "!", "?", "`", "\u00e4", "\u00a0", "\x0b", "\x0c",
-]
+# Below, tokens are written with a blank between them. A blank and a line feed within a token are written so:
+BLANK, LINE = "\u2423", "\u2424"
+# Words by which mutations replace others, and what they put between tokens.
+STRANGE = (
+    'a s x "stock" "Stock" STOCK stock stocks public . , ( ) ; = < <> == - + * / :: : 1 1. .5 1..5 1e2 0x1 1_0 1a $1 $2 $1$2 $0 \' '
+    '\'\' \'a\' E\'a\' e\'\\\' U&\'a\' N\'a\' B\'1\' X\'1\' $$ $$a$$ $a$b$a$ " "" -- /* */ NULL DEFAULT TRUE AND OR NOT IN IS AS FROM WHERE SET '
+    'INTO VALUES ONLY ALL DISTINCT LIMIT OFFSET ORDER BY ASC DESC id pieces n int numeric varchar text CAST COLLATE AT [ ] { \\ @ # '
+    '% ^ & | ~ ! ? ` ä'
+).split(" ") + ["\u00a0", "\x0b", "\x0c"]
 BLANKS = [" ", " ", " ", " ", "\n", "\t", "  ", "\r\n", " /* c */ ", "/**/", " -- c\n", "\f", " /* a /* b */ c */ "]
 TIGHT = set("()=,;*+<>.[]") | {"::"}
-CASTS = ["int", "bigint", "smallint", "numeric", "numeric(5,1)", "numeric(4)", "decimal(6,2)", "text", "varchar", "varchar(3)", "char(2)", "integer", "int4", "int8", "int2", "pg_catalog.int4"]
+CASTS = (
+    "int bigint smallint numeric numeric(5,1) numeric(4) decimal(6,2) text varchar varchar(3) char(2) integer int4 int8 int2 pg_catalog.int4".split()
+)
+
+
+def forms(text: str) -> List[str]:
+    """Returns the ways to write something that a text lists, with ` | ` or a line feed between them."""
+    return [it.strip() for line in text.strip().split("\n") for it in line.split(" | ")]
+
+
+# The forms of a value: {v} is the value as it is, {cast} a type.
+VALUES = {
+    Role.WHOLE: forms(
+        r"""
+        '{v}' | {v} :: {cast} | '{v}' :: {cast} | CAST ( {v} AS {cast} ) | ( {v} ) | + {v} | - {v} | {v}.0 | {v}.5 | int '{v}' | 0{v}
+        {v}e0 | {v}. | 0x{v} | '␣{v}␣' | E'{v}' | $${v}$$ | {v} + 1 | NULL | ( ( {v} ) ) | - - {v} | '{v}' :: bigint :: text
+        '{v}.55' :: numeric(5,1) | 99999999999999999999 | - {v} :: {cast} | ( - {v} ) :: {cast} | bigint '{v}' | {v} * 1
+        """
+    ),
+    Role.EXACT: forms(
+        r"""
+        '{v}' | {v} :: {cast} | '{v}' :: {cast} | - {v} | .5 | 2. | 2.555 | 1e1 | CAST ( {v} AS {cast} ) | ( {v} ) | numeric '{v}' | '1e1'
+        'NaN' | - 2.55 :: int | ( - 2.55 ) :: int | 2.50000 | 1.5e-1 | {v} :: numeric :: numeric(6,1) | + {v} | - - {v}
+        """
+    ),
+    Role.WORDS: forms(
+        r"""
+        'it''s' | E'{v}\n' | E'\x41\102' | E'\u0041' | e'{v}\'x' | $${v}$$ | $q${v}$q$ | '{v}' :: {cast} | CAST ( '{v}' AS {cast} )
+        U&'\0061{v}' | N'{v}' | text '{v}' | '{v}' 'x' | '' | 'ä' | 'xxxxxxxxxxxxxxxxxxxx' | 'xxxxxxxxxxxxxxxxxxxxx' | 5 | B'1' | NULL
+        ( '{v}' ) | '{v}' || 'x' | 'a\b' | varchar(2) '{v}' | '{v}'␤'x' | E'{v}'␤'\x41'
+        """
+    ),
+}
+# What a RESERVABLE column becomes: {n} is the column, {s} a sign, {v} an amount.
+CHANGES = forms(
+    r"""
+    ( {n} {s} {v} ) | {v} + {n} | {n} {s} ( {v} ) | {n} {s} - {v} | {n} {s} {v} + 1 | {n} | {v} | {n} * 2 | COALESCE ( {n} , 0 ) {s} {v}
+    - {v} + {n} | {v} - {n} | {n} {s} {v} :: {cast} | ( {n} ) {s} {v} | {n} {s} '1' | held {s} {v}
+"""
+)
+# Conditions beside `key = value`, which is {e}: {k} is the key, {c} a column.
+CONDITIONS = forms(
+    r"""
+    {e} AND {c} = 1 | {e} OR {c} = 1 | {c} = 'a' | {k} IS NULL | NOT {e} | TRUE | {k} > 1 | {k} = {k} | {k} = ANY ( '{{1,2}}' )
+    {e} AND {e} | ( {e} ) IS TRUE | {k} BETWEEN 1 AND 2
+"""
+)
+# What is selected beside columns: {k} is the key; and what names a column of a result.
+LISTS = forms(
+    r"""
+    count ( * ) | count ( * ) AS c | COUNT ( {k} ) | count ( 1 ) | 1 | 1 AS a | 1 AS "a" | 1 one | 'x' | NULL | 1 , 2 | TRUE | ( 1 ) AS "a"
+    {k} + 1 | max ( {k} ) | DISTINCT {k}
+"""
+)
+NAMED = forms(
+    r"""
+    AS c | c | AS "C␣d" | AS id | AS order
+"""
+)
+ORDERS = ["", "", *forms("ASC | DESC | DESC NULLS LAST | ASC NULLS FIRST | USING <")]
+CUTS = forms(
+    r"""
+    LIMIT 2 | LIMIT 2 OFFSET 1 | OFFSET 1 | LIMIT {v} | LIMIT ALL | FETCH FIRST 2 ROWS ONLY | OFFSET 1 ROWS | LIMIT 0 | OFFSET 1 LIMIT 1
+    LIMIT - 1 | LIMIT 1.5 | LIMIT NULL | FETCH NEXT ROW ONLY | LIMIT '1' | LIMIT 1 + 1
+"""
+)
+LOCKS = forms(
+    r"""
+    FOR UPDATE | FOR UPDATE NOWAIT | FOR SHARE | FOR NO KEY UPDATE | FOR UPDATE OF {q} | FOR UPDATE SKIP LOCKED
+"""
+)
+# Conditions of a CHECK: {n} is a column, {m} the last one.
+CHECKS = forms(
+    r"""
+    {n} >= 0 | {n} <= 100 | {n} BETWEEN - 5 AND 100 | {n} + {m} < 200 | 2 * {n} >= - 9 | 0 <= {n} | ( {n} >= 0 ) | {n} > -1.5 | {n} >= -1..5
+    {n} <> 7 | {n} >= 0 AND {n} <= 90 | ( {n} ) >= 0 | {n} >= '0' | {n} >= 0 :: int | {n} = {n}
+"""
+)
+TYPES = forms(
+    r"""
+    INT | BIGINT | SMALLINT | INTEGER | NUMERIC ( 8 , 2 ) | DECIMAL ( 6 , 1 ) | NUMERIC ( 6 ) | NUMERIC | DECIMAL | int8 | int4
+    NUMERIC ( 6 , 0 )
+"""
+)
+TEXT_TYPES = forms(
+    r"""
+    VARCHAR ( 20 ) | TEXT | character varying ( 9 ) | varchar | CHAR ( 3 )
+"""
+)
+CONSTRAINTS = forms('in_stock | kept | added | nothing | "IN_STOCK"')
+DROPS = forms(
+    r"""
+    {t} | public . {t} | {t} CASCADE | {t} RESTRICT | nothing | {t} , nothing
+"""
+)
+# Statements on the table that is created now and then, with values that fit all types: {k} is a key.
+WITH_MADE = forms(
+    r"""
+    SELECT * FROM {t} | INSERT INTO {t} ( id , n ) VALUES ( {k} , 5 ) | INSERT INTO {t} ( id , n ) VALUES ( {k} , -1 )
+    INSERT INTO {t} VALUES ( {k} , 5 , 5 , 'ab' ) | INSERT INTO {t} VALUES ( {k} , 7 ) | INSERT INTO {t} VALUES ( {k} , 7 , 'a' )
+    UPDATE {t} SET n = n - 1 WHERE id = {k} | UPDATE {t} SET n = n + 60 WHERE id = {k} | DELETE FROM {t} WHERE id = {k}
+    SELECT id , n FROM {t} WHERE id = {k} | INSERT INTO {t} VALUES ( {k} , 7 , 8 )
+"""
+)
+# What clients ask without a table.
+ASKED = [
+    "",
+    *forms(
+        r"""
+    SELECT 1 | SELECT 1 AS one | SELECT 1 + 1 AS result | SELECT 'x' | SELECT current_schema ( ) | SELECT current_database ( )
+    SELECT * FROM current_schema ( ) | SHOW standard_conforming_strings | SHOW transaction_isolation | SET client_min_messages = 'warning'
+    SET application_name TO x | SELECT NULL | SELECT - 1 | SELECT $1 :: int | SHOW server_encoding | RESET application_name | SELECT 1.5
+    SELECT pg_advisory_unlock_all ( ) | CLOSE ALL | UNLISTEN * | SELECT 1 WHERE true | DISCARD ALL
+    SELECT set_config ( 'search_path' , '' , true ) | SET ROLE NONE | SELECT '1' :: int AS a
+"""
+    ),
+]
 
 
 class Grammar:
@@ -202,53 +328,43 @@ class Grammar:
     def one_in(self, count: int) -> bool:
         return self.chance.random() * count < 1
 
-    def pick(self, *ways: Callable[[], Tokens]) -> Tokens:
-        return self.chance.choice(ways)()
+    def of(self, *ways: str) -> str:
+        """Returns one of several ways to write something."""
+        return self.chance.choice(ways)
+
+    def maybe(self, count: int, words: str) -> str:
+        """Returns words, with a blank behind them, once in so many times."""
+        return f"{words} " if self.one_in(count) else ""
 
     # Names
 
     def cased(self, name: str) -> str:
         """Returns a name as people write it, at times as another name."""
         turn = self.chance.randrange(30)
-        if turn == 0:
-            return f'"{name}"'
-        if turn == 1:
-            return name.upper()
-        if turn == 2:
-            return f'"{name.upper()}"'
-        return name
+        return {0: f'"{name}"', 1: name.upper(), 2: f'"{name.upper()}"'}.get(turn, name)
 
-    def table_name(self, table: Table) -> Tokens:
-        name = [self.cased(table.name)]
+    def table_name(self, table: Table) -> str:
         turn = self.chance.randrange(24)
-        if turn == 0:
-            return ["public", ".", *name]
-        if turn == 1:
-            return ["bank", ".", "public", ".", *name]
-        if turn == 2:
-            return [self.chance.choice(["pg_catalog", "other", '"public"', "PUBLIC"]), ".", *name]
-        return name
+        before = {0: "public . ", 1: "bank . public . ", 2: self.of("pg_catalog", "other", '"public"', "PUBLIC") + " . "}.get(turn, "")
+        return before + self.cased(table.name)
 
-    def named(self, table: Table) -> Tuple[Tokens, str]:
-        """Returns a table with an alias or none, and the name by which columns are qualified."""
-        turn = self.chance.randrange(8)
+    def named(self, table: Table) -> Tuple[str, str]:
+        """Returns a table with an alias or none, and the name by which its columns are qualified."""
         name = self.table_name(table)
-        if turn < 2:
-            alias = self.chance.choice(["s", "a", "x", table.name, '"S"', "b"])
-            return name + (["AS"] if turn == 0 else []) + [alias], alias
-        return name, table.name
+        if not self.one_in(4):
+            return name, table.name
+        alias = self.of("s", "a", "x", table.name, '"S"', "b")
+        return f"{name} {self.maybe(2, 'AS')}{alias}", alias
 
-    def column(self, name: str, qualifier: str) -> Tokens:
-        turn = self.chance.randrange(12)
-        if turn == 0:
-            return [qualifier, ".", self.cased(name)]
-        if turn == 1 and self.one_in(4):
-            return [self.chance.choice(["public", "nothing", "stock"]), ".", name]
-        return [self.cased(name)]
+    def column(self, name: str, qualifier: str) -> str:
+        turn = self.chance.randrange(48)
+        if turn < 4:
+            return f"{qualifier} . {self.cased(name)}"
+        return f"{self.of('public', 'nothing', 'stock')} . {name}" if turn == 4 else self.cased(name)
 
     # Values
 
-    def parameter(self, value: str, role: Role) -> Tokens:
+    def parameter(self, value: str, role: Role) -> str:
         """Makes a value a parameter. Sometimes its type does not fit."""
         oids = {
             Role.WHOLE: [wire.UNSPECIFIED, wire.INT8, wire.INT4, wire.INT2, wire.NUMERIC],
@@ -256,269 +372,200 @@ class Grammar:
             Role.WORDS: [wire.UNSPECIFIED, wire.STRING, wire.VARCHAR],
         }[role]
         oid = self.chance.choice(oids)
-        if oid in (wire.INT2, wire.INT4, wire.INT8):
-            value = str(int(Decimal(value)))
-        given: Optional[str] = None if self.one_in(60) else value
+        whole = oid in (wire.INT2, wire.INT4, wire.INT8)
+        given = None if self.one_in(60) else str(int(Decimal(value))) if whole else value.replace(BLANK, " ")
         self.parameters.append(Parameter(given, oid, role, self.one_in(2)))
-        return [f"${len(self.parameters)}"] + (self.cast() if self.one_in(8) else [])
+        return f"${len(self.parameters)}" + (f" :: {self.of(*CASTS)}" if self.one_in(8) else "")
 
-    def cast(self) -> Tokens:
-        return ["::", self.chance.choice(CASTS)]
-
-    def value(self, role: Role, value: str) -> Tokens:
+    def value(self, role: Role, value: str) -> str:
         """Returns a value in one of its forms: as a constant, with a cast, or as a parameter."""
         if self.extended and not self.one_in(3):
             return self.parameter(value, role)
-        return {Role.WHOLE: self.whole, Role.EXACT: self.exact, Role.WORDS: self.words}[role](value)
-
-    def whole(self, value: str) -> Tokens:
-        if self.chance.random() > 0.22:
-            return [value]
-        forms: List[Callable[[], Tokens]] = [
-            lambda: [f"'{value}'"], lambda: [value, *self.cast()], lambda: [f"'{value}'", *self.cast()], lambda: ["CAST", "(", value, "AS", self.chance.choice(CASTS), ")"],
-            lambda: ["(", value, ")"], lambda: ["+", value], lambda: ["-", value], lambda: [value + ".0"], lambda: [value + ".5"], lambda: ["int", f"'{value}'"],
-            lambda: ["0" + value], lambda: [value + "e0"], lambda: [value + "."], lambda: ["0x" + value], lambda: [f"' {value} '"], lambda: [f"E'{value}'"], lambda: [f"$${value}$$"],
-            lambda: [value, "+", "1"], lambda: ["NULL"], lambda: ["(", "(", value, ")", ")"], lambda: ["-", "-", value], lambda: [f"'{value}'", "::", "bigint", "::", "text"],
-            lambda: [f"'{value}.55'", "::", "numeric(5,1)"], lambda: ["99999999999999999999"], lambda: ["-", value, *self.cast()], lambda: ["(", "-", value, ")", *self.cast()],
-        ]
-        return self.chance.choice(forms)()
-
-    def exact(self, value: str) -> Tokens:
-        if not self.one_in(4):
-            return [value]
-        forms: List[Callable[[], Tokens]] = [
-            lambda: [f"'{value}'"], lambda: [value, *self.cast()], lambda: [f"'{value}'", *self.cast()], lambda: ["-", value], lambda: [".5"], lambda: ["2."], lambda: ["2.555"], lambda: ["1e1"],
-            lambda: ["CAST", "(", value, "AS", self.chance.choice(CASTS), ")"], lambda: ["(", value, ")"], lambda: ["numeric", f"'{value}'"], lambda: ["'1e1'"], lambda: ["'NaN'"],
-            lambda: ["- ", "2.55", "::", "int"], lambda: ["(", "-", "2.55", ")", "::", "int"], lambda: ["2.50000"], lambda: ["1.5e-1"], lambda: [value, "::", "numeric", "::", "numeric(6,1)"],
-        ]
-        return self.chance.choice(forms)()
-
-    def words(self, value: str) -> Tokens:
-        if not self.one_in(3):
-            return [f"'{value}'"]
-        forms: List[Callable[[], Tokens]] = [
-            lambda: ["'it''s'"], lambda: [f"E'{value}\\n'"], lambda: ["E'\\x41\\102'"], lambda: ["E'\\u0041'"], lambda: [f"e'{value}\\'x'"], lambda: [f"$${value}$$"], lambda: [f"$q${value}$q$"],
-            lambda: [f"'{value}'", *self.cast()], lambda: ["CAST", "(", f"'{value}'", "AS", self.chance.choice(CASTS), ")"], lambda: [f"U&'\\0061{value}'"], lambda: [f"N'{value}'"], lambda: ["text", f"'{value}'"],
-            lambda: [f"'{value}'", "'x'"], lambda: ["''"], lambda: ["'\u00e4'"], lambda: ["'" + "x" * 20 + "'"], lambda: ["'" + "x" * 21 + "'"], lambda: ["5"], lambda: ["B'1'"], lambda: ["NULL"],
-            lambda: ["(", f"'{value}'", ")"], lambda: [f"'{value}'", "||", "'x'"], lambda: ["'a\\b'"], lambda: ["varchar(2)", f"'{value}'"], lambda: [f"'{value}'\n'x'"], lambda: [f"E'{value}'\n'\\x41'"],
-        ]
-        return self.chance.choice(forms)()
+        if self.one_in(4):
+            return self.of(*VALUES[role]).format(v=value, cast=self.of(*CASTS))
+        return f"'{value}'" if role is Role.WORDS else value
 
     def of_key(self, table: Table) -> str:
         """Returns a key, mostly of a row that exists."""
         if table.key.role is Role.WORDS:
-            return self.chance.choice([*table.keys, "c", "d"])
-        return self.chance.choice([*table.keys, *table.keys, "7", "8", "9", "15"])
+            return self.of(*table.keys, "c", "d")
+        return self.of(*table.keys, *table.keys, "7", "8", "9", "15")
 
     def fresh(self, column: Column) -> str:
         """Returns a value for a column."""
         if column.role is Role.WORDS:
-            return self.chance.choice(["a", "tea", "b1", "x y"])
+            return self.of("a", "tea", "b1", f"x{BLANK}y")
         if column.role is Role.EXACT:
-            return self.chance.choice(["1.5", "2", "0.25", "3.50", "0"])
-        return self.chance.choice(["1", "2", "3", "5", "0", "10"])
+            return self.of("1.5", "2", "0.25", "3.50", "0")
+        return self.of("1", "2", "3", "5", "0", "10")
 
     # Parts of statements
 
-    def where(self, table: Table, qualifier: str) -> Tokens:
-        def equal() -> Tokens:
-            return [*self.column(table.key.name, qualifier), "=", *self.value(table.key.role, self.of_key(table))]
+    def where(self, table: Table, qualifier: str) -> str:
+        def key() -> str:
+            return self.column(table.key.name, qualifier)
 
-        def turned() -> Tokens:
-            return [*self.value(table.key.role, self.of_key(table)), "=", *self.column(table.key.name, qualifier)]
-
-        def among() -> Tokens:
-            found = [*self.column(table.key.name, qualifier), "IN", "("]
-            for at in range(self.chance.randrange(1, 5)):
-                found += [","] * (at > 0) + self.value(table.key.role, self.of_key(table))
-            return found + [")"]
-
-        def strange() -> Tokens:
-            another = self.chance.choice(table.columns).name
-            return self.chance.choice([[*equal(), "AND", another, "=", "1"], [*equal(), "OR", another, "=", "1"], [another, "=", "'a'"], [table.key.name, "IS", "NULL"], ["NOT", *equal()], ["TRUE"],
-                                       [table.key.name, ">", "1"], [table.key.name, "=", table.key.name], [table.key.name, "=", "ANY", "(", "'{1,2}'", ")"], [*equal(), "AND", *equal()]])
+        def value() -> str:
+            return self.value(table.key.role, self.of_key(table))
 
         turn = self.chance.randrange(20)
-        it = equal() if turn < 14 else among() if turn < 17 else turned() if turn == 17 else strange()
-        return ["WHERE", "(", *it, ")"] if self.one_in(8) else ["WHERE", *it]
+        if turn < 14:
+            found = f"{key()} = {value()}"
+        elif turn < 17:
+            found = f"{key()} IN ( {' , '.join(value() for _ in range(self.chance.randrange(1, 5)))} )"
+        elif turn == 17:
+            found = f"{value()} = {key()}"
+        else:
+            found = self.of(*CONDITIONS).format(e=f"{key()} = {value()}", k=table.key.name, c=self.chance.choice(table.columns).name)
+        return f"WHERE ( {found} )" if self.one_in(8) else f"WHERE {found}"
 
-    def listed(self, table: Table, qualifier: str) -> Tokens:
+    def listed(self, table: Table, qualifier: str) -> str:
         """Returns a list of columns of a result."""
         turn = self.chance.randrange(12)
-        if turn < 3:
-            return ["*"]
-        if turn == 3:
-            return [qualifier, ".", "*"]
-        if turn == 4:
-            return self.chance.choice([["count", "(", "*", ")"], ["count", "(", "*", ")", "AS", "c"], ["COUNT", "(", table.key.name, ")"], ["count", "(", "1", ")"]])
-        if turn == 5:
-            return self.chance.choice([["1"], ["1", "AS", "a"], ["1", "AS", '"a"'], ["1", "one"], ["'x'"], ["NULL"], ["1", ",", "2"], ["TRUE"]])
-        found: Tokens = []
-        for at in range(self.chance.randrange(1, 4)):
-            found += [","] * (at > 0) + self.column(self.chance.choice(table.columns).name, qualifier)
-            if self.one_in(5):
-                found += self.chance.choice([["AS", "c"], ["c"], ["AS", '"C d"'], ["AS", "id"], ["AS", "order"]])
-        return found
+        if turn < 4:
+            return "*" if turn else f"{qualifier} . *"
+        if turn < 6:
+            return self.of(*LISTS).format(k=table.key.name)
+        names = [self.column(self.chance.choice(table.columns).name, qualifier) for _ in range(self.chance.randrange(1, 4))]
+        return " , ".join(f"{name} {self.of(*NAMED)}" if self.one_in(5) else name for name in names)
 
-    def select(self) -> Tokens:
+    def returning(self, table: Table, qualifier: str) -> str:
+        return f" RETURNING {self.listed(table, qualifier)}" if self.one_in(6) else ""
+
+    # Statements
+
+    def select(self) -> str:
         table = self.chance.choice(TABLES)
         name, qualifier = self.named(table)
-        found = ["SELECT", *self.listed(table, qualifier), "FROM", *name]
+        found = [f"SELECT {self.listed(table, qualifier)} FROM {name}"]
         if not self.one_in(4):
-            found += self.where(table, qualifier)
+            found.append(self.where(table, qualifier))
         if self.one_in(4):
-            by = self.column(table.key.name, qualifier) if not self.one_in(6) else [self.chance.choice(["1", "2", table.columns[1].name, "c"])]
-            found += ["ORDER", "BY", *by, *self.chance.choice([[], [], ["ASC"], ["DESC"], ["DESC", "NULLS", "LAST"]])]
+            by = self.of("1", "2", table.columns[1].name, "c") if self.one_in(6) else self.column(table.key.name, qualifier)
+            found.append(f"ORDER BY {by} {self.of(*ORDERS)}".rstrip())
         if self.one_in(5):
-            found += self.chance.choice([["LIMIT", "2"], ["LIMIT", "2", "OFFSET", "1"], ["OFFSET", "1"], ["LIMIT", *self.value(Role.WHOLE, "1")], ["LIMIT", "ALL"], ["FETCH", "FIRST", "2", "ROWS", "ONLY"],
-                                         ["OFFSET", "1", "ROWS"], ["LIMIT", "0"], ["OFFSET", "1", "LIMIT", "1"], ["LIMIT", "-1"], ["LIMIT", "1.5"], ["LIMIT", "NULL"], ["FETCH", "NEXT", "ROW", "ONLY"]])
+            found.append(self.of(*CUTS).format(v=self.value(Role.WHOLE, "1")))
         if self.one_in(10):
-            found += self.chance.choice([["FOR", "UPDATE"], ["FOR", "UPDATE", "NOWAIT"], ["FOR", "SHARE"], ["FOR", "NO", "KEY", "UPDATE"], ["FOR", "UPDATE", "OF", qualifier], ["FOR", "UPDATE", "SKIP", "LOCKED"]])
-        return found
+            found.append(self.of(*LOCKS).format(q=qualifier))
+        return " ".join(found)
 
-    def returning(self, table: Table, qualifier: str) -> Tokens:
-        return ["RETURNING", *self.listed(table, qualifier)] if self.one_in(6) else []
-
-    def insert(self) -> Tokens:
+    def insert(self) -> str:
         table = self.chance.choice(TABLES)
-        found = ["INSERT", "INTO", *self.table_name(table)]
-        qualifier = table.name
-        if self.one_in(12):
-            qualifier = "z"
-            found += ["AS", "z"]
+        alias = self.one_in(12)
         columns = list(table.columns)
+        listed = ""
         if self.one_in(2):
             if self.one_in(4):
                 self.chance.shuffle(columns)
-            found += ["("]
-            for at, it in enumerate(columns):
-                found += [","] * (at > 0) + [self.cased(it.name)]
-            found += [")"]
-        found += ["VALUES"]
-        for at in range(self.chance.choice([1, 1, 1, 1, 2, 3])):
-            found += [","] * (at > 0) + ["("]
-            for place, it in enumerate(columns):
-                value = self.of_key(table) if it is table.key else self.fresh(it)
-                found += [","] * (place > 0) + (["DEFAULT"] if self.one_in(60) else self.value(it.role, value))
-            found += [")"]
-        return found + self.returning(table, qualifier)
+            listed = f" ( {' , '.join(self.cased(it.name) for it in columns)} )"
 
-    def change(self, column: Column, qualifier: str) -> Tokens:
+        def value(it: Column) -> str:
+            return "DEFAULT" if self.one_in(60) else self.value(it.role, self.of_key(table) if it is table.key else self.fresh(it))
+
+        rows = [f"( {' , '.join(value(it) for it in columns)} )" for _ in range(self.chance.choice([1, 1, 1, 1, 2, 3]))]
+        returning = self.returning(table, "z" if alias else table.name)
+        return f"INSERT INTO {self.table_name(table)}{' AS z' if alias else ''}{listed} VALUES {' , '.join(rows)}{returning}"
+
+    def change(self, column: Column, qualifier: str) -> str:
         """Returns what a RESERVABLE column becomes."""
-        name, sign = self.column(column.name, qualifier), self.chance.choice("+-")
+        form = self.of(*CHANGES) if self.one_in(4) else "{n} {s} {v}"
         amount = self.value(column.role, self.fresh(column))
-        if not self.one_in(4):
-            return [*name, sign, *amount]
-        forms: List[Callable[[], Tokens]] = [
-            lambda: ["(", *name, sign, *amount, ")"], lambda: [*amount, "+", *name], lambda: [*name, sign, "(", *amount, ")"], lambda: [*name, sign, "-", *amount], lambda: [*name, sign, *amount, "+", "1"],
-            lambda: name, lambda: amount, lambda: [*name, "*", "2"], lambda: ["COALESCE", "(", *name, ",", "0", ")", sign, *amount], lambda: ["-", *amount, "+", *name], lambda: [*amount, "-", *name],
-            lambda: [*name, sign, *amount, *self.cast()], lambda: ["(", *name, ")", sign, *amount], lambda: [*name, sign, "'1'"], lambda: ["held", sign, *amount],
-        ]
-        return self.chance.choice(forms)()
+        return form.format(n=self.column(column.name, qualifier), s=self.of("+", "-"), v=amount, cast=self.of(*CASTS))
 
-    def update(self) -> Tokens:
+    def update(self) -> str:
         table = self.chance.choice(TABLES)
         name, qualifier = self.named(table)
-        found = ["UPDATE", *name, "SET"]
-        plain = table.plain()
+        plain, reservable = table.plain(), table.reservable()
         if plain and self.one_in(3):
             chosen = self.chance.sample(plain, self.chance.randrange(1, len(plain) + 1))
-            sets = [[self.cased(it.name), "=", *self.value(it.role, self.fresh(it))] for it in chosen]
+            sets = [(self.cased(it.name), self.value(it.role, self.fresh(it))) for it in chosen]
         else:
-            few = table.reservable()
-            chosen = self.chance.sample(few, self.chance.choice([1, 1, 1, len(few)]))
-            sets = [[self.cased(it.name), "=", *self.change(it, qualifier)] for it in chosen]
+            chosen = self.chance.sample(reservable, self.chance.choice([1, 1, 1, len(reservable)]))
+            sets = [(self.cased(it.name), self.change(it, qualifier)) for it in chosen]
             if plain and self.one_in(15):
-                sets.append([plain[0].name, "=", *self.value(plain[0].role, self.fresh(plain[0]))])
+                sets.append((plain[0].name, self.value(plain[0].role, self.fresh(plain[0]))))
         if self.one_in(20):
-            left, right = [it[:1] for it in sets], [it[2:] for it in sets]
-            joined = [["(", *[token for at, it in enumerate(side) for token in [","] * (at > 0) + it], ")"] for side in (left, right)]
-            sets = [[*joined[0], "=", *(["ROW"] if self.one_in(3) else []), *joined[1]]]
-        for at, it in enumerate(sets):
-            found += [","] * (at > 0) + it
-        if not self.one_in(15):
-            found += self.where(table, qualifier)
-        return found + self.returning(table, qualifier)
+            names, values = (" , ".join(side) for side in zip(*sets))
+            assigned = f"( {names} ) = {self.maybe(3, 'ROW')}( {values} )"
+        else:
+            assigned = " , ".join(f"{column} = {value}" for column, value in sets)
+        where = "" if self.one_in(15) else f" {self.where(table, qualifier)}"
+        return f"UPDATE {name} SET {assigned}{where}{self.returning(table, qualifier)}"
 
-    def delete(self) -> Tokens:
+    def delete(self) -> str:
         table = self.chance.choice(TABLES)
         name, qualifier = self.named(table)
-        found = ["DELETE", "FROM", *(["ONLY"] if self.one_in(20) else []), *name]
-        if not self.one_in(15):
-            found += self.where(table, qualifier)
-        return found + self.returning(table, qualifier)
+        where = "" if self.one_in(15) else f" {self.where(table, qualifier)}"
+        return f"DELETE FROM {self.maybe(20, 'ONLY')}{name}{where}{self.returning(table, qualifier)}"
 
-    def condition(self, columns: Sequence[str]) -> Tokens:
-        name = self.chance.choice(columns)
-        forms = [[name, ">=", "0"], [name, "<=", "100"], [name, "BETWEEN", "-", "5", "AND", "100"], [name, "+", columns[-1], "<", "200"], ["2", "*", name, ">=", "-", "9"], ["0", "<=", name], ["(", name, ">=", "0", ")"],
-                 [name, ">", "-1.5"], [name, ">=", "-1..5"], [name, "<>", "7"], [name, ">=", "0", "AND", name, "<=", "90"], ["(", name, ")", ">=", "0"], [name, ">=", "'0'"], [name, ">=", "0", "::", "int"], [name, "=", name]]
-        return self.chance.choice(forms)
+    def check(self, columns: Sequence[str], name: str) -> str:
+        condition = self.of(*CHECKS).format(n=self.chance.choice(columns), m=columns[-1])
+        return f"{self.maybe(2, f'CONSTRAINT {name}')}CHECK ( {condition} )"
 
-    def check(self, columns: Sequence[str], name: str) -> Tokens:
-        return (["CONSTRAINT", name] if self.one_in(2) else []) + ["CHECK", "(", *self.condition(columns), ")"]
-
-    def create(self) -> Tokens:
-        types = [["INT"], ["BIGINT"], ["SMALLINT"], ["INTEGER"], ["NUMERIC", "(", "8", ",", "2", ")"], ["DECIMAL", "(", "6", ",", "1", ")"], ["NUMERIC", "(", "6", ")"], ["NUMERIC"], ["DECIMAL"], ["int8"], ["int4"]]
-        found = ["CREATE", "TABLE", *(["IF", "NOT", "EXISTS"] if self.one_in(4) else []), *(["public", "."] if self.one_in(10) else []), self.cased(MADE), "(", "id", *self.chance.choice(types)]
+    def create(self) -> str:
         apart = self.one_in(4)
-        found += [] if apart else [*(["CONSTRAINT", "pk"] if self.one_in(6) else []), "PRIMARY", "KEY", *(["NOT", "NULL"] if self.one_in(5) else [])]
-        names = ["n", "m"][:self.chance.choice([1, 2])]
+        key = "" if apart else f" {self.maybe(6, 'CONSTRAINT pk')}PRIMARY KEY{' NOT NULL' if self.one_in(5) else ''}"
+        items = [f"id {self.of(*TYPES)}{key}"]
+        names = ["n", "m"][: self.chance.choice([1, 2])]
         for it in names:
-            found += [",", it, *self.chance.choice(types), RESERVABLE, *(["NOT", "NULL"] if self.one_in(3) else []), *(self.check([it], "c" + it) if self.one_in(2) else [])]
+            null = " NOT NULL" if self.one_in(3) else ""
+            items.append(f"{it} {self.of(*TYPES)} {RESERVABLE}{null}" + (f" {self.check([it], 'c' + it)}" if self.one_in(2) else ""))
         if self.one_in(2):
-            found += [",", "note", *self.chance.choice([["VARCHAR", "(", "20", ")"], ["TEXT"], ["character", "varying", "(", "9", ")"], ["varchar"], ["CHAR", "(", "3", ")"]])]
+            items.append(f"note {self.of(*TEXT_TYPES)}")
         if apart:
-            found += [",", *(["CONSTRAINT", "pk"] if self.one_in(2) else []), "PRIMARY", "KEY", "(", "id", ")"]
+            items.append(f"{self.maybe(2, 'CONSTRAINT pk')}PRIMARY KEY ( id )")
         if self.one_in(3):
-            found += [",", *self.check(names, "whole")]
-        return found + [")"]
+            items.append(self.check(names, "whole"))
+        return f"CREATE TABLE {self.maybe(4, 'IF NOT EXISTS')}{self.maybe(10, 'public .')}{self.cased(MADE)} ( {' , '.join(items)} )"
 
-    def alter(self) -> Tokens:
+    def alter(self) -> str:
         table = self.chance.choice([STOCK, STOCKS])
-        found = ["ALTER", "TABLE", *(["IF", "EXISTS"] if self.one_in(8) else []), *(["ONLY"] if self.one_in(8) else []), *self.table_name(table)]
+        found = f"ALTER TABLE {self.maybe(8, 'IF EXISTS')}{self.maybe(8, 'ONLY')}{self.table_name(table)}"
         if self.one_in(3):
-            return found + ["DROP", "CONSTRAINT", *(["IF", "EXISTS"] if self.one_in(5) else []), self.chance.choice(["in_stock", "kept", "added", "nothing", '"IN_STOCK"'])]
-        return found + ["ADD", *self.check([it.name for it in table.reservable()], "added")]
+            return f"{found} DROP CONSTRAINT {self.maybe(5, 'IF EXISTS')}{self.of(*CONSTRAINTS)}"
+        return f"{found} ADD {self.check([it.name for it in table.reservable()], 'added')}"
 
-    def drop(self) -> Tokens:
-        return ["DROP", "TABLE", *(["IF", "EXISTS"] if self.one_in(2) else []), *self.chance.choice([[MADE], ["public", ".", MADE], [MADE, "CASCADE"], [MADE, "RESTRICT"], ["nothing"], [MADE, ",", "nothing"]])]
+    def drop(self) -> str:
+        return f"DROP TABLE {self.maybe(2, 'IF EXISTS')}{self.of(*DROPS).format(t=MADE)}"
 
-    def with_made(self) -> Tokens:
-        """Returns a statement on the table that is created now and then, with values that fit all types."""
-        key = self.chance.choice("123")
-        return self.chance.choice([
-            ["SELECT", "*", "FROM", MADE], ["INSERT", "INTO", MADE, "(", "id", ",", "n", ")", "VALUES", "(", key, ",", self.chance.choice(["5", "-1", "50"]), ")"],
-            ["INSERT", "INTO", MADE, "VALUES", "(", key, ",", "5", ",", "5", ",", "'ab'", ")"], ["INSERT", "INTO", MADE, "VALUES", "(", key, ",", "7", ")"],
-            ["INSERT", "INTO", MADE, "VALUES", "(", key, ",", "7", ",", "'a'", ")"], ["UPDATE", MADE, "SET", "n", "=", "n", "-", "1", "WHERE", "id", "=", key],
-            ["UPDATE", MADE, "SET", "n", "=", "n", "+", "60", "WHERE", "id", "=", key], ["DELETE", "FROM", MADE, "WHERE", "id", "=", key],
-        ])
+    def with_made(self) -> str:
+        return self.of(*WITH_MADE).format(t=MADE, k=self.of("1", "2", "3"))
 
-    def asked(self) -> Tokens:
-        """Returns a query without a table, or a setting, that clients send."""
-        return self.chance.choice([["SELECT", "1"], ["SELECT", "1", "AS", "one"], ["SELECT", "1", "+", "1", "AS", "result"], ["SELECT", "'x'"], ["SELECT", "current_schema", "(", ")"], ["SELECT", "current_database", "(", ")"],
-                                   ["SELECT", "*", "FROM", "current_schema", "(", ")"], ["SHOW", "standard_conforming_strings"], ["SHOW", "transaction_isolation"], ["SET", "client_min_messages", "=", "'warning'"], [],
-                                   ["SET", "application_name", "TO", "x"], ["SELECT", "NULL"], ["SELECT", "-", "1"], ["SELECT", "$1", "::", "int"], ["SHOW", "server_encoding"], ["RESET", "application_name"], ["SELECT", "1.5"]])
+    def asked(self) -> str:
+        return self.of(*ASKED)
+
+    def several(self) -> str:
+        """Returns several statements of one message."""
+        return " ; ".join(self.chance.choice([self.update, self.update, self.select])() for _ in range(self.chance.randrange(2, 4)))
 
     # The whole
-
-    def several(self) -> Tokens:
-        """Returns several statements of one message."""
-        found: Tokens = []
-        for at in range(self.chance.randrange(2, 4)):
-            found += [";"] * (at > 0) + self.pick(self.update, self.update, self.select)
-        return found
 
     def statement(self) -> Statement:
         """Returns a statement as a client would write it."""
         self.parameters, self.extended = [], self.one_in(3)
         turn = self.chance.randrange(100)
-        ways = ((28, self.select), (56, self.update), (72, self.insert), (84, self.delete), (87, self.create), (89, self.alter), (90, self.drop), (94, self.with_made), (97, self.asked), (100, self.several))
-        tokens = next(way for limit, way in ways if turn < limit)()
+        text = next(way for limit, way in self.ways() if turn < limit)()
+        tokens = [it.replace(BLANK, " ").replace(LINE, "\n") for it in text.split(" ") if it]
         if self.one_in(6):
-            tokens = tokens + [";"]
+            tokens.append(";")
         result = wire.BINARY if self.extended and self.one_in(3) else wire.TEXT
         most = 1 if self.extended and self.one_in(12) else wire.NO_ROW_LIMIT
         return Statement(tuple(tokens), tuple(self.blanks(tokens)), tuple(self.parameters), self.extended, result, most)
+
+    def ways(self) -> Sequence[Tuple[int, Callable[[], str]]]:
+        """Returns what statements are made of, each up to a number of 100."""
+        return (
+            (28, self.select),
+            (56, self.update),
+            (72, self.insert),
+            (84, self.delete),
+            (87, self.create),
+            (89, self.alter),
+            (90, self.drop),
+            (94, self.with_made),
+            (97, self.asked),
+            (100, self.several),
+        )
 
     def blanks(self, tokens: Sequence[str]) -> List[str]:
         """Returns what separates tokens: none where none is needed and the writer saves it, at times a comment or a line."""
@@ -549,11 +596,9 @@ class Grammar:
             other = self.chance.randrange(len(tokens))
             tokens[at], tokens[other] = tokens[other], tokens[at]
         elif turn == 5:
-            quote = self.chance.choice(["\"", "'", "$$", "E'"])
-            tokens[at] = quote + tokens[at] + quote[-1:] if quote != "$$" else f"$${tokens[at]}$$"
+            tokens[at] = self.of('"{}"', "'{}'", "$${}$$", "E'{}'").replace("{}", tokens[at])
         elif turn == 6:
-            cast = self.cast()
-            tokens[at + 1:at + 1], blanks[at + 1:at + 1] = cast, ["", ""]
+            tokens[at + 1 : at + 1], blanks[at + 1 : at + 1] = ["::", self.of(*CASTS)], ["", ""]
         elif turn == 7:
             tokens[at] = self.chance.choice(STRANGE)
         elif turn in (8, 9):
@@ -561,12 +606,12 @@ class Grammar:
             blanks.insert(at, self.chance.choice([" ", "", ""]))
         elif turn == 10:
             last = self.chance.randrange(at, len(tokens))
-            tokens[last + 1:last + 1], blanks[last + 1:last + 1] = [")"], [""]
+            tokens[last + 1 : last + 1], blanks[last + 1 : last + 1] = [")"], [""]
             tokens.insert(at, "(")
             blanks.insert(at, " ")
         else:
             cut = self.chance.randrange(len(tokens[at]) + 1)
-            tokens[at:at + 1], blanks[at:at + 1] = [tokens[at][:cut], tokens[at][cut:]], [blanks[at], self.chance.choice([" ", "", "/**/"])]
+            tokens[at : at + 1], blanks[at : at + 1] = [tokens[at][:cut], tokens[at][cut:]], [blanks[at], self.chance.choice([" ", "", "/**/"])]
         return replace(it, tokens=tuple(tokens), blanks=tuple(blanks))
 
     def any(self, most: int = 4) -> Statement:

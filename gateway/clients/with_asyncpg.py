@@ -21,7 +21,9 @@ def tried(gateway: Gateway, act: Callable[[Any], Awaitable[None]]) -> None:
     """Runs an act with a connection to a gateway that has the table."""
 
     async def whole() -> None:
-        connection = await asyncpg.connect(host=str(gateway.folder), port=PORT, user="clerk", database="bank", timeout=SECONDS, command_timeout=SECONDS)
+        connection = await asyncpg.connect(
+            host=str(gateway.folder), port=PORT, user="clerk", database="bank", timeout=SECONDS, command_timeout=SECONDS
+        )
         await connection.execute(STOCK)
         await connection.execute("INSERT INTO stock VALUES ($1, $2, $3, $4)", 1, 5, Decimal("9.50"), "Bob's \\ tea")
         await act(connection)
@@ -35,7 +37,10 @@ def types_and_tags(gateway: Gateway) -> None:
     async def act(connection: Any) -> None:
         expect(tuple(await connection.fetchrow(ONE, 1)), (1, 5, Decimal("9.50"), "Bob's \\ tea"))
         expect(await connection.fetchrow(ONE, 9), None)
-        expect([(it.name, it.type.name) for it in (await connection.prepare(ONE)).get_attributes()], [("id", "int8"), ("pieces", "int8"), ("price", "numeric"), ("name", "varchar")])
+        expect(
+            [(it.name, it.type.name) for it in (await connection.prepare(ONE)).get_attributes()],
+            [("id", "int8"), ("pieces", "int8"), ("price", "numeric"), ("name", "varchar")],
+        )
         expect(await connection.execute(TAKE, 2, 1), "UPDATE 1")
         expect(await connection.execute(TAKE, -2, 1), "UPDATE 1")
         expect(await connection.execute(TAKE, 2, 9), "UPDATE 0")
@@ -77,7 +82,10 @@ def a_pool_gives_back_clean_connections(gateway: Gateway) -> None:
     """At each release the pool sends what resets a session."""
 
     async def act(connection: Any) -> None:
-        async with asyncpg.create_pool(host=str(gateway.folder), port=PORT, user="clerk", database="bank", min_size=2, max_size=4, command_timeout=SECONDS) as pool:
+        async with asyncpg.create_pool(
+            host=str(gateway.folder), port=PORT, user="clerk", database="bank", min_size=2, max_size=4, command_timeout=SECONDS
+        ) as pool:
+
             async def take() -> None:
                 async with pool.acquire() as it:
                     await it.execute("SET application_name = 'taken'")

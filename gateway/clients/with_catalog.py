@@ -24,10 +24,40 @@ THEIRS = [
     "CREATE TABLE stock (id bigint PRIMARY KEY, pieces bigint NOT NULL CONSTRAINT in_stock CHECK (pieces >= 0), price numeric(8,2) NOT NULL, name varchar(20) NOT NULL)",
     "CREATE TABLE orders (k varchar(10) PRIMARY KEY, n bigint NOT NULL CONSTRAINT most CHECK (n <= 100))",
 ]
-COMMANDS = ["\\d", "\\dt", "\\d stock", "\\d orders", "\\d public.stock", "\\dt stock", "\\dt s*", "\\d s*", "\\d nothing", "\\dt nothing", "\\dv", "\\ds", "\\dm", "\\dE", "\\di", "\\d stock_pkey", "\\dx"]
+COMMANDS = [
+    "\\d",
+    "\\dt",
+    "\\d stock",
+    "\\d orders",
+    "\\d public.stock",
+    "\\dt stock",
+    "\\dt s*",
+    "\\d s*",
+    "\\d nothing",
+    "\\dt nothing",
+    "\\dv",
+    "\\ds",
+    "\\dm",
+    "\\dE",
+    "\\di",
+    "\\d stock_pkey",
+    "\\dx",
+]
 # Keys in front of TAB, twice each, and what is typed then.
-KEYS = ["SELECT * FROM ", "SELECT * FROM st", "UPDATE ", "UPDATE stock SET ", "UPDATE stock SET pi", "SELECT * FROM stock WHERE ", "DELETE FROM or", "INSERT INTO ", "DROP TABLE ", "ALTER TABLE stock DROP CONSTRAINT ",
-        "\\d ", "\\dt st"]
+KEYS = [
+    "SELECT * FROM ",
+    "SELECT * FROM st",
+    "UPDATE ",
+    "UPDATE stock SET ",
+    "UPDATE stock SET pi",
+    "SELECT * FROM stock WHERE ",
+    "DELETE FROM or",
+    "INSERT INTO ",
+    "DROP TABLE ",
+    "ALTER TABLE stock DROP CONSTRAINT ",
+    "\\d ",
+    "\\dt st",
+]
 TAKE = "UPDATE stock SET pieces = pieces - 1 WHERE id = 1;"
 QUIET, LONGEST = 0.15 * PATIENCE, 20.0 * PATIENCE
 
@@ -35,7 +65,9 @@ QUIET, LONGEST = 0.15 * PATIENCE, 20.0 * PATIENCE
 def psql(dsn: str, *commands: str) -> List[str]:
     """Returns the lines that psql prints for commands."""
     words = ["psql", "-X", "-d", dsn, *(word for it in commands for word in ("-c", it))]
-    return subprocess.run(words, stdout=subprocess.PIPE, stderr=subprocess.STDOUT, text=True, timeout=END, env={**os.environ, "PAGER": "cat", "LC_ALL": "C.UTF-8"}).stdout.splitlines()
+    return subprocess.run(
+        words, stdout=subprocess.PIPE, stderr=subprocess.STDOUT, text=True, timeout=END, env={**os.environ, "PAGER": "cat", "LC_ALL": "C.UTF-8"}
+    ).stdout.splitlines()
 
 
 def expect_equal(theirs: Sequence[str], ours: Sequence[str]) -> None:
@@ -77,8 +109,18 @@ class Terminal:
 
     def __init__(self, dsn: str) -> None:
         self.control, theirs = pty.openpty()
-        environment = {**os.environ, "TERM": "dumb", "PAGER": "cat", "INPUTRC": "/dev/null", "PSQL_HISTORY": "/dev/null", "LC_ALL": "C.UTF-8", "COLUMNS": "200"}
-        self.process = subprocess.Popen(["psql", "-X", "-v", "PROMPT1=<%x> ", "-d", dsn], stdin=theirs, stdout=theirs, stderr=theirs, env=environment, start_new_session=True)
+        environment = {
+            **os.environ,
+            "TERM": "dumb",
+            "PAGER": "cat",
+            "INPUTRC": "/dev/null",
+            "PSQL_HISTORY": "/dev/null",
+            "LC_ALL": "C.UTF-8",
+            "COLUMNS": "200",
+        }
+        self.process = subprocess.Popen(
+            ["psql", "-X", "-v", "PROMPT1=<%x> ", "-d", dsn], stdin=theirs, stdout=theirs, stderr=theirs, env=environment, start_new_session=True
+        )
         os.close(theirs)
         self.until("<> ")
 

@@ -30,8 +30,14 @@ def model() -> Any:
         module.__path__ = []  # type: ignore[attr-defined]
         module.__file__ = f"/{APPLICATION}/__init__.py"
         sys.modules[APPLICATION] = module
-        settings.configure(SECRET_KEY="x", INSTALLED_APPS=[], USE_TZ=True, DATABASES={
-            "default": {"ENGINE": "django.db.backends.postgresql", "NAME": "bank", "USER": "clerk", "HOST": "/nowhere", "PORT": str(PORT)}})
+        settings.configure(
+            SECRET_KEY="x",
+            INSTALLED_APPS=[],
+            USE_TZ=True,
+            DATABASES={
+                "default": {"ENGINE": "django.db.backends.postgresql", "NAME": "bank", "USER": "clerk", "HOST": "/nowhere", "PORT": str(PORT)}
+            },
+        )
         django.setup()
         importlib.invalidate_caches()
 
@@ -146,7 +152,11 @@ def creates_saves_and_deletes(gateway: Gateway) -> None:
 def what_is_not_there_is_refused_by_its_name(gateway: Gateway) -> None:
     """0A000 or a fault of the syntax, and Django goes on behind it."""
     objects = stock(gateway).objects
-    for act in (lambda: objects.filter(name="tea").count(), lambda: objects.aggregate(models.Sum("pieces")), lambda: list(objects.filter(pieces__gt=1))):
+    for act in (
+        lambda: objects.filter(name="tea").count(),
+        lambda: objects.aggregate(models.Sum("pieces")),
+        lambda: list(objects.filter(pieces__gt=1)),
+    ):
         try:
             act()
         except (NotSupportedError, ProgrammingError, OperationalError):

@@ -102,7 +102,9 @@ def purpose(reason: str, pattern: str, *differs: Aspect) -> Purpose:
 
 # What differs on purpose where the gateway acts.
 ON_PURPOSE = [
-    purpose("SHOW TABLE, BOUNDS, JOURNAL and STATISTICS are the server's own statements", r"^[\s(;]*show\s+(table|bounds|journal|statistics)\b", *Aspect),
+    purpose(
+        "SHOW TABLE, BOUNDS, JOURNAL and STATISTICS are the server's own statements", r"^[\s(;]*show\s+(table|bounds|journal|statistics)\b", *Aspect
+    ),
     purpose("a column of a created table has the server's nearest type: INT has 15 digits and is int8", rf"\b{MADE}\b", Aspect.COLUMNS, Aspect.ROWS),
 ]
 
@@ -135,7 +137,7 @@ class Client:
                     raise wire.Ended(f"the server closed the connection behind answer {len(found)} of {len(requests)}: {error} {text}")
                 buffer, at = buffer[at:] + more, 0
                 continue
-            kind, body = buffer[at], buffer[at + 5:at + 1 + length]
+            kind, body = buffer[at], buffer[at + 5 : at + 1 + length]
             at += 1 + length
             if kind == 68:  # D
                 rows.append(body)
@@ -194,8 +196,10 @@ class Counts:
     def shown(self, seconds: float) -> str:
         tags = ", ".join(f"{tag} {count}" for tag, count in self.tags.most_common(12))
         refused = ", ".join(f"{code} {count}" for code, count in self.refused.most_common(12))
-        return (f"{self.statements} statements in {seconds:.0f} s, {self.statements / max(seconds, 0.01):.0f} a second; both acted on {self.both} ({tags}); "
-                f"refused by the gateway alone: {refused or 'none'}")
+        return (
+            f"{self.statements} statements in {seconds:.0f} s, {self.statements / max(seconds, 0.01):.0f} a second; both acted on {self.both} ({tags}); "
+            f"refused by the gateway alone: {refused or 'none'}"
+        )
 
 
 class Pair:
@@ -269,7 +273,9 @@ class Pair:
                 self.counts.refused[ours.error] += 1
                 if ours.error not in REFUSALS:
                     return f"the gateway refused it by {ours.text}, PostgreSQL answered {theirs.tags}"
-            return f"the gateway answered {ours.text}" if ours.error.startswith(("XX", "58", "57", "08")) and not theirs.error.startswith("08") else ""
+            return (
+                f"the gateway answered {ours.text}" if ours.error.startswith(("XX", "58", "57", "08")) and not theirs.error.startswith("08") else ""
+            )
         if not theirs.acted:
             return "" if excused(Aspect.ACTION, it) else f"the gateway acted ({ours.tags}), PostgreSQL did not: {theirs.text}"
         self.counts.both += 1
@@ -339,7 +345,9 @@ def shortened(pair: Pair, found: Difference) -> Difference:
 def held_against_postgres(gateway: Gateway, seed: int, seconds: float, most: int = MOST_SHOWN) -> Tuple[List[Difference], Counts, float]:
     """Serves statements for some seconds, and returns the differences, each once by its shape."""
     found: Dict[str, Difference] = {}
-    with Postgres("fsync=off", "synchronous_commit=off", "full_page_writes=off", "autovacuum=off", "standard_conforming_strings=on", "log_min_messages=panic") as postgres:
+    with Postgres(
+        "fsync=off", "synchronous_commit=off", "full_page_writes=off", "autovacuum=off", "standard_conforming_strings=on", "log_min_messages=panic"
+    ) as postgres:
         pair = Pair(gateway.socket, postgres.socket)
         grammar = Grammar(random.Random(seed))
         begin, batches = time.monotonic(), 0
@@ -368,7 +376,9 @@ def expect_none(found: Sequence[Difference], counts: Counts, seconds: float, see
     """Fails, and shows each difference, if there is one."""
     print(counts.shown(seconds), file=sys.stderr, flush=True)
     if found:
-        shown = "\n".join(f"{it.statement.shown()}\n    {it.what}" + "".join(f"\n    behind {before.shown()}" for before in it.before) for it in found)
+        shown = "\n".join(
+            f"{it.statement.shown()}\n    {it.what}" + "".join(f"\n    behind {before.shown()}" for before in it.before) for it in found
+        )
         raise AssertionError(f"{len(found)} differences, seed {seed}:\n{shown}")
     if counts.both < counts.statements // 20:
         raise AssertionError(f"both acted on too few statements: {counts.shown(seconds)}")

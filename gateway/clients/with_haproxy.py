@@ -20,10 +20,24 @@ class Haproxy(Server):
         self.control = self.folder / "control"
 
     def start(self) -> None:
-        (self.folder / "settings").write_text("\n".join([
-            "global", f"  stats socket {self.control} mode 600 level admin",
-            "defaults", "  mode tcp", "  timeout connect 2s", "  timeout client 2s", "  timeout server 2s",
-            "listen gateway", f"  bind 127.0.0.1:{free_port()}", "  option pgsql-check user haproxy", f"  server it unix@{self.gateway.socket} check inter 100ms fall 2 rise 1", ""]))
+        (self.folder / "settings").write_text(
+            "\n".join(
+                [
+                    "global",
+                    f"  stats socket {self.control} mode 600 level admin",
+                    "defaults",
+                    "  mode tcp",
+                    "  timeout connect 2s",
+                    "  timeout client 2s",
+                    "  timeout server 2s",
+                    "listen gateway",
+                    f"  bind 127.0.0.1:{free_port()}",
+                    "  option pgsql-check user haproxy",
+                    f"  server it unix@{self.gateway.socket} check inter 100ms fall 2 rise 1",
+                    "",
+                ]
+            )
+        )
         self.launch([shutil.which("haproxy") or "/usr/sbin/haproxy", "-db", "-f", self.folder / "settings"])
         self.await_socket(self.control)
 

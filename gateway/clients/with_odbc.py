@@ -52,7 +52,10 @@ def tables_and_columns(gateway: Gateway) -> None:
     cursor = connection.cursor()
     cursor.execute(STOCK)
     expect([(row.table_schem, row.table_name, row.table_type) for row in cursor.tables(table="stock").fetchall()], [("public", "stock", "TABLE")])
-    expect([(row.column_name, row.type_name) for row in cursor.columns(table="stock").fetchall()], [("id", "int8"), ("pieces", "int8"), ("price", "numeric"), ("name", "varchar")])
+    expect(
+        [(row.column_name, row.type_name) for row in cursor.columns(table="stock").fetchall()],
+        [("id", "int8"), ("pieces", "int8"), ("price", "numeric"), ("name", "varchar")],
+    )
     expect([row.column_name for row in cursor.primaryKeys("stock").fetchall()], ["id"])
     connection.close()
 
