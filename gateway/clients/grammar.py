@@ -208,6 +208,11 @@ def forms(text: str) -> List[str]:
     return [it.strip() for line in text.strip().split("\n") for it in line.split(" | ")]
 
 
+def tokens_of(text: str) -> List[str]:
+    """Returns the tokens of a text that has a blank between them."""
+    return [it.replace(BLANK, " ").replace(LINE, "\n") for it in text.split(" ") if it]
+
+
 # The forms of a value: {v} is the value as it is, {cast} a type.
 VALUES = {
     Role.WHOLE: forms(
@@ -310,11 +315,29 @@ ASKED = [
     SELECT 1 | SELECT 1 AS one | SELECT 1 + 1 AS result | SELECT 'x' | SELECT current_schema ( ) | SELECT current_database ( )
     SELECT * FROM current_schema ( ) | SHOW standard_conforming_strings | SHOW transaction_isolation | SET client_min_messages = 'warning'
     SET application_name TO x | SELECT NULL | SELECT - 1 | SELECT $1 :: int | SHOW server_encoding | RESET application_name | SELECT 1.5
-    SELECT pg_advisory_unlock_all ( ) | CLOSE ALL | UNLISTEN * | SELECT 1 WHERE true | DISCARD ALL
+    SELECT pg_advisory_unlock_all ( ) | CLOSE ALL | UNLISTEN * | SELECT 1 WHERE true
     SELECT set_config ( 'search_path' , '' , true ) | SET ROLE NONE | SELECT '1' :: int AS a
 """
     ),
 ]
+# A block: how it begins, what is in it beside statements, and how it ends. {a} is a savepoint, {c} a cursor, {q} a query.
+BEGINS = forms(
+    """
+    BEGIN | BEGIN | BEGIN WORK | BEGIN TRANSACTION | START TRANSACTION | BEGIN ISOLATION LEVEL READ COMMITTED | BEGIN READ WRITE | BEGIN READ ONLY
+    START TRANSACTION ISOLATION LEVEL REPEATABLE READ | BEGIN ISOLATION LEVEL READ COMMITTED , READ WRITE | BEGIN NOT DEFERRABLE
+"""
+)
+INSIDE = forms(
+    """
+    SAVEPOINT {a} | ROLLBACK TO {a} | ROLLBACK TO SAVEPOINT {a} | RELEASE {a} | RELEASE SAVEPOINT {a} | BEGIN | SAVEPOINT {a} | ROLLBACK WORK TO {a}
+    DECLARE {c} CURSOR FOR {q} | DECLARE {c} CURSOR FOR {q} | DECLARE {c} NO SCROLL CURSOR WITHOUT HOLD FOR {q} | DECLARE {c} CURSOR WITH HOLD FOR {q}
+    DECLARE {c} SCROLL CURSOR FOR {q} | DECLARE {c} BINARY CURSOR FOR {q} | FETCH {c} | FETCH 2 FROM {c} | FETCH FORWARD 2 FROM {c} | FETCH ALL FROM {c}
+    FETCH FORWARD ALL FROM {c} | FETCH NEXT FROM {c} | FETCH 0 FROM {c} | FETCH PRIOR FROM {c} | FETCH -1 FROM {c} | MOVE 1 FROM {c} | FETCH ABSOLUTE 1 FROM {c}
+    CLOSE {c} | CLOSE ALL | SET LOCAL application_name = 'x' | SET TRANSACTION READ ONLY | SHOW transaction_read_only | COMMIT AND CHAIN | ROLLBACK AND CHAIN
+    SET TRANSACTION ISOLATION LEVEL READ COMMITTED | DISCARD ALL | PREPARE p AS {q} | EXECUTE p | DEALLOCATE p
+"""
+)
+ENDS = forms("COMMIT | COMMIT | COMMIT WORK | END | COMMIT TRANSACTION | ROLLBACK | ABORT | ROLLBACK WORK | COMMIT AND NO CHAIN | END TRANSACTION")
 
 
 class Grammar:
@@ -545,12 +568,33 @@ class Grammar:
         self.parameters, self.extended = [], self.one_in(3)
         turn = self.chance.randrange(100)
         text = next(way for limit, way in self.ways() if turn < limit)()
-        tokens = [it.replace(BLANK, " ").replace(LINE, "\n") for it in text.split(" ") if it]
+        tokens = tokens_of(text)
         if self.one_in(6):
             tokens.append(";")
         result = wire.BINARY if self.extended and self.one_in(3) else wire.TEXT
         most = 1 if self.extended and self.one_in(12) else wire.NO_ROW_LIMIT
         return Statement(tuple(tokens), tuple(self.blanks(tokens)), tuple(self.parameters), self.extended, result, most)
+
+    def block(self) -> List[Statement]:
+        """Returns the statements of a block, at times with one that is mutated."""
+
+        def plain(text: str) -> Statement:
+            tokens = tokens_of(text)
+            return Statement(tuple(tokens), tuple(self.blanks(tokens)), extended=self.one_in(4))
+
+        def inside() -> Statement:
+            if self.one_in(2):
+                query = f"SELECT * FROM {self.of('stock', 'stocks')}{self.of('', ' WHERE id = 1', ' ORDER BY id', ' ORDER BY id DESC LIMIT 2')}"
+                return plain(self.of(*INSIDE).format(a=self.of("a", "b", '"B"'), c=self.of("c", "d"), q=query))
+            self.parameters, self.extended = [], self.one_in(3)
+            tokens = tokens_of(self.chance.choice([self.update, self.update, self.select, self.insert, self.asked])())
+            return Statement(tuple(tokens), tuple(self.blanks(tokens)), tuple(self.parameters), self.extended)
+
+        found = [plain(self.of(*BEGINS)), *(inside() for _ in range(self.chance.randrange(1, 7))), plain(self.of(*ENDS))]
+        if self.one_in(3):
+            at = self.chance.randrange(len(found))
+            found[at] = self.mutated(found[at])
+        return found
 
     def ways(self) -> Sequence[Tuple[int, Callable[[], str]]]:
         """Returns what statements are made of, each up to a number of 100."""

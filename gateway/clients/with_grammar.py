@@ -69,6 +69,7 @@ class Answer:
     columns: Tuple[bytes, ...] = ()
     rows: Tuple[bytes, ...] = ()
     others: Tuple[bytes, ...] = ()
+    state: bytes = b"I"
 
     @property
     def acted(self) -> bool:
@@ -142,7 +143,7 @@ class Client:
             if kind == 68:  # D
                 rows.append(body)
             elif kind == 90:  # Z
-                found.append(Answer(tuple(tags), error, text, tuple(columns), tuple(rows), tuple(others)))
+                found.append(Answer(tuple(tags), error, text, tuple(columns), tuple(rows), tuple(others), body))
                 tags, columns, rows, others, error, text = [], [], [], [], "", ""
             elif kind == 67:  # C
                 tags.append(body)
@@ -169,7 +170,7 @@ def described(body: bytes) -> bytes:
     return repr(wire.Message("T", body).columns()).encode()
 
 
-BEGIN, COMMIT, ROLLBACK = (wire.query(it) for it in ("BEGIN", "COMMIT", "ROLLBACK"))
+BEGIN, COMMIT, ROLLBACK, CLOSE_ALL = (wire.query(it) for it in ("BEGIN", "COMMIT", "ROLLBACK", "CLOSE ALL; DEALLOCATE ALL; RESET ALL"))
 LOOK_AT_OURS = wire.query("; ".join(f"SELECT * FROM {it.name}" for it in TABLES))
 LOOK_AT_THEIRS = wire.query("; ".join(f"SELECT * FROM {it.name} ORDER BY {it.key.name}" for it in TABLES))
 LEFT = f"SELECT tablename FROM pg_tables WHERE schemaname = 'public' AND tablename NOT IN ({', '.join(repr(it.name) for it in TABLES)})"
@@ -182,6 +183,7 @@ class Difference:
     statement: Statement
     what: str
     before: Tuple[Statement, ...] = ()
+    is_block: bool = False
 
 
 @dataclass
@@ -265,7 +267,32 @@ class Pair:
                 return Difference(it, wrong, tuple(statements[:at]))
         return None
 
-    def judge(self, it: Statement, ours: Answer, theirs: Answer) -> str:
+    def serve_block(self, block: Sequence[Statement]) -> Optional[Difference]:
+        """Serves the statements of a block by both, as they are, and returns the first difference. Behind one, both need new tables."""
+        try:
+            ours = self.ours.ask([*(it.messages(it.text) for it in block), ROLLBACK, CLOSE_ALL, LOOK_AT_OURS])
+        except (wire.Ended, OSError) as error:
+            self.reconnect()
+            return Difference(block[-1], f"the gateway ended the connection: {error}", tuple(block[:-1]), True)
+        theirs = self.theirs.ask([*(it.messages(it.text_of_theirs) for it in block), ROLLBACK, CLOSE_ALL, LOOK_AT_THEIRS])
+        are_equal = sorted(ours[-1].rows) == sorted(theirs[-1].rows)
+        has_reserved = False
+        for at, (it, our, their) in enumerate(zip(block, ours, theirs)):
+            # A reservation is applied by COMMIT: until then no row shows it.
+            wrong = self.judge(it, our, their, with_rows=not has_reserved)
+            if not wrong and our.acted == their.acted and our.state != their.state:
+                wrong = f"state: gateway {our.state!r} ({our.text or our.tags}), PostgreSQL {their.state!r} ({their.text or their.tags})"
+            if wrong:
+                return Difference(it, wrong, tuple(block[:at]), True)
+            if our.acted != their.acted:
+                return None if are_equal else Difference(it, "")
+            has_reserved = our.state == b"T" and (has_reserved or any(tag.startswith(b"UPDATE") for tag in our.tags))
+        if not are_equal:
+            only = [readable(set(one) - set(other)) for one, other in ((ours[-1].rows, theirs[-1].rows), (theirs[-1].rows, ours[-1].rows))]
+            return Difference(block[-1], f"rows behind the block: gateway {only[0]}, PostgreSQL {only[1]}", tuple(block[:-1]), True)
+        return None
+
+    def judge(self, it: Statement, ours: Answer, theirs: Answer, with_rows: bool = True) -> str:
         """Returns what is wrong with two answers, or nothing."""
         self.counts.statements += 1
         if not ours.acted:
@@ -288,7 +315,7 @@ class Pair:
                 return f"columns: gateway {ours.columns}, PostgreSQL {theirs.columns}"
             if ours.others != theirs.others:
                 return f"parameters and the like: gateway {ours.others}, PostgreSQL {theirs.others}"
-        return "" if excused(Aspect.ROWS, it) else compared(it, ours.rows, theirs.rows)
+        return "" if excused(Aspect.ROWS, it) or not with_rows else compared(it, ours.rows, theirs.rows)
 
 
 def apart(answers: Sequence[Answer], looks: Sequence[bool]) -> List[Tuple[Answer, Tuple[bytes, ...]]]:
@@ -318,10 +345,13 @@ def readable(rows: Iterable[bytes]) -> List[str]:
 
 
 def shortened(pair: Pair, found: Difference) -> Difference:
-    """Returns a difference with as few tokens as it needs. The statements before it are dropped if it does not need them."""
+    """Returns a difference with as few tokens as it needs, and as few statements before it."""
 
     def tried(statement: Statement, before: Tuple[Statement, ...]) -> Optional[Difference]:
         pair.renew()
+        if found.is_block:
+            again = pair.serve_block([*before, statement])
+            return again if again and again.what and len(again.before) == len(before) else None
         for it in before:
             pair.serve([it])
         again = pair.serve([statement])
@@ -329,7 +359,7 @@ def shortened(pair: Pair, found: Difference) -> Difference:
 
     best = tried(found.statement, ()) or tried(found.statement, found.before)
     if best is None:
-        return Difference(found.statement, f"{found.what} (not seen again)", found.before)
+        return Difference(found.statement, f"{found.what} (not seen again)", found.before, found.is_block)
     for it in best.before:
         best = tried(best.statement, tuple(other for other in best.before if other is not it)) or best
     size = max(1, len(best.statement.tokens) // 2)
@@ -355,7 +385,8 @@ def held_against_postgres(gateway: Gateway, seed: int, seconds: float, most: int
             if batches % A_TABLE == 0:
                 pair.renew()
             batches += 1
-            difference = pair.serve([grammar.any() for _ in range(A_BATCH)])
+            blocks = (pair.serve_block(grammar.block()) for _ in range(A_BATCH // 8))
+            difference = pair.serve([grammar.any() for _ in range(A_BATCH)]) or next((it for it in blocks if it), None)
             if difference:
                 if difference.what:
                     counts, pair.counts = pair.counts, Counts()
