@@ -1,11 +1,10 @@
 """Statements at random to the gateway and to PostgreSQL 15, over equal tables: what the gateway acts on, PostgreSQL has to act on in the same way.
 
-    python3 -m clients.with_grammar --minutes 60 --seed 7 [--parser]
+    python3 -m clients.with_grammar --minutes 60 --seed 7
 
 For each statement that the gateway accepts, PostgreSQL has to accept it too, with the same tag, the same columns and rows, and the same rows behind it.
 What the gateway refuses and PostgreSQL accepts has to have an SQLSTATE of REFUSALS. What differs on purpose is in ON_PURPOSE. A difference is made as
-short as possible and printed. `--parser` compares with PostgreSQL's parser alone, which needs no server: whatever the gateway accepts has to be in
-PostgreSQL's grammar.
+short as possible and printed with its seed. By hand it runs for as long as it is asked to.
 """
 from __future__ import annotations
 
@@ -20,16 +19,16 @@ from collections import Counter
 from dataclasses import dataclass, field
 from enum import Enum
 from pathlib import Path
-from typing import Dict, FrozenSet, Iterable, List, Optional, Pattern, Sequence, Tuple
+from typing import Callable, Dict, FrozenSet, Iterable, List, Optional, Pattern, Sequence, Tuple
 
 from clients import wire
 from clients.grammar import MADE, TABLES, Grammar, Statement
 from clients.servers import LOAD, Gateway, Postgres
-from clients.suite import Part, Skipped, main
+from clients.suite import Part, main
 
 PART = Part("with_grammar")
-# The seconds of a case in the gate, and the seeds of its generators.
-WITH_POSTGRES, WITH_ITS_PARSER, SEED = 100.0 * LOAD, 15.0 * LOAD, 82
+# The seconds of the case in the gate, and the seed of its generator.
+SECONDS, SEED = 120.0 * LOAD, 82
 # The statements that are on their way at once, and the batches behind which both servers get new tables.
 A_BATCH, A_TABLE = 24, 6
 # The differences that are shown before a run ends.
@@ -184,6 +183,10 @@ class Difference:
     what: str
     before: Tuple[Statement, ...] = ()
     is_block: bool = False
+
+    def shown(self) -> str:
+        """Returns it for a reader."""
+        return "\n".join([self.statement.shown(), f"    {self.what}", *(f"    behind {it.shown()}" for it in self.before)])
 
 
 @dataclass
@@ -372,7 +375,12 @@ def shortened(pair: Pair, found: Difference) -> Difference:
     return best
 
 
-def held_against_postgres(gateway: Gateway, seed: int, seconds: float, most: int = MOST_SHOWN) -> Tuple[List[Difference], Counts, float]:
+# What a run finds: differences, how much was compared, and the seconds that it took.
+Found = Tuple[List[Difference], Counts, float]
+Act = Callable[[Gateway, int, float, int], Found]
+
+
+def held_against_postgres(gateway: Gateway, seed: int, seconds: float, most: int = MOST_SHOWN) -> Found:
     """Serves statements for some seconds, and returns the differences, each once by its shape."""
     found: Dict[str, Difference] = {}
     with Postgres(
@@ -407,9 +415,7 @@ def expect_none(found: Sequence[Difference], counts: Counts, seconds: float, see
     """Fails, and shows each difference, if there is one."""
     print(counts.shown(seconds), file=sys.stderr, flush=True)
     if found:
-        shown = "\n".join(
-            f"{it.statement.shown()}\n    {it.what}" + "".join(f"\n    behind {before.shown()}" for before in it.before) for it in found
-        )
+        shown = "\n".join(it.shown() for it in found)
         raise AssertionError(f"{len(found)} differences, seed {seed}:\n{shown}")
     if counts.both < counts.statements // 20:
         raise AssertionError(f"both acted on too few statements: {counts.shown(seconds)}")
@@ -417,87 +423,30 @@ def expect_none(found: Sequence[Difference], counts: Counts, seconds: float, see
 
 @PART.served
 def as_postgres_does(gateway: Gateway) -> None:
-    found, counts, seconds = held_against_postgres(gateway, SEED, WITH_POSTGRES)
+    found, counts, seconds = held_against_postgres(gateway, SEED, SECONDS)
     expect_none(found, counts, seconds, SEED)
 
 
-def held_against_its_parser(gateway: Gateway, seed: int, seconds: float, most: int = MOST_SHOWN) -> Tuple[List[Difference], Counts, float]:
-    """Serves statements that are mutated much for some seconds, and asks PostgreSQL's parser about each that the gateway acts on."""
-    try:
-        from pglast import parser
-    except ImportError:
-        raise Skipped("Debian's python3-pglast cannot be had") from None
-
-    def refusal(text: str) -> str:
-        """Returns what the parser has against a text, or nothing."""
-        try:
-            parser.parse_sql_json(text)
-        except parser.ParseError as error:
-            return str(error)
-        return ""
-
-    grammar, client, counts = Grammar(random.Random(seed)), Client(gateway.socket), Counts()
-    found: Dict[str, Difference] = {}
-    begin, batches = time.monotonic(), 0
-
-    def renew() -> None:
-        client.ask([wire.query(f"DROP TABLE {it}") for it in [*(table.name for table in TABLES), MADE]])
-        for table in TABLES:
-            client.do(table.ours, *table.rows)
-
-    while time.monotonic() - begin < seconds and len(found) < most:
-        if batches % A_TABLE == 0:
-            renew()
-        batches += 1
-        statements = [grammar.any(8) for _ in range(A_BATCH)]
-        for it, answer in zip(statements, client.ask([it.messages(it.text) for it in statements])):
-            counts.statements += 1
-            wrong = refusal(it.text_of_theirs) if answer.acted else ""
-            if answer.acted and not wrong:
-                counts.both += 1
-            if wrong and not excused(Aspect.ACTION, it):
-
-                def differs(shorter: Statement) -> bool:
-                    return bool(refusal(shorter.text_of_theirs)) and client.ask([shorter.messages(shorter.text)])[0].acted
-
-                at = 0
-                while at < len(it.tokens):
-                    shorter = it.without(at)
-                    renew()
-                    it, at = (shorter, at) if differs(shorter) else (it, at + 1)
-                difference = Difference(it, f"the gateway acted, PostgreSQL's parser: {refusal(it.text_of_theirs)}")
-                found.setdefault(shape(difference), difference)
-    return list(found.values()), counts, time.monotonic() - begin
-
-
-@PART.served
-def as_its_parser_does(gateway: Gateway) -> None:
-    found, counts, seconds = held_against_its_parser(gateway, SEED, WITH_ITS_PARSER)
-    expect_none(found, counts, seconds, SEED)
-
-
-def by_hand(words: Sequence[str]) -> int:
+def by_hand(act: Act, about: Optional[str], words: Sequence[str]) -> int:
     """Runs for minutes or hours, each quarter of an hour with a seed of its own, and prints what it finds."""
-    parser = argparse.ArgumentParser(description=__doc__, formatter_class=argparse.RawDescriptionHelpFormatter)
+    parser = argparse.ArgumentParser(description=about, formatter_class=argparse.RawDescriptionHelpFormatter)
     parser.add_argument("--minutes", type=float, default=2.0)
     parser.add_argument("--seed", type=int, default=SEED)
-    parser.add_argument("--parser", action="store_true")
     parser.add_argument("--most", type=int, default=200, help="the differences behind which a run ends")
     asked = parser.parse_args(words)
     end, seed, status = time.monotonic() + 60 * asked.minutes, asked.seed, 0
     while time.monotonic() < end:
         with Gateway() as gateway:
-            act = held_against_its_parser if asked.parser else held_against_postgres
             found, counts, seconds = act(gateway, seed, min(900.0, end - time.monotonic()), asked.most)
         print(f"seed {seed}: {counts.shown(seconds)}")
         for it in found:
             status = 1
-            print(f"{it.statement.shown()}\n    {it.what}" + "".join(f"\n    behind {before.shown()}" for before in it.before), flush=True)
+            print(it.shown(), flush=True)
         seed += 1
     return status
 
 
 if __name__ == "__main__":
     if any(it.startswith("-") for it in sys.argv[1:]):
-        sys.exit(by_hand(sys.argv[1:]))
+        sys.exit(by_hand(held_against_postgres, __doc__, sys.argv[1:]))
     main(PART)
