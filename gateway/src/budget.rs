@@ -1,6 +1,7 @@
 //! What clients may take of the gateway's memory and disk.
 
 use std::cell::Cell;
+use std::fmt;
 use std::rc::Rc;
 
 /// An amount of bytes, of which parts are taken and given back.
@@ -14,7 +15,24 @@ struct Amounts {
     limit: u64,
     taken: Cell<u64>,
     of: Option<Pool>,
+    guard: Option<Guard>,
 }
+
+/// What looks whether the system has the bytes that a pool still has.
+struct Guard {
+    /// How many bytes were taken when it looked last.
+    looked: Cell<u64>,
+    has_room: fn() -> bool,
+}
+
+impl fmt::Debug for Guard {
+    fn fmt(&self, formatter: &mut fmt::Formatter<'_>) -> fmt::Result {
+        write!(formatter, "Guard at {}", self.looked.get())
+    }
+}
+
+/// A guard looks again when so many more bytes are taken.
+const STEP: u64 = 256 * 1024;
 
 /// Bytes that are taken of a pool. They are given back when this is dropped.
 #[derive(Debug)]
@@ -26,19 +44,27 @@ pub struct Charge {
 impl Pool {
     /// Returns a pool of so many bytes.
     pub fn new(limit: u64) -> Pool {
-        Pool(Rc::new(Amounts {
-            limit,
-            taken: Cell::new(0),
-            of: None,
-        }))
+        Pool::with(limit, None, None)
+    }
+
+    /// Returns a pool of so many bytes, of which some can be taken only while `has_room` says that the system has them.
+    /// It is asked now and then, as more are taken.
+    pub fn guarded(limit: u64, has_room: fn() -> bool) -> Pool {
+        let looked = Cell::new(0);
+        Pool::with(limit, None, Some(Guard { looked, has_room }))
     }
 
     /// Returns a pool of so many bytes within this one.
     pub fn part(&self, limit: u64) -> Pool {
+        Pool::with(limit, Some(self.clone()), None)
+    }
+
+    fn with(limit: u64, of: Option<Pool>, guard: Option<Guard>) -> Pool {
         Pool(Rc::new(Amounts {
             limit,
             taken: Cell::new(0),
-            of: Some(self.clone()),
+            of,
+            guard,
         }))
     }
 
@@ -71,13 +97,15 @@ impl Pool {
             Some(taken) if taken <= self.0.limit => taken,
             _ => return false,
         };
-        if let Some(of) = &self.0.of {
-            if !of.add(bytes) {
-                return false;
-            }
+        let is_granted = match (&self.0.of, &self.0.guard) {
+            (Some(of), _) => of.add(bytes),
+            (None, Some(guard)) => guard.grants(taken),
+            (None, None) => true,
+        };
+        if is_granted {
+            self.0.taken.set(taken);
         }
-        self.0.taken.set(taken);
-        true
+        is_granted
     }
 
     fn remove(&self, bytes: u64) {
@@ -85,6 +113,23 @@ impl Pool {
         if let Some(of) = &self.0.of {
             of.remove(bytes);
         }
+    }
+}
+
+impl Guard {
+    /// Returns whether so many bytes may be taken.
+    fn grants(&self, taken: u64) -> bool {
+        let looked = self.looked.get();
+        if taken < looked {
+            // It looks again as soon as as many are taken once more.
+            self.looked.set(taken);
+        } else if taken - looked >= STEP {
+            if !(self.has_room)() {
+                return false;
+            }
+            self.looked.set(taken);
+        }
+        true
     }
 }
 
@@ -144,5 +189,19 @@ mod tests {
         drop(first);
         assert_eq!((one.taken(), all.taken()), (0, 0));
         assert!(all.take(usize::MAX).is_none());
+    }
+
+    #[test]
+    fn a_guard_is_asked_now_and_then() {
+        let step = STEP as usize;
+        let all = Pool::guarded(u64::MAX, || false);
+        let small = all.take(step - 1).unwrap();
+        assert!(all.take(1).is_none());
+        drop(small);
+        let again = all.take(step - 1).unwrap();
+        assert!(all.take(step).is_none());
+        assert_eq!(all.taken(), STEP - 1);
+        drop(again);
+        assert!(Pool::guarded(u64::MAX, || true).take(9 * step).is_some());
     }
 }

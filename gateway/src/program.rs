@@ -276,7 +276,7 @@ impl Program {
 
     /// Queues the SELECTs of whole tables whose turn it is.
     fn ask_long(&mut self, now: Instant) {
-        while let Some(select) = self.long.next(self.sessions.next().is_none(), now) {
+        while let Some(select) = self.long.next(now) {
             self.long.ask(&select.statement, now);
             self.send(
                 select.session,
@@ -400,7 +400,8 @@ impl Program {
         if is_last {
             self.sessions.answered();
             if asked.is_of_whole_table {
-                self.long.answered(rows_told(text), now);
+                let others_wait = self.sessions.next().is_some();
+                self.long.answered(rows_told(text), others_wait, now);
             }
         }
         let is_answered = self.sessions.unanswered(asked.session) == 0;

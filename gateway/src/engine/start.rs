@@ -77,7 +77,7 @@ impl Engine {
                 startup: STARTUP,
                 sessions: SESSIONS,
                 definitions,
-                memory: Pool::new(memory::granted()),
+                memory: memory::of_connections(),
                 disk: Pool::new(spool::MOST_OF_ALL),
             }),
             metrics,

@@ -2,7 +2,7 @@
 //!
 //! The program serves one statement after another. One SELECT of a large table takes it as long as thousands of other
 //! statements. So no more than one of these is on its way at a time, and behind it the others get as much time as it
-//! took, unless nobody else asks.
+//! took, if one of them had to wait for it.
 
 use std::collections::{HashMap, VecDeque};
 use std::time::{Duration, Instant};
@@ -76,14 +76,15 @@ impl LongSelects {
         });
     }
 
-    /// Notes that the oldest one that was asked is answered, with so many rows if it wasn't refused.
-    pub fn answered(&mut self, rows: Option<u64>, now: Instant) {
+    /// Notes that the oldest one that was asked is answered, with so many rows if it wasn't refused. `others_wait`: for
+    /// other statements.
+    pub fn answered(&mut self, rows: Option<u64>, others_wait: bool, now: Instant) {
         let (asked, rows) = match (self.asked.pop_front(), rows) {
             (Some(asked), Some(rows)) => (asked, rows),
             _ => return,
         };
         let is_long = rows > LONG;
-        if is_long {
+        if is_long && others_wait {
             self.pause = Some(now + now.duration_since(asked.since).min(MOST_PAUSE));
         }
         if self.known.len() == MOST_KNOWN {
@@ -92,9 +93,9 @@ impl LongSelects {
         self.known.insert(asked.statement, is_long);
     }
 
-    /// Takes the next one that may be asked. `is_idle`: nobody else waits for the program.
-    pub fn next(&mut self, is_idle: bool, now: Instant) -> Option<Waiting> {
-        if self.is_busy() || (self.is_paused(now) && !is_idle) {
+    /// Takes the next one that may be asked.
+    pub fn next(&mut self, now: Instant) -> Option<Waiting> {
+        if self.is_busy() || self.is_paused(now) {
             return None;
         }
         self.waiting.pop_front()
@@ -166,32 +167,38 @@ mod tests {
             "it may be long"
         );
         wait(&mut long, now);
-        assert!(long.next(true, now).is_none() && long.deadline().is_none());
+        assert!(long.next(now).is_none() && long.deadline().is_none());
         let half = now + second / 2;
-        long.answered(Some(LONG + 1), half);
-        assert!(long.next(false, half).is_none());
+        long.answered(Some(LONG + 1), true, half);
+        assert!(long.next(half).is_none());
         assert_eq!(long.deadline(), Some(now + second));
-        assert!(long.next(false, now + second).is_some());
-        // Nobody else waits for the program.
-        wait(&mut long, now);
-        assert!(long.next(true, half).is_some());
+        assert!(long.next(now + second).is_some());
+        // A client that left waits no more.
         wait(&mut long, now);
         long.leave(session());
-        assert!(long.next(true, now + second).is_none());
+        assert!(long.next(now + second).is_none());
+    }
+
+    #[test]
+    fn there_is_no_pause_if_nobody_waits() {
+        let (mut long, now) = (LongSelects::default(), Instant::now());
+        long.ask(BIG, now);
+        long.answered(Some(LONG + 1), false, now + Duration::from_secs(1));
+        assert!(!long.must_wait(BIG, now + Duration::from_secs(1)));
     }
 
     #[test]
     fn short_ones_never_wait() {
         let (mut long, now) = (LongSelects::default(), Instant::now());
         long.ask(SMALL, now);
-        long.answered(Some(LONG), now);
+        long.answered(Some(LONG), true, now);
         assert!(!long.must_wait(SMALL, now));
         long.ask(BIG, now);
         assert!(!long.must_wait(SMALL, now) && long.must_wait(BIG, now));
         long.ask(SMALL, now);
-        long.answered(None, now);
+        long.answered(None, true, now);
         // It has grown since.
-        long.answered(Some(LONG + 1), now);
+        long.answered(Some(LONG + 1), true, now);
         assert!(!long.is_busy());
         long.ask(SMALL, now);
         assert!(long.must_wait(BIG, now) && long.must_wait(SMALL, now));
