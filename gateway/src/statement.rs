@@ -12,6 +12,9 @@ pub mod select;
 pub mod served;
 pub mod session;
 
+#[cfg(test)]
+mod tests;
+
 use query::{Name, Query};
 use served::Served;
 use session::{Modes, Setting};

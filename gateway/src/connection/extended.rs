@@ -350,12 +350,15 @@ fn formats(codes: &[i16]) -> Result<Vec<Format>, Failure> {
 /// Reads the text of a prepared statement.
 fn prepare(text: &str, types: &[u32]) -> Result<Statement, Failure> {
     let mut at = 0;
-    let parsed = next_statement(text, &mut at)?;
+    let mut parsed = next_statement(text, &mut at)?;
     if next_statement(text, &mut at)?.is_some() {
         return Err(Report::error(
             SqlState::SYNTAX_ERROR,
             "cannot insert multiple commands into a prepared statement",
         ));
+    }
+    if let Some(parsed) = &mut parsed {
+        parameters::settle_members(&mut parsed.places, &parsed.statement, types);
     }
     let places = parsed.as_ref().map_or(&[][..], |parsed| &parsed.places);
     let mut types = types.to_vec();

@@ -425,6 +425,11 @@ impl Datum {
         match (column, &self) {
             (_, Datum::Null) => Err(null_value()),
             (None, _) => self.value(),
+            (Some(column), Datum::Boolean(_))
+                if !column.is_number() && usage == Usage::Assigned =>
+            {
+                Err(Report::missing("a boolean in place of a text"))
+            }
             (Some(column), Datum::Boolean(_)) => Err(mismatch(column, usage, self.oid())),
             (Some(column), _) => match (column.column_type, &self) {
                 (ColumnType::Text { .. }, _) if is_number && usage == Usage::Compared => {

@@ -133,6 +133,23 @@ fn note(places: &mut [Place], value: &Expression, place: Place) {
     }
 }
 
+/// Settles what members of `key IN (..)` are compared as: if one is numeric, all are.
+pub fn settle_members(places: &mut [Place], statement: &Statement, types: &[Oid]) {
+    let keys = match statement.served().and_then(Served::keys) {
+        Some(keys) if keys.values.len() > 1 => keys,
+        _ => return,
+    };
+    let is_numeric = |value: &Expression| constant::type_of(value, types).0 == oid::NUMERIC;
+    if !keys.values.iter().any(is_numeric) {
+        return;
+    }
+    for value in &keys.values {
+        if let ExpressionKind::Parameter(number) = value.kind {
+            places[usize::from(number) - 1] = Place::Cast(oid::NUMERIC);
+        }
+    }
+}
+
 /// Returns whether the client leaves a type open.
 pub fn is_open(oid: Oid) -> bool {
     oid == oid::UNSPECIFIED || oid == oid::UNKNOWN

@@ -83,16 +83,6 @@ impl Verb {
         self.commits_by_itself() || self == Verb::Reserve
     }
 
-    /// Returns whether it changes what tables there are, or what a table is.
-    pub fn defines(self) -> bool {
-        self.kind() == Kind::Definition
-    }
-
-    /// Returns whether its result has rows.
-    pub fn has_rows(self) -> bool {
-        !self.writes()
-    }
-
     /// Returns the forms that are served, for the hint of a refusal.
     pub fn form(self) -> &'static str {
         match self {

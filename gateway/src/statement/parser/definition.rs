@@ -81,6 +81,13 @@ impl<'a> Parser<'a> {
         let (line, constraint, is_conditional) = if self.keyword("ADD") {
             let name = self.constraint_name()?;
             if !self.at_keyword("CHECK") {
+                let is_column = name.is_none()
+                    && self.peek().is_some()
+                    && !self.at_other_constraint()
+                    && !self.at_keyword("PRIMARY");
+                if is_column {
+                    return Err(Verb::AlterTable.missing("ADD of a column", self.start()));
+                }
                 return Err(self.other_constraint(Verb::AlterTable));
             }
             let check = self.check(name)?;
