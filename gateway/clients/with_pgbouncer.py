@@ -57,6 +57,8 @@ def a_set_that_would_reach_the_next_client() -> None:
             expect(("would reach other clients" in done.stderr, done.stdout), (True, ""), done.stderr)
             done = bouncer.psql(f"BEGIN; SET LOCAL {setting}; COMMIT", f"SHOW {setting.split()[0]}")
             expect((done.stdout, done.stderr), ("off\n" if "read_only" in setting else "0\n", ""))
+        done = bouncer.psql("SET SESSION CHARACTERISTICS AS TRANSACTION READ ONLY")
+        expect("would reach other clients" in done.stderr, True, done.stderr)
         done = bouncer.psql("SET statement_timeout = '5s'; SET client_min_messages = warning; RESET ALL", "DISCARD ALL", "SHOW escrowd.transaction_pooling")
         expect((done.stdout, done.stderr), ("on\n", ""))
         gateway.expect_clean_end()
