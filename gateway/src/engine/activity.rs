@@ -102,3 +102,29 @@ impl Engine {
         }
     }
 }
+
+#[cfg(test)]
+mod tests {
+    use super::*;
+
+    #[test]
+    fn an_operator_is_told_of_limits_and_faults_alone() {
+        for state in [
+            SqlState::IDLE_IN_TRANSACTION_TIMEOUT,
+            SqlState::TRANSACTION_TIMEOUT,
+            SqlState::OUT_OF_MEMORY,
+            SqlState::TOO_MANY_CONNECTIONS,
+            SqlState::IO_ERROR,
+            SqlState::INTERNAL_ERROR,
+        ] {
+            assert_eq!(grave(Event::Refused(state)), Some(state));
+        }
+        for event in [
+            Event::Refused(SqlState::CHECK_VIOLATION),
+            Event::Refused(SqlState::SYNTAX_ERROR),
+            Event::Committed,
+        ] {
+            assert_eq!(grave(event), None, "{event:?}");
+        }
+    }
+}
