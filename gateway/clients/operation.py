@@ -23,6 +23,8 @@ SESSIONS = 64
 # Signals that end a process which does not take them, and that mean nothing to the gateway.
 MEANINGLESS = [signal.SIGUSR1, signal.SIGUSR2, signal.SIGALRM, signal.SIGVTALRM, signal.SIGPROF, signal.SIGIO, signal.SIGXFSZ, signal.SIGRTMIN + 1,
                signal.SIGRTMAX]
+# Those of them, and of the others, that the server ignores.
+OF_ALL = [signal.SIGHUP, signal.SIGUSR1, signal.SIGUSR2, signal.SIGALRM, signal.SIGVTALRM, signal.SIGPROF, signal.SIGXFSZ]
 # The seconds within which signals of the same meaning count once, and some more.
 APART = 1.2
 # The seconds that the gateway waits for a store that another program has open.
@@ -85,10 +87,12 @@ def expect_served(gateway: Gateway) -> None:
 
 @PART.alone
 def signals_that_mean_nothing() -> None:
-    """None of them ends the gateway, and each is told."""
+    """None of them ends the gateway, and each is told. What a service manager sends to all processes does not end the server either."""
     with Operated() as gateway:
         for number in (signal.SIGHUP, *MEANINGLESS):
             gateway.running().send_signal(number)
+            if number in OF_ALL:
+                os.kill(gateway.programs()[0], number)
             wait_until(f"signal {number} is told", lambda: f"{name_of(number)} changes nothing" in gateway.said())
             expect_served(gateway)
         gateway.expect_clean_end()

@@ -67,8 +67,10 @@ const MOST_REFUSED: Duration = Duration::from_secs(10);
 const ERROR_LINE: usize = 4096;
 
 /// Starts the program so that it ignores what a terminal, `timeout` or a service manager sends to all processes of a
-/// group. The gateway gets these signals too, and ends the program by the end of its input.
-const WITHOUT_KEYS: &str = r#"trap '' HUP INT QUIT TERM; exec "$@""#;
+/// group. The gateway gets these signals too, and ends the program by the end of its input. SIGXFSZ makes a file that
+/// meets a limit an end; ignored, it is a write that fails.
+const WITHOUT_KEYS: &str =
+    r#"trap '' HUP INT QUIT TERM USR1 USR2 ALRM VTALRM PROF XFSZ; exec "$@""#;
 
 /// What a program wrote.
 pub enum Output<'a> {
