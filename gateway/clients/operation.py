@@ -5,6 +5,7 @@ import fcntl
 import os
 import pty
 import re
+import resource
 import signal
 import subprocess
 import termios
@@ -27,6 +28,8 @@ MEANINGLESS = [signal.SIGUSR1, signal.SIGUSR2, signal.SIGALRM, signal.SIGVTALRM,
 OF_ALL = [signal.SIGHUP, signal.SIGUSR1, signal.SIGUSR2, signal.SIGALRM, signal.SIGVTALRM, signal.SIGPROF, signal.SIGXFSZ]
 # The seconds within which signals of the same meaning count once, and some more.
 APART = 1.2
+# The size of a file past which nothing is written.
+MOST_BYTES = 1 << 20
 # The seconds that the gateway waits for a store that another program has open.
 LOCK = 10.0
 # What a program in place of escrowd's begins with: it has the same version.
@@ -248,6 +251,19 @@ def metrics_in_the_way() -> None:
                 expect(f"{place} is not a regular file" in gateway.said(), True, gateway.said())
                 place.rmdir() if place.is_dir() else place.unlink()
         expect(target.read_text(), "text")
+
+
+@PART.alone
+def a_limit_of_the_sizes_of_files() -> None:
+    """A write past it is refused, and logged as a warning. It ends neither the server nor the gateway, and reads are served."""
+    with Operated(IN_A_STORE, before=lambda: resource.setrlimit(resource.RLIMIT_FSIZE, (MOST_BYTES, MOST_BYTES))) as gateway:
+        it, rows = with_stock(gateway, 9), 1
+        while it.ask(f"INSERT INTO stock VALUES ({rows + 1}, 9)") == ["complete INSERT 0 1", "ready I"]:
+            rows += 1
+        expect(it.ask(f"INSERT INTO stock VALUES ({rows + 1}, 9)"), ["ERROR 58030", "ready I"])
+        expect(len(it.rows("SELECT * FROM stock")), rows)
+        expect(re.search(r"WARN bank: connection \d+ of user \"clerk\", application \"\", got 58030", gateway.said()) is not None, True, gateway.said())
+        gateway.expect_clean_end()
 
 
 @PART.alone
