@@ -22,7 +22,7 @@ from pathlib import Path
 from typing import Callable, Dict, FrozenSet, Iterator, List, Optional, Sequence, Tuple
 
 from clients import honest, wire
-from clients.servers import GATEWAY, PATIENCE, Gateway, resident, wait_until
+from clients.servers import PATIENCE, Gateway, resident, wait_until
 from clients.suite import Part, expect, main
 from clients.wire import Connection
 
@@ -706,17 +706,11 @@ def a_rollback_that_is_refused_behind_an_error() -> None:
 
 @PART.served
 def limits_past_what_a_timer_holds(gateway: Gateway) -> None:
-    """As PostgreSQL, a limit has at most 2,147,483,647 ms: a longer one is refused, and is not none."""
+    """As PostgreSQL, a setting of milliseconds has at most 2,147,483,647: a longer one is refused, and is not none."""
     with Connection(gateway.socket) as it:
         it.do("SET idle_in_transaction_session_timeout = 2147483647")
         for value in ("2147483648", "'2147484s'", "'600h'", "99999999999999999999"):
             expect(it.ask(f"SET idle_in_transaction_session_timeout = {value}"), ["ERROR 22023", "ready I"], value)
-    words = [str(GATEWAY), "--listen", str(gateway.folder), "--port", "1", "--database", "x", "--idle-in-transaction-timeout", "2147484"]
-    with subprocess.Popen(words, stdin=subprocess.DEVNULL, stdout=subprocess.PIPE, stderr=subprocess.STDOUT) as too_long:
-        try:
-            expect(too_long.wait(5.0 * PATIENCE), 2)
-        finally:
-            too_long.kill()
 
 
 @PART.served

@@ -114,6 +114,14 @@ def excused(aspect: Aspect, it: Statement) -> bool:
     return any(found.excuses(aspect, it) for found in ON_PURPOSE)
 
 
+class EndedAt(wire.Ended):
+    """The server closed the connection behind so many answers."""
+
+    def __init__(self, answers: int, text: str) -> None:
+        super().__init__(f"the connection was ended behind {answers} answers: {text or 'without a word'}")
+        self.answers = answers
+
+
 class Client:
     """A connection that sends many messages at once and takes their answers apart quickly."""
 
@@ -132,9 +140,12 @@ class Client:
         buffer, at = self.connection.unread, 0
         while len(found) < len(requests):
             if len(buffer) - at < 5 or len(buffer) - at <= (length := struct.unpack_from("!i", buffer, at + 1)[0]):
-                more = self.connection.socket.recv(1 << 18)
+                try:
+                    more = self.connection.socket.recv(1 << 18)
+                except ConnectionError:
+                    more = b""
                 if not more:
-                    raise wire.Ended(f"the server closed the connection behind answer {len(found)} of {len(requests)}: {error} {text}")
+                    raise EndedAt(len(found), text)
                 buffer, at = buffer[at:] + more, 0
                 continue
             kind, body = buffer[at], buffer[at + 5 : at + 1 + length]
@@ -240,9 +251,10 @@ class Pair:
                 requests.append(LOOK_AT_OURS)
         try:
             answers = self.ours.ask(requests)
-        except (wire.Ended, OSError) as error:
+        except EndedAt as error:
             self.reconnect()
-            return Difference(statements[-1], f"the gateway ended the connection: {error}", tuple(statements[:-1]))
+            by = [it for it, look in zip(statements, looks) for _ in range(1 + look)][error.answers]
+            return Difference(by, str(error), tuple(statements[: statements.index(by)]))
         ours = apart(answers, looks)
         # PostgreSQL keeps what the gateway has done, and nothing else, so its rows are looked at behind that alone.
         requests = [LOOK_AT_THEIRS]
@@ -274,9 +286,10 @@ class Pair:
         """Serves the statements of a block by both, as they are, and returns the first difference. Behind one, both need new tables."""
         try:
             ours = self.ours.ask([*(it.messages(it.text) for it in block), ROLLBACK, CLOSE_ALL, LOOK_AT_OURS])
-        except (wire.Ended, OSError) as error:
+        except EndedAt as error:
             self.reconnect()
-            return Difference(block[-1], f"the gateway ended the connection: {error}", tuple(block[:-1]), True)
+            at = min(error.answers, len(block) - 1)
+            return Difference(block[at], str(error), tuple(block[:at]), True)
         theirs = self.theirs.ask([*(it.messages(it.text_of_theirs) for it in block), ROLLBACK, CLOSE_ALL, LOOK_AT_THEIRS])
         are_equal = sorted(ours[-1].rows) == sorted(theirs[-1].rows)
         has_reserved = False
