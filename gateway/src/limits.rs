@@ -25,7 +25,7 @@ pub const RESERVATIONS: usize = 256;
 pub const SAVEPOINTS: usize = 64;
 
 /// The digits of a number.
-pub const DIGITS: usize = 15;
+pub const MOST_DIGITS: usize = 15;
 
 /// The digits of a number behind its point.
-pub const DIGITS_BEHIND_POINT: usize = 6;
+pub const MOST_DIGITS_BEHIND_POINT: usize = 6;

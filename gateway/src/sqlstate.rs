@@ -2,6 +2,7 @@
 
 use std::borrow::Cow;
 
+use crate::limits;
 use crate::reply::{Broken, Refusal};
 
 /// The five characters that tell a client which error it got.
@@ -390,23 +391,23 @@ pub fn refusal(refusal: &Refusal<'_>, refused: Refused<'_>) -> Failure {
                 SqlState::LIMIT_EXCEEDED,
                 format!("table \"{}\" is full", name),
             )
-            .detail("A table holds at most 65536 rows."),
+            .detail(format!("A table holds at most {} rows.", limits::ROWS)),
         ),
         Refusal::TooManyTables => Report::error(SqlState::LIMIT_EXCEEDED, "too many tables")
-            .detail("A database holds at most 32 tables."),
+            .detail(format!("A database holds at most {} tables.", limits::TABLES)),
         Refusal::Broken(broken) => of_table(broken_check(broken, refused)),
         Refusal::TooManyReservations => Report::error(
             SqlState::LIMIT_EXCEEDED,
             "too many reservations in a transaction",
         )
-        .detail("A transaction holds at most 256 reservations.")
+        .detail(format!("A transaction holds at most {} reservations.", limits::RESERVATIONS))
         .hint("Commit more often."),
         Refusal::NoSuchSavepoint => Report::error(SqlState::UNDEFINED_SAVEPOINT, "savepoint does not exist"),
         Refusal::TooManySavepoints => Report::error(
             SqlState::LIMIT_EXCEEDED,
             "too many savepoints in a transaction",
         )
-        .detail("A transaction holds at most 64 savepoints."),
+        .detail(format!("A transaction holds at most {} savepoints.", limits::SAVEPOINTS)),
         Refusal::NoMoreIds => Report::error(
             SqlState::LIMIT_EXCEEDED,
             "no ids of reservations are left",

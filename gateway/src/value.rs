@@ -6,6 +6,7 @@ use std::fmt;
 use postgres_protocol::types;
 use postgres_protocol::Oid;
 
+use crate::limits::{MOST_DIGITS, MOST_DIGITS_BEHIND_POINT};
 use crate::sqlstate::{Failure, Report, SqlState};
 use crate::statement::literal::not_utf8;
 use crate::wire::backend::Format;
@@ -39,12 +40,6 @@ pub mod oid {
     /// numeric
     pub const NUMERIC: Oid = 1700;
 }
-
-/// The most digits of a number of the program.
-pub const MOST_DIGITS: usize = 15;
-
-/// The most digits behind the point of a number of the program.
-pub const MOST_DIGITS_BEHIND_POINT: usize = 6;
 
 /// A number as the program reads it: its sign, and its digits without zeros that mean nothing.
 #[derive(Clone, Debug, PartialEq, Eq)]

@@ -1,5 +1,6 @@
 //! Statements that the program serves.
 
+use crate::limits;
 use crate::sqlstate::{Failure, Report, SqlState};
 use crate::statement::query::{
     Expression, ExpressionKind, Name, QualifiedName, Query, Span, Target,
@@ -166,15 +167,12 @@ const RESERVED: [&str; 35] = [
     "work",
 ];
 
-/// The most bytes of a name of the program.
-const LONGEST_NAME: usize = 30;
-
 /// Returns whether the program may have something of this name, which it tells in lower case.
 pub fn is_legal_name(name: &str) -> bool {
     let is_part = |byte: u8| {
         byte.is_ascii_lowercase() || byte.is_ascii_digit() || matches!(byte, b'_' | b'$' | b'#')
     };
-    name.len() <= LONGEST_NAME
+    name.len() <= limits::NAME
         && name.starts_with(|first: char| first.is_ascii_lowercase())
         && name.bytes().all(is_part)
         && RESERVED.binary_search(&name).is_err()
@@ -189,11 +187,11 @@ pub fn check_new_name(name: &Name) -> Result<(), Failure> {
     if is_legal_name(&name.text) {
         return Ok(());
     }
-    if name.text.len() > LONGEST_NAME {
+    if name.text.len() > limits::NAME {
         let text = format!("name \"{}\" is too long", name.text);
         let report = Report::error(SqlState::NAME_TOO_LONG, text);
         return Err(report
-            .detail("A name has at most 30 bytes.")
+            .detail(format!("A name has at most {} bytes.", limits::NAME))
             .at(name.span.start));
     }
     let report = Report::error(

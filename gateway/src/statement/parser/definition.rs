@@ -2,13 +2,14 @@
 
 use std::fmt::Write;
 
+use crate::limits::{MOST_DIGITS, MOST_DIGITS_BEHIND_POINT};
 use crate::sqlstate::{Failure, Report, SqlState};
 use crate::statement::constant::{self, Input, Usage};
 use crate::statement::parser::{keywords, Parser};
 use crate::statement::query::{Expression, ExpressionKind, Name, Span, TypeName};
 use crate::statement::served::{check_new_name, is_legal_name, Define, Served, Table, Verb};
 use crate::statement::Statement;
-use crate::value::{Number, Value, MOST_DIGITS, MOST_DIGITS_BEHIND_POINT};
+use crate::value::{Number, Value};
 
 /// The most bytes of a text in a column.
 const LONGEST_TEXT: i32 = 255;

@@ -1,6 +1,7 @@
 //! Cuts a query text into tokens, by PostgreSQL's lexical rules (manual 4.1, `scan.l` of version 15).
 
 use crate::sqlstate::{Failure, Report, SqlState};
+use crate::statement::line::LONGEST_LINE;
 use crate::statement::literal;
 use crate::statement::query::Span;
 
@@ -116,8 +117,9 @@ pub fn next_statement(text: &str, at: &mut usize) -> Option<Tokens> {
 
 /// Makes the report of a statement that doesn't fit into a line of the program.
 pub fn too_long() -> Failure {
-    Report::error(SqlState::LIMIT_EXCEEDED, "the statement is too long")
-        .detail("A statement has at most 4086 bytes, without comments and with its parameters.")
+    Report::error(SqlState::LIMIT_EXCEEDED, "the statement is too long").detail(format!(
+        "A statement has at most {LONGEST_LINE} bytes, without comments and with its parameters."
+    ))
 }
 
 /// Moves `at` behind blanks and comments.
