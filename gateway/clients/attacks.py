@@ -682,6 +682,19 @@ def a_rollback_that_is_refused_for_a_client_that_has_gone() -> None:
 
 
 @PART.alone
+def a_rollback_that_is_never_done() -> None:
+    """Only a restart frees what the session holds: the gateway tells its clients, and ends with a status of its own."""
+    with Refusing(1_000_000) as gateway:
+        watch = Connection(gateway.socket)
+        watch.do(STOCK, *ROWS)
+        with Connection(gateway.socket) as holder:
+            holder.do("BEGIN", TAKE.format(7))
+        expect([it.fields()["C"] for it in watch.until_end()], ["57P01"])
+        expect(gateway.running().wait(20.0 * PATIENCE), 5)
+        expect("has refused for 10 s to roll back" in gateway.said(), True, gateway.said())
+
+
+@PART.alone
 def a_rollback_that_is_refused_behind_an_error() -> None:
     """What a block reserved before its error is not committed with the client's next block. If the rollback can't be had, the connection is ended."""
     for count in (1, 3):

@@ -202,6 +202,58 @@ def a_reader_that_never_reads(gateway: Gateway) -> None:
     glutton.close()
 
 
+def files_without_names(process: int) -> List[str]:
+    """Returns the open files of a process that have no name any more, sockets and pipes left out."""
+    found = []
+    for it in Path(f"/proc/{process}/fd").iterdir():
+        try:
+            found.append(os.readlink(it))
+        except FileNotFoundError:
+            pass  # it was closed meanwhile
+    return [it for it in found if it.startswith("/") and it.endswith(" (deleted)")]
+
+
+@PART.served
+def rows_wait_in_a_file(gateway: Gateway) -> None:
+    """A client that reads late gets all rows in order. Until then they are in a file without a name, and not in memory."""
+    process = gateway.running().pid
+    names = ", ".join(f"c{place} VARCHAR2(100)" for place in range(8))
+    texts = ", ".join(["'" + "x" * 100 + "'"] * 8)
+    rows = 3000
+    with Connection(gateway.socket) as it:
+        it.do(f"CREATE TABLE big (id INTEGER PRIMARY KEY, n INTEGER RESERVABLE, {names})")
+        it.send(*(wire.query(f"INSERT INTO big VALUES ({key}, 0, {texts})") for key in range(rows)))
+        for _ in range(rows):
+            it.until_ready()
+        before = resident(process)
+        it.send(wire.query("SELECT * FROM big"), wire.query("SELECT 1"))
+        wait_until("rows wait in a file", lambda: len(files_without_names(process)) == 1)
+        with Connection(gateway.socket) as other:
+            expect(other.rows("SELECT id FROM big WHERE id = 7"), [("7",)])
+        grown = resident(process) - before
+        expect(grown < 2 * 2**20, True, f"the gateway grew by {grown} bytes")
+        found = it.until_ready()
+        expect([row.values()[0] for row in found if row.kind == "D"], [str(key).encode() for key in range(rows)])
+        expect(found[-2].shown(), f"complete SELECT {rows}")
+        expect(it.until_ready()[-2].shown(), "complete SELECT 1")
+        wait_until("the file is closed", lambda: files_without_names(process) == [])
+
+
+@PART.alone
+def tables_of_a_store_are_known_at_the_start() -> None:
+    """Also those of the log, which a killed gateway leaves. Dropped tables leave their texts, and are none."""
+    with Gateway(IN_A_STORE) as gateway:
+        with Connection(gateway.socket) as it:
+            for name in ("kept", "dropped", "another"):
+                it.do(f"CREATE TABLE {name} (id INTEGER PRIMARY KEY, n INTEGER RESERVABLE)")
+            it.do("DROP TABLE dropped")
+        for end in (signal.SIGKILL, signal.SIGTERM):
+            gateway.end(end)
+            gateway.start()
+            expect(re.findall(r"is open: (\d+) tables", gateway.said())[-1:], ["2"], gateway.said())
+        gateway.expect_clean_end()
+
+
 @PART.served
 def a_pipeline_longer_than_all_buffers(gateway: Gateway) -> None:
     """A client that sends much before it reads gets every answer, in order."""
