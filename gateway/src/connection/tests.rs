@@ -824,6 +824,14 @@ fn rows_are_picked_ordered_and_counted() {
             "TABLE stock LIMIT 0",
             vec!["columns 4", "complete SELECT 0"],
         ),
+        (
+            "SELECT count(*) AS n FROM (SELECT id, name FROM stock ORDER BY id) AS x",
+            vec!["columns 1", "row 3", "complete SELECT 1"],
+        ),
+        (
+            "SELECT EXISTS (SELECT 1 FROM stock) AS it",
+            vec!["columns 1", "row t", "complete SELECT 1"],
+        ),
     ] {
         assert_eq!(
             client.ask(text, &all),
@@ -868,6 +876,16 @@ fn rows_are_picked_ordered_and_counted() {
         ("SELECT s.id FROM stock", "ERROR 42P01 P=8"),
         ("SELECT id FROM stock WHERE pieces > 1", "ERROR 0A000 P=28"),
         ("SELECT id FROM stock a, stock b", "ERROR 0A000 P=1"),
+        (
+            "SELECT count(*) FROM (SELECT x FROM stock) y",
+            "ERROR 42703 P=30",
+        ),
+        ("SELECT id FROM (SELECT id FROM stock) y", "ERROR 0A000 P=1"),
+        (
+            "SELECT count(*) FROM (SELECT x FROM stock) y",
+            "ERROR 42703 P=30",
+        ),
+        ("SELECT id FROM (SELECT id FROM stock) y", "ERROR 0A000 P=1"),
         ("SELECT id FROM \"Stock\"", "ERROR 42P01 P=16 t=Stock"),
     ] {
         assert_eq!(client.ask(text, &[]), [error, "ready I"], "{}", text);

@@ -430,7 +430,7 @@ impl Row<'_> {
         let values = self.shape.outputs.iter().map(|output| match output {
             Output::Column(place) => self.cells.get(*place),
             Output::Constant(text) => text.as_deref(),
-            Output::Count => None,
+            Output::Count | Output::Exists => None,
         });
         append_row(out, &self.shape.columns, format, values)
     }
@@ -447,9 +447,11 @@ pub fn append_count(
     format: impl Fn(usize) -> Format,
     out: &mut Vec<u8>,
 ) -> Result<(), NumberFault> {
+    let exists = if count > 0 { "t" } else { "f" };
     let count = count.to_string();
     let values = shape.outputs.iter().map(|output| match output {
         Output::Count => Some(count.as_str()),
+        Output::Exists => Some(exists),
         Output::Constant(text) => text.as_deref(),
         Output::Column(_) => None,
     });

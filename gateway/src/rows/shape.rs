@@ -16,6 +16,8 @@ pub enum Output {
     Constant(Option<String>),
     /// `count(*)`: how many rows there are. The result has one row then.
     Count,
+    /// EXISTS: whether there are rows. The result has one row then.
+    Exists,
 }
 
 /// The order of the rows.
@@ -57,6 +59,7 @@ impl Shape {
 
     /// Returns whether the result has one row, which counts the table's.
     pub fn counts(&self) -> bool {
-        self.outputs.contains(&Output::Count)
+        let is_of_all = |output: &Output| matches!(output, Output::Count | Output::Exists);
+        self.outputs.iter().any(is_of_all)
     }
 }

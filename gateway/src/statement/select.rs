@@ -11,6 +11,7 @@ use crate::statement::constant::{self, Datum, Input, Usage};
 use crate::statement::query::{
     Body, Expression, ExpressionKind, Name, OrderBy, Query, Relation, Span, Target,
 };
+use crate::statement::relations;
 use crate::statement::served::{unknown_column, Keys, Table, Verb};
 use crate::value::{oid, Value};
 use crate::wire::backend::Column;
@@ -37,6 +38,8 @@ pub enum What {
     Constant(Expression),
     /// How many rows there are; of the column, if one is named, which has a value in each row.
     Count(Option<Name>),
+    /// Whether there are rows.
+    Exists,
 }
 
 impl Shown {
@@ -66,6 +69,8 @@ pub struct Select {
     pub shown: Vec<Shown>,
     /// The rows, by their keys. None: all.
     pub keys: Option<Keys>,
+    /// The SELECT whose rows are counted, if it is another one.
+    inner: Option<Box<Select>>,
     order: Vec<(SortKey, bool, Span)>,
     limit: Option<Expression>,
     offset: Option<Expression>,
@@ -99,7 +104,17 @@ pub fn lowered(query: Query) -> Result<Select, Failure> {
         }
     };
     let mut from = select.from;
+    let mut inner = None;
     let table = match (from.pop(), from.is_empty()) {
+        (Some(Relation::Subquery { query, .. }), true) if select.condition.is_none() => {
+            let counted = counted(*query)?;
+            let table = Table {
+                alias: None,
+                ..counted.table.clone()
+            };
+            inner = Some(Box::new(counted));
+            table
+        }
         (Some(Relation::Table { name, alias, .. }), true) => {
             if let Some(column) = alias.as_ref().and_then(|alias| alias.columns.first()) {
                 return Err(missing("an alias with names of columns", column.span));
@@ -116,6 +131,10 @@ pub fn lowered(query: Query) -> Result<Select, Failure> {
     }
     let shown = shown(&table, select.targets, Verb::Select)?;
     let counts = shown.iter().any(Shown::is_count);
+    let is_plain = |shown: &Shown| matches!(shown.what, What::Count(None) | What::Constant(_));
+    if inner.is_some() && !(counts && shown.iter().all(is_plain)) {
+        return Err(missing("a query of a query, but its count", select.span));
+    }
     let single = shown
         .iter()
         .find(|shown| matches!(shown.what, What::All | What::Column(_)));
@@ -151,10 +170,11 @@ pub fn lowered(query: Query) -> Result<Select, Failure> {
             }
         }
     }
-    let keys = select
-        .condition
-        .map(|condition| Keys::new(&table, condition, Verb::Select, true))
-        .transpose()?;
+    let keys = match (&inner, select.condition) {
+        (Some(inner), _) => inner.keys.clone(),
+        (None, Some(condition)) => Some(Keys::new(&table, condition, Verb::Select, true)?),
+        (None, None) => None,
+    };
     let order = query
         .order
         .into_iter()
@@ -167,10 +187,64 @@ pub fn lowered(query: Query) -> Result<Select, Failure> {
         table,
         shown,
         keys,
+        inner,
         order,
         limit: query.limit,
         offset: query.offset,
     })
+}
+
+/// Makes the served form of a query whose rows are counted by another one.
+fn counted(query: Query) -> Result<Select, Failure> {
+    let span = query.span;
+    let select = lowered(query)?;
+    if select.inner.is_some()
+        || select.bounds().next().is_some()
+        || select.shown.iter().any(Shown::is_count)
+    {
+        return Err(missing("a count of this query", span));
+    }
+    Ok(select)
+}
+
+/// Makes the served form of `SELECT EXISTS (SELECT .. FROM t ..)`. None: it is another query.
+///
+/// # Errors
+///
+/// Fails if the query inside does what isn't served.
+pub fn exists(query: &Query) -> Result<Option<Select>, Failure> {
+    let select = match &query.body {
+        Body::Select(select) if select.from.is_empty() && select.condition.is_none() => select,
+        _ => return Ok(None),
+    };
+    let (inner, label, span) = match &select.targets[..] {
+        [Target::Expression(expression, label)] => match &expression.kind {
+            ExpressionKind::Exists(inner) => (inner, label, expression.span),
+            _ => return Ok(None),
+        },
+        _ => return Ok(None),
+    };
+    if !relations::reads_table(inner) {
+        return Ok(None);
+    }
+    let inner = counted(Query::clone(inner))?;
+    let label = label
+        .as_ref()
+        .map_or("exists", |label| &label.text)
+        .to_owned();
+    Ok(Some(Select {
+        table: inner.table.clone(),
+        shown: vec![Shown {
+            what: What::Exists,
+            label: Some(label),
+            span,
+        }],
+        keys: inner.keys.clone(),
+        inner: Some(Box::new(inner)),
+        order: Vec::new(),
+        limit: query.limit.clone(),
+        offset: query.offset.clone(),
+    }))
 }
 
 /// Makes what a result shows of a table.
@@ -355,6 +429,10 @@ fn outputs(
                 columns.push(Column::plain("count", oid::INT8));
                 outputs.push(Output::Count);
             }
+            What::Exists => {
+                columns.push(Column::plain("exists", oid::BOOL));
+                outputs.push(Output::Exists);
+            }
         }
         if let (Some(label), Some(column)) = (&shown.label, columns.last_mut()) {
             column.name = label.clone();
@@ -408,7 +486,7 @@ pub fn returned_row(
             Report::missing(&what).hint(hint).at(place)
         }),
         Output::Constant(text) => Ok(text),
-        Output::Count => Ok(None),
+        Output::Count | Output::Exists => Ok(None),
     });
     row.collect()
 }
@@ -430,6 +508,9 @@ impl Select {
     /// Fails if the table hasn't a column that is named, if rows are to be sorted by another column than the key, or if
     /// a bound or a constant can't be computed.
     pub fn shape(&self, definition: &Definition, input: Input<'_>) -> Result<Shape, Failure> {
+        if let Some(inner) = &self.inner {
+            inner.shape(definition, input)?;
+        }
         let (columns, outputs) = outputs(&self.shown, definition, Some(input), input.types)?;
         let order = self.order(definition, &outputs)?;
         let bound = |expression: &Option<Expression>, name: &str, state| match expression {
@@ -452,7 +533,8 @@ impl Select {
     }
 
     fn order(&self, definition: &Definition, outputs: &[Output]) -> Result<Order, Failure> {
-        let is_single = outputs.contains(&Output::Count)
+        let is_of_all = |output: &Output| matches!(output, Output::Count | Output::Exists);
+        let is_single = outputs.iter().any(is_of_all)
             || self
                 .keys
                 .as_ref()

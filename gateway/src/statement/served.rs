@@ -366,6 +366,16 @@ impl Keys {
                 ExpressionKind::Column(names) if several || members.len() == 1 => (names, members),
                 _ => return Err(not_the_key(verb, span)),
             },
+            ExpressionKind::Quantified(left, operator, false, right) if operator == "=" => {
+                match (left.kind, right.kind) {
+                    (ExpressionKind::Column(names), ExpressionKind::Array(members))
+                        if !members.is_empty() && (several || members.len() == 1) =>
+                    {
+                        (names, members)
+                    }
+                    _ => return Err(not_the_key(verb, span)),
+                }
+            }
             _ => return Err(not_the_key(verb, span)),
         };
         let column = table.column(column)?;

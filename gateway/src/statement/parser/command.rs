@@ -8,7 +8,7 @@ use crate::statement::served::{
     returned, Assignment, Delete, Insert, Keys, Served, Show, Table, Update, Verb,
 };
 use crate::statement::session::{Isolation, Modes, Setting};
-use crate::statement::{constant, relations, Cursor, Discard, Statement, Step};
+use crate::statement::{constant, relations, select, Cursor, Discard, Statement, Step};
 
 impl<'a> Parser<'a> {
     /// Reads a statement to its end.
@@ -122,10 +122,12 @@ impl<'a> Parser<'a> {
         let query = self.query()?;
         self.expect_end()?;
         if relations::reads_table(&query) {
-            Served::select(query).map(Statement::Served)
-        } else {
-            Ok(Statement::Query(Box::new(query)))
+            return Served::select(query).map(Statement::Served);
         }
+        Ok(match select::exists(&query)? {
+            Some(exists) => Statement::Served(Served::Select(Box::new(exists))),
+            None => Statement::Query(Box::new(query)),
+        })
     }
 
     /// Makes the report of a first word that begins no statement that is served.
