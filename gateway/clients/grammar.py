@@ -6,6 +6,7 @@ be parameters of the extended protocol.
 from __future__ import annotations
 
 import random
+import re
 import struct
 from dataclasses import dataclass, replace
 from decimal import Decimal
@@ -99,6 +100,7 @@ TABLES = (STOCK, STOCKS, WORDED)
 # The name of the table that statements create, and what a server calls PostgreSQL's types.
 MADE = "made"
 RESERVABLE = "RESERVABLE"
+NOT_THEIRS = re.compile(r"(?<!['\"$])\bRESERVABLE\b(?!['\"$])", re.IGNORECASE)
 
 
 @dataclass(frozen=True)
@@ -165,7 +167,12 @@ class Statement:
     @property
     def text_of_theirs(self) -> str:
         """Returns it as PostgreSQL can read it: RESERVABLE alone is missing there."""
-        return "".join(blank + ("" if token.upper() == RESERVABLE else token) for blank, token in zip(self.blanks, self.tokens))
+        return NOT_THEIRS.sub("", self.text)
+
+    @property
+    def text_without_comments(self) -> str:
+        """Returns it with plain blanks in place of comments between tokens, without RESERVABLE."""
+        return replace(self, blanks=tuple(" " if "/*" in it or "--" in it else it for it in self.blanks)).text_of_theirs
 
     def without(self, at: int, count: int = 1) -> Statement:
         """Returns it without some tokens."""

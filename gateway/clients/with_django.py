@@ -10,7 +10,7 @@ from typing import Any, List
 import django
 import django.db
 from django.conf import settings
-from django.db import IntegrityError, connections, models, transaction
+from django.db import IntegrityError, InternalError, connections, models, transaction
 from django.db.models import F
 from django.db.utils import NotSupportedError, OperationalError, ProgrammingError
 
@@ -143,8 +143,13 @@ def creates_saves_and_deletes(gateway: Gateway) -> None:
     expect((it.pieces, it.name), (3, "new"))
     it.delete()
     expect(made.objects.count(), 2)
-    expect(made.objects.filter(pk__in=[2]).delete()[0], 1)
-    expect(pieces(gateway), ["5"])
+    expect(pieces(gateway), ["5", "7"])
+    try:
+        made.objects.filter(pk=2).delete()  # Django opens a block for it
+    except InternalError as error:
+        expect(error.__cause__.pgcode, "25001")  # type: ignore[union-attr]
+    else:
+        raise AssertionError("a DELETE was served inside a block")
     connections["default"].close()
 
 

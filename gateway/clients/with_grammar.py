@@ -34,6 +34,7 @@ A_BATCH, A_TABLE = 24, 6
 # The differences that are shown before a run ends.
 MOST_SHOWN = 12
 CHANGES = re.compile(r"insert|update|delete|drop|alter|create|truncate", re.IGNORECASE)
+ORDERED, CUT = re.compile(r"order.*by", re.IGNORECASE | re.DOTALL), re.compile(r"limit|offset|fetch", re.IGNORECASE)
 
 # What the gateway may answer where PostgreSQL acts, each with its reason.
 REFUSALS: Dict[str, str] = {
@@ -53,6 +54,7 @@ REFUSALS: Dict[str, str] = {
     "42704": "a constraint whose name is another in the server",
     "42P18": "a parameter whose type does not follow from its place",
     "54000": "a statement that is longer than a line of the server",
+    "55000": "a cursor of the gateway goes forward alone",
     "55006": "a row that another session has reserved",
     "25001": "what commits by itself beside other statements of a message",
 }
@@ -82,6 +84,7 @@ class Aspect(Enum):
     TAGS = "tags"
     COLUMNS = "names and types of columns and of parameters"
     ROWS = "the rows of a result"
+    BEHIND = "the rows of tables behind a refusal"
 
 
 @dataclass(frozen=True)
@@ -106,6 +109,9 @@ ON_PURPOSE = [
         "SHOW TABLE, BOUNDS, JOURNAL and STATISTICS are the server's own statements", r"^[\s(;]*show\s+(table|bounds|journal|statistics)\b", *Aspect
     ),
     purpose("a column of a created table has the server's nearest type: INT has 15 digits and is int8", rf"\b{MADE}\b", Aspect.COLUMNS, Aspect.ROWS),
+    purpose("rows of one INSERT are INSERTs by themselves: those before a refused one stay", r"\binsert\b.*\(.*\(", Aspect.BEHIND),
+    purpose("a reservation is applied at the end of its message: a SELECT behind it does not show it", r"update.*;.*select", Aspect.ROWS),
+    purpose("what commits by itself stays if a later statement of its message is refused", r";", Aspect.BEHIND),
 ]
 
 
@@ -274,7 +280,7 @@ class Pair:
                 answer_of_theirs = ended
             wrong = self.judge(it, answer, answer_of_theirs)
             if not wrong and look and sorted(rows) != sorted(rows_of_theirs):
-                if partly(it, answer):
+                if not answer.acted and excused(Aspect.BEHIND, it):
                     return Difference(it, "")
                 only = [readable(set(one) - set(other)) for one, other in ((rows, rows_of_theirs), (rows_of_theirs, rows))]
                 wrong = f"rows behind it: gateway ({answer.text or answer.tags}) {only[0]}, PostgreSQL ({answer_of_theirs.text or answer_of_theirs.tags}) {only[1]}"
@@ -303,6 +309,8 @@ class Pair:
             if our.acted != their.acted:
                 return None if are_equal else Difference(it, "")
             has_reserved = our.state == b"T" and (has_reserved or any(tag.startswith(b"UPDATE") for tag in our.tags))
+        if not are_equal and any(not our.acted and excused(Aspect.BEHIND, it) for it, our in zip(block, ours)):
+            return Difference(block[-1], "")
         if not are_equal:
             only = [readable(set(one) - set(other)) for one, other in ((ours[-1].rows, theirs[-1].rows), (theirs[-1].rows, ours[-1].rows))]
             return Difference(block[-1], f"rows behind the block: gateway {only[0]}, PostgreSQL {only[1]}", tuple(block[:-1]), True)
@@ -316,9 +324,7 @@ class Pair:
                 self.counts.refused[ours.error] += 1
                 if ours.error not in REFUSALS:
                     return f"the gateway refused it by {ours.text}, PostgreSQL answered {theirs.tags}"
-            return (
-                f"the gateway answered {ours.text}" if ours.error.startswith(("XX", "58", "57", "08")) and not theirs.error.startswith("08") else ""
-            )
+            return f"the gateway answered {ours.text}" if ours.error.startswith(("XX", "58", "57")) else ""
         if not theirs.acted:
             return "" if excused(Aspect.ACTION, it) else f"the gateway acted ({ours.tags}), PostgreSQL did not: {theirs.text}"
         self.counts.both += 1
@@ -342,17 +348,12 @@ def apart(answers: Sequence[Answer], looks: Sequence[bool]) -> List[Tuple[Answer
 
 def compared(it: Statement, ours: Tuple[bytes, ...], theirs: Tuple[bytes, ...]) -> str:
     """Returns what is wrong with rows. Without ORDER BY their order counts for nothing, and with a limit then not which ones they are."""
-    text = it.text.upper()
-    if ours == theirs or ("ORDER" not in text and sorted(ours) == sorted(theirs)):
+    if ours == theirs:
         return ""
-    if "ORDER" not in text and (it.most or any(word in text for word in ("LIMIT", "OFFSET", "FETCH"))) and len(ours) == len(theirs):
-        return ""
+    if not ORDERED.search(it.text):
+        if sorted(ours) == sorted(theirs) or (len(ours) == len(theirs) and (it.most or CUT.search(it.text))):
+            return ""
     return f"rows: gateway {readable(ours)}, PostgreSQL {readable(theirs)}"
-
-
-def partly(it: Statement, ours: Answer) -> bool:
-    """Returns whether a refused statement may have acted before: of several rows each is an INSERT by itself, and so is a statement of several."""
-    return not ours.acted and (";" in it.tokens or it.text.upper().count("(") > 2)
 
 
 def readable(rows: Iterable[bytes]) -> List[str]:

@@ -115,6 +115,7 @@ def models_load_filter_and_count(gateway: Gateway) -> None:
         expect([tuple(row) for row in session.query(Stock.id, Stock.pieces).filter(Stock.id == 1)], [(1, 5)])
         expect(session.execute(select(func.count()).select_from(Stock)).scalar(), 3)
         expect(session.execute(select(func.count(Stock.id)).where(Stock.id == 9)).scalar(), 0)
+        expect((session.query(Stock).count(), session.query(Stock).filter(Stock.id == 1).count()), (3, 1))
         expect(session.execute(select(literal_column("1")).where(Stock.id == 1)).scalar(), 1)
         expect(session.get(Stock, 9), None)
     made.dispose()
