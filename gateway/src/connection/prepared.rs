@@ -149,8 +149,14 @@ pub enum Progress {
 }
 
 /// The formats of a result's columns, as Bind gives them: none for text, one for all columns, or one for each.
-#[derive(Clone, Debug, Default)]
+#[derive(Clone, Debug)]
 pub struct Formats(Rc<[Format]>);
+
+impl Default for Formats {
+    fn default() -> Formats {
+        Formats(Rc::new([]))
+    }
+}
 
 impl Formats {
     /// Returns the format of the column at this place.
