@@ -1,6 +1,7 @@
 //! The state machine of one client, without input and output.
 
 mod activity;
+mod catalog;
 mod channel;
 mod extended;
 mod local;

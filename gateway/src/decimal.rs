@@ -57,7 +57,7 @@ impl Decimal {
             return Some(Decimal { digits, scale: 0 });
         }
         let scale = scale.unsigned_abs();
-        (scale <= MOST_SCALE).then(|| Decimal { digits, scale })
+        (scale <= MOST_SCALE).then_some(Decimal { digits, scale })
     }
 
     /// Returns it with this many digits behind the point, rounded half away from zero.
@@ -66,7 +66,7 @@ impl Decimal {
     pub fn with_scale(self, scale: u32) -> Option<Decimal> {
         if scale >= self.scale {
             let digits = self.digits.checked_mul(power(scale - self.scale)?)?;
-            return (scale <= MOST_SCALE).then(|| Decimal { digits, scale });
+            return (scale <= MOST_SCALE).then_some(Decimal { digits, scale });
         }
         let unit = power(self.scale - scale)?;
         let (quotient, rest) = (self.digits / unit, self.digits % unit);
@@ -129,7 +129,7 @@ impl Decimal {
     }
 
     /// Adds. None: the sum has too many digits.
-    pub fn add(self, other: Decimal) -> Option<Decimal> {
+    pub fn plus(self, other: Decimal) -> Option<Decimal> {
         let (left, right, scale) = Decimal::aligned(self, other)?;
         left.checked_add(right)
             .map(|digits| Decimal { digits, scale })
@@ -137,14 +137,14 @@ impl Decimal {
 
     /// Subtracts. None: the difference has too many digits.
     pub fn subtract(self, other: Decimal) -> Option<Decimal> {
-        self.add(other.negated())
+        self.plus(other.negated())
     }
 
     /// Multiplies. None: the product has too many digits.
     pub fn multiply(self, other: Decimal) -> Option<Decimal> {
         let scale = self.scale + other.scale;
         let digits = self.digits.checked_mul(other.digits)?;
-        (scale <= MOST_SCALE).then(|| Decimal { digits, scale })
+        (scale <= MOST_SCALE).then_some(Decimal { digits, scale })
     }
 
     /// Returns it with the other sign.
@@ -229,7 +229,7 @@ mod tests {
     #[test]
     fn computes_exactly() {
         assert_eq!(
-            decimal("1.5").add(decimal("2.25")).unwrap().to_string(),
+            decimal("1.5").plus(decimal("2.25")).unwrap().to_string(),
             "3.75"
         );
         assert_eq!(

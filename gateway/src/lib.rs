@@ -7,6 +7,7 @@
 
 pub mod activity;
 pub mod budget;
+pub mod catalog;
 pub mod connection;
 pub mod decimal;
 pub mod limits;

@@ -12,6 +12,8 @@ pub struct SqlState(&'static str);
 impl SqlState {
     /// 00000.
     pub const SUCCESS: SqlState = SqlState("00000");
+    /// 01000.
+    pub const WARNING: SqlState = SqlState("01000");
     /// 08P01.
     pub const PROTOCOL_VIOLATION: SqlState = SqlState("08P01");
     /// 0A000.
@@ -22,6 +24,10 @@ impl SqlState {
     pub const TEXT_TOO_LONG: SqlState = SqlState("22001");
     /// 22003.
     pub const NUMBER_OUT_OF_RANGE: SqlState = SqlState("22003");
+    /// 22004.
+    pub const NULL_VALUE_NOT_ALLOWED: SqlState = SqlState("22004");
+    /// 22011.
+    pub const SUBSTRING_ERROR: SqlState = SqlState("22011");
     /// 22012.
     pub const DIVISION_BY_ZERO: SqlState = SqlState("22012");
     /// 2201W.
@@ -114,6 +120,8 @@ impl SqlState {
     pub const INVALID_TABLE_DEFINITION: SqlState = SqlState("42P16");
     /// 42P18.
     pub const INDETERMINATE_TYPE: SqlState = SqlState("42P18");
+    /// 42P20.
+    pub const WINDOWING_ERROR: SqlState = SqlState("42P20");
     /// 53100.
     pub const DISK_FULL: SqlState = SqlState("53100");
     /// 53200.

@@ -151,8 +151,13 @@ pub enum Statement {
     SetCharacteristics(Modes),
     /// SET and RESET of one setting.
     Set(Setting),
-    /// SET ROLE NONE.
-    SetRoleNone,
+    /// SET ROLE, SET SESSION AUTHORIZATION, or RESET of them. The client's own role is the only one.
+    SetRole {
+        /// The role's name. None: NONE or DEFAULT.
+        name: Option<String>,
+        /// Whether it is RESET.
+        is_reset: bool,
+    },
     /// RESET ALL.
     ResetAll,
     /// SHOW of a setting.
@@ -206,6 +211,15 @@ impl Statement {
             self,
             Statement::Commit { .. } | Statement::Rollback { .. } | Statement::RollbackTo(_)
         )
+    }
+
+    /// Returns it as a query that reads no table of the database; for DECLARE, the query of its cursor.
+    pub fn query(&self) -> Option<&Query> {
+        match self {
+            Statement::Query(query) => Some(query),
+            Statement::Declare(cursor) => cursor.read.query(),
+            _ => None,
+        }
     }
 
     /// Returns what the program does for it, if it does.

@@ -4,6 +4,7 @@ use std::collections::BTreeMap;
 use std::rc::Rc;
 use std::time::Duration;
 
+use crate::catalog::SettingRow;
 use crate::sqlstate::{Failure, Report, SqlState};
 
 /// What values a setting takes.
@@ -29,6 +30,18 @@ enum Domain {
     On,
     /// Fixed when the session begins.
     Fixed,
+}
+
+impl Domain {
+    /// Returns the word that pg_settings has for it.
+    fn kind(self) -> &'static str {
+        match self {
+            Domain::Bool | Domain::On => "bool",
+            Domain::Integer | Domain::Milliseconds => "integer",
+            Domain::Messages | Domain::Isolation => "enum",
+            Domain::Text | Domain::Encoding | Domain::DateStyle | Domain::Fixed => "string",
+        }
+    }
 }
 
 /// A setting that is known.
@@ -61,8 +74,10 @@ const fn reported(name: &'static str, default: &'static str, domain: Domain) -> 
 /// The settings that are known, with their defaults. Most are accepted and change nothing.
 static KNOWN: &[Known] = &[
     reported("application_name", "", Domain::Text),
+    known("array_nulls", "on", Domain::Bool),
     known("backslash_quote", "safe_encoding", Domain::Text),
     known("bytea_output", "hex", Domain::Text),
+    known("check_function_bodies", "on", Domain::Bool),
     reported("client_encoding", "UTF8", Domain::Encoding),
     known("client_min_messages", "notice", Domain::Messages),
     reported("DateStyle", "ISO, MDY", Domain::DateStyle),
@@ -94,6 +109,9 @@ static KNOWN: &[Known] = &[
     known("log_min_duration_statement", "-1", Domain::Milliseconds),
     known("log_statement", "none", Domain::Text),
     known("max_identifier_length", "63", Domain::Fixed),
+    known("max_index_keys", "32", Domain::Fixed),
+    known("password_encryption", "scram-sha-256", Domain::Text),
+    known("plan_cache_mode", "auto", Domain::Text),
     known("quote_all_identifiers", "off", Domain::Bool),
     known("row_security", "on", Domain::Bool),
     known("search_path", "\"$user\", public", Domain::Text),
@@ -113,6 +131,9 @@ static KNOWN: &[Known] = &[
     known("work_mem", "4MB", Domain::Text),
     known("xmloption", "content", Domain::Text),
 ];
+
+/// The most bytes of a name of a client's own setting.
+const LONGEST_NAME: usize = 256;
 
 /// The most bytes of a setting's value.
 const LONGEST_VALUE: usize = 4_096;
@@ -145,8 +166,44 @@ pub struct Limits {
     pub transaction: Option<Duration>,
 }
 
-/// Values that differ from their defaults, by the place of their setting in `KNOWN`.
-type Values = BTreeMap<usize, String>;
+/// A setting.
+#[derive(Clone, Debug, PartialEq, Eq, PartialOrd, Ord)]
+enum Key {
+    /// The one at this place of `KNOWN`.
+    Known(usize),
+    /// One of the client's own, which has a dot in its name, in lower case.
+    Custom(Rc<str>),
+}
+
+impl Key {
+    fn name(&self) -> &str {
+        match self {
+            Key::Known(place) => KNOWN[*place].name,
+            Key::Custom(name) => name,
+        }
+    }
+
+    /// Returns whether the next client of a pool would notice its value.
+    fn lasts_for_others(&self) -> bool {
+        match self {
+            Key::Known(place) => EFFECTIVE.contains(&KNOWN[*place].name),
+            Key::Custom(_) => true,
+        }
+    }
+
+    fn default(&self) -> &'static str {
+        match self {
+            Key::Known(place) => KNOWN[*place].default,
+            Key::Custom(_) => "",
+        }
+    }
+}
+
+/// Values that differ from their defaults.
+type Values = BTreeMap<Key, String>;
+
+/// The most settings of a client's own.
+const MOST_CUSTOM: usize = 64;
 
 /// The settings of a session.
 #[derive(Clone, Debug)]
@@ -168,16 +225,39 @@ pub struct Snapshot {
     local: Rc<Values>,
 }
 
-fn place(name: &str) -> Result<usize, Failure> {
+fn place(name: &str) -> Option<usize> {
     KNOWN
         .iter()
         .position(|known| known.name.eq_ignore_ascii_case(name))
-        .ok_or_else(|| {
-            Report::error(
-                SqlState::UNDEFINED_OBJECT,
-                format!("unrecognized configuration parameter \"{}\"", name),
-            )
-        })
+}
+
+fn unrecognized(name: &str) -> Failure {
+    let text = format!("unrecognized configuration parameter \"{}\"", name);
+    Report::error(SqlState::UNDEFINED_OBJECT, text)
+}
+
+/// Returns the setting of a name, which has a dot if it is none that is known.
+fn key(name: &str) -> Result<Key, Failure> {
+    if let Some(place) = place(name) {
+        return Ok(Key::Known(place));
+    }
+    if !name.contains('.') {
+        return Err(unrecognized(name));
+    }
+    let begins = |byte: u8| byte.is_ascii_alphabetic() || byte == b'_' || byte >= 0x80;
+    let is_word = |word: &str| {
+        word.bytes().next().map_or(false, begins)
+            && word
+                .bytes()
+                .all(|byte| begins(byte) || byte.is_ascii_digit() || byte == b'$')
+    };
+    if name.len() > LONGEST_NAME || !name.split('.').all(is_word) {
+        let text = format!("invalid configuration parameter name \"{}\"", name);
+        return Err(Report::error(SqlState::INVALID_NAME, text).detail(
+            "Custom parameter names must be two or more simple identifiers separated by dots.",
+        ));
+    }
+    Ok(Key::Custom(name.to_ascii_lowercase().into()))
 }
 
 fn invalid(known: &Known, value: &str) -> Failure {
@@ -281,9 +361,14 @@ fn canonical(known: &Known, value: &str) -> Result<String, Failure> {
                 "Valid units for this parameter are \"us\", \"ms\", \"s\", \"min\", \"h\", and \"d\".",
             )),
         },
-        Domain::Encoding => match value.to_ascii_uppercase().replace(['-', '_'], "").as_str() {
-            "UTF8" | "UNICODE" => Ok("UTF8".to_owned()),
-            "SQLASCII" => Ok("SQL_ASCII".to_owned()),
+        // As in PostgreSQL, letters and digits alone count: 'utf-8' in quotes is UTF8.
+        Domain::Encoding => match value
+            .replace(|mark: char| !mark.is_ascii_alphanumeric(), "")
+            .to_ascii_lowercase()
+            .as_str()
+        {
+            "utf8" | "unicode" => Ok("UTF8".to_owned()),
+            "sqlascii" => Ok("SQL_ASCII".to_owned()),
             _ => Err(bad().hint("Texts are in UTF8.")),
         },
         Domain::Messages => {
@@ -329,8 +414,8 @@ impl Variables {
     pub fn new(version: &str, user: &str, limits: Limits) -> Variables {
         let mut values = Values::new();
         let mut put = |name: &str, value: String| {
-            if let Ok(place) = place(name) {
-                values.insert(place, value);
+            if let Some(place) = place(name) {
+                values.insert(Key::Known(place), value);
             }
         };
         put("server_version", version.to_owned());
@@ -386,80 +471,180 @@ impl Variables {
         value: Option<&str>,
         local: bool,
     ) -> Result<Option<(&'static str, &str)>, Failure> {
-        let place = place(name)?;
+        let key = key(name)?;
+        let value = match &key {
+            Key::Known(place) => self.known_value(*place, value)?,
+            Key::Custom(_) => Some(self.custom_value(&key, value)?),
+        };
+        if !local {
+            if key.name() == POOLED {
+                // RESET ALL and DISCARD ALL go back to it.
+                put(&mut self.initial, key.clone(), value.clone());
+            } else if key.lasts_for_others() {
+                self.check_lasting(&key, value.as_deref())?;
+            }
+            if self.local.contains_key(&key) {
+                Rc::make_mut(&mut self.local).remove(&key);
+            }
+            put(&mut self.session, key.clone(), value);
+        } else {
+            let value = value.unwrap_or_else(|| key.default().to_owned());
+            put(&mut self.local, key.clone(), Some(value));
+        }
+        self.changed();
+        match key {
+            Key::Known(place) if KNOWN[place].reported => {
+                Ok(Some((KNOWN[place].name, self.at(&Key::Known(place)))))
+            }
+            _ => Ok(None),
+        }
+    }
+
+    /// Returns the value that a setting gets. None: it goes back to its default.
+    fn known_value(&self, place: usize, value: Option<&str>) -> Result<Option<String>, Failure> {
         let known = &KNOWN[place];
-        let value = match value {
-            Some(value) => Some(canonical(known, value)?),
+        match value {
+            Some(value) => canonical(known, value).map(Some),
             None => {
                 if known.domain == Domain::Fixed {
                     canonical(known, "")?;
                 }
-                self.initial.get(&place).cloned()
+                Ok(self.initial.get(&Key::Known(place)).cloned())
             }
-        };
-        if !local {
-            if known.name == POOLED {
-                // RESET ALL and DISCARD ALL go back to it.
-                put(&mut self.initial, place, value.clone());
-            } else if EFFECTIVE.contains(&known.name) {
-                self.check_lasting(place, value.as_deref())?;
-            }
-            if self.local.contains_key(&place) {
-                Rc::make_mut(&mut self.local).remove(&place);
-            }
-            put(&mut self.session, place, value);
-        } else {
-            let value = value.unwrap_or_else(|| known.default.to_owned());
-            put(&mut self.local, place, Some(value));
         }
-        self.changed();
-        if known.reported {
-            Ok(Some((known.name, self.at(place))))
-        } else {
-            Ok(None)
+    }
+
+    /// Returns the value that a setting of the client's own gets. RESET leaves it empty.
+    fn custom_value(&self, key: &Key, value: Option<&str>) -> Result<String, Failure> {
+        let is_custom = |key: &&Key| matches!(key, Key::Custom(_));
+        let count = self
+            .session
+            .keys()
+            .chain(self.local.keys())
+            .filter(is_custom)
+            .count();
+        let is_new = !self.session.contains_key(key) && !self.local.contains_key(key);
+        if is_new && count >= MOST_CUSTOM {
+            let text = "too many configuration parameters of the client's own";
+            return Err(Report::error(SqlState::OUT_OF_MEMORY, text));
+        }
+        match value {
+            Some(value) if value.len() > LONGEST_VALUE => {
+                let text = format!("value of parameter \"{}\" is too long", key.name());
+                Err(Report::error(SqlState::INVALID_PARAMETER_VALUE, text))
+            }
+            Some(value) => Ok(value.to_owned()),
+            None => Ok(self.initial.get(key).cloned().unwrap_or_default()),
         }
     }
 
     /// Refuses a value that isn't that of the session's begin, if a pool would let other clients have it.
-    fn check_lasting(&self, place: usize, value: Option<&str>) -> Result<(), Failure> {
-        let known = &KNOWN[place];
-        let initial = self.initial.get(&place);
-        let initial = initial.map_or(known.default, String::as_str);
+    fn check_lasting(&self, key: &Key, value: Option<&str>) -> Result<(), Failure> {
+        let initial = self.initial.get(key);
+        let initial = initial.map_or(key.default(), String::as_str);
         if self.value(POOLED) == "off" || value.map_or(true, |value| value == initial) {
             return Ok(());
         }
-        let name = known.name;
-        let text = format!("SET {} would reach other clients of this connection", name);
+        let text = format!("SET {} would reach other clients of this connection", key.name());
         Err(Report::error(SqlState::FEATURE_NOT_SUPPORTED, text)
             .hint("Use SET LOCAL inside a block, or an option of escrowd-pg for all."))
     }
 
-    /// Sets all settings back to the values of the session's begin.
+    /// Sets all settings back to the values of the session's begin. Those of the client's own are empty then.
     pub fn reset_all(&mut self) {
+        let own = self.session.keys().chain(self.local.keys()).cloned();
+        let own: Vec<Key> = own.filter(|key| matches!(key, Key::Custom(_))).collect();
         self.session = Rc::clone(&self.initial);
+        for key in own {
+            if !self.session.contains_key(&key) {
+                put(&mut self.session, key, Some(String::new()));
+            }
+        }
         self.local = Rc::new(Values::new());
         self.changed();
     }
 
-    fn at(&self, place: usize) -> &str {
+    fn at(&self, key: &Key) -> &str {
         self.local
-            .get(&place)
-            .or_else(|| self.session.get(&place))
-            .map_or(KNOWN[place].default, String::as_str)
+            .get(key)
+            .or_else(|| self.session.get(key))
+            .map_or(key.default(), String::as_str)
     }
 
     /// Returns the name of a setting as PostgreSQL writes it, and its value.
     ///
     /// # Errors
     ///
-    /// Fails if the setting isn't known.
-    pub fn get(&self, name: &str) -> Result<(&'static str, &str), Failure> {
-        place(name).map(|place| (KNOWN[place].name, self.at(place)))
+    /// Fails if the setting isn't known. One of the client's own is known once it was set.
+    pub fn get(&self, name: &str) -> Result<(String, &str), Failure> {
+        let key = match place(name) {
+            Some(place) => Key::Known(place),
+            None => Key::Custom(name.to_ascii_lowercase().into()),
+        };
+        let is_set = self.local.contains_key(&key) || self.session.contains_key(&key);
+        if matches!(key, Key::Custom(_)) && !is_set {
+            return Err(unrecognized(name));
+        }
+        Ok((key.name().to_owned(), self.at(&key)))
+    }
+
+    /// Returns the value of a setting. None: it isn't known.
+    pub fn known(&self, name: &str) -> Option<&str> {
+        self.get(name).ok().map(|(_, value)| value)
     }
 
     /// Returns the value of a setting that is known for sure, or an empty text.
     pub fn value(&self, name: &str) -> &str {
-        self.get(name).map_or("", |(_, value)| value)
+        self.known(name).unwrap_or("")
+    }
+
+    /// Returns all settings as pg_settings shows them.
+    pub fn rows(&self) -> Vec<SettingRow> {
+        let known = (0..KNOWN.len()).map(Key::Known);
+        let own = self.session.keys().chain(self.local.keys());
+        let mut own: Vec<Key> = own
+            .filter(|key| matches!(key, Key::Custom(_)))
+            .cloned()
+            .collect();
+        own.sort();
+        own.dedup();
+        known.chain(own).map(|key| self.row(&key)).collect()
+    }
+
+    fn row(&self, key: &Key) -> SettingRow {
+        let domain = match key {
+            Key::Known(place) => KNOWN[*place].domain,
+            Key::Custom(_) => Domain::Text,
+        };
+        // Times are shown in milliseconds, without their unit.
+        let plain = |value: &str| match domain {
+            Domain::Milliseconds => {
+                milliseconds(value).map_or(value.to_owned(), |time| (time as i64).to_string())
+            }
+            _ => value.to_owned(),
+        };
+        let now = self.local.get(key).or_else(|| self.session.get(key));
+        let reset = self.initial.get(key);
+        let is_fixed = domain == Domain::Fixed;
+        SettingRow {
+            name: key.name().to_owned(),
+            value: plain(self.at(key)),
+            unit: (domain == Domain::Milliseconds).then(|| "ms".to_owned()),
+            context: if is_fixed { "internal" } else { "user" },
+            kind: domain.kind(),
+            source: match now {
+                None => "default",
+                Some(_) if is_fixed => "default",
+                now if now == reset => "client",
+                _ => "session",
+            },
+            default: plain(if is_fixed {
+                self.at(key)
+            } else {
+                key.default()
+            }),
+            reset: plain(reset.map_or(key.default(), String::as_str)),
+        }
     }
 
     /// Returns names and values of all settings.
@@ -467,7 +652,7 @@ impl Variables {
         KNOWN
             .iter()
             .enumerate()
-            .map(move |(place, known)| (known.name, self.at(place)))
+            .map(move |(place, known)| (known.name, self.at(&Key::Known(place))))
     }
 
     /// Returns names and values of the settings that ParameterStatus tells.
@@ -476,7 +661,7 @@ impl Variables {
             .iter()
             .enumerate()
             .filter(|(_, known)| known.reported)
-            .map(move |(place, known)| (known.name, self.at(place)))
+            .map(move |(place, known)| (known.name, self.at(&Key::Known(place))))
     }
 
     /// Returns how long transactions may last.
@@ -530,11 +715,11 @@ impl Variables {
     }
 }
 
-fn put(values: &mut Rc<Values>, place: usize, value: Option<String>) {
+fn put(values: &mut Rc<Values>, key: Key, value: Option<String>) {
     let values = Rc::make_mut(values);
     match value {
-        Some(value) => values.insert(place, value),
-        None => values.remove(&place),
+        Some(value) => values.insert(key, value),
+        None => values.remove(&key),
     };
 }
 

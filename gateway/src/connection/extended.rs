@@ -39,7 +39,7 @@ impl Connection {
             Ok(text) => text,
             Err(_) => return self.fail(not_utf8(parse.text), None),
         };
-        let prepared = prepare(text, &parse.types).and_then(|statement| {
+        let prepared = self.prepare(text, &parse.types).and_then(|statement| {
             if self.has_failed_for(&statement) {
                 return Err(failed_block());
             }
@@ -214,6 +214,7 @@ impl Connection {
         let shown = match tree {
             Tree::Served(Served::Select(select)) => &select.shown,
             Tree::Served(served) if !served.returning().is_empty() => served.returning(),
+            Tree::Query(query) => return self.query_columns(query, types).map(Some),
             tree => return self.columns(tree),
         };
         definition
@@ -347,27 +348,33 @@ fn formats(codes: &[i16]) -> Result<Vec<Format>, Failure> {
         .collect()
 }
 
-/// Reads the text of a prepared statement.
-fn prepare(text: &str, types: &[u32]) -> Result<Statement, Failure> {
-    let mut at = 0;
-    let mut parsed = next_statement(text, &mut at)?;
-    if next_statement(text, &mut at)?.is_some() {
-        return Err(Report::error(
-            SqlState::SYNTAX_ERROR,
-            "cannot insert multiple commands into a prepared statement",
-        ));
+impl Connection {
+    /// Reads the text of a prepared statement.
+    fn prepare(&self, text: &str, types: &[u32]) -> Result<Statement, Failure> {
+        let mut at = 0;
+        let mut parsed = next_statement(text, &mut at)?;
+        if next_statement(text, &mut at)?.is_some() {
+            return Err(Report::error(
+                SqlState::SYNTAX_ERROR,
+                "cannot insert multiple commands into a prepared statement",
+            ));
+        }
+        if let Some(query) = parsed.as_ref().and_then(|parsed| parsed.statement.query()) {
+            let types = self.describe_query(query, types)?.parameters;
+            return Ok(Statement::new(text, parsed, types));
+        }
+        if let Some(parsed) = &mut parsed {
+            parameters::settle_members(&mut parsed.places, &parsed.statement, types);
+        }
+        let places = parsed.as_ref().map_or(&[][..], |parsed| &parsed.places);
+        let mut types = types.to_vec();
+        if types.len() < places.len() {
+            types.resize(places.len(), oid::UNSPECIFIED);
+        }
+        for (at, oid) in types.iter().enumerate() {
+            let place = places.get(at).unwrap_or(&Place::Unused);
+            parameters::check_type(at + 1, place, *oid)?;
+        }
+        Ok(Statement::new(text, parsed, types))
     }
-    if let Some(parsed) = &mut parsed {
-        parameters::settle_members(&mut parsed.places, &parsed.statement, types);
-    }
-    let places = parsed.as_ref().map_or(&[][..], |parsed| &parsed.places);
-    let mut types = types.to_vec();
-    if types.len() < places.len() {
-        types.resize(places.len(), oid::UNSPECIFIED);
-    }
-    for (at, oid) in types.iter().enumerate() {
-        let place = places.get(at).unwrap_or(&Place::Unused);
-        parameters::check_type(at + 1, place, *oid)?;
-    }
-    Ok(Statement::new(text, parsed, types))
 }

@@ -2,18 +2,12 @@
 
 use std::rc::Rc;
 
-use postgres_protocol::Oid;
-
 use crate::connection::prepared::Progress;
 use crate::connection::transaction::Block;
 use crate::connection::work::{no_savepoint, outside_of_block, Completed, Tag};
 use crate::connection::Connection;
 use crate::rows::{self, ResultSet};
 use crate::sqlstate::{Failure, Report, SqlState};
-use crate::statement::constant::{self, Input};
-use crate::statement::query::{Body, Expression, ExpressionKind, Query, Relation, Target};
-use crate::statement::select;
-use crate::statement::served::Verb;
 use crate::statement::session::{Isolation, Modes, Setting};
 use crate::statement::{Discard, Statement};
 use crate::value::oid;
@@ -28,34 +22,22 @@ fn check_isolation(modes: Modes) -> Result<(), Failure> {
     }
 }
 
-/// Returns a column of a query for the types of an extension, which drivers send at a connect.
-fn column_of_type(target: &Target) -> Option<(&str, Oid)> {
-    let name = match target {
-        Target::Expression(_, Some(label)) => &label.text,
-        Target::Expression(expression, None) => match &expression.kind {
-            ExpressionKind::Column(names) => &names.last()?.text,
-            _ => return None,
-        },
-        Target::Star(..) => return None,
-    };
-    let is_oid = name.ends_with("oid") || name == "typarray";
-    Some((name, if is_oid { oid::OID } else { oid::TEXT }))
-}
-
 impl Connection {
     /// Runs a statement that needs no program.
-    pub(super) fn run_locally(
-        &mut self,
-        statement: &Statement,
-        input: Input<'_>,
-    ) -> Result<Completed, Failure> {
+    pub(super) fn run_locally(&mut self, statement: &Statement) -> Result<Completed, Failure> {
         match statement {
             Statement::Begin { start, modes } => self.begin(*start, *modes),
             Statement::Release(name) => self.release(&name.text),
             Statement::SetTransaction(modes) => self.set_transaction(*modes),
             Statement::SetCharacteristics(modes) => self.set_characteristics(*modes),
             Statement::Set(setting) => self.set(setting),
-            Statement::SetRoleNone => Ok(Completed::plain("SET")),
+            Statement::SetRole { name, is_reset } => {
+                if let Some(name) = name.as_ref().filter(|name| **name != self.user) {
+                    let text = format!("role \"{}\" does not exist", name);
+                    return Err(Report::error(SqlState::INVALID_PARAMETER_VALUE, text));
+                }
+                Ok(Completed::plain(if *is_reset { "RESET" } else { "SET" }))
+            }
             Statement::ResetAll => {
                 self.remember_variables();
                 self.change_variables(|variables| variables.reset_all());
@@ -87,16 +69,13 @@ impl Connection {
                 tag: Tag::Plain("SHOW"),
                 rows: Some(self.shown_settings(statement)?),
             }),
-            Statement::Query(query) => Ok(Completed {
-                tag: Tag::Rows("SELECT"),
-                rows: Some(self.answer(query, input)?),
-            }),
             Statement::Commit { .. }
             | Statement::Rollback { .. }
             | Statement::Savepoint(_)
             | Statement::RollbackTo(_)
             | Statement::Declare(_)
             | Statement::Fetch { .. }
+            | Statement::Query(_)
             | Statement::Served(_) => Err(Report::error(
                 SqlState::INTERNAL_ERROR,
                 "the program serves this statement",
@@ -117,7 +96,7 @@ impl Connection {
                 ..
             } => return Ok(self.cursor_columns(&name.text)),
             Statement::ShowSetting(_) | Statement::ShowAll => self.shown_settings(statement)?,
-            Statement::Query(query) => self.answer(query, Input::default())?,
+            Statement::Query(query) => return self.query_columns(query, &[]).map(Some),
             _ => return Ok(None),
         };
         Ok(Some(Rc::clone(rows.columns())))
@@ -134,7 +113,7 @@ impl Connection {
     fn shown_settings(&self, statement: &Statement) -> Result<ResultSet, Failure> {
         if let Statement::ShowSetting(name) = statement {
             let (name, value) = self.setting(name)?;
-            return Ok(rows::constants(&[(name, oid::TEXT)], &[vec![Some(value)]]));
+            return Ok(rows::constants(&[(&name, oid::TEXT)], &[vec![Some(value)]]));
         }
         let columns = [
             ("name", oid::TEXT),
@@ -155,89 +134,9 @@ impl Connection {
         Ok(rows::constants(&columns, &settings))
     }
 
-    /// Answers a query that reads no table of the database.
-    fn answer(&self, query: &Query, input: Input<'_>) -> Result<ResultSet, Failure> {
-        let select = match &query.body {
-            Body::Select(select) => select,
-            _ => return Err(Report::missing("this query").at(query.span.start)),
-        };
-        if let Some(relation) = select.from.first() {
-            let is_type = matches!(relation, Relation::Table { name, .. } if name.name.text == "pg_type")
-                || matches!(relation, Relation::Join { .. });
-            let columns: Option<Vec<(&str, Oid)>> =
-                select.targets.iter().map(column_of_type).collect();
-            return match columns {
-                Some(columns) if is_type && select.condition.is_some() => {
-                    Ok(rows::constants(&columns, &[]))
-                }
-                _ => Err(Report::missing("the catalog")
-                    .hint("SHOW TABLE name shows a table's definition.")
-                    .at(select.span.start)),
-            };
-        }
-        let (mut columns, mut row) = (Vec::new(), Vec::new());
-        for target in &select.targets {
-            let (expression, label) = match target {
-                Target::Expression(expression, label) => (expression, label),
-                Target::Star(_, span) => {
-                    let text = "SELECT * with no tables specified is not valid";
-                    return Err(Report::error(SqlState::SYNTAX_ERROR, text).at(span.start));
-                }
-            };
-            let (name, oid, value) = self.value(expression, input)?;
-            let label = label.as_ref().map(|label| label.text.clone());
-            columns.push((label.unwrap_or(name), oid));
-            row.push(value);
-        }
-        let columns: Vec<(&str, Oid)> = columns
-            .iter()
-            .map(|(name, oid)| (name.as_str(), *oid))
-            .collect();
-        Ok(rows::constants(&columns, &[row]))
-    }
-
-    fn value(
-        &self,
-        expression: &Expression,
-        input: Input<'_>,
-    ) -> Result<(String, Oid, Option<String>), Failure> {
-        let call = match &expression.kind {
-            ExpressionKind::Function(call) => call,
-            _ => {
-                constant::check(expression, Verb::Select)?;
-                let value = constant::evaluate(expression, input)?.text();
-                let oid = constant::type_of(expression, input.types).0;
-                let oid = if oid == oid::UNKNOWN { oid::TEXT } else { oid };
-                let name = select::label_of(expression).unwrap_or("?column?");
-                return Ok((name.to_owned(), oid, value));
-            }
-        };
-        let name = call.name.name.text.as_str();
-        let version = || format!("PostgreSQL {}", self.variables.value("server_version"));
-        let (oid, value) = match (name, &call.arguments[..]) {
-            ("version", []) => (oid::TEXT, version()),
-            ("current_schema", []) => (oid::NAME, "public".to_owned()),
-            ("current_database" | "current_catalog", []) => (oid::NAME, self.database.clone()),
-            ("current_user" | "session_user" | "user" | "current_role", []) => {
-                (oid::NAME, self.user.clone())
-            }
-            ("pg_backend_pid", []) => (oid::INT4, self.process_id.to_string()),
-            ("pg_is_in_recovery", []) => (oid::BOOL, "f".to_owned()),
-            ("current_setting", [argument]) => match &argument.kind {
-                ExpressionKind::Text(name) => (oid::TEXT, self.setting(name)?.1),
-                _ => return Err(Report::missing("a setting whose name is computed")),
-            },
-            _ => {
-                let what = format!("the function {}", name);
-                return Err(Verb::Select.missing(&what, expression.span.start));
-            }
-        };
-        Ok((name.to_owned(), oid, Some(value)))
-    }
-
-    fn setting(&self, name: &str) -> Result<(&'static str, String), Failure> {
+    pub(super) fn setting(&self, name: &str) -> Result<(String, String), Failure> {
         let (name, value) = self.variables.get(name)?;
-        let value = match name {
+        let value = match name.as_str() {
             "transaction_read_only" if self.is_read_only() => "on".to_owned(),
             _ => value.to_owned(),
         };
@@ -321,11 +220,16 @@ impl Connection {
         Ok(Completed::plain("SET"))
     }
 
-    fn set_value(&mut self, name: &str, value: Option<&str>, local: bool) -> Result<(), Failure> {
+    pub(super) fn set_value(
+        &mut self,
+        name: &str,
+        value: Option<&str>,
+        local: bool,
+    ) -> Result<(), Failure> {
         self.remember_variables();
-        let before = self.variables.get(name)?.1.to_owned();
+        let before = self.variables.known(name).map(str::to_owned);
         if let Some((name, value)) = self.variables.set(name, value, local)? {
-            if value != before {
+            if Some(value) != before.as_deref() {
                 backend::parameter_status(self.output.buffer(), name, value);
             }
         }

@@ -8,11 +8,14 @@ use std::rc::Rc;
 use postgres_protocol::Oid;
 
 use crate::budget::{Charge, Pool};
+use crate::catalog::Parameter;
+use crate::connection::catalog::RawValue;
 use crate::connection::results::Rows;
 use crate::rows::Definition;
 use crate::sqlstate::{Failure, Report, SqlState};
 use crate::statement::constant::Input;
 use crate::statement::parameters::{self, Place};
+use crate::statement::query::Query;
 use crate::statement::served::{Served, Verb};
 use crate::statement::Parsed;
 use crate::value::{self, oid, Value};
@@ -91,8 +94,16 @@ impl Statement {
         )
     }
 
+    /// Returns it as a query that reads no table of the database.
+    pub fn query(&self) -> Option<&Query> {
+        self.parsed.as_ref()?.statement.query()
+    }
+
     /// Returns the types of its parameters.
     pub fn parameter_types(&self, definition: Option<&Definition>) -> Vec<Oid> {
+        if self.query().is_some() {
+            return self.types.clone();
+        }
         (0..self.types.len())
             .map(|parameter| {
                 let (place, oid) = self.parameter(parameter);
@@ -118,6 +129,8 @@ impl Statement {
 pub struct Arguments {
     values: Vec<Value>,
     types: Vec<Oid>,
+    /// The values of a query of the catalog, as the client sent them.
+    raw: Vec<RawValue>,
 }
 
 impl Arguments {
@@ -129,9 +142,23 @@ impl Arguments {
         }
     }
 
+    /// Returns the values of a query of the catalog.
+    pub fn raw(&self) -> Vec<Parameter<'_>> {
+        self.raw
+            .iter()
+            .map(|(format, value)| (*format, value.as_deref()))
+            .collect()
+    }
+
     fn size(&self) -> usize {
         let values = self.values.iter().map(Value::size).sum::<usize>();
+        let raw = self
+            .raw
+            .iter()
+            .map(|(_, value)| value.as_ref().map_or(0, Vec::capacity));
         values
+            + raw.sum::<usize>()
+            + self.raw.capacity() * mem::size_of::<RawValue>()
             + self.values.capacity() * mem::size_of::<Value>()
             + self.types.capacity() * mem::size_of::<Oid>()
     }
@@ -204,6 +231,19 @@ impl Binding {
     /// Fails if one is none of its type, or none that the program holds.
     pub fn read(self, definition: Option<&Definition>) -> Result<Portal, Failure> {
         let types = self.statement.parameter_types(definition);
+        if self.statement.query().is_some() {
+            let arguments = Arguments {
+                values: Vec::new(),
+                types,
+                raw: self.values,
+            };
+            return Ok(Portal::new(
+                self.statement,
+                arguments,
+                self.formats,
+                Progress::Ready,
+            ));
+        }
         let mut values = Vec::with_capacity(self.values.len());
         for (parameter, (format, bytes)) in self.values.iter().enumerate() {
             let oid = types.get(parameter).copied().unwrap_or(oid::UNSPECIFIED);
@@ -212,7 +252,11 @@ impl Binding {
         }
         Ok(Portal::new(
             self.statement,
-            Arguments { values, types },
+            Arguments {
+                values,
+                types,
+                raw: Vec::new(),
+            },
             self.formats,
             Progress::Ready,
         ))

@@ -107,6 +107,8 @@ impl Connection {
         if !matches!(names.replication, "" | "false" | "off" | "no" | "0") {
             return Err(fatal(Report::missing("replication")));
         }
+        // Nobody has to prove who they are. Faults in what follows come behind this, as in PostgreSQL.
+        backend::authentication_ok(self.output.buffer());
         let database = if names.database.is_empty() {
             names.user
         } else {
@@ -151,7 +153,6 @@ impl Connection {
     pub(super) fn serve(&mut self) {
         self.phase = Phase::Serving;
         let out = self.output.buffer();
-        backend::authentication_ok(out);
         for (name, value) in self.variables.reported() {
             backend::parameter_status(out, name, value);
         }

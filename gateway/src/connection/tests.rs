@@ -344,7 +344,7 @@ fn a_client_is_told_what_the_server_is() {
         "application_name",
         "x",
         "client_encoding",
-        "utf-8",
+        "'utf-8'",
     ];
     client.send(&startup_packet(196_608, &names));
     assert_eq!(
@@ -383,7 +383,7 @@ fn a_startup_that_cannot_be_served_is_refused() {
     let version = 196_608;
     assert_eq!(
         refused(&startup_packet(version, &["user", "nobody"])),
-        ["FATAL 3D000"]
+        ["authenticated", "FATAL 3D000"]
     );
     assert_eq!(
         refused(&startup_packet(version, &["database", "shop"])),
@@ -405,14 +405,14 @@ fn a_startup_that_cannot_be_served_is_refused() {
             version,
             &["user", "shop", "client_encoding", "latin1"]
         )),
-        ["FATAL 22023"]
+        ["authenticated", "FATAL 22023"]
     );
     assert_eq!(
         refused(&startup_packet(
             version,
             &["user", "shop", "options", "-c nothing=1"]
         )),
-        ["FATAL 42704"]
+        ["authenticated", "FATAL 42704"]
     );
     assert_eq!(refused(&[0, 0, 0, 7]), ["FATAL 08P01"]);
     assert_eq!(refused(&[0, 1, 0, 0]), ["FATAL 08P01"]);
@@ -428,7 +428,7 @@ fn a_startup_that_cannot_be_served_is_refused() {
 fn a_newer_minor_version_is_negotiated() {
     let mut client = Client::new();
     client.send(&startup_packet(196_610, &["user", "shop", "_pq_.x", "1"]));
-    assert_eq!(client.output(), ["negotiate _pq_.x\0"]);
+    assert_eq!(client.output(), ["negotiate _pq_.x\0", "authenticated"]);
     assert_eq!(
         client.connection.next_request(),
         Some(Request::Open { database: 1 })
@@ -444,7 +444,7 @@ fn the_sixty_fifth_connection_is_refused() {
         Some(Request::Open { database: 0 })
     );
     client.connection.opened(Opened::TooMany, client.now);
-    assert_eq!(client.output(), ["FATAL 53300"]);
+    assert_eq!(client.output(), ["authenticated", "FATAL 53300"]);
     assert!(client.connection.is_closing());
 }
 

@@ -269,8 +269,9 @@ impl Connection {
                 step,
                 is_move,
             } => self.fetch(&name.text, *step, *is_move, target, &subject),
+            Statement::Query(query) => self.run_query(query, target, subject),
             statement => {
-                let result = self.run_locally(statement, subject.input());
+                let result = self.run_locally(statement);
                 self.finish(target, &subject, result);
             }
         }
@@ -947,8 +948,9 @@ impl Connection {
         };
         match &*cursor.read {
             Statement::Served(served) => self.run(served.verb(), cursor_target, subject, false),
+            Statement::Query(query) => self.run_query(query, cursor_target, subject),
             read => {
-                let result = self.run_locally(read, subject.input());
+                let result = self.run_locally(read);
                 self.finish(cursor_target, &subject, result);
             }
         }

@@ -20,6 +20,8 @@ pub struct ResultSet {
     at: usize,
     /// How many rows there are that nobody has taken.
     left: usize,
+    /// Whether the values are already in the format that the client asked for.
+    is_encoded: bool,
 }
 
 /// The length that stands for NULL in a DataRow.
@@ -33,6 +35,19 @@ impl ResultSet {
             values: Vec::new(),
             at: 0,
             left: 0,
+            is_encoded: false,
+        }
+    }
+
+    /// Takes rows whose values are in the format that the client asked for: the length of each value, -1 for NULL, and
+    /// its bytes.
+    pub fn encoded(columns: Rc<[Column]>, rows: Vec<Vec<u8>>) -> ResultSet {
+        ResultSet {
+            columns,
+            left: rows.len(),
+            values: rows.concat(),
+            at: 0,
+            is_encoded: true,
         }
     }
 
@@ -81,6 +96,15 @@ impl ResultSet {
         }
         let columns = Rc::clone(&self.columns);
         let (values, mut at) = (&self.values, self.at);
+        if self.is_encoded {
+            let end = columns.iter().fold(at, |at, _| end_of_value(values, at));
+            backend::data_row(out, columns.len(), |out| {
+                out.extend_from_slice(&values[at..end]);
+            });
+            self.at = end;
+            self.left -= 1;
+            return Ok(true);
+        }
         let cells = columns.iter().map(|_| {
             let (value, next) = value_at(values, at);
             at = next;
@@ -114,6 +138,13 @@ fn append_row<'a>(
         }
     });
     result
+}
+
+/// Returns where the value at a place ends.
+fn end_of_value(values: &[u8], at: usize) -> usize {
+    let mut length = [0; 4];
+    length.copy_from_slice(&values[at..at + 4]);
+    at + 4 + usize::try_from(i32::from_be_bytes(length)).unwrap_or(0)
 }
 
 /// Returns the value at a place, and the place of the next one.

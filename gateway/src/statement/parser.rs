@@ -481,8 +481,8 @@ mod tests {
             "SELECT N'a'",
             "SELECT B'1'",
             "SELECT U&'a'",
-            "SELECT row_number() OVER (ORDER BY a) FROM t",
-            "SELECT (a).b FROM t",
+            "SELECT row_number() OVER w FROM t",
+            "SELECT row_number() OVER (ORDER BY a ROWS 1 PRECEDING) FROM t",
             "SELECT * INTO b FROM a",
             "SELECT a.b.c.d.e()",
         ] {

@@ -108,6 +108,8 @@ pub enum ExpressionKind {
     Row(Vec<Expression>),
     /// `a[b]`.
     Subscript(Box<Expression>, Box<Expression>),
+    /// `(a).b`: a field of a row.
+    Field(Box<Expression>, Name),
     /// `a COLLATE "C"`.
     Collate(Box<Expression>, QualifiedName),
 }
@@ -138,6 +140,17 @@ pub struct FunctionCall {
     pub is_distinct: bool,
     /// ORDER BY, behind the arguments.
     pub order: Vec<OrderBy>,
+    /// OVER: it is a window function.
+    pub over: Option<Window>,
+}
+
+/// The rows that a window function is computed over.
+#[derive(Clone, Debug, PartialEq, Eq)]
+pub struct Window {
+    /// PARTITION BY.
+    pub partition: Vec<Expression>,
+    /// ORDER BY.
+    pub order: Vec<OrderBy>,
 }
 
 impl FunctionCall {
@@ -153,6 +166,7 @@ impl FunctionCall {
             is_star: false,
             is_distinct: false,
             order: Vec::new(),
+            over: None,
         }
     }
 }

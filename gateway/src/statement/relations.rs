@@ -1,13 +1,12 @@
 //! What the relations of a query are: tables of the program, or of the catalog.
 
+use crate::catalog;
 use crate::statement::query::{Body, QualifiedName, Query, Relation};
 
-/// Returns whether a name is one of the catalog's: of its schemas, or as PostgreSQL's own relations are called.
+/// Returns whether a name is one of the catalog's.
 pub fn is_of_catalog(name: &QualifiedName) -> bool {
-    match &name.schema {
-        Some(schema) => matches!(schema.text.as_str(), "pg_catalog" | "information_schema"),
-        None => name.name.text.starts_with("pg_"),
-    }
+    let schema = name.schema.as_ref().map(|schema| schema.text.as_str());
+    catalog::has_relation(schema, &name.name.text)
 }
 
 /// Returns whether a query reads a table of the program in one of its FROMs.

@@ -64,6 +64,12 @@ impl<'a> Parser<'a> {
                 if self.keyword("ALL") {
                     return Ok(Statement::ResetAll);
                 }
+                if self.keyword("ROLE") || self.keywords(&["SESSION", "AUTHORIZATION"]) {
+                    return Ok(Statement::SetRole {
+                        name: None,
+                        is_reset: true,
+                    });
+                }
                 let name = self.shown_name()?;
                 Ok(Statement::Set(Setting {
                     name,
@@ -227,9 +233,23 @@ impl<'a> Parser<'a> {
         }
     }
 
+    /// Reads the name of a role, or the word for none.
+    fn role(&mut self, none: &str) -> Result<Statement, Failure> {
+        let name = if self.keyword(none) {
+            None
+        } else if self.at_text() {
+            Some(self.text_value()?)
+        } else {
+            Some(self.name()?.text)
+        };
+        Ok(Statement::SetRole {
+            name,
+            is_reset: false,
+        })
+    }
+
     /// Reads SET, from behind that word.
     fn set(&mut self) -> Result<Statement, Failure> {
-        let start = self.tokens.list[0].span.start;
         if self.keyword("TRANSACTION") {
             return self.modes().map(Statement::SetTransaction);
         }
@@ -238,16 +258,12 @@ impl<'a> Parser<'a> {
             if self.keywords(&["CHARACTERISTICS", "AS", "TRANSACTION"]) {
                 return self.modes().map(Statement::SetCharacteristics);
             }
-            if self.at_keyword("AUTHORIZATION") {
-                return Err(Report::missing("SET SESSION AUTHORIZATION").at(start));
+            if self.keyword("AUTHORIZATION") {
+                return self.role("DEFAULT");
             }
         }
-        if self.at_keyword("ROLE") {
-            if self.at_keyword_ahead(1, "NONE") {
-                self.at += 2;
-                return Ok(Statement::SetRoleNone);
-            }
-            return Err(Report::missing("SET ROLE").at(start));
+        if self.keyword("ROLE") {
+            return self.role("NONE");
         }
         let (name, value) = if self.keywords(&["TIME", "ZONE"]) {
             let value = if self.keyword("LOCAL") {

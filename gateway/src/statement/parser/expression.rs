@@ -7,7 +7,7 @@ use crate::statement::literal;
 use crate::statement::parser::lexer::Token;
 use crate::statement::parser::{keywords, Parser, TokenKind};
 use crate::statement::query::{
-    Expression, ExpressionKind, FunctionCall, IsWhat, Name, QualifiedName, Query, TypeName,
+    Expression, ExpressionKind, FunctionCall, IsWhat, Name, QualifiedName, Query, TypeName, Window,
 };
 
 /// How tightly an operator binds what is around it, as PostgreSQL's grammar orders them.
@@ -432,8 +432,9 @@ impl<'a> Parser<'a> {
                 }
                 self.expect_symbol(b']')?;
                 ExpressionKind::Subscript(Box::new(operand), Box::new(subscript))
-            } else if self.at_symbol(0, b'.') {
-                return Err(self.missing("a field of a row"));
+            } else if self.at_symbol(0, b'.') && self.text.as_bytes().get(start) == Some(&b'(') {
+                self.at += 1;
+                ExpressionKind::Field(Box::new(operand), self.label()?)
             } else {
                 return Ok(operand);
             };
@@ -758,6 +759,7 @@ impl<'a> Parser<'a> {
             is_star: false,
             is_distinct: false,
             order: Vec::new(),
+            over: None,
         };
         if self.take_operator("*") {
             call.is_star = true;
@@ -785,9 +787,32 @@ impl<'a> Parser<'a> {
         if self.at_keyword("FILTER") && self.at_symbol(1, b'(') {
             return Err(self.missing("FILTER"));
         }
-        if self.at_keyword("OVER") {
-            return Err(self.missing("a window function"));
+        if self.keyword("OVER") {
+            call.over = Some(self.window()?);
         }
         Ok(call)
+    }
+
+    /// Reads `(PARTITION BY a ORDER BY b)`.
+    fn window(&mut self) -> Result<Window, Failure> {
+        if !self.at_symbol(0, b'(') {
+            return Err(self.missing("a window by its name"));
+        }
+        self.at += 1;
+        let partition = if self.at_keywords(&["PARTITION", "BY"]) {
+            self.at += 2;
+            self.list(Self::expression)?
+        } else {
+            Vec::new()
+        };
+        let order = self.order_by()?;
+        if ["ROWS", "RANGE", "GROUPS"]
+            .iter()
+            .any(|word| self.at_keyword(word))
+        {
+            return Err(self.missing("a frame of a window"));
+        }
+        self.expect_symbol(b')')?;
+        Ok(Window { partition, order })
     }
 }
