@@ -13,8 +13,8 @@ from clients.servers import BUILT, GATEWAY, PROGRAM, TOP
 from clients.suite import FAILED, PASSED, SKIPPED, Report
 
 PART = "sources"
-CRATES = ["clap", "mio", "postgres-protocol", "prometheus", "signal-hook", "signal-hook-mio", "thiserror", "tracing", "tracing-subscriber",
-          "proptest", "proptest+std", "tokio", "tokio-postgres"]
+CRATES = ["clap", "mio", "once-cell", "postgres-protocol", "prometheus", "regex", "signal-hook", "signal-hook-mio", "thiserror",
+          "tracing", "tracing-subscriber", "proptest", "proptest+std", "tokio", "tokio-postgres"]
 PACKAGES = [f"librust-{it}-dev" for it in CRATES]
 COMPILER = ["cargo", "rustc", "gcc"]
 OLDEST = (1, 63)  # of rustc

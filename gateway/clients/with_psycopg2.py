@@ -145,7 +145,7 @@ def pool_of_threads(gateway: Gateway) -> None:
 def what_is_not_there(gateway: Gateway) -> None:
     connection = dbapi.opened(psycopg2, gateway, dbapi.STOCK)
     names: List[str] = []
-    for statement in ("COPY stock TO STDOUT", "LISTEN news", "SELECT * FROM pg_class", "PREPARE TRANSACTION 'a'", "LOCK TABLE stock", "VACUUM"):
+    for statement in ("COPY stock TO STDOUT", "LISTEN news", "SELECT * FROM pg_operator", "PREPARE TRANSACTION 'a'", "LOCK TABLE stock", "VACUUM"):
         error = dbapi.refused(psycopg2, "FeatureNotSupported", lambda: dbapi.run(connection, statement))
         names += [statement] if not error.diag.message_hint else []
     expect(names, [], "refused without a hint")

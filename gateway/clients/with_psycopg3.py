@@ -232,7 +232,7 @@ def cancel(gateway: Gateway) -> None:
 @PART.served
 def what_is_not_there(gateway: Gateway) -> None:
     connection = dbapi.opened(psycopg, gateway, dbapi.STOCK)
-    for statement in ("LISTEN news", "SELECT * FROM pg_class", "LOCK TABLE stock"):
+    for statement in ("LISTEN news", "SELECT * FROM pg_operator", "LOCK TABLE stock"):
         error = dbapi.refused(psycopg, "FeatureNotSupported", lambda: dbapi.run(connection, statement))
         expect(bool(error.diag.message_hint), True, statement)
 

@@ -35,9 +35,14 @@ use crate::catalog::namespace::{Tables, FIRST_NORMAL};
 use crate::catalog::plan::Plan;
 use crate::catalog::value::Value;
 use crate::rows::Definition;
-use crate::sqlstate::Failure;
+use crate::sqlstate::{Failure, Report};
 use crate::statement::query::Query;
 use crate::wire::backend::{Column, Format};
+
+/// Makes the report of something that PostgreSQL has, and that queries of the catalog don't have here.
+fn missing(what: &str) -> Failure {
+    Report::missing(what).hint("The reference lists what queries of the catalog may use.")
+}
 
 /// A setting as pg_settings shows it.
 #[derive(Clone, Debug, PartialEq, Eq)]

@@ -2,6 +2,7 @@
 
 use postgres_protocol::Oid;
 
+use crate::catalog::missing;
 use crate::catalog::namespace;
 use crate::catalog::operators::{in_range, out_of_range};
 use crate::catalog::types::{self, oid};
@@ -52,7 +53,7 @@ pub fn check(from: Oid, to: Oid) -> Result<(), Failure> {
         types::display(from),
         types::display(to)
     );
-    Err(Report::missing(&what))
+    Err(missing(&what))
 }
 
 /// Returns whether values of the type are whole numbers, oids among them.
@@ -99,7 +100,7 @@ pub fn cast(
 }
 
 fn no_cast(from: Oid, to: Oid) -> Failure {
-    Report::missing(&format!(
+    missing(&format!(
         "a cast from {} to {}",
         types::display(from),
         types::display(to)
@@ -186,10 +187,7 @@ fn number(value: Value, to: Oid) -> Result<Value, Failure> {
         (Value::Float(number), oid::FLOAT8) => Ok(Value::Float(number)),
         (value, _) => {
             let _ = value;
-            Err(Report::missing(&format!(
-                "a cast to {}",
-                types::display(to)
-            )))
+            Err(missing(&format!("a cast to {}", types::display(to))))
         }
     }
 }
@@ -320,7 +318,7 @@ pub fn parameter(
             Some(_) => array_from_binary(number, bytes, world)?,
             None => {
                 let what = format!("a parameter of the type {} in binary", types::display(oid));
-                return Err(Report::missing(&what));
+                return Err(missing(&what));
             }
         },
     })
@@ -341,7 +339,7 @@ fn array_from_binary(number: usize, bytes: &[u8], world: &World) -> Result<Value
         0 => return Ok(Value::Array(Vec::new().into())),
         1 => {}
         _ => {
-            return Err(Report::missing(
+            return Err(missing(
                 "a parameter that is an array of several dimensions",
             ))
         }

@@ -24,10 +24,10 @@ use crate::sqlstate::{Failure, Report, SqlState};
 pub type Row = Rc<[Value]>;
 
 /// How many rows and values a query may look at.
-const MOST_STEPS: usize = 2_000_000;
+const MOST_STEPS: usize = 500_000;
 
 /// How many bytes the rows and texts that a query makes may take.
-const MOST_BYTES: usize = 32 * 1024 * 1024;
+const MOST_BYTES: usize = 16 * 1024 * 1024;
 
 /// The rows of a relation, with what finds them by a column.
 pub struct Stored {

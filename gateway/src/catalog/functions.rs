@@ -14,11 +14,12 @@ use once_cell::sync::Lazy;
 use postgres_protocol::Oid;
 
 use crate::catalog::execution::Executor;
+use crate::catalog::missing;
 use crate::catalog::plan::Call;
 use crate::catalog::procedures::{self, Procedure};
 use crate::catalog::types::oid;
 use crate::catalog::value::Value;
-use crate::sqlstate::{Failure, Report};
+use crate::sqlstate::Failure;
 
 /// What computes a function of its arguments. A strict function gets no NULL.
 pub type Body = fn(&mut Executor<'_>, &Call, &[Value]) -> Result<Value, Failure>;
@@ -60,7 +61,7 @@ pub fn body(procedure: &Procedure) -> Option<Body> {
 }
 
 fn refused(_: &mut Executor<'_>, call: &Call, _: &[Value]) -> Result<Value, Failure> {
-    Err(Report::missing(&format!("the function {}", call.name)))
+    Err(missing(&format!("the function {}", call.name)))
 }
 
 /// Returns the fields of the rows that a function gives.

@@ -6,6 +6,7 @@ use std::collections::HashMap;
 use postgres_protocol::Oid;
 use regex::{Regex, RegexBuilder};
 
+use crate::catalog::missing;
 use crate::catalog::types;
 use crate::catalog::value::Value;
 use crate::sqlstate::{Failure, Report, SqlState};
@@ -154,11 +155,11 @@ impl Arithmetic {
                     Arithmetic::Add => left.plus(*right),
                     Arithmetic::Subtract => left.subtract(*right),
                     Arithmetic::Multiply => left.multiply(*right),
-                    _ => return Err(Report::missing("a division of numeric")),
+                    _ => return Err(missing("a division of numeric")),
                 };
                 result
                     .map(Value::Decimal)
-                    .ok_or_else(|| Report::missing("a numeric of more than 38 digits"))
+                    .ok_or_else(|| missing("a numeric of more than 38 digits"))
             }
             (Value::Float(left), Value::Float(right)) => Ok(Value::Float(match self {
                 Arithmetic::Add => left + right,
@@ -267,7 +268,7 @@ impl Patterns {
 
 /// Compiles a regular expression, in which a point is also a line feed, as in PostgreSQL.
 fn compile(pattern: &str, ignores_case: bool) -> Result<Regex, Failure> {
-    let missing = || Report::missing(&format!("the regular expression {}", pattern));
+    let missing = || missing(&format!("the regular expression {}", pattern));
     if !is_alike(pattern) {
         return Err(missing());
     }

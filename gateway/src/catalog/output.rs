@@ -2,11 +2,12 @@
 
 use postgres_protocol::Oid;
 
+use crate::catalog::missing;
 use crate::catalog::namespace;
 use crate::catalog::types::{self, oid};
 use crate::catalog::value::Value;
 use crate::catalog::World;
-use crate::sqlstate::{Failure, Report};
+use crate::sqlstate::Failure;
 use crate::value::append_cell;
 use crate::wire::backend::Format;
 
@@ -37,7 +38,7 @@ fn float(number: f64) -> Result<String, Failure> {
     if number == 0.0 || (1e-4..1e15).contains(&size) {
         Ok(number.to_string())
     } else {
-        Err(Report::missing(
+        Err(missing(
             "a number of the type double precision of this size",
         ))
     }
@@ -167,7 +168,7 @@ pub fn append_binary(
         Value::Decimal(number) => {
             let mut cell = Vec::new();
             append_cell(&mut cell, &number.to_string(), oid::NUMERIC, Format::Binary)
-                .map_err(|_| Report::missing("this number in binary"))?;
+                .map_err(|_| missing("this number in binary"))?;
             out.extend_from_slice(&cell[4..]);
         }
         Value::Float(number) if oid == oid::FLOAT4 => {
@@ -180,7 +181,7 @@ pub fn append_binary(
         Value::Text(text) if is_bytes_of_text(oid) => out.extend_from_slice(text.as_bytes()),
         Value::Array(elements) => append_array(out, elements, oid, world)?,
         Value::Text(_) | Value::Row(_) => {
-            return Err(Report::missing(&format!(
+            return Err(missing(&format!(
                 "the type {} in binary",
                 types::display(oid)
             )))

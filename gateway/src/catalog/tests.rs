@@ -369,6 +369,10 @@ fn faults_have_the_codes_of_postgresql_15() {
 #[test]
 fn steps_and_memory_are_bounded() {
     let many = "pg_attribute a, pg_attribute b, pg_attribute c";
+    // Each replacement makes a text sixteen times as long.
+    let long = (0..6).fold("'a'".to_owned(), |text, _| {
+        format!("replace({}, 'a', 'aaaaaaaaaaaaaaaa')", text)
+    });
     for (text, expected) in [
         (
             format!("SELECT count(*) FROM {}", many),
@@ -378,10 +382,7 @@ fn steps_and_memory_are_bounded() {
             "SELECT count(*) FROM generate_series(1, 1000000000)".to_owned(),
             SqlState::STATEMENT_TOO_COMPLEX,
         ),
-        (
-            "SELECT array_agg(x) FROM generate_series(1, 400000) x".to_owned(),
-            SqlState::OUT_OF_MEMORY,
-        ),
+        (format!("SELECT {}", long), SqlState::OUT_OF_MEMORY),
     ] {
         assert_eq!(state(&text), expected, "{}", text);
     }

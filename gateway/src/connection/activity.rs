@@ -68,7 +68,6 @@ impl Connection {
     }
 
     /// Asks the engine what all connections do, for a statement whose result `evaluate` makes.
-    #[allow(dead_code)]
     pub(super) fn ask_activities(
         &mut self,
         target: Target,
@@ -84,7 +83,6 @@ impl Connection {
     }
 
     /// Asks the engine to end the connection with this process id, if there is one. It may be this one.
-    #[allow(dead_code)]
     pub(super) fn terminate(&mut self, process_id: i32) {
         self.requests.terminate(process_id);
     }

@@ -1,6 +1,7 @@
 //! A connection is fed with a client's bytes and with replies, and what comes out is compared.
 
 mod activity;
+mod catalog;
 
 use super::*;
 use proptest::prelude::*;

@@ -8,6 +8,7 @@ use crate::catalog::analysis::expressions::nodes;
 use crate::catalog::analysis::scope::{Clause, Scope};
 use crate::catalog::analysis::{Analyser, Typed};
 use crate::catalog::functions::{self, Body};
+use crate::catalog::missing;
 use crate::catalog::plan::{Aggregate, AggregateKind, Call, Node, SortKey, Window};
 use crate::catalog::procedures::{self, Choice, Procedure};
 use crate::catalog::types::{self, oid};
@@ -196,7 +197,7 @@ impl Analyser<'_> {
     ) -> Result<Typed, Failure> {
         let name = call.name.name.text.as_str();
         if name != "row_number" || !call.arguments.is_empty() {
-            return Err(Report::missing(&format!("the window function {}", name)));
+            return Err(missing(&format!("the window function {}", name)));
         }
         if scope.clause.get() != Clause::Targets || scope.in_aggregate.get() {
             let text = format!(
@@ -264,9 +265,7 @@ impl Analyser<'_> {
         scope.in_aggregate.set(false);
         let (aggregate, result) = result?;
         if reads_outside {
-            return Err(Report::missing(
-                "an aggregate over columns of a query around it",
-            ));
+            return Err(missing("an aggregate over columns of a query around it"));
         }
         let mut extras = scope.extras.borrow_mut();
         extras.aggregates.push(aggregate);
@@ -289,7 +288,7 @@ impl Analyser<'_> {
         if call.is_star {
             let is_count = call.name.name.text == "count";
             if !is_count {
-                return Err(Report::missing(&format!("{}(*)", call.name.name.text)));
+                return Err(missing(&format!("{}(*)", call.name.name.text)));
             }
             let aggregate = Aggregate {
                 kind: AggregateKind::CountRows,
@@ -368,7 +367,7 @@ pub fn sort_key(place: usize, by: &OrderBy) -> SortKey {
 pub fn function_node(resolved: Resolved) -> Result<Node, Failure> {
     let procedure = resolved.procedure;
     let body: Body = functions::body(procedure)
-        .ok_or_else(|| Report::missing(&format!("the function {}", procedure.name)))?;
+        .ok_or_else(|| missing(&format!("the function {}", procedure.name)))?;
     let types = resolved.arguments.iter().map(|typed| typed.oid).collect();
     Ok(Node::Call(Rc::new(Call {
         name: procedure.name,
@@ -437,6 +436,6 @@ fn aggregate_kind(procedure: &Procedure, result: Oid) -> Result<AggregateKind, F
             AggregateKind::Array
         }
         ("string_agg", oid::TEXT) => AggregateKind::Text,
-        (name, _) => return Err(Report::missing(&format!("the aggregate {}", name))),
+        (name, _) => return Err(missing(&format!("the aggregate {}", name))),
     })
 }

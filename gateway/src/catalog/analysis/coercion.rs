@@ -4,6 +4,7 @@ use postgres_protocol::Oid;
 
 use crate::catalog::analysis::{placed, Analyser, Typed};
 use crate::catalog::casts;
+use crate::catalog::missing;
 use crate::catalog::plan::Node;
 use crate::catalog::types::{self, oid};
 use crate::catalog::value::Value;
@@ -154,11 +155,11 @@ fn modifier(oid: Oid, numbers: &[i32]) -> Result<i32, Failure> {
                 )));
             }
             if !(0..=*precision).contains(&scale) {
-                return Err(Report::missing("a scale below zero or above the precision"));
+                return Err(missing("a scale below zero or above the precision"));
             }
             Ok((precision << 16 | scale) + HEADER)
         }
-        (oid, _) => Err(Report::missing(&format!(
+        (oid, _) => Err(missing(&format!(
             "a size of the type {} in a query of the catalog",
             types::display(oid)
         ))),

@@ -7,6 +7,7 @@ use postgres_protocol::Oid;
 use crate::catalog::analysis::coercion::text_constant;
 use crate::catalog::analysis::scope::Scope;
 use crate::catalog::analysis::{placed, Analyser, Typed};
+use crate::catalog::missing;
 use crate::catalog::operators::{Arithmetic, Comparison, Match};
 use crate::catalog::plan::{ElementTest, Node, Plan};
 use crate::catalog::types::{self, oid};
@@ -147,7 +148,7 @@ impl Analyser<'_> {
             ExpressionKind::Collate(operand, collation) => {
                 let name = collation.name.text.as_str();
                 if !matches!(name, "default" | "C" | "POSIX" | "ucs_basic") {
-                    return Err(Report::missing(&format!("the collation \"{}\"", name)));
+                    return Err(missing(&format!("the collation \"{}\"", name)));
                 }
                 let typed = self.settled_expression(operand, scope)?;
                 if !types::is_text(typed.oid) {
@@ -255,7 +256,7 @@ impl Analyser<'_> {
     ) -> Result<Typed, Failure> {
         let comparison = match Comparison::of(operator) {
             Some(comparison @ (Comparison::Equal | Comparison::Unequal)) => comparison,
-            _ => return Err(Report::missing("an order of rows")),
+            _ => return Err(missing("an order of rows")),
         };
         if lefts.len() != rights.len() {
             let text = "unequal number of entries in row expressions";
@@ -309,7 +310,7 @@ impl Analyser<'_> {
         }
         match Arithmetic::of(operator) {
             Some(arithmetic) => self.arithmetic(left, arithmetic, operator, right, span),
-            None => Err(Report::missing(&format!("the operator {}", operator))),
+            None => Err(missing(&format!("the operator {}", operator))),
         }
     }
 
@@ -324,7 +325,7 @@ impl Analyser<'_> {
         let fails = no_operator_between(left.oid, operator, right.oid);
         let compared = compared_as(left.oid, right.oid).ok_or(fails)?;
         if compared == oid::BPCHAR {
-            return Err(Report::missing("a comparison of the type character"));
+            return Err(missing("a comparison of the type character"));
         }
         let left = self.cast(left, compared, -1, span)?;
         let right = self.cast(right, compared, -1, span)?;
@@ -390,7 +391,7 @@ impl Analyser<'_> {
             return Err(if arithmetic.is_of_bits() {
                 fails
             } else {
-                Report::missing("% of numeric")
+                missing("% of numeric")
             });
         }
         let is_shift = matches!(arithmetic, Arithmetic::ShiftLeft | Arithmetic::ShiftRight);
@@ -406,7 +407,7 @@ impl Analyser<'_> {
         if shown == oid {
             return Ok(Typed::new(node, oid));
         }
-        Err(Report::missing("a shift by a number of another type"))
+        Err(missing("a shift by a number of another type"))
     }
 
     fn is(
@@ -419,7 +420,7 @@ impl Analyser<'_> {
         let node = match what {
             IsWhat::Null => {
                 if let ExpressionKind::Row(_) = operand.kind {
-                    return Err(Report::missing("IS NULL of a row"));
+                    return Err(missing("IS NULL of a row"));
                 }
                 self.settled_expression(operand, scope)?.node
             }
@@ -513,7 +514,7 @@ impl Analyser<'_> {
     ) -> Result<Typed, Failure> {
         if let ExpressionKind::Subquery(query) = &right.kind {
             let comparison = Comparison::of(operator)
-                .ok_or_else(|| Report::missing(&format!("{} ANY of a query", operator)))?;
+                .ok_or_else(|| missing(&format!("{} ANY of a query", operator)))?;
             return self.quantified_query(left, comparison, is_all, query, scope);
         }
         let left = self.expression(left, scope)?;
@@ -540,8 +541,8 @@ impl Analyser<'_> {
                 right,
             ));
         }
-        let comparison = Comparison::of(operator)
-            .ok_or_else(|| Report::missing(&format!("{} ANY", operator)))?;
+        let comparison =
+            Comparison::of(operator).ok_or_else(|| missing(&format!("{} ANY", operator)))?;
         let fails = no_operator_between(left.oid, operator, element);
         let compared = compared_as(left.oid, element).ok_or(fails)?;
         let left = self.cast(left, compared, -1, span)?;
@@ -567,7 +568,7 @@ impl Analyser<'_> {
             _ => vec![self.expression(left, scope)?],
         };
         if lefts.len() > 1 && !matches!(comparison, Comparison::Equal | Comparison::Unequal) {
-            return Err(Report::missing("an order of rows"));
+            return Err(missing("an order of rows"));
         }
         let mut plan = self.open_subquery(query, scope)?;
         if plan.columns.len() != lefts.len() {
@@ -715,7 +716,7 @@ fn number(digits: &str) -> Result<Typed, Failure> {
             Node::Constant(Value::Decimal(value)),
             oid::NUMERIC,
         )),
-        None => Err(Report::missing("a number of more than 38 digits")),
+        None => Err(missing("a number of more than 38 digits")),
     }
 }
 

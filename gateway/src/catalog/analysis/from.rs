@@ -6,6 +6,7 @@ use crate::catalog::analysis::calls::function_node;
 use crate::catalog::analysis::scope::{Clause, Item, Scope, ScopeColumn, MOST_SLOTS};
 use crate::catalog::analysis::{too_complex, Analyser};
 use crate::catalog::functions;
+use crate::catalog::missing;
 use crate::catalog::operators::Comparison;
 use crate::catalog::plan::{Node, Plan, Source, Step};
 use crate::catalog::system;
@@ -103,7 +104,9 @@ impl Analyser<'_> {
             let is_table = self.world.tables.by_name(text).is_some();
             if is_table && matches!(schema, None | Some("public")) {
                 let what = format!("a query that reads the table {} beside others", text);
-                return Report::missing(&what).at(name.name.span.start);
+                return missing(&what)
+                    .hint("A query of a table of the database reads that table alone.")
+                    .at(name.name.span.start);
             }
             let text = match schema {
                 Some(schema) => format!("relation \"{}.{}\" does not exist", schema, text),
@@ -113,7 +116,7 @@ impl Analyser<'_> {
         })?;
         if !crate::catalog::relations::is_served(relation) {
             let text = format!("{}.{}", relation.schema, relation.name);
-            return Err(Report::missing(&format!("the relation {}", text)).at(name.name.span.start));
+            return Err(missing(&format!("the relation {}", text)).at(name.name.span.start));
         }
         let columns = relation
             .columns
@@ -303,7 +306,7 @@ impl Analyser<'_> {
         scope: &mut Scope<'_>,
     ) -> Result<(), Failure> {
         if kind == JoinKind::Full {
-            return Err(Report::missing("FULL JOIN in a query of the catalog"));
+            return Err(missing("FULL JOIN in a query of the catalog"));
         }
         let first_item = scope.items.len();
         let first_visible = scope.visible.len();

@@ -10,6 +10,7 @@ use crate::catalog::analysis::from::{placed_conditions, Condition, Joined};
 use crate::catalog::analysis::scope::{Clause, Extras, Scope};
 use crate::catalog::analysis::{placed, too_complex, Analyser, Named, Typed};
 use crate::catalog::casts;
+use crate::catalog::missing;
 use crate::catalog::plan::{
     Body, Distinct, Grouping, Node, OutputColumn, Plan, Select, SetOperation, SortKey,
 };
@@ -55,13 +56,13 @@ impl Analyser<'_> {
 
     fn query_inside(&mut self, query: &Query, outer: Option<&Scope<'_>>) -> Result<Plan, Failure> {
         if query.is_recursive {
-            return Err(Report::missing("WITH RECURSIVE").at(query.span.start));
+            return Err(missing("WITH RECURSIVE").at(query.span.start));
         }
         for with in &query.with {
             let mut plan = self.query(&with.query, outer)?;
             if !plan.is_closed {
                 let text = "WITH that reads columns of a query around it";
-                return Err(Report::missing(text).at(with.alias.name.span.start));
+                return Err(missing(text).at(with.alias.name.span.start));
             }
             if with.alias.columns.len() > plan.columns.len() {
                 let text = format!(
@@ -255,7 +256,7 @@ impl Analyser<'_> {
             "UNION" => SetOperation::Union,
             "INTERSECT" => SetOperation::Intersect,
             "EXCEPT" => SetOperation::Except,
-            other => return Err(Report::missing(other)),
+            other => return Err(missing(other)),
         };
         let body = Body::Set {
             left: Box::new(left.body),
@@ -320,9 +321,7 @@ impl Analyser<'_> {
             && from != to
             && !matches!((from, to), (oid::NAME | oid::VARCHAR, oid::TEXT))
         {
-            return Err(Report::missing(
-                "a comparison with a sorted query of another type",
-            ));
+            return Err(missing("a comparison with a sorted query of another type"));
         }
         self.convert_body(&mut plan.body, place, from, to)
     }
@@ -361,8 +360,10 @@ impl Analyser<'_> {
             .iter()
             .map(|by| match column_of_result(&by.expression, columns)? {
                 Some(place) => Ok(sort_key(place, by)),
-                None => Err(Report::missing("ORDER BY of an expression behind UNION")
-                    .at(by.expression.span.start)),
+                None => {
+                    Err(missing("ORDER BY of an expression behind UNION")
+                        .at(by.expression.span.start))
+                }
             })
             .collect()
     }
@@ -748,9 +749,7 @@ fn check_grouped(
         }
         if let Some((slot, place)) = ungrouped(node, &grouping.keys, &fits) {
             if slot == usize::MAX {
-                return Err(Report::missing(
-                    "a query that reads the rows of a grouped one",
-                ));
+                return Err(missing("a query that reads the rows of a grouped one"));
             }
             let item = &scope.items[slot];
             let text = format!(

@@ -5,6 +5,7 @@ use std::cell::{Cell, RefCell};
 use postgres_protocol::Oid;
 
 use crate::catalog::analysis::{Analyser, Typed};
+use crate::catalog::missing;
 use crate::catalog::plan::{Aggregate, Node, Window};
 use crate::catalog::system::Relation;
 use crate::catalog::types::oid;
@@ -260,7 +261,7 @@ impl Analyser<'_> {
     fn no_column(&self, names: &[Name], scope: &Scope<'_>) -> Failure {
         let text = match names {
             [name] if scope.item(None, &name.text).is_some() => {
-                return Report::missing(&format!("a whole row, {},", name.text));
+                return missing(&format!("a whole row, {},", name.text));
             }
             [name]
                 if matches!(
@@ -268,7 +269,7 @@ impl Analyser<'_> {
                     "xmin" | "xmax" | "cmin" | "cmax" | "ctid"
                 ) =>
             {
-                return Report::missing(&format!("the system column {}", name.text));
+                return missing(&format!("the system column {}", name.text));
             }
             [name] => format!("column \"{}\" does not exist", name.text),
             [table, _] => {
@@ -277,7 +278,7 @@ impl Analyser<'_> {
             }
             names => {
                 let names: Vec<&str> = names.iter().map(|name| name.text.as_str()).collect();
-                return Report::missing(&format!("the name {}", names.join(".")));
+                return missing(&format!("the name {}", names.join(".")));
             }
         };
         Report::error(SqlState::UNDEFINED_COLUMN, text)

@@ -4,6 +4,7 @@ use std::collections::{HashMap, HashSet};
 use std::rc::Rc;
 
 use crate::catalog::execution::{order_of_values, Environment, Executor, Row};
+use crate::catalog::missing;
 use crate::catalog::operators::{in_range, out_of_range};
 use crate::catalog::plan::{Aggregate, AggregateKind, Select};
 use crate::catalog::types::oid;
@@ -176,7 +177,7 @@ impl Executor<'_> {
                     _ => None,
                 });
                 sum.map(Value::Decimal)
-                    .ok_or_else(|| Report::missing("a numeric of more than 38 digits"))?
+                    .ok_or_else(|| missing("a numeric of more than 38 digits"))?
             }
             AggregateKind::Array if seen.is_empty() => Value::Null,
             AggregateKind::Array => Value::Array(values.cloned().collect()),

@@ -2,6 +2,7 @@
 
 use crate::catalog::execution::Executor;
 use crate::catalog::functions::Table;
+use crate::catalog::missing;
 use crate::catalog::plan::Call;
 use crate::catalog::value::Value;
 use crate::sqlstate::{Failure, Report, SqlState};
@@ -53,7 +54,7 @@ pub const BODIES: Table = &[
             0 => "SQL_ASCII",
             UTF8 => "UTF8",
             -1 => "",
-            _ => return Err(Report::missing("an encoding other than UTF8")),
+            _ => return Err(missing("an encoding other than UTF8")),
         })
         .into())
     }),
@@ -65,7 +66,7 @@ pub const BODIES: Table = &[
         {
             "utf8" | "unicode" => UTF8,
             "sqlascii" => 0,
-            _ => return Err(Report::missing("an encoding other than UTF8")),
+            _ => return Err(missing("an encoding other than UTF8")),
         })
         .into())
     }),
@@ -99,7 +100,7 @@ pub const BODIES: Table = &[
     ("pg_advisory_unlock_all()", |_, _, _| Ok("".into())),
     ("pg_cancel_backend(int4)", |executor, call, arguments| {
         find_client(executor, arguments[0].as_integer())?.map_or(Ok(Value::Bool(false)), |_| {
-            Err(Report::missing(&format!("the function {}", call.name))
+            Err(missing(&format!("the function {}", call.name))
                 .hint("pg_terminate_backend ends a session. No statement waits for another one."))
         })
     }),
