@@ -56,6 +56,7 @@ REFUSALS: Dict[str, str] = {
     "54000": "a statement that is longer than a line of the server",
     "55000": "a cursor of the gateway goes forward alone",
     "55006": "a row that another session has reserved",
+    "25006": "READ ONLY stays behind ROLLBACK AND CHAIN of a failed block; PostgreSQL 15 forgets it there",
     "25001": "what commits by itself beside other statements of a message",
 }
 
@@ -111,6 +112,7 @@ ON_PURPOSE = [
     purpose("a column of a created table has the server's nearest type: INT has 15 digits and is int8", rf"\b{MADE}\b", Aspect.COLUMNS, Aspect.ROWS),
     purpose("rows of one INSERT are INSERTs by themselves: those before a refused one stay", r"\binsert\b.*\(.*\(", Aspect.BEHIND),
     purpose("a reservation is applied at the end of its message: a SELECT behind it does not show it", r"update.*;.*select", Aspect.ROWS),
+    purpose("READ ONLY stays behind ROLLBACK AND CHAIN of a failed block; PostgreSQL 15 forgets it there", r"transaction_read_only", Aspect.ROWS),
     purpose("what commits by itself stays if a later statement of its message is refused", r";", Aspect.BEHIND),
 ]
 
@@ -369,8 +371,8 @@ def shortened(pair: Pair, found: Difference) -> Difference:
         if found.is_block:
             again = pair.serve_block([*before, statement])
             return again if again and again.what and len(again.before) == len(before) else None
-        for it in before:
-            pair.serve([it])
+        if any(pair.serve([it]) for it in before):
+            return None  # the tables differ already
         again = pair.serve([statement])
         return Difference(again.statement, again.what, before) if again and again.what else None
 
