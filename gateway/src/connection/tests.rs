@@ -1057,6 +1057,10 @@ fn definitions_may_be_conditional() {
         ["NOTICE 42P07", "complete CREATE TABLE", "ready I"]
     );
     assert_eq!(
+        client.ask("DROP TABLE IF EXISTS other.x", &[]),
+        ["NOTICE 00000", "complete DROP TABLE", "ready I"]
+    );
+    assert_eq!(
         client.ask(
             "DROP TABLE IF EXISTS x",
             &[("DROP TABLE x", "ERR 21 no such table\n")]

@@ -258,7 +258,7 @@ impl Connection {
             return self.finish(target, &subject, Err(failed_block()));
         }
         match statement {
-            Statement::Served(served) => self.run(served.verb(), target, subject, commits),
+            Statement::Served(served) => self.run(served, target, subject, commits),
             Statement::Commit { chain } => self.commit_block(*chain, target, &subject),
             Statement::Rollback { chain } => self.roll_back_block(*chain, target, &subject),
             Statement::Savepoint(name) => self.savepoint(&name.text, target, &subject),
@@ -277,9 +277,16 @@ impl Connection {
         }
     }
 
-    fn run(&mut self, verb: Verb, target: Target, subject: Subject, commits: bool) {
-        if let Err(report) = self.may_run(verb) {
+    fn run(&mut self, served: &Served, target: Target, subject: Subject, commits: bool) {
+        let verb = served.verb();
+        if let Err(report) = self.may_run(served) {
             return self.finish(target, &subject, Err(report));
+        }
+        if let Served::Define(define) = served {
+            if define.line.is_empty() {
+                self.tell(&define.notices);
+                return self.complete(&target, Tag::Plain(verb.words()));
+            }
         }
         self.run_by_definition(Box::new(Running {
             verb,
@@ -398,14 +405,24 @@ impl Connection {
     }
 
     /// Refuses what would commit by itself inside a transaction, and writes of a transaction that only reads.
-    fn may_run(&self, verb: Verb) -> Result<(), Failure> {
+    fn may_run(&self, served: &Served) -> Result<(), Failure> {
+        let verb = served.verb();
         let is_inside = self.transaction.block == Block::Open
             || self.transaction.several
             || self.transaction.dirty;
-        if verb.writes() && self.is_read_only() {
+        let locks = match served {
+            Served::Select(select) => select.locks.as_ref(),
+            _ => None,
+        };
+        if (verb.writes() || locks.is_some()) && self.is_read_only() {
+            let locks = locks.map_or(String::new(), |strength| format!(" FOR {}", strength));
             return Err(Report::error(
                 SqlState::READ_ONLY_TRANSACTION,
-                format!("cannot execute {} in a read-only transaction", verb.words()),
+                format!(
+                    "cannot execute {}{} in a read-only transaction",
+                    verb.words(),
+                    locks
+                ),
             ));
         }
         if verb.commits_by_itself() && is_inside {
@@ -748,12 +765,17 @@ impl Connection {
         };
         self.events.push(Event::Committed);
         if let Some(Served::Define(define)) = running.subject.served() {
-            for notice in &define.notices {
-                let report = Report::notice(SqlState::SUCCESS, notice.clone());
-                self.report(&report, None);
-            }
+            self.tell(&define.notices);
         }
         Ok(written(running, tag))
+    }
+
+    /// Tells the client notices.
+    fn tell(&mut self, notices: &[String]) {
+        for notice in notices {
+            let report = Report::notice(SqlState::SUCCESS, notice.clone());
+            self.report(&report, None);
+        }
     }
 
     /// Ends the rows of a reply that says how many lines it has.
@@ -947,7 +969,7 @@ impl Connection {
             by,
         };
         match &*cursor.read {
-            Statement::Served(served) => self.run(served.verb(), cursor_target, subject, false),
+            Statement::Served(served) => self.run(served, cursor_target, subject, false),
             Statement::Query(query) => self.run_query(query, cursor_target, subject),
             read => {
                 let result = self.run_locally(read);

@@ -276,7 +276,7 @@ fn signed(sign: &str, operand: &Expression, input: Input<'_>) -> Result<Datum, F
         }
         Datum::Numeric(decimal) if is_minus => Datum::Numeric(decimal.negated()),
         Datum::Integer(..) | Datum::Numeric(_) | Datum::Null => datum,
-        Datum::Unknown(_) => return Err(sign_of_unknown(sign)),
+        Datum::Unknown(_) => return Err(sign_of_unknown(if is_minus { '-' } else { '+' })),
         datum => {
             let text = format!(
                 "operator does not exist: {} {}",
@@ -288,11 +288,15 @@ fn signed(sign: &str, operand: &Expression, input: Input<'_>) -> Result<Datum, F
     })
 }
 
-/// Makes the report of a sign in front of a text, or of a parameter whose type nothing tells.
-pub fn sign_of_unknown(sign: &str) -> Failure {
-    let text = format!("operator is not unique: {} unknown", sign);
+/// Makes the report of a sign in front of a text, or of a parameter whose type nothing tells. Behind + PostgreSQL takes
+/// them for floating-point numbers.
+pub fn sign_of_unknown(sign: char) -> Failure {
+    if sign == '+' {
+        return Report::missing("a + in front of a text or of a parameter without a type");
+    }
     let hint =
         "Could not choose a best candidate operator. You might need to add explicit type casts.";
+    let text = "operator is not unique: - unknown";
     Report::error(SqlState::AMBIGUOUS_FUNCTION, text).hint(hint)
 }
 
@@ -448,6 +452,22 @@ impl Datum {
                 }
                 _ => self.value(),
             },
+        }
+    }
+
+    /// Returns the number that it is.
+    ///
+    /// # Errors
+    ///
+    /// Fails if it is of another type, or if the program's numbers don't hold it.
+    pub fn number(self) -> Result<Number, Failure> {
+        let oid = self.oid();
+        match self.value()? {
+            Value::Number(number) => Ok(number),
+            _ => {
+                let text = format!("operator does not exist: numeric = {}", type_name(oid));
+                Err(no_operator(text))
+            }
         }
     }
 

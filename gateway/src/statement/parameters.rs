@@ -26,8 +26,8 @@ pub enum Place {
     Cast(Oid),
     /// How many rows: LIMIT, OFFSET.
     Bound,
-    /// What has a sign in front, at this byte: so its type follows from nothing.
-    Signed(usize),
+    /// What has this sign in front, at this byte: so its type follows from nothing.
+    Signed(char, usize),
     /// A value by itself, or one of a query that reads no table.
     Alone,
     /// Nothing: the text doesn't have it.
@@ -124,7 +124,10 @@ fn note(places: &mut [Place], value: &Expression, place: Place) {
                 *known = place;
             }
         }
-        ExpressionKind::Unary(_, operand) => note(places, operand, Place::Signed(value.span.start)),
+        ExpressionKind::Unary(sign, operand) => {
+            let sign = if sign == "-" { '-' } else { '+' };
+            note(places, operand, Place::Signed(sign, value.span.start));
+        }
         ExpressionKind::Cast(operand, to) => {
             let place = constant::parameter_cast(to).map_or(Place::Alone, Place::Cast);
             note(places, operand, place);
@@ -163,7 +166,7 @@ pub fn is_open(oid: Oid) -> bool {
 pub fn check_type(number: usize, place: &Place, oid: Oid) -> Result<(), Failure> {
     match place {
         _ if !is_open(oid) => Ok(()),
-        Place::Signed(place) => Err(constant::sign_of_unknown("-").at(*place)),
+        Place::Signed(sign, place) => Err(constant::sign_of_unknown(*sign).at(*place)),
         Place::Unused => {
             let text = format!("could not determine data type of parameter ${}", number);
             Err(Report::error(SqlState::INDETERMINATE_TYPE, text))
@@ -233,7 +236,10 @@ mod tests {
                 "UPDATE t SET a = a - $1::int WHERE id = 1",
                 vec![Place::Cast(oid::INT4)],
             ),
-            ("UPDATE t SET a = -$1 WHERE id = 1", vec![Place::Signed(17)]),
+            (
+                "UPDATE t SET a = -$1 WHERE id = 1",
+                vec![Place::Signed('-', 17)],
+            ),
             ("DELETE FROM t WHERE id = $2", vec![Place::Unused, key()]),
             ("SHOW BOUNDS t WHERE id = $1", vec![key()]),
             (

@@ -23,6 +23,8 @@ pub struct Shown {
     pub what: What,
     /// Its name, if it isn't the one of the table's column.
     pub label: Option<String>,
+    /// Whether it has the table's name: if no column is called so, it is the row as a whole.
+    pub may_be_row: bool,
     /// Where it is written.
     pub span: Span,
 }
@@ -69,6 +71,8 @@ pub struct Select {
     pub shown: Vec<Shown>,
     /// The rows, by their keys. None: all.
     pub keys: Option<Keys>,
+    /// The strength of FOR UPDATE and its like.
+    pub locks: Option<String>,
     /// The SELECT whose rows are counted, if it is another one.
     inner: Option<Box<Select>>,
     order: Vec<(SortKey, bool, Span)>,
@@ -187,6 +191,11 @@ pub fn lowered(query: Query) -> Result<Select, Failure> {
         table,
         shown,
         keys,
+        locks: query
+            .locking
+            .into_iter()
+            .next()
+            .map(|locking| locking.strength),
         inner,
         order,
         limit: query.limit,
@@ -237,9 +246,11 @@ pub fn exists(query: &Query) -> Result<Option<Select>, Failure> {
         shown: vec![Shown {
             what: What::Exists,
             label: Some(label),
+            may_be_row: false,
             span,
         }],
         keys: inner.keys.clone(),
+        locks: None,
         inner: Some(Box::new(inner)),
         order: Vec::new(),
         limit: query.limit.clone(),
@@ -268,6 +279,7 @@ pub fn shown(table: &Table, targets: Vec<Target>, verb: Verb) -> Result<Vec<Show
                 Ok(Shown {
                     what: What::All,
                     label: None,
+                    may_be_row: false,
                     span,
                 })
             }
@@ -275,7 +287,14 @@ pub fn shown(table: &Table, targets: Vec<Target>, verb: Verb) -> Result<Vec<Show
                 let span = expression.span;
                 let (what, name) = what(table, expression, verb)?;
                 let label = label.map(|label| label.text).or(name);
-                Ok(Shown { what, label, span })
+                let own = table.alias.as_ref().unwrap_or(&table.name);
+                let may_be_row = matches!(&what, What::Column(name) if name.text == own.text);
+                Ok(Shown {
+                    what,
+                    label,
+                    may_be_row,
+                    span,
+                })
             }
         })
         .collect()
@@ -407,7 +426,12 @@ fn outputs(
                 continue;
             }
             What::Column(name) => {
-                let place = place_of(name, definition)?;
+                let place = match place_of(name, definition) {
+                    Err(_) if shown.may_be_row => {
+                        return Err(missing("a row as one value", name.span));
+                    }
+                    place => place?,
+                };
                 columns.push(definition.columns[place].result_column());
                 outputs.push(Output::Column(place));
             }
@@ -444,12 +468,7 @@ fn outputs(
 fn place_of(name: &Name, definition: &Definition) -> Result<usize, Failure> {
     let mut columns = definition.columns.iter();
     let place = columns.position(|column| column.name == name.text);
-    place.ok_or_else(|| {
-        if name.text == definition.table {
-            return missing("a row as one value", name.span);
-        }
-        unknown_column(name)
-    })
+    place.ok_or_else(|| unknown_column(name))
 }
 
 /// Returns the columns of the result of what is shown of a table.

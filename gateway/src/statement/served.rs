@@ -453,7 +453,7 @@ pub struct Define {
     pub is_conditional: bool,
     /// What is told beside the tag: types that hold less than what was written.
     pub notices: Vec<String>,
-    /// The line for the program.
+    /// The line for the program. It is empty if there is nothing to do.
     pub line: String,
 }
 

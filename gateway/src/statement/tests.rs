@@ -305,6 +305,21 @@ fn what_is_no_statement_or_is_missing_is_refused() {
         ("CREATE TABLE t (a INT CHECK (a <> 5))", "0A000", "a <> 5))"),
         ("CREATE TABLE t (a INT CHECK (a < $1))", "42P02", "$1))"),
         (
+            "CREATE TABLE t (a INT CHECK (a < 0::varchar))",
+            "42883",
+            "0::varchar))",
+        ),
+        (
+            "UPDATE purse SET cards = cards + + '1' WHERE id = 1",
+            "0A000",
+            "+ '1' WHERE id = 1",
+        ),
+        (
+            "SELECT id FROM purse FETCH FIRST 2::int ROWS ONLY",
+            "42601",
+            "::int ROWS ONLY",
+        ),
+        (
             "CREATE INDEX i ON t (a)",
             "0A000",
             "CREATE INDEX i ON t (a)",
@@ -645,7 +660,13 @@ fn statements_that_need_no_program_are_read() {
             "SET NAMES 'utf8'",
             set("client_encoding", Some("utf8"), false),
         ),
-        ("SET ROLE NONE", Statement::SetRoleNone),
+        (
+            "SET ROLE NONE",
+            Statement::SetRole {
+                name: None,
+                is_reset: false,
+            },
+        ),
         (
             "SHOW TIME ZONE",
             Statement::ShowSetting("timezone".to_owned()),

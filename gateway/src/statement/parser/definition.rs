@@ -4,12 +4,12 @@ use std::fmt::Write;
 
 use crate::limits::{MOST_DIGITS, MOST_DIGITS_BEHIND_POINT};
 use crate::sqlstate::{Failure, Report, SqlState};
-use crate::statement::constant::{self, Input, Usage};
+use crate::statement::constant::{self, Datum, Input};
 use crate::statement::parser::{keywords, Parser};
 use crate::statement::query::{Expression, ExpressionKind, Name, Span, TypeName};
 use crate::statement::served::{check_new_name, is_legal_name, Define, Served, Table, Verb};
 use crate::statement::Statement;
-use crate::value::{Number, Value};
+use crate::value::{self, oid, Number};
 
 /// The most bytes of a text in a column.
 const LONGEST_TEXT: i32 = 255;
@@ -140,9 +140,23 @@ impl<'a> Parser<'a> {
         }
         // Nothing depends on a table.
         self.keyword_of(&["CASCADE", "RESTRICT"]);
+        let name = table.name.clone();
         let table = match Table::new(table, None) {
             Ok(table) => table.name,
-            Err(report) => return Err(of_no_table(report)),
+            Err(report) => {
+                let report = of_no_table(report);
+                if !is_conditional {
+                    return Err(report);
+                }
+                return Ok(define(Define {
+                    verb: Verb::DropTable,
+                    table: name,
+                    constraint: None,
+                    is_conditional,
+                    notices: vec![format!("{}, skipping", report.message)],
+                    line: String::new(),
+                }));
+            }
         };
         let line = format!("DROP TABLE {}", table.text);
         Ok(define(Define {
@@ -487,12 +501,12 @@ fn limit(expression: &Expression) -> Result<Number, Failure> {
     if let ExpressionKind::Parameter(number) = expression.kind {
         return Err(constant::no_parameter(number, place));
     }
-    match constant::value_for(expression, Input::default(), None, Usage::Compared)? {
-        Value::Number(number) => Ok(number),
-        Value::Text(text) => crate::value::number(crate::value::oid::NUMERIC, &text)
-            .map_err(|report| report.at(place)),
-        Value::Null => Err(constant::null_value().at(place)),
-    }
+    let datum = constant::evaluate(expression, Input::default())?;
+    let number = match datum {
+        Datum::Unknown(text) => value::number(oid::NUMERIC, &text),
+        datum => datum.number(),
+    };
+    number.map_err(|report| report.at(place))
 }
 
 fn column_of(expression: &Expression) -> Result<String, Failure> {

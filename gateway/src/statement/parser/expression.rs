@@ -442,7 +442,8 @@ impl<'a> Parser<'a> {
         }
     }
 
-    fn operand(&mut self) -> Result<Expression, Failure> {
+    /// Reads an operand without casts and subscripts.
+    pub(super) fn operand(&mut self) -> Result<Expression, Failure> {
         let start = self.start();
         let token = match self.peek() {
             Some(token) => token,

@@ -3,7 +3,7 @@
 use std::mem::size_of;
 
 use crate::sqlstate::{Failure, Report, SqlState};
-use crate::statement::parser::expression::{Binding, Parenthesized};
+use crate::statement::parser::expression::Parenthesized;
 use crate::statement::parser::{keywords, Parser, TokenKind};
 use crate::statement::query::{
     Alias, Body, Expression, ExpressionKind, FunctionCall, JoinCondition, JoinKind, Locking, Name,
@@ -406,7 +406,7 @@ impl<'a> Parser<'a> {
         let limit = if self.at_keyword("ROW") || self.at_keyword("ROWS") {
             self.expression_of(ExpressionKind::Number("1".to_owned()), start)
         } else {
-            self.expression_bound(Binding::Subscript)?
+            self.operand()?
         };
         if self.keyword_of(&["ROW", "ROWS"]).is_none() {
             return Err(self.fault());
