@@ -34,6 +34,17 @@ pub enum Place {
     Unused,
 }
 
+impl Place {
+    /// Returns how many bytes it takes.
+    pub fn size(&self) -> usize {
+        let name = match self {
+            Place::Column(name) | Place::Compared(name) => name.capacity(),
+            _ => 0,
+        };
+        std::mem::size_of::<Place>() + name
+    }
+}
+
 /// Returns what `$1`, `$2` and so on stand for.
 pub fn places(statement: &Statement, tokens: &[Token]) -> Vec<Place> {
     let numbers = tokens.iter().filter_map(|token| match token.kind {

@@ -63,7 +63,8 @@ pub fn next_statement(text: &str, at: &mut usize) -> Result<Option<Parsed>, Fail
         TokenKind::Parameter(number) => Some((number, token.span.start)),
         _ => None,
     });
-    let size = parser.size + places.capacity() * std::mem::size_of::<Place>();
+    let names = places.iter().map(Place::size).sum::<usize>();
+    let size = parser.size + names + std::mem::size_of::<Parsed>();
     Ok(Some(Parsed {
         statement,
         places,

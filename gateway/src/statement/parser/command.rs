@@ -581,6 +581,7 @@ impl<'a> Parser<'a> {
             return Err(self.fault());
         }
         let read = self.read()?;
+        self.size += std::mem::size_of::<Statement>();
         Ok(Statement::Declare(Cursor {
             name,
             read: Box::new(read),

@@ -60,7 +60,7 @@ impl<'a> Parser<'a> {
             }
         }
         let line = format!("CREATE TABLE {} ({})", name.text, items.list.join(", "));
-        Ok(define(Define {
+        Ok(self.define(Define {
             verb: Verb::CreateTable,
             table: name,
             constraint: None,
@@ -120,7 +120,7 @@ impl<'a> Parser<'a> {
         if self.symbol(b',') {
             return Err(Verb::AlterTable.missing("an ALTER TABLE of several steps", place));
         }
-        Ok(define(Define {
+        Ok(self.define(Define {
             verb: Verb::AlterTable,
             table,
             constraint,
@@ -148,7 +148,7 @@ impl<'a> Parser<'a> {
                 if !is_conditional {
                     return Err(report);
                 }
-                return Ok(define(Define {
+                return Ok(self.define(Define {
                     verb: Verb::DropTable,
                     table: name,
                     constraint: None,
@@ -159,7 +159,7 @@ impl<'a> Parser<'a> {
             }
         };
         let line = format!("DROP TABLE {}", table.text);
-        Ok(define(Define {
+        Ok(self.define(Define {
             verb: Verb::DropTable,
             table,
             constraint: None,
@@ -167,6 +167,13 @@ impl<'a> Parser<'a> {
             notices: Vec::new(),
             line,
         }))
+    }
+
+    /// Makes the statement. Of all that was read it keeps no more.
+    fn define(&mut self, define: Define) -> Statement {
+        let notices = define.notices.iter().map(String::capacity).sum::<usize>();
+        self.size = define.line.capacity() + notices + define.table.text.len();
+        Statement::Served(Served::Define(define))
     }
 
     /// Moves behind TABLE.
@@ -318,13 +325,8 @@ impl<'a> Parser<'a> {
         written.push_str("CHECK (");
         append_condition(&mut written, &condition)?;
         written.push(')');
-        self.size += written.len();
         Ok(written)
     }
-}
-
-fn define(define: Define) -> Statement {
-    Statement::Served(Served::Define(define))
 }
 
 /// Makes the report of a table that can't be dropped, in the words of DROP TABLE.

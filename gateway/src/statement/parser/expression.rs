@@ -10,6 +10,9 @@ use crate::statement::query::{
     Expression, ExpressionKind, FunctionCall, IsWhat, Name, QualifiedName, Query, TypeName, Window,
 };
 
+/// About what an expression takes beside itself: the name of its operator, and what the memory needs to know of it.
+const OVERHEAD: usize = 48;
+
 /// How tightly an operator binds what is around it, as PostgreSQL's grammar orders them.
 #[derive(Clone, Copy, Debug, PartialEq, Eq, PartialOrd, Ord)]
 pub(super) enum Binding {
@@ -90,7 +93,7 @@ enum Infix {
 
 impl<'a> Parser<'a> {
     pub(super) fn expression_of(&mut self, kind: ExpressionKind, start: usize) -> Expression {
-        self.size += size_of::<Expression>();
+        self.size += size_of::<Expression>() + OVERHEAD;
         let span = self.span_from(start);
         Expression { kind, span }
     }
@@ -403,6 +406,7 @@ impl<'a> Parser<'a> {
             let kind = if parser.symbol(b',') {
                 let mut row = vec![first];
                 row.append(&mut parser.list(Self::expression)?);
+                parser.size += row.capacity() * size_of::<Expression>();
                 ExpressionKind::Row(row)
             } else {
                 first.kind
