@@ -239,25 +239,25 @@ fn is_operator(byte: u8) -> bool {
     b"~!@#^&|`?+-*/%<>=".contains(&byte)
 }
 
+/// How many bytes are looked at for the end of an operator. PostgreSQL refuses one of 64 bytes.
+const LOOKED_AT: usize = 1024;
+
 /// Returns the byte behind an operator: it ends where a comment begins, and ends in + or - only with certain characters
 /// in front.
 fn operator_end(bytes: &[u8], start: usize) -> usize {
-    let count = bytes[start..]
-        .iter()
-        .position(|&byte| !is_operator(byte))
-        .unwrap_or(bytes.len() - start);
-    let mut piece = &bytes[start..start + count];
-    let comment = piece
+    let bytes = &bytes[start..bytes.len().min(start + LOOKED_AT)];
+    let count = bytes.iter().take_while(|&&byte| is_operator(byte)).count();
+    let run = &bytes[..count];
+    let comment = run
         .windows(2)
         .position(|pair| pair == b"--" || pair == b"/*");
-    piece = &piece[..comment.unwrap_or(piece.len())];
-    while piece.len() > 1
-        && matches!(piece.last(), Some(b'+' | b'-'))
-        && !piece.iter().any(|byte| b"~!@#^&|`?%".contains(byte))
-    {
-        piece = &piece[..piece.len() - 1];
+    let piece = &run[..comment.unwrap_or(count)];
+    if piece.iter().any(|byte| b"~!@#^&|`?%".contains(byte)) {
+        return start + piece.len();
     }
-    start + piece.len()
+    let is_sign = |byte: &&u8| matches!(byte, b'+' | b'-');
+    let signs = piece.iter().rev().take_while(is_sign).count();
+    start + (piece.len() - signs).max(1)
 }
 
 fn text_end(text: &str, start: usize, first: usize, escaped: bool) -> Result<usize, Failure> {
