@@ -1576,6 +1576,14 @@ fn a_select_of_a_table_that_was_defined_anew_is_asked_again() {
 }
 
 #[test]
+fn a_name_in_quotes_is_of_its_case() {
+    let mut client = Client::connected();
+    client.learn(STOCK);
+    let told = client.ask("SELECT * FROM \"STOCK\"", &[]);
+    assert_eq!(told, ["ERROR 42P01 P=15 t=STOCK", "ready I"]);
+}
+
+#[test]
 fn a_definition_is_asked_for_behind_the_statement_that_makes_it() {
     let mut client = Client::connected();
     let text = "CREATE TABLE stock (id INTEGER PRIMARY KEY, pieces INTEGER RESERVABLE)";

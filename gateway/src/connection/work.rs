@@ -531,6 +531,11 @@ impl Connection {
             self.definitions().forget(table);
         }
         let definition = self.definitions().get(table);
+        let outcome = match outcome {
+            // Names of the program have no case. It showed another table than the client's.
+            Outcome::Done(_) if definition.is_none() => Outcome::Refused(Refusal::NoSuchTable),
+            outcome => outcome,
+        };
         match (then, outcome) {
             (AfterDefinition::Nothing, _) => {}
             (AfterDefinition::Explain(running, report), _) => {
@@ -551,7 +556,6 @@ impl Connection {
                 let report = refusal_of_table(&refusal, &statement);
                 self.fail(report, Some(&statement.text));
             }
-            (_, Outcome::Done(_)) if definition.is_none() => self.die(not_understood()),
             (AfterDefinition::Run(running), _) => self.run_by_definition(running),
             (AfterDefinition::Bind(binding, _), _) => {
                 self.bind_now(binding, definition.as_deref());
