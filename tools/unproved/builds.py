@@ -15,8 +15,8 @@ from unproved.steps import Steps
 TRANSLATED, STRIPPED, COMPILED, LINKED, CHECKED = 120, 25, 180, 1, 240
 # The lines of a store that a program with checks serves over files in good time: each takes a tenth of a second.
 LINES_WITH_CHECKS = 30
-# The GB of memory that a build may take.
-GIGABYTES = 6
+# The GB of memory that a build may take. With checks it takes 6.
+GIGABYTES = 4
 
 
 class Built(NamedTuple):
