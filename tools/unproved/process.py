@@ -10,6 +10,7 @@ from typing import Any, Mapping, NamedTuple, NoReturn, Optional, Sequence, Set
 RUNNING: Set["subprocess.Popen[Any]"] = set()
 ENDING = threading.Event()
 LOCK = threading.Lock()
+ENDED = "ended by a signal"
 # The seconds that a command may take to end, once it was told to.
 FAREWELL = 10.0
 
@@ -25,7 +26,7 @@ def started(words: Sequence[str], **how: Any) -> "subprocess.Popen[Any]":
     """Starts a command that ends with this process."""
     with LOCK:
         if ENDING.is_set():
-            raise InterruptedError("ended by a signal")
+            raise InterruptedError(ENDED)
         process = subprocess.Popen(words, **how)
         RUNNING.add(process)
     return process
@@ -45,14 +46,16 @@ def ended(process: "subprocess.Popen[Any]") -> None:
 
 
 def finished(words: Sequence[str], folder: Optional[str] = None, variables: Optional[Mapping[str, str]] = None) -> Done:
-    """Runs a command without input in a folder to its end, with further variables of the environment."""
+    """Runs a command without input in a folder to its end, with further variables of the environment. What a signal to this process has ended is no end."""
     process = started(words, cwd=folder, env={**os.environ, **(variables or {})}, stdin=subprocess.DEVNULL, stdout=subprocess.PIPE,
                       stderr=subprocess.STDOUT, text=True, errors="replace")
     try:
         said, _ = process.communicate()
-        return Done(process.returncode, said)
     finally:
         ended(process)
+    if ENDING.is_set():
+        raise InterruptedError(ENDED)
+    return Done(process.returncode, said)
 
 
 def end_by(number: int, _frame: object) -> NoReturn:
