@@ -717,7 +717,6 @@ fn statements_that_need_no_program_are_read() {
         "TRUNCATE t",
         "LOCK TABLE t",
         "DROP VIEW v",
-        "SET ROLE x",
         "DECLARE c SCROLL CURSOR FOR SELECT 1",
         "DECLARE c CURSOR WITH HOLD FOR SELECT 1",
         "WITH a AS (SELECT * FROM t) SELECT * FROM a",
