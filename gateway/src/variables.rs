@@ -545,7 +545,10 @@ impl Variables {
         if self.value(POOLED) == "off" || value.map_or(true, |value| value == initial) {
             return Ok(());
         }
-        let text = format!("SET {} would reach other clients of this connection", key.name());
+        let text = format!(
+            "SET {} would reach other clients of this connection",
+            key.name()
+        );
         Err(Report::error(SqlState::FEATURE_NOT_SUPPORTED, text)
             .hint("Use SET LOCAL inside a block, or an option of escrowd-pg for all."))
     }
