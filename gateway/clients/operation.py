@@ -253,6 +253,28 @@ def metrics_in_the_way() -> None:
         expect(target.read_text(), "text")
 
 
+@PART.served
+def who_holds_what(gateway: Gateway) -> None:
+    """pg_stat_activity tells which client has a session of SHOW JOURNAL, and how much it holds. pg_terminate_backend ends it."""
+    watch = with_stock(gateway, 9)
+    till, other = (Connection(gateway.socket, options=f"-c application_name={name}") for name in ("till", "other"))
+    till.do("BEGIN", TAKE.format(1), "SAVEPOINT a", TAKE.format(2), TAKE.format(3), "ROLLBACK TO a", TAKE.format(4))
+    other.do("BEGIN", TAKE.format(1))
+    expect(other.ask(TAKE.format(9))[-1], "ready E")
+    held = [row[1] for row in watch.rows("SHOW JOURNAL")]
+    expect(len(held), 2)
+    shown = watch.rows("SELECT session, usename, application_name, state, reservations, xact_start IS NULL FROM pg_stat_activity ORDER BY pid")
+    expect(shown[0][2:], ("", "active", "0", "t"))
+    expect(shown[1:], [(held[0], "clerk", "till", "idle in transaction", "2", "f"),
+                       (str(int(held[0]) + 1), "clerk", "other", "idle in transaction (aborted)", "0", "f")])
+    end = "SELECT pg_terminate_backend(pid) FROM pg_stat_activity WHERE application_name = 'till'"
+    expect(watch.rows(end), [("t",)])
+    expect(last_words(till), ("57P01", "terminating connection due to administrator command"))
+    wait_until("nothing is held", lambda: watch.rows("SHOW JOURNAL") == [])
+    expect(watch.rows(end), [])
+    other.do("ROLLBACK")
+
+
 @PART.alone
 def a_limit_of_the_sizes_of_files() -> None:
     """A write past it is refused, and logged as a warning. It ends neither the server nor the gateway, and reads are served."""
