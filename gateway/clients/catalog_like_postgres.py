@@ -1,67 +1,19 @@
-"""What psql shows of a database, by \\d and its like and by TAB: equal to what it shows of a PostgreSQL with an equal table."""
+"""The queries of the catalog that clients send, to the gateway and to PostgreSQL over equal tables: columns, types and rows have to be equal.
+
+Each file of the folder `catalog` has what one client sends, as recorded on the wire. A line `-- ==` begins a query; behind it may stand why rows differ
+on purpose (then columns and types are compared alone), and the value of `$1`.
+"""
 from __future__ import annotations
 
-import difflib
-import os
-import pty
 import re
-import select
-import subprocess
-import time
-from concurrent.futures import ThreadPoolExecutor
-from typing import Callable, List, Sequence, Tuple
+from pathlib import Path
+from typing import Dict, List, NamedTuple, Optional, Tuple
 
-from clients.servers import END, PATIENCE, Gateway, Postgres
-from clients.suite import Part, expect, main
-from clients.wire import Connection
+from clients import wire
+from clients.servers import Gateway, Postgres
+from clients.suite import Part, main
+from clients.wire import BINARY, TEXT, Connection
 
-<<<<<<<< HEAD:gateway/clients/with_catalog.py
-PART = Part("with_catalog")
-OURS = [
-    "CREATE TABLE stock (id INTEGER PRIMARY KEY, pieces INTEGER RESERVABLE CONSTRAINT in_stock CHECK (pieces >= 0), price NUMBER(8,2), name VARCHAR2(20))",
-    "CREATE TABLE orders (k VARCHAR2(10) PRIMARY KEY, n INTEGER RESERVABLE CONSTRAINT most CHECK (n <= 100))",
-]
-THEIRS = [
-    "CREATE TABLE stock (id bigint PRIMARY KEY, pieces bigint NOT NULL CONSTRAINT in_stock CHECK (pieces >= 0), price numeric(8,2) NOT NULL, name varchar(20) NOT NULL)",
-    "CREATE TABLE orders (k varchar(10) PRIMARY KEY, n bigint NOT NULL CONSTRAINT most CHECK (n <= 100))",
-]
-COMMANDS = [
-    "\\d",
-    "\\dt",
-    "\\d stock",
-    "\\d orders",
-    "\\d public.stock",
-    "\\dt stock",
-    "\\dt s*",
-    "\\d s*",
-    "\\d nothing",
-    "\\dt nothing",
-    "\\dv",
-    "\\ds",
-    "\\dm",
-    "\\dE",
-    "\\di",
-    "\\d stock_pkey",
-    "\\dx",
-]
-# Keys in front of TAB, twice each, and what is typed then.
-KEYS = [
-    "SELECT * FROM ",
-    "SELECT * FROM st",
-    "UPDATE ",
-    "UPDATE stock SET ",
-    "UPDATE stock SET pi",
-    "SELECT * FROM stock WHERE ",
-    "DELETE FROM or",
-    "INSERT INTO ",
-    "DROP TABLE ",
-    "ALTER TABLE stock DROP CONSTRAINT ",
-    "\\d ",
-    "\\dt st",
-]
-TAKE = "UPDATE stock SET pieces = pieces - 1 WHERE id = 1;"
-QUIET, LONGEST = 0.15 * PATIENCE, 20.0 * PATIENCE
-========
 PART = Part("catalog_like_postgres")
 CORPUS = Path(__file__).parent / "catalog"
 BEGIN = re.compile(r"-- ==(?: rows differ: (?P<why>.*?))?(?: values: (?P<value>.*))?")
@@ -79,134 +31,104 @@ THEIRS = (
     "COMMENT ON COLUMN orders.n IS 'RESERVABLE'",
 )
 RELATIONS = ("stock", "stock_pkey", "orders", "orders_pkey")
->>>>>>>> 09d0631d (gateway: pools, roles and settings of a client's own are tried; the refusals of the catalog have a hint):gateway/clients/catalog_like_postgres.py
 
 
-def psql(dsn: str, *commands: str) -> List[str]:
-    """Returns the lines that psql prints for commands."""
-    words = ["psql", "-X", "-d", dsn, *(word for it in commands for word in ("-c", it))]
-    return subprocess.run(
-        words, stdout=subprocess.PIPE, stderr=subprocess.STDOUT, text=True, timeout=END, env={**os.environ, "PAGER": "cat", "LC_ALL": "C.UTF-8"}
-    ).stdout.splitlines()
+class Asked(NamedTuple):
+    """A query of the corpus."""
+
+    client: str
+    text: str
+    why: Optional[str]
+    values: Tuple[str, ...]
 
 
-def expect_equal(theirs: Sequence[str], ours: Sequence[str]) -> None:
-    """Fails, and shows the difference, unless both are equal."""
-    if theirs != ours:
-        raise AssertionError("\n".join(difflib.unified_diff(theirs, ours, "PostgreSQL", "gateway", lineterm="", n=1)))
+class Answer(NamedTuple):
+    """What a server gave: its columns, or the SQLSTATE of an error, and its rows."""
+
+    columns: List[Tuple[str, int, int]]
+    rows: List[Tuple[Optional[bytes], ...]]
 
 
-def of_both(gateway: Gateway, postgres: Postgres, act: Callable[[str], List[str]]) -> Tuple[List[str], List[str]]:
-    """Creates the tables in both. Returns what an act shows of PostgreSQL and of the gateway, asked at the same time."""
-    row = "INSERT INTO stock VALUES (1, 5, 9.50, 'tea')"
-    expect(psql(gateway.dsn(), *OURS, row), psql(postgres.dsn(), *THEIRS, row))
-    with ThreadPoolExecutor(2) as threads:
-        theirs, ours = threads.map(act, (postgres.dsn(), gateway.dsn()))
-    return theirs, ours
-
-
-@PART.served
-def the_commands_of_psql(gateway: Gateway) -> None:
-    with Postgres("fsync=off") as postgres:
-        expect_equal(*of_both(gateway, postgres, lambda dsn: psql(dsn, *(word for it in COMMANDS for word in (f"\\echo {it[1:]}:", it)))))
-
-
-@PART.served
-def a_table_that_is_dropped_is_gone(gateway: Gateway) -> None:
-    """The catalog is that of now: a table, a CHECK, and their ends."""
-    with Connection(gateway.socket) as it:
-        it.do(*OURS)
-        expect("orders" in "\n".join(psql(gateway.dsn(), "\\dt")), True)
-        it.do("ALTER TABLE stock ADD CONSTRAINT few CHECK (pieces <= 50)", "DROP TABLE orders")
-        said = "\n".join(psql(gateway.dsn(), "\\dt", "\\d stock"))
-        expect(("orders" in said, '"few" CHECK (pieces <= 50)' in said), (False, True), said)
-        it.do("ALTER TABLE stock DROP CONSTRAINT few")
-        expect("few" in "\n".join(psql(gateway.dsn(), "\\d stock")), False)
-
-
-class Terminal:
-    """psql at a terminal, as one types in it."""
-
-    def __init__(self, dsn: str) -> None:
-        self.control, theirs = pty.openpty()
-        environment = {
-            **os.environ,
-            "TERM": "dumb",
-            "PAGER": "cat",
-            "INPUTRC": "/dev/null",
-            "PSQL_HISTORY": "/dev/null",
-            "LC_ALL": "C.UTF-8",
-            "COLUMNS": "200",
-        }
-        self.process = subprocess.Popen(
-            ["psql", "-X", "-v", "PROMPT1=<%x> ", "-d", dsn], stdin=theirs, stdout=theirs, stderr=theirs, env=environment, start_new_session=True
-        )
-        os.close(theirs)
-        self.until("<> ")
-
-    def __enter__(self) -> Terminal:
-        return self
-
-    def __exit__(self, *_: object) -> None:
-        self.process.kill()
-        self.process.wait()
-        os.close(self.control)
-
-    def until(self, end: str) -> str:
-        """Reads up to a prompt behind which nothing comes for a while."""
-        found, last, limit = "", time.monotonic(), time.monotonic() + LONGEST
-        while time.monotonic() < limit:
-            ready, _, _ = select.select([self.control], [], [], 0.05)
-            if ready:
-                found += os.read(self.control, 65536).decode(errors="replace")
-                last = time.monotonic()
-            elif found.endswith(end) and time.monotonic() - last >= 0.05:
-                return found
-        raise AssertionError(f"no {end!r}: {found[-500:]!r}")
-
-    def quiet(self) -> str:
-        """Reads until nothing comes for a while."""
-        found = ""
-        while select.select([self.control], [], [], QUIET)[0]:
-            found += os.read(self.control, 65536).decode(errors="replace")
-        return found
-
-    def typed(self, keys: str, end: str = "<> ") -> str:
-        """Types a line, and returns what is shown."""
-        os.write(self.control, f"{keys}\r".encode())
-        return self.until(end)
-
-    def completed(self, keys: str, end: str = "<> ") -> List[str]:
-        """Types keys and TAB twice, and returns the words that are shown. The line is then taken back."""
-        os.write(self.control, f"{keys}\t".encode())
-        found = self.quiet()
-        os.write(self.control, b"\t")
-        found += self.quiet()
-        os.write(self.control, b"\x15\r")
-        self.until(end)
-        return re.sub(r"[\x07\x08]+|\x1b\[[0-9;?]*[a-zA-Z]", " ", found).split()
-
-
-def shown_at_tab(dsn: str) -> List[str]:
-    """Returns what TAB shows outside of a block and inside of one, and how the block ends."""
-    found: List[str] = []
-    with Terminal(dsn) as it:
-        found += [f"{keys}: {' '.join(it.completed(keys))}" for keys in KEYS]
-        it.typed("BEGIN;", "<*> ")
-        it.typed(TAKE, "<*> ")
-        found += [f"in a block, {keys}: {' '.join(it.completed(keys, '<*> '))}" for keys in KEYS[:6]]
-        found.append(it.typed("COMMIT;").splitlines()[1])
+def corpus() -> List[Asked]:
+    """Reads all queries."""
+    found: List[Asked] = []
+    for path in sorted(CORPUS.glob("*.sql")):
+        lines: List[str] = []
+        for line in path.read_text().splitlines():
+            begin = BEGIN.fullmatch(line)
+            if begin:
+                value = begin["value"]
+                lines = []
+                found.append(Asked(path.stem, "", begin["why"], (value,) if value else ()))
+            elif found:
+                lines.append(line)
+                found[-1] = found[-1]._replace(text="\n".join(lines))
+    assert len(found) > 100, len(found)
     return found
 
 
+class Side:
+    """One of the two servers, with the Oids that the tables have there."""
+
+    def __init__(self, connection: Connection, tables: Tuple[str, ...]) -> None:
+        self.connection = connection
+        connection.do(*tables)
+        rows = connection.rows("SELECT relname, oid FROM pg_class WHERE relnamespace = 2200")
+        self.oids: Dict[str, str] = {name: oid for name, oid in rows if name in RELATIONS}
+        assert sorted(self.oids) == sorted(RELATIONS), self.oids
+
+    def ask(self, asked: Asked, form: int) -> Answer:
+        """Sends a query, and returns what comes, with names in place of the tables' own Oids."""
+        text = re.sub("@([a-z_]+)@", lambda it: self.oids[it[1]], asked.text)
+        self.connection.send(wire.run(text, asked.values, results=[form]) + wire.sync())
+        columns: List[Tuple[str, int, int]] = []
+        rows: List[Tuple[Optional[bytes], ...]] = []
+        for it in self.connection.until_ready():
+            if it.kind == "E":
+                columns = [(it.fields()["C"], 0, 0)]
+            elif it.kind == "T":
+                columns = [(name, oid, modifier) for name, oid, modifier, _ in it.columns()]
+            elif it.kind == "D":
+                rows.append(tuple(self.named(value, form) for value in it.values()))
+        return Answer(columns, rows)
+
+    def named(self, value: Optional[bytes], form: int) -> Optional[bytes]:
+        """Returns the name of a table for its Oid."""
+        for name, oid in self.oids.items():
+            own = oid.encode() if form == TEXT else int(oid).to_bytes(4, "big")
+            if value == own:
+                return name.encode()
+        return value
+
+
+def compare(gateway: Gateway, form: int) -> None:
+    """Sends all queries to both, and shows all differences."""
+    differences: List[str] = []
+    with Postgres("fsync=off") as postgres, Connection(gateway.socket) as ours, Connection(postgres.socket) as theirs:
+        here, there = Side(ours, OURS), Side(theirs, THEIRS)
+        for asked in corpus():
+            found, wanted = here.ask(asked, form), there.ask(asked, form)
+            title = f"== {asked.client}: {asked.text}"
+            if found.columns != wanted.columns:
+                differences += [title, f"columns {found.columns}", f"PostgreSQL {wanted.columns}"]
+            is_same = sorted(map(repr, found.rows)) == sorted(map(repr, wanted.rows))
+            if asked.why is None and not is_same:
+                only = [[it for it in one if it not in other] for one, other in ((found.rows, wanted.rows), (wanted.rows, found.rows))]
+                differences += [title, f"rows {only[0][:5]}", f"PostgreSQL {only[1][:5]}"]
+            elif asked.why is not None and is_same and found.rows:
+                differences += [title, f"rows are equal, though {asked.why}"]
+    if differences:
+        raise AssertionError("\n".join(differences[:90]))
+
+
 @PART.served
-def completion_by_tab(gateway: Gateway) -> None:
-    with Postgres("fsync=off") as postgres:
-        theirs, ours = of_both(gateway, postgres, shown_at_tab)
-    expect(("stock" in theirs[0], theirs[-1]), (True, "COMMIT"), str(theirs))
-    expect_equal(theirs, ours)
-    with Connection(gateway.socket) as it:
-        expect(it.rows("SELECT * FROM stock")[0][1], "4")
+def as_text(gateway: Gateway) -> None:
+    compare(gateway, TEXT)
+
+
+@PART.served
+def in_binary(gateway: Gateway) -> None:
+    compare(gateway, BINARY)
 
 
 if __name__ == "__main__":
