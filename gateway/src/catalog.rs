@@ -31,6 +31,7 @@ use postgres_protocol::Oid;
 use crate::activity::Activity;
 use crate::catalog::analysis::Analyser;
 use crate::catalog::execution::Executor;
+pub use crate::catalog::execution::MOST_STEPS;
 use crate::catalog::namespace::{Tables, FIRST_NORMAL};
 use crate::catalog::plan::Plan;
 use crate::catalog::value::Value;
@@ -148,6 +149,8 @@ pub struct Description {
     pub parameters: Vec<Oid>,
     /// The columns of its result.
     pub columns: Rc<[Column]>,
+    /// How much was looked at, in the unit of [`MOST_STEPS`].
+    pub effort: usize,
 }
 
 /// The rows of a query, each value in the format that was asked for.
@@ -157,6 +160,8 @@ pub struct Answer {
     pub columns: Rc<[Column]>,
     /// The rows: the length of each value, -1 for NULL, and its bytes.
     pub rows: Vec<Vec<u8>>,
+    /// How much was looked at, in the unit of [`MOST_STEPS`].
+    pub effort: usize,
 }
 
 /// Finds out the types of a query's parameters, and its columns. `types` are those that the client gave, 0 for none.
@@ -165,10 +170,11 @@ pub struct Answer {
 ///
 /// Fails at a name that means nothing, at types that don't fit, and at what is not supported.
 pub fn describe(query: &Query, types: &[Oid], world: &World) -> Result<Description, Failure> {
-    let (plan, parameters) = Analyser::new(world, types).plan(query)?;
+    let (plan, parameters, effort) = Analyser::new(world, types).plan(query)?;
     Ok(Description {
         parameters,
         columns: columns(&plan),
+        effort,
     })
 }
 
@@ -188,7 +194,7 @@ pub fn run(
     world: &World,
     session: &mut dyn Session,
 ) -> Result<Answer, Failure> {
-    let (plan, types) = Analyser::new(world, types).plan(query)?;
+    let (plan, types, effort) = Analyser::new(world, types).plan(query)?;
     let values: Result<Vec<Value>, Failure> = parameters
         .iter()
         .enumerate()
@@ -212,6 +218,7 @@ pub fn run(
     Ok(Answer {
         columns: columns(&plan),
         rows: encoded,
+        effort: effort + executor.spent(),
     })
 }
 

@@ -15,6 +15,7 @@ mod work;
 #[cfg(test)]
 mod tests;
 
+use std::cell::Cell;
 use std::collections::VecDeque;
 use std::rc::Rc;
 use std::time::{Duration, Instant};
@@ -116,6 +117,9 @@ pub enum Event {
 /// How much output may wait before nothing more is done for the client.
 const MOST_OUTPUT: usize = 64 * 1024;
 
+/// How many rows and values queries of the catalog look at in a turn, before others have theirs: some milliseconds.
+const MOST_EFFORT: usize = 20_000;
+
 /// How many messages or statements are served in a turn, at most. Then others have their turn.
 const STEPS: usize = 32;
 
@@ -165,6 +169,8 @@ pub struct Connection {
     giving: Option<(Target, Rows)>,
     /// Whether there is more to do at once, in the next turn.
     has_turn: bool,
+    /// How much queries of the catalog have looked at in this turn.
+    effort: Cell<usize>,
     /// The simple query that is being served.
     query: Option<Query>,
     /// Whether messages are skipped up to the next Sync.
@@ -206,6 +212,7 @@ impl Connection {
             awaited: VecDeque::new(),
             giving: None,
             has_turn: false,
+            effort: Cell::new(0),
             query: None,
             skipping: false,
             resting: true,
@@ -408,11 +415,12 @@ impl Connection {
         self.flow();
         let mut steps = 0..STEPS;
         self.has_turn = false;
+        self.effort.set(0);
         while self.awaited.is_empty() && self.output.len() < MOST_OUTPUT {
             if self.transaction_is_too_long() {
                 self.end_long_transaction();
             }
-            if steps.next().is_none() {
+            if steps.next().is_none() || self.effort.get() > MOST_EFFORT {
                 self.has_turn = true;
                 return;
             }

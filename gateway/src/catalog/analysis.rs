@@ -21,6 +21,9 @@ use crate::statement::query::{Query, Span};
 /// The deepest that queries and expressions may be inside of each other.
 const MOST_DEPTH: usize = 100;
 
+/// What reading an expression takes, in steps of the evaluation.
+const EFFORT: usize = 10;
+
 /// The most expressions of a query.
 const MOST_EXPRESSIONS: usize = 20_000;
 
@@ -85,19 +88,19 @@ impl<'w> Analyser<'w> {
         }
     }
 
-    /// Makes the plan of a query, and the types of its parameters.
+    /// Makes the plan of a query, the types of its parameters, and how much was looked at.
     ///
     /// # Errors
     ///
     /// Fails at a name that means nothing, at types that don't fit, and at what is not supported.
-    pub fn plan(mut self, query: &Query) -> Result<(Plan, Vec<Oid>), Failure> {
+    pub fn plan(mut self, query: &Query) -> Result<(Plan, Vec<Oid>, usize), Failure> {
         let plan = self.query(query, None)?;
         for parameter in &mut self.parameters {
             if *parameter == oid::UNSPECIFIED {
                 *parameter = oid::TEXT;
             }
         }
-        Ok((plan, self.parameters))
+        Ok((plan, self.parameters, self.expressions * EFFORT))
     }
 
     /// Counts one more expression, and one more level of depth for `inner`.

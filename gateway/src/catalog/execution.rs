@@ -24,7 +24,7 @@ use crate::sqlstate::{Failure, Report, SqlState};
 pub type Row = Rc<[Value]>;
 
 /// How many rows and values a query may look at.
-const MOST_STEPS: usize = 500_000;
+pub const MOST_STEPS: usize = 500_000;
 
 /// How many bytes the rows and texts that a query makes may take.
 const MOST_BYTES: usize = 16 * 1024 * 1024;
@@ -143,6 +143,11 @@ impl<'s> Executor<'s> {
         self.spend(text.len() / 64)?;
         self.keep(text.len())?;
         Ok(Value::text(text))
+    }
+
+    /// Returns what was counted.
+    pub fn spent(&self) -> usize {
+        MOST_STEPS - self.steps
     }
 
     /// Computes the rows of a plan.
@@ -270,7 +275,7 @@ impl<'s> Executor<'s> {
         select: &Select,
         outer: Option<&Environment<'_>>,
     ) -> Result<Vec<Row>, Failure> {
-        let mut slots: Vec<Row> = vec![Rc::from([]); select.slots];
+        let mut slots: Vec<Row> = vec![Vec::new().into(); select.slots];
         let mut rows = Vec::new();
         if !self.holds(&select.guards, &slots, outer)? {
             // Aggregates have a row where nothing is read.
@@ -519,7 +524,7 @@ fn clear(source: &Source, slots: &mut [Row]) {
         Source::Relation { slot, .. }
         | Source::Query { slot, .. }
         | Source::Functions { slot, .. } => {
-            slots[*slot] = Rc::from([]);
+            slots[*slot] = Vec::new().into();
         }
     }
 }

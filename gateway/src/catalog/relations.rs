@@ -233,7 +233,7 @@ fn zero(oid: Oid) -> Value {
         oid::BOOL => Value::Bool(false),
         oid::FLOAT4 | oid::FLOAT8 => Value::Float(0.0),
         oid if types::range(oid).is_some() => Value::Integer(0),
-        oid if types::element(oid).is_some() => Value::Array(Rc::from([])),
+        oid if types::element(oid).is_some() => Value::Array(Vec::new().into()),
         _ => Value::text(""),
     }
 }

@@ -65,8 +65,11 @@ fn world() -> World {
     )
 }
 
+/// Names and types of columns.
+type Columns = Vec<(String, Oid)>;
+
 /// Runs a query, and returns its columns and its rows, each with `|` between values and `~` for NULL.
-fn answer(text: &str) -> Result<(Vec<(String, Oid)>, Vec<String>), Failure> {
+fn answer(text: &str) -> Result<(Columns, Vec<String>), Failure> {
     let query = parse_query(text)?;
     let world = world();
     let version = ("server_version".to_owned(), "15.0 (escrowd 1.1)".to_owned());

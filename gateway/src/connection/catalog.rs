@@ -78,13 +78,20 @@ impl Connection {
         )
     }
 
+    /// Counts what a query looked at towards the connection's share of the turn.
+    fn add_effort(&self, effort: usize) {
+        self.effort.set(self.effort.get().saturating_add(effort));
+    }
+
     /// Finds out the types of a query's parameters, and its columns.
     pub(super) fn describe_query(
         &self,
         query: &Query,
         types: &[Oid],
     ) -> Result<catalog::Description, Failure> {
-        catalog::describe(query, types, &self.world())
+        let description = catalog::describe(query, types, &self.world())?;
+        self.add_effort(description.effort);
+        Ok(description)
     }
 
     /// Runs a query. If it needs to know what all connections do, the engine is asked for that first.
@@ -130,7 +137,11 @@ impl Connection {
         if self.transaction.block == Block::None && !self.transaction.several {
             self.end_local_variables();
         }
-        let answer = answer?;
+        let answer = answer.map_err(|report| {
+            self.add_effort(catalog::MOST_STEPS);
+            report
+        })?;
+        self.add_effort(answer.effort);
         Ok(Completed {
             tag: Tag::Rows("SELECT"),
             rows: Some(ResultSet::encoded(answer.columns, answer.rows)),

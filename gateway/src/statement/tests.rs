@@ -668,6 +668,20 @@ fn statements_that_need_no_program_are_read() {
             },
         ),
         (
+            "SET SESSION AUTHORIZATION 'x'",
+            Statement::SetRole {
+                name: Some("x".to_owned()),
+                is_reset: false,
+            },
+        ),
+        (
+            "RESET SESSION AUTHORIZATION",
+            Statement::SetRole {
+                name: None,
+                is_reset: true,
+            },
+        ),
+        (
             "SHOW TIME ZONE",
             Statement::ShowSetting("timezone".to_owned()),
         ),

@@ -134,7 +134,7 @@ pub const BODIES: Table = &[
         let elements = arguments[0].as_array();
         executor.keep(96 * elements.len())?;
         let row = |(place, element): (usize, &Value)| {
-            Value::Row([element.clone(), Value::Integer(place as i64 + 1)].into())
+            Value::Row(vec![element.clone(), Value::Integer(place as i64 + 1)].into())
         };
         Ok(Value::Array(elements.iter().enumerate().map(row).collect()))
     }),

@@ -7,7 +7,7 @@ use crate::catalog::relations::{Content, Rows};
 use crate::catalog::types;
 use crate::catalog::value::Value;
 
-pub fn content(name: &str) -> Option<Content> {
+pub(super) fn content(name: &str) -> Option<Content> {
     Some(Content::Fixed(match name {
         "pg_type" => fill_types,
         "pg_proc" => fill_functions,

@@ -12,7 +12,7 @@ use crate::sqlstate::Failure;
 /// The tablespace of all databases.
 const DEFAULT_TABLESPACE: i64 = 1663;
 
-pub fn content(name: &str) -> Option<Content> {
+pub(super) fn content(name: &str) -> Option<Content> {
     Some(Content::Made(match name {
         "pg_database" => fill_databases,
         "pg_roles" | "pg_authid" => fill_roles,

@@ -9,7 +9,7 @@ use crate::catalog::value::Value;
 use crate::catalog::{Session, World};
 use crate::sqlstate::Failure;
 
-pub fn content(name: &str) -> Option<Content> {
+pub(super) fn content(name: &str) -> Option<Content> {
     Some(Content::Made(match name {
         "tables" => fill_tables,
         "columns" => fill_columns,

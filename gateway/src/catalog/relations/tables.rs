@@ -19,7 +19,7 @@ const BTREE: i64 = 403;
 /// The Oid of pg_class, for comments.
 const PG_CLASS: i64 = 1259;
 
-pub fn content(name: &str) -> Option<Content> {
+pub(super) fn content(name: &str) -> Option<Content> {
     Some(Content::Made(match name {
         "pg_class" => fill_classes,
         "pg_attribute" => fill_attributes,

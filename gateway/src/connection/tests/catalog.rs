@@ -226,3 +226,18 @@ fn cursors_read_the_catalog() {
         ["columns 1", "row 1", "row 2", "complete FETCH 2", "ready T"]
     );
 }
+
+#[test]
+fn queries_that_look_at_much_take_turns_with_others() {
+    let mut client = Client::connected();
+    let text = "SELECT count(*) FROM generate_series(1, 30000)";
+    let both = [query(text), query(text)].concat();
+    client.connection.receive(&both, client.now);
+    assert!(client.connection.has_turn());
+    let written = client.connection.output().to_vec();
+    let one = ["columns 1", "row 30000", "complete SELECT 1", "ready I"];
+    assert_eq!(decoded(&written), one[..3]);
+    client.connection.sent(written.len(), client.now);
+    client.go_on();
+    assert_eq!(client.output(), [&one[3..], &one[..]].concat());
+}
