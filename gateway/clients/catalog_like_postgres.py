@@ -1,7 +1,7 @@
 """The queries of the catalog that clients send, to the gateway and to PostgreSQL over equal tables: columns, types and rows have to be equal.
 
-Each file of the folder `catalog` has what one client sends, as recorded on the wire. A line `-- ==` begins a query; behind it may stand why rows differ
-on purpose (then columns and types are compared alone), and the value of `$1`.
+Each file of the folder `catalog` has what one client sends, as recorded on the wire; `meaning.sql` has what the evaluator knows. A line `-- ==` begins a
+query. Behind it may stand why rows differ on purpose (then columns and types are compared alone), and the value of `$1`.
 """
 from __future__ import annotations
 

@@ -41,7 +41,6 @@ COMMANDS = [
     "\\dE",
     "\\di",
     "\\d stock_pkey",
-    "\\dx",
 ]
 # Keys in front of TAB, twice each, and what is typed then.
 KEYS = [

@@ -78,6 +78,11 @@ pub fn cast(
     }
     let value = match value {
         Value::Text(text) if !types::is_text(to) => read(&text, from, to, world)?,
+        // A cast spells a boolean out; it is printed as one letter.
+        Value::Bool(value) if types::is_text(to) => {
+            let word = if value { "true" } else { "false" };
+            Value::text(shortened(word, to))
+        }
         value if types::is_text(to) => {
             Value::text(shortened(&output::text(&value, from, world)?, to))
         }

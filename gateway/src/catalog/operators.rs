@@ -332,11 +332,16 @@ fn like(text: &str, pattern: &str) -> Result<bool, Failure> {
     let text: Vec<char> = text.chars().collect();
     let mut marks: Vec<(char, bool)> = Vec::new();
     let mut written = pattern.chars();
+    let mut is_dangling = false;
     while let Some(mark) = written.next() {
-        marks.push(match mark {
-            '\\' => (written.next().ok_or_else(dangling_escape)?, true),
-            mark => (mark, false),
-        });
+        match (mark, written.clone().next()) {
+            ('\\', Some(escaped)) => {
+                written.next();
+                marks.push((escaped, true));
+            }
+            ('\\', None) => is_dangling = true,
+            (mark, _) => marks.push((mark, false)),
+        }
     }
     // The last `%` and the text behind it, to which a mismatch goes back.
     let (mut at, mut place, mut star) = (0, 0, None);
@@ -350,6 +355,8 @@ fn like(text: &str, pattern: &str) -> Result<bool, Failure> {
                 at += 1;
                 place += 1;
             }
+            // PostgreSQL refuses such a pattern only where the text gets so far.
+            None if is_dangling => return Err(dangling_escape()),
             _ => match star {
                 Some((percent, from)) => {
                     star = Some((percent, from + 1));
@@ -360,7 +367,7 @@ fn like(text: &str, pattern: &str) -> Result<bool, Failure> {
             },
         }
     }
-    Ok(marks[place..].iter().all(|mark| *mark == ('%', false)))
+    Ok(!is_dangling && marks[place..].iter().all(|mark| *mark == ('%', false)))
 }
 
 fn dangling_escape() -> Failure {
@@ -389,6 +396,8 @@ mod tests {
             ("ab", "a\\%", false),
             ("stock", "%o%k", true),
             ("ä", "_", true),
+            ("a", "b\\", false),
+            ("", "\\", false),
         ] {
             assert_eq!(
                 like(text, pattern).unwrap(),
@@ -399,7 +408,7 @@ mod tests {
             );
         }
         assert_eq!(
-            like("a", "a\\").unwrap_err().state,
+            like("ab", "a\\").unwrap_err().state,
             SqlState::INVALID_ESCAPE_SEQUENCE
         );
     }

@@ -297,7 +297,7 @@ pub fn settle(procedure: &Procedure, wanted: &[Oid], given: &[Oid]) -> Option<(V
     let pairs = wanted.iter().zip(given);
     let arguments: Option<Vec<Oid>> = pairs
         .map(|(&wanted, &given)| match wanted {
-            oid::ANY if is_open(given) => Some(oid::TEXT),
+            oid::ANY if given == oid::UNSPECIFIED => Some(oid::TEXT),
             oid::ANY => Some(given),
             wanted if is_polymorphic_array(wanted) && is_open(given) => types::array_of(element?),
             wanted if is_polymorphic_array(wanted) => Some(given),

@@ -126,6 +126,10 @@ fn state(text: &str) -> SqlState {
 fn values_are_those_of_postgresql_15() {
     for (text, expected) in [
         ("SELECT 1", "1"),
+        (
+            "SELECT true, true::text, 'a' || true, ARRAY[]::int[], pg_typeof('a')",
+            "t|true|atrue|{}|unknown",
+        ),
         ("SELECT 1+1 AS result", "2"),
         ("SELECT -2147483648, 1.50, .5, 'it''s', true, NULL", "-2147483648|1.50|0.5|it's|t|~"),
         ("SELECT version()", "PostgreSQL 15.0 (escrowd 1.1)"),
@@ -359,6 +363,7 @@ fn faults_have_the_codes_of_postgresql_15() {
         ("SELECT 1 UNION SELECT true", SqlState::DATATYPE_MISMATCH),
         ("SELECT 1 UNION SELECT 1, 2", SqlState::SYNTAX_ERROR),
         ("SELECT 1 ORDER BY 2", SqlState::INVALID_COLUMN_REFERENCE),
+        ("SELECT ARRAY[]", SqlState::INDETERMINATE_TYPE),
         ("SELECT 1 LIMIT -1", SqlState::INVALID_ROW_COUNT_IN_LIMIT),
         (
             "SELECT * FROM pg_class a, pg_type a",

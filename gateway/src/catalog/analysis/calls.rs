@@ -164,12 +164,14 @@ impl Analyser<'_> {
             }
         };
         let left = self.settled(left, span)?;
-        let (shown, modifier) = (left.oid, left.modifier);
+        let modifier = left.modifier;
         let (left, right, compared) = self.comparable(left, "=", right, span)?;
+        let modifier = if left.oid == compared { modifier } else { -1 };
         let node = Node::NullIf(Box::new(left.node), Box::new(right.node));
-        let typed = Typed::new(node, compared);
-        let typed = self.cast(typed, shown, -1, span)?;
-        Ok(Typed { modifier, ..typed })
+        Ok(Typed {
+            modifier,
+            ..Typed::new(node, compared)
+        })
     }
 
     fn extreme(

@@ -78,6 +78,12 @@ impl Analyser<'_> {
             }
             ExpressionKind::Cast(operand, name) => {
                 let (oid, modifier) = self.type_of(name)?;
+                if matches!(&operand.kind, ExpressionKind::Array(elements) if elements.is_empty())
+                    && types::element(oid).is_some()
+                {
+                    let empty = Value::Array(Vec::new().into());
+                    return Ok(Typed::constant(empty, oid));
+                }
                 let typed = self.expression(operand, scope)?;
                 self.cast(typed, oid, modifier, operand.span)
             }
@@ -130,6 +136,11 @@ impl Analyser<'_> {
                 let plan = self.subquery(query, scope)?;
                 let (element, _) = only_column(&plan, span)?;
                 Ok(Typed::new(Node::ArrayQuery(plan), array_of(element)?))
+            }
+            ExpressionKind::Array(elements) if elements.is_empty() => {
+                let text = "cannot determine type of empty array";
+                Err(Report::error(SqlState::INDETERMINATE_TYPE, text)
+                    .hint("Explicitly cast to the desired type, for example ARRAY[]::integer[]."))
             }
             ExpressionKind::Array(elements) => {
                 let elements = self.list(elements, scope)?;

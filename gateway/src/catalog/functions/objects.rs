@@ -309,18 +309,13 @@ fn check_role(executor: &Executor<'_>, roles: &[Value], types: &[Oid]) -> Result
 fn privileges(list: &str, known: &[&str]) -> Result<Vec<String>, Failure> {
     list.split(',')
         .map(|privilege| {
-            let privilege = privilege.trim().to_ascii_uppercase();
-            let plain = privilege
-                .strip_suffix(" WITH GRANT OPTION")
-                .unwrap_or(&privilege)
-                .to_owned();
-            if known.contains(&plain.as_str()) {
-                Ok(plain)
+            let written = privilege.trim();
+            let plain = written.to_ascii_uppercase();
+            let plain = plain.strip_suffix(" WITH GRANT OPTION").unwrap_or(&plain);
+            if known.contains(&plain) {
+                Ok(plain.to_owned())
             } else {
-                let text = format!(
-                    "unrecognized privilege type: \"{}\"",
-                    privilege.to_lowercase()
-                );
+                let text = format!("unrecognized privilege type: \"{}\"", written);
                 Err(Report::error(SqlState::INVALID_PARAMETER_VALUE, text))
             }
         })
