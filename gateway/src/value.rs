@@ -11,6 +11,8 @@ use crate::sqlstate::{Failure, Report, SqlState};
 use crate::statement::literal::not_utf8;
 use crate::wire::backend::Format;
 
+pub mod array;
+
 /// The Oids of the types that are understood.
 pub mod oid {
     use postgres_protocol::Oid;
@@ -68,6 +70,8 @@ pub enum Value {
     Number(Number),
     /// A text.
     Text(String),
+    /// The elements of an array.
+    List(Vec<Value>),
 }
 
 impl Value {
@@ -77,6 +81,10 @@ impl Value {
             Value::Null => 0,
             Value::Number(number) => number.digits.len(),
             Value::Text(text) => text.len(),
+            Value::List(list) => {
+                let own = list.capacity() * std::mem::size_of::<Value>();
+                own + list.iter().map(Value::size).sum::<usize>()
+            }
         }
     }
 }
@@ -278,6 +286,12 @@ pub fn parameter(
     format: Format,
     bytes: Option<&[u8]>,
 ) -> Result<Value, Failure> {
+    if let (Some(element), Some(bytes)) = (array::element(oid), bytes) {
+        return list(number, element, format, bytes);
+    }
+    if bytes.is_none() && array::element(oid).is_some() {
+        return Ok(Value::Null);
+    }
     let is_text = is_text(oid).ok_or_else(|| {
         Report::missing(&format!(
             "a parameter (${}) of the type with Oid {}",
@@ -303,6 +317,26 @@ pub fn parameter(
         }
         Format::Binary => binary_number(number, oid, bytes),
     }
+}
+
+/// Reads an array.
+fn list(number: usize, element: Oid, format: Format, bytes: &[u8]) -> Result<Value, Failure> {
+    let value = |bytes: Option<&[u8]>| parameter(number, element, format, bytes);
+    let values: Result<Vec<Value>, Failure> = match format {
+        Format::Text => {
+            let text = std::str::from_utf8(bytes).map_err(|_| not_utf8(bytes))?;
+            let elements = array::elements(text)?;
+            let elements = elements.iter().map(Option::as_deref);
+            elements
+                .map(|text| value(text.map(str::as_bytes)))
+                .collect()
+        }
+        Format::Binary => {
+            let elements = array::binary_elements(bytes, element)?;
+            elements.into_iter().map(value).collect()
+        }
+    };
+    values.map(Value::List)
 }
 
 /// Returns whether PostgreSQL's numeric has this value, which is no number of the program.
@@ -638,7 +672,7 @@ mod tests {
         let read = |oid, format, bytes: &[u8]| match parameter(1, oid, format, Some(bytes)) {
             Ok(Value::Number(number)) => written(Ok(number)),
             Ok(Value::Text(text)) => format!("'{}'", text),
-            Ok(Value::Null) => "NULL".to_owned(),
+            Ok(Value::Null | Value::List(_)) => "NULL".to_owned(),
             Err(report) => report.state.code().to_owned(),
         };
         use Format::{Binary, Text};

@@ -894,6 +894,34 @@ fn rows_are_picked_ordered_and_counted() {
 }
 
 #[test]
+fn an_array_of_keys_may_be_a_parameter() {
+    let mut client = Client::connected();
+    client.learn(STOCK);
+    client.send(&parse("a", "SELECT id FROM stock WHERE id = ANY($1)", &[]));
+    client.send(&[describe('S', "a"), sync()].concat());
+    client.serve(&[]);
+    assert_eq!(
+        client.output(),
+        ["parsed", "parameters 1016", "columns 1", "ready I"]
+    );
+    let none = "ID | PIECES | PRICE | NAME\nOK rows 0\n";
+    client.send(&bind("", "a", &[Some(b"{2,1}")], 0, 0));
+    client.send(&[execute("", 0), sync()].concat());
+    client.serve(&[
+        ("SELECT * FROM stock WHERE id = 1", none),
+        ("SELECT * FROM stock WHERE id = 2", none),
+    ]);
+    assert_eq!(client.output(), ["bound", "complete SELECT 0", "ready I"]);
+    client.send(&bind("", "a", &[Some(b"{}")], 0, 0));
+    client.send(&[describe('P', ""), execute("", 0), sync()].concat());
+    client.serve(&[]);
+    assert_eq!(
+        client.output(),
+        ["bound", "columns 1", "complete SELECT 0", "ready I"]
+    );
+}
+
+#[test]
 fn rows_of_an_insert_are_written_one_by_one() {
     let mut client = Client::connected();
     client.learn(STOCK);

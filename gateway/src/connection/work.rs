@@ -325,6 +325,11 @@ impl Connection {
             return self.fail_statement(running, report);
         }
         let verb = running.verb;
+        if running.replies == 0 {
+            // No key, no row.
+            let begun = self.begin_rows_of(&mut running);
+            return self.finish_statement(running, begun.map(|()| Completed::plain("SELECT")));
+        }
         self.await_statement(running);
         if let (Verb::CreateTable | Verb::AlterTable, Some(table)) = (verb, table) {
             // Nobody's statement comes in between. So no SELECT has to ask for it.

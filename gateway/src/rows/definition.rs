@@ -67,7 +67,7 @@ impl DefinedColumn {
         let number = match value {
             Value::Number(number) => number,
             Value::Text(text) => return text.clone(),
-            Value::Null => return String::new(),
+            Value::Null | Value::List(_) => return String::new(),
         };
         let written = number.to_string();
         let scale = match self.column_type {

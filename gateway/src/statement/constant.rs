@@ -244,6 +244,10 @@ fn parameter(number: u16, input: Input<'_>, place: usize) -> Result<Datum, Failu
         .get(index)
         .ok_or_else(|| no_parameter(number, place))?;
     let oid = input.types.get(index).copied().unwrap_or(oid::UNKNOWN);
+    datum_of(value, oid).map_err(|report| report.at(place))
+}
+
+fn datum_of(value: &Value, oid: Oid) -> Result<Datum, Failure> {
     Ok(match value {
         Value::Null => Datum::Null,
         Value::Text(text) if oid == oid::UNKNOWN => Datum::Unknown(text.clone()),
@@ -254,11 +258,83 @@ fn parameter(number: u16, input: Input<'_>, place: usize) -> Result<Datum, Failu
                 (oid::INT2 | oid::INT4 | oid::INT8, Ok(integer)) => Datum::Integer(integer, oid),
                 _ => match Decimal::parse(&written) {
                     Some(decimal) => Datum::Numeric(decimal),
-                    None => return Err(value::out_of_range(&written).at(place)),
+                    None => return Err(value::out_of_range(&written)),
                 },
             }
         }
+        Value::List(_) => return Err(Report::missing("an array in place of a value")),
     })
+}
+
+/// Returns whether an expression is an array whose elements can be told without reading anything: a parameter, or a text.
+pub fn is_array(expression: &Expression) -> bool {
+    match &expression.kind {
+        ExpressionKind::Parameter(_) | ExpressionKind::Text(_) => true,
+        ExpressionKind::Cast(operand, to) => array_cast(to).is_some() && is_array(operand),
+        _ => false,
+    }
+}
+
+/// Returns the type of an array that a cast names. None: it is another type.
+pub fn array_cast(to: &TypeName) -> Option<Oid> {
+    let element = TypeName {
+        is_array: false,
+        ..to.clone()
+    };
+    parameter_cast(&element)
+        .filter(|_| to.is_array)
+        .and_then(value::array::of)
+}
+
+/// Returns the elements of an expression for which [`is_array`] holds, without those that are NULL.
+///
+/// # Errors
+///
+/// Fails if it is no array, or if a value does not have the type of its cast.
+pub fn elements(expression: &Expression, input: Input<'_>) -> Result<Vec<Datum>, Failure> {
+    let place = expression.span.start;
+    let elements: Vec<Datum> = match &expression.kind {
+        ExpressionKind::Text(text) => {
+            let elements = value::array::elements(text).map_err(|report| report.at(place))?;
+            elements.into_iter().flatten().map(Datum::Unknown).collect()
+        }
+        ExpressionKind::Cast(operand, to) => {
+            let element = array_cast(to).and_then(value::array::element);
+            let of = |datum| match element {
+                Some(oid::NUMERIC) => cast(datum, CastTo::Numeric(None)),
+                Some(oid::TEXT) => cast(datum, CastTo::Text),
+                Some(oid::VARCHAR) => cast(datum, CastTo::Varchar(None)),
+                Some(oid) => cast(datum, CastTo::Integer(oid)),
+                None => Ok(datum),
+            };
+            let elements = elements(operand, input)?.into_iter().map(of);
+            elements
+                .collect::<Result<_, _>>()
+                .map_err(|report| at(report, operand.span))?
+        }
+        ExpressionKind::Parameter(number) => {
+            let index = usize::from(*number) - 1;
+            let oid = input.types.get(index).copied().unwrap_or(oid::UNKNOWN);
+            let element = value::array::element(oid).unwrap_or(oid::UNKNOWN);
+            match input.values.get(index) {
+                None => return Err(no_parameter(*number, place)),
+                Some(Value::List(list)) => {
+                    let data = list.iter().map(|value| datum_of(value, element));
+                    data.collect::<Result<_, _>>()?
+                }
+                Some(Value::Null) => Vec::new(),
+                Some(_) => {
+                    let text = "op ANY/ALL (array) requires array on right side";
+                    return Err(Report::error(SqlState::WRONG_OBJECT_TYPE, text).at(place));
+                }
+            }
+        }
+        _ => Vec::new(),
+    };
+    Ok(elements
+        .into_iter()
+        .filter(|datum| *datum != Datum::Null)
+        .collect())
 }
 
 fn signed(sign: &str, operand: &Expression, input: Input<'_>) -> Result<Datum, Failure> {

@@ -67,6 +67,9 @@ fn compared(keys: &Keys, definition: &Definition, input: Input<'_>) -> Result<()
     let column = definition
         .column(&keys.column.text)
         .ok_or_else(|| unknown_column(&keys.column))?;
+    if keys.is_array {
+        return Ok(());
+    }
     keys.values
         .iter()
         .try_for_each(|value| fits(column, value, input, Usage::Compared))

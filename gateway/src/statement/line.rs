@@ -188,6 +188,7 @@ fn append_value(out: &mut Vec<u8>, value: &Value) -> Result<(), Failure> {
             Ok(())
         }
         Value::Text(text) => literal::append_text(out, text),
+        Value::List(_) => Err(Report::missing("an array as a value")),
     }
 }
 

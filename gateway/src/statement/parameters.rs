@@ -11,7 +11,7 @@ use crate::statement::query::{Expression, ExpressionKind};
 use crate::statement::select::{Shown, What};
 use crate::statement::served::{Served, Show, Update};
 use crate::statement::Statement;
-use crate::value::oid;
+use crate::value::{array, oid};
 
 /// What a parameter stands for.
 #[derive(Clone, Debug, PartialEq, Eq)]
@@ -20,6 +20,8 @@ pub enum Place {
     Column(String),
     /// What this column is compared with.
     Compared(String),
+    /// An array of what this column is compared with.
+    Elements(String),
     /// The value at this place of an INSERT that lists no columns.
     Inserted(usize),
     /// What is cast to this type.
@@ -38,7 +40,7 @@ impl Place {
     /// Returns how many bytes it takes.
     pub fn size(&self) -> usize {
         let name = match self {
-            Place::Column(name) | Place::Compared(name) => name.capacity(),
+            Place::Column(name) | Place::Compared(name) | Place::Elements(name) => name.capacity(),
             _ => 0,
         };
         std::mem::size_of::<Place>() + name
@@ -80,6 +82,7 @@ fn note_served(places: &mut [Place], served: &Served) {
             let column = keys.column.text.clone();
             // Several members have the type of what they are compared with.
             let place = match keys.values.len() {
+                _ if keys.is_array => Place::Elements(column),
                 1 => Place::Compared(column),
                 _ => Place::Column(column),
             };
@@ -140,7 +143,8 @@ fn note(places: &mut [Place], value: &Expression, place: Place) {
             note(places, operand, Place::Signed(sign, value.span.start));
         }
         ExpressionKind::Cast(operand, to) => {
-            let place = constant::parameter_cast(to).map_or(Place::Alone, Place::Cast);
+            let oid = constant::parameter_cast(to).or_else(|| constant::array_cast(to));
+            let place = oid.map_or(Place::Alone, Place::Cast);
             note(places, operand, place);
         }
         _ => {}
@@ -191,7 +195,7 @@ pub fn needs_definition(place: &Place, oid: Oid) -> bool {
     is_open(oid)
         && matches!(
             place,
-            Place::Column(_) | Place::Compared(_) | Place::Inserted(_)
+            Place::Column(_) | Place::Compared(_) | Place::Elements(_) | Place::Inserted(_)
         )
 }
 
@@ -201,11 +205,20 @@ pub fn parameter_type(place: &Place, oid: Oid, definition: Option<&Definition>) 
         return oid;
     }
     let column = definition.and_then(|definition| match place {
-        Place::Column(name) | Place::Compared(name) => definition.column(name),
+        Place::Column(name) | Place::Compared(name) | Place::Elements(name) => {
+            definition.column(name)
+        }
         Place::Inserted(at) => definition.columns.get(*at),
         _ => None,
     });
     match (column, place) {
+        (Some(column), Place::Elements(_)) => {
+            let element = match column.is_number() {
+                true => column.result_column().oid,
+                false => oid::TEXT,
+            };
+            array::of(element).unwrap_or(oid::TEXT)
+        }
         // Texts of all types are compared as text.
         (Some(column), Place::Compared(_)) if !column.is_number() => oid::TEXT,
         (Some(column), _) => column.result_column().oid,

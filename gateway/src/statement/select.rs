@@ -16,6 +16,9 @@ use crate::statement::served::{unknown_column, Keys, Table, Verb};
 use crate::value::{oid, Value};
 use crate::wire::backend::Column;
 
+/// The most rows that a SELECT reads by their keys: each is a line of the program.
+const MOST_KEYS: usize = 1_000;
+
 /// A column of a result, or all columns of the table.
 #[derive(Clone, Debug, PartialEq, Eq)]
 pub struct Shown {
@@ -557,7 +560,7 @@ impl Select {
             || self
                 .keys
                 .as_ref()
-                .map_or(false, |keys| keys.values.len() == 1);
+                .map_or(false, |keys| keys.values.len() == 1 && !keys.is_array);
         let mut order = None;
         for (key, is_descending, span) in &self.order {
             let column = match key {
@@ -616,15 +619,24 @@ impl Select {
         }
         let mut values = Vec::with_capacity(keys.values.len());
         for expression in &keys.values {
-            values.push(constant::value_for(
-                expression,
-                input,
-                column,
-                Usage::Compared,
-            )?);
+            let place = expression.span.start;
+            if keys.is_array {
+                for datum in constant::elements(expression, input)? {
+                    let value = datum.fit(column, Usage::Compared);
+                    values.push(value.map_err(|report| report.at(place))?);
+                }
+            } else {
+                let value = constant::value_for(expression, input, column, Usage::Compared)?;
+                values.push(value);
+            }
         }
         values.sort_by(Value::compare);
         values.dedup();
+        if values.len() > MOST_KEYS {
+            let report = Report::error(SqlState::LIMIT_EXCEEDED, "too many keys in a SELECT");
+            let detail = format!("A SELECT reads at most {} rows by their keys.", MOST_KEYS);
+            return Err(report.detail(detail).at(keys.column.span.start));
+        }
         Ok(Some(values))
     }
 }

@@ -329,6 +329,8 @@ pub struct Keys {
     pub column: Name,
     /// The values.
     pub values: Vec<Expression>,
+    /// Whether there is one value, which is an array of them: `key = ANY (array)`.
+    pub is_array: bool,
 }
 
 impl Keys {
@@ -344,6 +346,7 @@ impl Keys {
         several: bool,
     ) -> Result<Keys, Failure> {
         let span = condition.span;
+        let mut is_array = false;
         let (column, values) = match condition.kind {
             ExpressionKind::Binary(left, operator, right) if operator == "=" => {
                 match (left.kind, right.kind) {
@@ -373,16 +376,31 @@ impl Keys {
                     {
                         (names, members)
                     }
+                    (ExpressionKind::Column(names), kind) => {
+                        let span = right.span;
+                        let array = Expression { kind, span };
+                        is_array = true;
+                        if !several || !constant::is_array(&array) {
+                            return Err(not_the_key(verb, span));
+                        }
+                        (names, vec![array])
+                    }
                     _ => return Err(not_the_key(verb, span)),
                 }
             }
             _ => return Err(not_the_key(verb, span)),
         };
         let column = table.column(column)?;
-        for value in &values {
-            constant::check(value, verb)?;
+        if !is_array {
+            values
+                .iter()
+                .try_for_each(|value| constant::check(value, verb))?;
         }
-        Ok(Keys { column, values })
+        Ok(Keys {
+            column,
+            values,
+            is_array,
+        })
     }
 }
 

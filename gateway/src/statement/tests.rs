@@ -509,6 +509,51 @@ fn parameters_become_values() {
 }
 
 #[test]
+fn an_array_of_keys_is_a_line_for_each() {
+    let list = Value::List(vec![
+        Value::Number(Number::from_text("30").unwrap()),
+        Value::Null,
+        Value::Number(Number::from_text("4").unwrap()),
+    ]);
+    let lines_of = |condition: &str, values: &[Value], types: &[u32]| {
+        let input = Input { values, types };
+        let text = format!("SELECT * FROM purse WHERE {}", condition);
+        let lines = lines_with(&text, input).map_err(|report| report.state.code())?;
+        let keys: Vec<String> = lines
+            .iter()
+            .map(|line| line["SELECT * FROM purse WHERE id = ".len()..].to_owned())
+            .collect();
+        Ok(keys.join(" "))
+    };
+    let thousand: Vec<String> = (0..1_001).map(|key| key.to_string()).collect();
+    let too_many = format!("id = ANY ('{{{}}}')", thousand.join(","));
+    for (condition, expected) in [
+        ("id = ANY ('{3, 1,NULL,1}')", Ok("1 3")),
+        ("id = SOME (ARRAY[2, '1'])", Ok("1 2")),
+        ("id = ANY ('{}')", Ok("")),
+        ("id = ANY ('{2.5}'::numeric[]::int[])", Ok("3")),
+        ("id = ANY ($1)", Ok("4 30")),
+        ("id = ANY ($1::bigint[])", Ok("4 30")),
+        ("id = ANY ('{x}')", Err("22P02")),
+        ("id = ANY ('1')", Err("22P02")),
+        ("id = ANY ($2)", Err("42809")),
+        ("id = ALL ('{1}')", Err("0A000")),
+        ("id = $1", Err("0A000")),
+        (&too_many, Err("54000")),
+    ] {
+        let values = [list.clone(), Value::Text("1".to_owned())];
+        let types = [1016, oid::TEXT];
+        let got = lines_of(condition, &values, &types);
+        assert_eq!(
+            got.as_deref().map_err(|code| *code),
+            expected,
+            "{}",
+            condition
+        );
+    }
+}
+
+#[test]
 fn a_line_has_at_most_4086_bytes() {
     let insert = |count: usize| format!("INSERT INTO t VALUES ('{}')", "x".repeat(count));
     let least = insert(0).len();
