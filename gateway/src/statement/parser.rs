@@ -477,6 +477,12 @@ mod tests {
     }
 
     #[test]
+    fn an_operator_has_at_most_63_bytes() {
+        assert_eq!(fault(&format!("SELECT 1 {} 2", "~".repeat(64))).0, "42601");
+        assert!(parse_query(&format!("SELECT 1 {} 2", "~".repeat(63))).is_ok());
+    }
+
+    #[test]
     fn what_is_missing_is_named() {
         for text in [
             "SELECT N'a'",

@@ -208,7 +208,14 @@ fn token(text: &str, start: usize) -> Result<Token, Failure> {
         b':' if next == Some(b'=') => (TokenKind::Pair, start + 2),
         b'.' if next == Some(b'.') => (TokenKind::Pair, start + 2),
         byte if is_word_start(byte) => (TokenKind::Word, word_end(bytes, start)),
-        byte if is_operator(byte) => (TokenKind::Operator, operator_end(bytes, start)),
+        byte if is_operator(byte) => {
+            let end = operator_end(bytes, start);
+            if end - start > literal::LONGEST_NAME {
+                let text = format!("operator too long at or near \"{}\"", &text[start..end]);
+                return Err(Report::error(SqlState::SYNTAX_ERROR, text).at(start));
+            }
+            (TokenKind::Operator, end)
+        }
         byte if byte < 0x20 || byte == 0x7f => {
             let text = format!("syntax error at the control character 0x{:02x}", byte);
             return Err(Report::error(SqlState::SYNTAX_ERROR, text).at(start));
