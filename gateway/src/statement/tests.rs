@@ -197,6 +197,11 @@ fn what_is_no_statement_or_is_missing_is_refused() {
             ". WHERE id = 1",
         ),
         ("SELECT * FROM purse WHERE (id = (1)", "42601", ""),
+        (
+            "DELETE FROM purse SET WHERE id = 1",
+            "42601",
+            "SET WHERE id = 1",
+        ),
         ("DELETE FROM purse id = 1", "42601", "= 1"),
         ("DELETE FROM WHERE = 1", "42601", "WHERE = 1"),
         ("INSERT INTO VALUES (1)", "42601", "1)"),

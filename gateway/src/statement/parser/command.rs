@@ -388,14 +388,14 @@ impl<'a> Parser<'a> {
         Table::new(name, None)
     }
 
-    /// Reads the table of a statement that changes it. `keyword`: a word that is no alias.
-    fn changed_table(&mut self, keyword: &str) -> Result<(QualifiedName, Option<Name>), Failure> {
+    /// Reads the table of a statement that changes it. SET is no alias.
+    fn changed_table(&mut self) -> Result<(QualifiedName, Option<Name>), Failure> {
         self.keyword("ONLY");
         let name = self.qualified_name()?;
         self.take_operator("*");
         let alias = if self.keyword("AS") {
             Some(self.name()?)
-        } else if self.at_keyword(keyword) {
+        } else if self.at_keyword("SET") {
             None
         } else {
             self.optional_name()
@@ -432,7 +432,7 @@ impl<'a> Parser<'a> {
     }
 
     fn update(&mut self) -> Result<Statement, Failure> {
-        let (name, alias) = self.changed_table("SET")?;
+        let (name, alias) = self.changed_table()?;
         self.expect_keyword("SET")?;
         let changes = self.list(|parser| {
             if parser.at_symbol(0, b'(') {
@@ -540,7 +540,7 @@ impl<'a> Parser<'a> {
 
     fn delete(&mut self) -> Result<Statement, Failure> {
         self.expect_keyword("FROM")?;
-        let (name, alias) = self.changed_table("USING")?;
+        let (name, alias) = self.changed_table()?;
         if self.at_keyword("USING") {
             return Err(self.missing("DELETE .. USING"));
         }
