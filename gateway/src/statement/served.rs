@@ -129,42 +129,12 @@ pub struct Table {
 }
 
 /// The words that are no names for the program, in lower case and in order.
+#[rustfmt::skip]
 const RESERVED: [&str; 35] = [
-    "add",
-    "alter",
-    "and",
-    "between",
-    "bounds",
-    "check",
-    "commit",
-    "constraint",
-    "create",
-    "delete",
-    "drop",
-    "from",
-    "insert",
-    "integer",
-    "into",
-    "journal",
-    "key",
-    "not",
-    "null",
-    "number",
-    "primary",
-    "reservable",
-    "rollback",
-    "savepoint",
-    "select",
-    "set",
-    "show",
-    "statistics",
-    "table",
-    "to",
-    "update",
-    "values",
-    "varchar2",
-    "where",
-    "work",
+    "add", "alter", "and", "between", "bounds", "check", "commit", "constraint", "create", "delete",
+    "drop", "from", "insert", "integer", "into", "journal", "key", "not", "null", "number",
+    "primary", "reservable", "rollback", "savepoint", "select", "set", "show", "statistics",
+    "table", "to", "update", "values", "varchar2", "where", "work",
 ];
 
 /// Returns whether the program may have something of this name, which it tells in lower case.

@@ -62,6 +62,7 @@ fn refused(text: &str) -> (&'static str, &str) {
 }
 
 #[test]
+#[rustfmt::skip]
 fn lines_are_what_was_written() {
     for (text, line) in [
         // Words, blanks, comments and quotes.
@@ -102,10 +103,7 @@ fn lines_are_what_was_written() {
         ("UPDATE purse SET name = $$it's$$ WHERE id = 1", "UPDATE purse SET name = 'it''s' WHERE id = 1"),
         ("UPDATE purse SET name = 'a'\n'b' WHERE id = 1", "UPDATE purse SET name = 'ab' WHERE id = 1"),
         // Values take the type of their column.
-        (
-            "INSERT INTO purse VALUES ('1', 'x', '-3.50', 007)",
-            "INSERT INTO purse VALUES (1, 'x', -3.5, 7)",
-        ),
+        ("INSERT INTO purse VALUES ('1', 'x', '-3.50', 007)", "INSERT INTO purse VALUES (1, 'x', -3.5, 7)"),
         (
             "INSERT INTO purse AS p (name, cash, id, cards) VALUES (('5'), ('-9.99'::numeric), (1), 5.)",
             "INSERT INTO purse (name, cash, id, cards) VALUES ('5', -9.99, 1, 5)",
@@ -146,62 +144,23 @@ fn lines_are_what_was_written() {
 }
 
 #[test]
+#[rustfmt::skip]
 fn what_is_no_statement_or_is_missing_is_refused() {
     for (text, state, place) in [
         // Glued, joined and bracketed tokens: each was another statement once.
-        (
-            "UPDATE purse SET cards = cards - 1..5 WHERE id = 1",
-            "42601",
-            "..5 WHERE id = 1",
-        ),
+        ("UPDATE purse SET cards = cards - 1..5 WHERE id = 1", "42601", "..5 WHERE id = 1"),
         ("DELETE FROM purse WHERE id = 1$1", "42601", "$1"),
-        (
-            "UPDATE purse SET name = 'a'E'b' WHERE id = 1",
-            "42601",
-            "E'b' WHERE id = 1",
-        ),
-        (
-            "UPDATE purse SET name = $1$2 WHERE id = 1",
-            "42601",
-            "$2 WHERE id = 1",
-        ),
-        (
-            "UPDATE purse SET name = $2'x' WHERE id = 1",
-            "42601",
-            "'x' WHERE id = 1",
-        ),
-        (
-            "CREATE TABLE t (n INT CHECK (n >= -1..5))",
-            "42601",
-            "..5))",
-        ),
-        (
-            "DELETE FROM t ( ) WHERE id = 12",
-            "42601",
-            "( ) WHERE id = 12",
-        ),
-        (
-            "INSERT INTO purse VALUES ((3,4,'k'))",
-            "0A000",
-            "(3,4,'k'))",
-        ),
-        (
-            "UPDATE purse SET cards = cards - (3,4) WHERE id = 1",
-            "0A000",
-            "(3,4) WHERE id = 1",
-        ),
+        ("UPDATE purse SET name = 'a'E'b' WHERE id = 1", "42601", "E'b' WHERE id = 1"),
+        ("UPDATE purse SET name = $1$2 WHERE id = 1", "42601", "$2 WHERE id = 1"),
+        ("UPDATE purse SET name = $2'x' WHERE id = 1", "42601", "'x' WHERE id = 1"),
+        ("CREATE TABLE t (n INT CHECK (n >= -1..5))", "42601", "..5))"),
+        ("DELETE FROM t () WHERE id = 12", "42601", "() WHERE id = 12"),
+        ("INSERT INTO purse VALUES ((3,4,'k'))", "0A000", "(3,4,'k'))"),
+        ("UPDATE purse SET cards = cards - (3,4) WHERE id = 1", "0A000", "(3,4) WHERE id = 1"),
         ("DELETE FROM purse WHERE (id =) 15", "42601", ") 15"),
-        (
-            "DELETE FROM purse p. WHERE id = 1",
-            "42601",
-            ". WHERE id = 1",
-        ),
+        ("DELETE FROM purse p. WHERE id = 1", "42601", ". WHERE id = 1"),
         ("SELECT * FROM purse WHERE (id = (1)", "42601", ""),
-        (
-            "DELETE FROM purse SET WHERE id = 1",
-            "42601",
-            "SET WHERE id = 1",
-        ),
+        ("DELETE FROM purse SET WHERE id = 1", "42601", "SET WHERE id = 1"),
         ("DELETE FROM purse id = 1", "42601", "= 1"),
         ("DELETE FROM WHERE = 1", "42601", "WHERE = 1"),
         ("INSERT INTO VALUES (1)", "42601", "1)"),
@@ -209,229 +168,86 @@ fn what_is_no_statement_or_is_missing_is_refused() {
         ("SELEC 1", "42601", "SELEC 1"),
         ("SAVEPOINT a b", "42601", "b"),
         // Names of other tables and columns.
-        (
-            "DELETE FROM public.public.purse WHERE id = 1",
-            "0A000",
-            "public.public.purse WHERE id = 1",
-        ),
+        ("DELETE FROM public.public.purse WHERE id = 1", "0A000", "public.public.purse WHERE id = 1"),
         ("SELECT * FROM other.purse", "42P01", "other.purse"),
         ("SELECT * FROM \"PURSE\"", "42P01", "\"PURSE\""),
         ("DELETE FROM purse WHERE \"ID\" = 1", "42703", "\"ID\" = 1"),
-        (
-            "DELETE FROM purse WHERE public.id = 1",
-            "42P01",
-            "public.id = 1",
-        ),
-        (
-            "DELETE FROM purse p WHERE purse.id = 1",
-            "42P01",
-            "purse.id = 1",
-        ),
-        (
-            "UPDATE purse SET purse.cash = 1 WHERE id = 1",
-            "0A000",
-            ".cash = 1 WHERE id = 1",
-        ),
+        ("DELETE FROM purse WHERE public.id = 1", "42P01", "public.id = 1"),
+        ("DELETE FROM purse p WHERE purse.id = 1", "42P01", "purse.id = 1"),
+        ("UPDATE purse SET purse.cash = 1 WHERE id = 1", "0A000", ".cash = 1 WHERE id = 1"),
         (
             "DELETE FROM a234567890123456789012345678901 WHERE id = 1",
             "42P01",
             "a234567890123456789012345678901 WHERE id = 1",
         ),
-        (
-            "CREATE TABLE a234567890123456789012345678901 (a INT)",
-            "42622",
-            "a234567890123456789012345678901 (a INT)",
-        ),
-        (
-            "CREATE TABLE \"My table\" (a INT)",
-            "42602",
-            "\"My table\" (a INT)",
-        ),
+        ("CREATE TABLE a234567890123456789012345678901 (a INT)", "42622", "a234567890123456789012345678901 (a INT)"),
+        ("CREATE TABLE \"My table\" (a INT)", "42602", "\"My table\" (a INT)"),
         ("CREATE TABLE t (\"key\" INT)", "42602", "\"key\" INT)"),
         ("CREATE TABLE journal (a INT)", "42602", "journal (a INT)"),
         // What PostgreSQL has and the program doesn't.
         ("DELETE FROM purse", "0A000", "DELETE FROM purse"),
-        (
-            "DELETE FROM purse USING t WHERE id = 1",
-            "0A000",
-            "USING t WHERE id = 1",
-        ),
+        ("DELETE FROM purse USING t WHERE id = 1", "0A000", "USING t WHERE id = 1"),
         ("DELETE FROM purse WHERE id > 1", "0A000", "id > 1"),
-        (
-            "DELETE FROM purse WHERE id = 1 AND cash = 2",
-            "0A000",
-            "id = 1 AND cash = 2",
-        ),
+        ("DELETE FROM purse WHERE id = 1 AND cash = 2", "0A000", "id = 1 AND cash = 2"),
         ("DELETE FROM purse WHERE id = cash", "0A000", "cash"),
-        (
-            "UPDATE purse SET cash = cards + 1 WHERE id = 1",
-            "0A000",
-            "cards + 1 WHERE id = 1",
-        ),
-        (
-            "UPDATE purse SET cash = cash + 1, name = 'x' WHERE id = 1",
-            "0A000",
-            "'x' WHERE id = 1",
-        ),
-        (
-            "UPDATE purse SET (cash, cards) = (1, 2) WHERE id = 1",
-            "0A000",
-            "(cash, cards) = (1, 2) WHERE id = 1",
-        ),
-        (
-            "UPDATE purse SET name = DEFAULT WHERE id = 1",
-            "0A000",
-            "DEFAULT WHERE id = 1",
-        ),
+        ("UPDATE purse SET cash = cards + 1 WHERE id = 1", "0A000", "cards + 1 WHERE id = 1"),
+        ("UPDATE purse SET cash = cash + 1, name = 'x' WHERE id = 1", "0A000", "'x' WHERE id = 1"),
+        ("UPDATE purse SET (cash, cards) = (1, 2) WHERE id = 1", "0A000", "(cash, cards) = (1, 2) WHERE id = 1"),
+        ("UPDATE purse SET name = DEFAULT WHERE id = 1", "0A000", "DEFAULT WHERE id = 1"),
         ("INSERT INTO purse SELECT 1", "0A000", "SELECT 1"),
-        (
-            "INSERT INTO purse VALUES (1, 'x', 0, 0) ON CONFLICT DO NOTHING",
-            "0A000",
-            "ON CONFLICT DO NOTHING",
-        ),
+        ("INSERT INTO purse VALUES (1, 'x', 0, 0) ON CONFLICT DO NOTHING", "0A000", "ON CONFLICT DO NOTHING"),
         ("CREATE TABLE t (a INT DEFAULT 5)", "0A000", "DEFAULT 5)"),
-        (
-            "CREATE TABLE t (a INT REFERENCES u)",
-            "0A000",
-            "REFERENCES u)",
-        ),
-        (
-            "CREATE TABLE t (a INT, CONSTRAINT u UNIQUE (a))",
-            "0A000",
-            "UNIQUE (a))",
-        ),
+        ("CREATE TABLE t (a INT REFERENCES u)", "0A000", "REFERENCES u)"),
+        ("CREATE TABLE t (a INT, CONSTRAINT u UNIQUE (a))", "0A000", "UNIQUE (a))"),
         ("CREATE TABLE t (a BOOLEAN)", "0A000", "BOOLEAN)"),
-        (
-            "CREATE TABLE t (a NUMERIC(16,2))",
-            "0A000",
-            "NUMERIC(16,2))",
-        ),
+        ("CREATE TABLE t (a NUMERIC(16,2))", "0A000", "NUMERIC(16,2))"),
         ("CREATE TABLE t (a INT NULL)", "0A000", "NULL)"),
         ("CREATE TABLE t (a INT CHECK (a <> 5))", "0A000", "a <> 5))"),
         ("CREATE TABLE t (a INT CHECK (a < $1))", "42P02", "$1))"),
-        (
-            "CREATE TABLE t (a INT CHECK (a < 0::varchar))",
-            "42883",
-            "0::varchar))",
-        ),
-        (
-            "UPDATE purse SET cards = cards + + '1' WHERE id = 1",
-            "0A000",
-            "+ '1' WHERE id = 1",
-        ),
-        (
-            "SELECT id FROM purse FETCH FIRST 2::int ROWS ONLY",
-            "42601",
-            "::int ROWS ONLY",
-        ),
-        (
-            "CREATE INDEX i ON t (a)",
-            "0A000",
-            "CREATE INDEX i ON t (a)",
-        ),
+        ("CREATE TABLE t (a INT CHECK (a < 0::varchar))", "42883", "0::varchar))"),
+        ("UPDATE purse SET cards = cards + + '1' WHERE id = 1", "0A000", "+ '1' WHERE id = 1"),
+        ("SELECT id FROM purse FETCH FIRST 2::int ROWS ONLY", "42601", "::int ROWS ONLY"),
+        ("CREATE INDEX i ON t (a)", "0A000", "CREATE INDEX i ON t (a)"),
         ("ALTER TABLE t ADD COLUMN b INT", "0A000", "COLUMN b INT"),
         ("ALTER TABLE t RENAME TO u", "0A000", "RENAME TO u"),
         ("DROP TABLE a, b", "0A000", ", b"),
         // Values.
-        (
-            "INSERT INTO purse VALUES (1, 'x', NULL, 0)",
-            "23502",
-            "NULL, 0)",
-        ),
+        ("INSERT INTO purse VALUES (1, 'x', NULL, 0)", "23502", "NULL, 0)"),
         ("INSERT INTO purse VALUES (1, 'x', 0)", "23502", ""),
         ("INSERT INTO purse VALUES (1, 'x', 0, 0, 5)", "42601", "5)"),
-        (
-            "INSERT INTO purse (id, name, cash, cards) VALUES (1, 'x', 0)",
-            "42601",
-            "cards) VALUES (1, 'x', 0)",
-        ),
+        ("INSERT INTO purse (id, name, cash, cards) VALUES (1, 'x', 0)", "42601", "cards) VALUES (1, 'x', 0)"),
         (
             "INSERT INTO purse (id, id, cash, cards) VALUES (1, 'x', 0, 0)",
             "42701",
             "id, cash, cards) VALUES (1, 'x', 0, 0)",
         ),
-        (
-            "INSERT INTO purse (id, b) VALUES (1, 'x')",
-            "42703",
-            "b) VALUES (1, 'x')",
-        ),
+        ("INSERT INTO purse (id, b) VALUES (1, 'x')", "42703", "b) VALUES (1, 'x')"),
         ("INSERT INTO purse VALUES (1), (2, 3)", "42601", "2, 3)"),
-        (
-            "INSERT INTO purse VALUES (1, 'a\nb', 0, 0)",
-            "22021",
-            "'a\nb', 0, 0)",
-        ),
+        ("INSERT INTO purse VALUES (1, 'a\nb', 0, 0)", "22021", "'a\nb', 0, 0)"),
         ("DELETE FROM purse WHERE id = 'x'", "22P02", "'x'"),
         ("DELETE FROM purse WHERE id = '1.5'", "22P02", "'1.5'"),
-        (
-            "DELETE FROM purse WHERE id = '5'::text",
-            "42883",
-            "'5'::text",
-        ),
+        ("DELETE FROM purse WHERE id = '5'::text", "42883", "'5'::text"),
         ("DELETE FROM purse WHERE id = 1e15", "22003", "1e15"),
-        (
-            "UPDATE purse SET cards = '5'::text WHERE id = 1",
-            "42804",
-            "'5'::text WHERE id = 1",
-        ),
-        (
-            "UPDATE purse SET cards = 70000::smallint WHERE id = 1",
-            "22003",
-            "70000::smallint WHERE id = 1",
-        ),
-        (
-            "UPDATE purse SET name = 'x'::bigint::text WHERE id = 1",
-            "22P02",
-            "'x'::bigint::text WHERE id = 1",
-        ),
-        (
-            "UPDATE purse SET name = 'x'::date WHERE id = 1",
-            "0A000",
-            "date WHERE id = 1",
-        ),
-        (
-            "UPDATE purse SET cards = - '5' WHERE id = 1",
-            "42725",
-            "- '5' WHERE id = 1",
-        ),
+        ("UPDATE purse SET cards = '5'::text WHERE id = 1", "42804", "'5'::text WHERE id = 1"),
+        ("UPDATE purse SET cards = 70000::smallint WHERE id = 1", "22003", "70000::smallint WHERE id = 1"),
+        ("UPDATE purse SET name = 'x'::bigint::text WHERE id = 1", "22P02", "'x'::bigint::text WHERE id = 1"),
+        ("UPDATE purse SET name = 'x'::date WHERE id = 1", "0A000", "date WHERE id = 1"),
+        ("UPDATE purse SET cards = - '5' WHERE id = 1", "42725", "- '5' WHERE id = 1"),
     ] {
         assert_eq!(refused(text), (state, place), "{}", text);
     }
 }
 
 #[test]
+#[rustfmt::skip]
 fn values_are_explained_by_the_definition() {
     for (text, state, place) in [
-        (
-            "INSERT INTO purse VALUES (1, 'abcde', 0, 0)",
-            "22001",
-            "'abcde', 0, 0)",
-        ),
-        (
-            "INSERT INTO purse (cash, id, name, cards) VALUES (-1000, 1, '\u{e4}', 0)",
-            "22003",
-            "-1000, 1, '\u{e4}', 0)",
-        ),
-        (
-            "UPDATE purse SET cash = cash - 0.005 WHERE id = 1",
-            "22023",
-            "0.005 WHERE id = 1",
-        ),
-        (
-            "UPDATE purse SET name = '' WHERE id = 1",
-            "22023",
-            "'' WHERE id = 1",
-        ),
-        (
-            "UPDATE purse SET name = 'a', name = 'b' WHERE id = 1",
-            "42601",
-            "name = 'b' WHERE id = 1",
-        ),
-        (
-            "UPDATE purse SET x = 'a' WHERE id = 1",
-            "42703",
-            "x = 'a' WHERE id = 1",
-        ),
+        ("INSERT INTO purse VALUES (1, 'abcde', 0, 0)", "22001", "'abcde', 0, 0)"),
+        ("INSERT INTO purse (cash, id, name, cards) VALUES (-1000, 1, '\u{e4}', 0)", "22003", "-1000, 1, '\u{e4}', 0)"),
+        ("UPDATE purse SET cash = cash - 0.005 WHERE id = 1", "22023", "0.005 WHERE id = 1"),
+        ("UPDATE purse SET name = '' WHERE id = 1", "22023", "'' WHERE id = 1"),
+        ("UPDATE purse SET name = 'a', name = 'b' WHERE id = 1", "42601", "name = 'b' WHERE id = 1"),
+        ("UPDATE purse SET x = 'a' WHERE id = 1", "42703", "x = 'a' WHERE id = 1"),
         ("DELETE FROM purse WHERE x = 1", "42703", "x = 1"),
         ("DELETE FROM purse WHERE id = 1.5", "22023", "1.5"),
         ("DELETE FROM purse WHERE name = 1", "42883", "1"),
@@ -451,6 +267,7 @@ fn values_are_explained_by_the_definition() {
 }
 
 #[test]
+#[rustfmt::skip]
 fn parameters_become_values() {
     let number = |digits: &str| Value::Number(Number::from_text(digits).unwrap());
     let text = |text: &str| Value::Text(text.to_owned());
@@ -473,30 +290,10 @@ fn parameters_become_values() {
             vec![oid::INT4, oid::VARCHAR],
             Ok("INSERT INTO purse VALUES (1, 'a;''$', 1, 1)"),
         ),
-        (
-            "DELETE FROM purse WHERE id = $1",
-            vec![Value::Null],
-            vec![oid::INT8],
-            Err("23502"),
-        ),
-        (
-            "DELETE FROM purse WHERE id = $2",
-            vec![number("1")],
-            vec![oid::INT8],
-            Err("42P02"),
-        ),
-        (
-            "DELETE FROM purse WHERE id = $1",
-            vec![text("1")],
-            vec![oid::TEXT],
-            Err("42883"),
-        ),
-        (
-            "DELETE FROM purse WHERE id = -$1",
-            vec![number("-32768")],
-            vec![oid::INT2],
-            Err("22003"),
-        ),
+        ("DELETE FROM purse WHERE id = $1", vec![Value::Null], vec![oid::INT8], Err("23502")),
+        ("DELETE FROM purse WHERE id = $2", vec![number("1")], vec![oid::INT8], Err("42P02")),
+        ("DELETE FROM purse WHERE id = $1", vec![text("1")], vec![oid::TEXT], Err("42883")),
+        ("DELETE FROM purse WHERE id = -$1", vec![number("-32768")], vec![oid::INT2], Err("22003")),
     ] {
         let input = Input {
             values: &values,
@@ -514,6 +311,7 @@ fn parameters_become_values() {
 }
 
 #[test]
+#[rustfmt::skip]
 fn an_array_of_keys_is_a_line_for_each() {
     let list = Value::List(vec![
         Value::Number(Number::from_text("30").unwrap()),
@@ -568,6 +366,7 @@ fn a_line_has_at_most_4086_bytes() {
 }
 
 #[test]
+#[rustfmt::skip]
 fn constants_are_those_of_postgresql_15() {
     for (text, expected) in [
         ("1", "1 int4"),
@@ -638,6 +437,7 @@ fn constants_are_those_of_postgresql_15() {
 }
 
 #[test]
+#[rustfmt::skip]
 fn statements_that_need_no_program_are_read() {
     let name = |name: &str, start: usize| Name {
         text: name.to_owned(),
@@ -665,80 +465,29 @@ fn statements_that_need_no_program_are_read() {
     for (text, expected) in [
         ("BEGIN", begin(false, None, None)),
         ("begin work", begin(false, None, None)),
-        (
-            "BEGIN TRANSACTION ISOLATION LEVEL READ COMMITTED, READ WRITE",
-            begin(false, Some(false), committed),
-        ),
-        (
-            "START TRANSACTION READ ONLY NOT DEFERRABLE",
-            begin(true, Some(true), None),
-        ),
-        (
-            "COMMIT TRANSACTION AND NO CHAIN",
-            Statement::Commit { chain: false },
-        ),
+        ("BEGIN TRANSACTION ISOLATION LEVEL READ COMMITTED, READ WRITE", begin(false, Some(false), committed)),
+        ("START TRANSACTION READ ONLY NOT DEFERRABLE", begin(true, Some(true), None)),
+        ("COMMIT TRANSACTION AND NO CHAIN", Statement::Commit { chain: false }),
         ("END WORK", Statement::Commit { chain: false }),
         ("ABORT AND CHAIN", Statement::Rollback { chain: true }),
-        (
-            "ROLLBACK WORK TO SAVEPOINT a",
-            Statement::RollbackTo(name("a", 27)),
-        ),
-        (
-            "ROLLBACK TO savepoint",
-            Statement::RollbackTo(name("savepoint", 12)),
-        ),
+        ("ROLLBACK WORK TO SAVEPOINT a", Statement::RollbackTo(name("a", 27))),
+        ("ROLLBACK TO savepoint", Statement::RollbackTo(name("savepoint", 12))),
         ("RELEASE SAVEPOINT a", Statement::Release(name("a", 18))),
-        (
-            "RELEASE savepoint",
-            Statement::Release(name("savepoint", 8)),
-        ),
+        ("RELEASE savepoint", Statement::Release(name("savepoint", 8))),
         ("SAVEPOINT a", Statement::Savepoint(name("a", 10))),
-        (
-            "SET Statement_Timeout = 5000",
-            set("statement_timeout", Some("5000"), false),
-        ),
+        ("SET Statement_Timeout = 5000", set("statement_timeout", Some("5000"), false)),
         ("SET SESSION x TO 'a b'", set("x", Some("a b"), false)),
         ("SET LOCAL x.y = -1", set("x.y", Some("-1"), true)),
-        (
-            "SET search_path TO a, \"B\"",
-            set("search_path", Some("a, \"B\""), false),
-        ),
+        ("SET search_path TO a, \"B\"", set("search_path", Some("a, \"B\""), false)),
         ("SET x TO on", set("x", Some("on"), false)),
         ("SET x TO DEFAULT", set("x", None, false)),
         ("SET TIME ZONE 'UTC'", set("timezone", Some("UTC"), false)),
-        (
-            "SET NAMES 'utf8'",
-            set("client_encoding", Some("utf8"), false),
-        ),
-        (
-            "SET ROLE NONE",
-            Statement::SetRole {
-                name: None,
-                is_reset: false,
-            },
-        ),
-        (
-            "SET SESSION AUTHORIZATION 'x'",
-            Statement::SetRole {
-                name: Some("x".to_owned()),
-                is_reset: false,
-            },
-        ),
-        (
-            "RESET SESSION AUTHORIZATION",
-            Statement::SetRole {
-                name: None,
-                is_reset: true,
-            },
-        ),
-        (
-            "SHOW TIME ZONE",
-            Statement::ShowSetting("timezone".to_owned()),
-        ),
-        (
-            "show transaction isolation level",
-            Statement::ShowSetting("transaction_isolation".to_owned()),
-        ),
+        ("SET NAMES 'utf8'", set("client_encoding", Some("utf8"), false)),
+        ("SET ROLE NONE", Statement::SetRole { name: None, is_reset: false }),
+        ("SET SESSION AUTHORIZATION 'x'", Statement::SetRole { name: Some("x".to_owned()), is_reset: false }),
+        ("RESET SESSION AUTHORIZATION", Statement::SetRole { name: None, is_reset: true }),
+        ("SHOW TIME ZONE", Statement::ShowSetting("timezone".to_owned())),
+        ("show transaction isolation level", Statement::ShowSetting("transaction_isolation".to_owned())),
         ("DISCARD TEMPORARY", Statement::Discard(Discard::Temporary)),
         ("DEALLOCATE PREPARE ALL", Statement::Deallocate(None)),
         ("DEALLOCATE a", Statement::Deallocate(Some(name("a", 11)))),
