@@ -158,6 +158,8 @@ pub enum Statement {
         /// Whether it is RESET.
         is_reset: bool,
     },
+    /// SET CONSTRAINTS: no constraint is deferred.
+    SetConstraints,
     /// RESET ALL.
     ResetAll,
     /// SHOW of a setting.

@@ -38,6 +38,14 @@ impl Connection {
                 }
                 Ok(Completed::plain(if *is_reset { "RESET" } else { "SET" }))
             }
+            Statement::SetConstraints => {
+                if self.transaction.block == Block::None && !self.transaction.several {
+                    let text = "SET CONSTRAINTS can only be used in transaction blocks";
+                    let report = Report::warning(SqlState::NO_ACTIVE_TRANSACTION, text);
+                    self.report(&report, None);
+                }
+                Ok(Completed::plain("SET CONSTRAINTS"))
+            }
             Statement::ResetAll => {
                 self.remember_variables();
                 self.change_variables(|variables| variables.reset_all());

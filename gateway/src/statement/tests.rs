@@ -486,6 +486,7 @@ fn statements_that_need_no_program_are_read() {
         ("SET ROLE NONE", Statement::SetRole { name: None, is_reset: false }),
         ("SET SESSION AUTHORIZATION 'x'", Statement::SetRole { name: Some("x".to_owned()), is_reset: false }),
         ("RESET SESSION AUTHORIZATION", Statement::SetRole { name: None, is_reset: true }),
+        ("SET CONSTRAINTS ALL IMMEDIATE", Statement::SetConstraints),
         ("SHOW TIME ZONE", Statement::ShowSetting("timezone".to_owned())),
         ("show transaction isolation level", Statement::ShowSetting("transaction_isolation".to_owned())),
         ("DISCARD TEMPORARY", Statement::Discard(Discard::Temporary)),

@@ -253,6 +253,15 @@ impl<'a> Parser<'a> {
         if self.keyword("TRANSACTION") {
             return self.modes().map(Statement::SetTransaction);
         }
+        if self.keyword("CONSTRAINTS") {
+            if !self.keyword("ALL") {
+                self.list(Self::qualified_name)?;
+            }
+            return match self.keyword_of(&["DEFERRED", "IMMEDIATE"]) {
+                Some(_) => Ok(Statement::SetConstraints),
+                None => Err(self.fault()),
+            };
+        }
         let local = self.keyword("LOCAL");
         if !local && self.keyword("SESSION") {
             if self.keywords(&["CHARACTERISTICS", "AS", "TRANSACTION"]) {
