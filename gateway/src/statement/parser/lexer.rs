@@ -246,8 +246,8 @@ fn is_operator(byte: u8) -> bool {
     b"~!@#^&|`?+-*/%<>=".contains(&byte)
 }
 
-/// How many bytes are looked at for the end of an operator. PostgreSQL refuses one of 64 bytes.
-const LOOKED_AT: usize = 1024;
+/// How many bytes are looked at for the end of an operator. PostgreSQL refuses one of 64 bytes, and no statement has one.
+const LOOKED_AT: usize = 64;
 
 /// Returns the byte behind an operator: it ends where a comment begins, and ends in + or - only with certain characters
 /// in front.
