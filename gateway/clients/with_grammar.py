@@ -352,7 +352,7 @@ def compared(it: Statement, ours: Tuple[bytes, ...], theirs: Tuple[bytes, ...]) 
     """Returns what is wrong with rows. Without ORDER BY their order counts for nothing, and with a limit then not which ones they are."""
     if ours == theirs:
         return ""
-    if not ORDERED.search(it.text):
+    if ";" in it.text or not ORDERED.search(it.text):
         if sorted(ours) == sorted(theirs) or (len(ours) == len(theirs) and (it.most or CUT.search(it.text))):
             return ""
     return f"rows: gateway {readable(ours)}, PostgreSQL {readable(theirs)}"
