@@ -323,7 +323,7 @@ ASKED = [
     SELECT * FROM current_schema ( ) | SHOW standard_conforming_strings | SHOW transaction_isolation | SET client_min_messages = 'warning'
     SET application_name TO x | SELECT NULL | SELECT - 1 | SELECT $1 :: int | SHOW server_encoding | RESET application_name | SELECT 1.5
     SELECT pg_advisory_unlock_all ( ) | CLOSE ALL | UNLISTEN * | SELECT 1 WHERE true
-    SELECT set_config ( 'search_path' , '' , true ) | SET ROLE NONE | SELECT '1' :: int AS a
+    SELECT set_config ( 'application_name' , 'x' , true ) | SET ROLE NONE | SELECT '1' :: int AS a
 """
     ),
 ]

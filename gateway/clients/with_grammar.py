@@ -51,6 +51,7 @@ REFUSALS: Dict[str, str] = {
     "42622": "a name of more than 30 bytes, which the server has at most",
     "42P16": "a rule or a limit of the server's tables",
     "42701": "a column that a list has twice",
+    "42703": "a whole row by the name of its table",
     "42704": "a constraint whose name is another in the server",
     "42P18": "a parameter whose type does not follow from its place",
     "54000": "a statement that is longer than a line of the server",
