@@ -11,6 +11,7 @@ pub mod relations;
 pub mod select;
 pub mod served;
 pub mod session;
+pub mod words;
 
 #[cfg(test)]
 mod tests;

@@ -6,6 +6,7 @@ use crate::statement::query::{
     Expression, ExpressionKind, Name, QualifiedName, Query, Span, Target,
 };
 use crate::statement::select::{self, Select, Shown};
+use crate::statement::words::Words;
 use crate::statement::{constant, Kind};
 
 /// What a statement does.
@@ -130,12 +131,12 @@ pub struct Table {
 
 /// The words that are no names for the program, in lower case and in order.
 #[rustfmt::skip]
-const RESERVED: [&str; 35] = [
+static RESERVED: Words = Words::new(&[
     "add", "alter", "and", "between", "bounds", "check", "commit", "constraint", "create", "delete",
     "drop", "from", "insert", "integer", "into", "journal", "key", "not", "null", "number",
     "primary", "reservable", "rollback", "savepoint", "select", "set", "show", "statistics",
     "table", "to", "update", "values", "varchar2", "where", "work",
-];
+]);
 
 /// Returns whether the program may have something of this name, which it tells in lower case.
 pub fn is_legal_name(name: &str) -> bool {
@@ -145,7 +146,7 @@ pub fn is_legal_name(name: &str) -> bool {
     name.len() <= limits::NAME
         && name.starts_with(|first: char| first.is_ascii_lowercase())
         && name.bytes().all(is_part)
-        && RESERVED.binary_search(&name).is_err()
+        && !RESERVED.has(name)
 }
 
 /// Checks that the program can have something of this name.
@@ -168,7 +169,7 @@ pub fn check_new_name(name: &Name) -> Result<(), Failure> {
         SqlState::INVALID_NAME,
         format!("invalid name \"{}\"", name.text),
     );
-    let detail = if RESERVED.binary_search(&name.text.as_str()).is_ok() {
+    let detail = if RESERVED.has(&name.text) {
         "It is a reserved word of the server."
     } else {
         "A name has 1 to 30 lower-case ASCII letters, digits, _, $ and #, and begins with a letter."

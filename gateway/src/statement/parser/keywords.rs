@@ -1,8 +1,10 @@
 //! The keywords of PostgreSQL 15 that may not stand where any name may (manual, appendix C).
 
+use crate::statement::words::Words;
+
 /// The words that are never a name without quotes.
 #[rustfmt::skip]
-const RESERVED: &[&str] = &[
+static RESERVED: Words = Words::new(&[
     "all", "analyse", "analyze", "and", "any", "array", "as", "asc", "asymmetric", "both", "case",
     "cast", "check", "collate", "column", "constraint", "create", "current_catalog", "current_date",
     "current_role", "current_time", "current_timestamp", "current_user", "default", "deferrable",
@@ -12,56 +14,52 @@ const RESERVED: &[&str] = &[
     "placing", "primary", "references", "returning", "select", "session_user", "some", "symmetric",
     "table", "then", "to", "trailing", "true", "union", "unique", "user", "using", "variadic",
     "when", "where", "window", "with",
-];
+]);
 
 /// The words that may name a function or a type, and nothing else.
 #[rustfmt::skip]
-const OF_FUNCTIONS: &[&str] = &[
+static OF_FUNCTIONS: Words = Words::new(&[
     "authorization", "binary", "collation", "concurrently", "cross", "current_schema", "freeze",
     "full", "ilike", "inner", "is", "isnull", "join", "left", "like", "natural", "notnull", "outer",
     "overlaps", "right", "similar", "tablesample", "verbose",
-];
+]);
 
 /// The words that may name anything but a function or a type.
 #[rustfmt::skip]
-const OF_COLUMNS: &[&str] = &[
+static OF_COLUMNS: Words = Words::new(&[
     "between", "bigint", "bit", "boolean", "char", "character", "coalesce", "dec", "decimal",
     "exists", "extract", "float", "greatest", "grouping", "inout", "int", "integer", "interval",
     "least", "national", "nchar", "none", "normalize", "nullif", "numeric", "out", "overlay",
     "position", "precision", "real", "row", "setof", "smallint", "substring", "time", "timestamp",
     "treat", "trim", "values", "varchar", "xmlattributes", "xmlconcat", "xmlelement", "xmlexists",
     "xmlforest", "xmlnamespaces", "xmlparse", "xmlpi", "xmlroot", "xmlserialize", "xmltable",
-];
+]);
 
 /// The words that name a column of a result only behind AS.
 #[rustfmt::skip]
-const BEHIND_AS: &[&str] = &[
+static BEHIND_AS: Words = Words::new(&[
     "array", "as", "char", "character", "create", "day", "except", "fetch", "filter", "for", "from",
     "grant", "group", "having", "hour", "intersect", "into", "isnull", "limit", "minute", "month",
     "notnull", "offset", "on", "order", "over", "overlaps", "precision", "returning", "second",
     "to", "union", "varying", "where", "window", "with", "within", "without", "year",
-];
-
-fn is_in(words: &[&str], word: &str) -> bool {
-    words.binary_search(&word).is_ok()
-}
+]);
 
 /// Returns whether a word in lower case may be the name of a column or a table (`ColId` of PostgreSQL's grammar).
 pub fn may_name_column(word: &str) -> bool {
-    !is_in(RESERVED, word) && !is_in(OF_FUNCTIONS, word)
+    !RESERVED.has(word) && !OF_FUNCTIONS.has(word)
 }
 
 /// Returns whether a word in lower case may be the name of a function or a type (`type_function_name`).
 pub fn may_name_function(word: &str) -> bool {
-    !is_in(RESERVED, word) && !is_in(OF_COLUMNS, word)
+    !RESERVED.has(word) && !OF_COLUMNS.has(word)
 }
 
 /// Returns whether a word in lower case may be the first of an expression's names.
 pub fn may_be_name(word: &str) -> bool {
-    !is_in(RESERVED, word)
+    !RESERVED.has(word)
 }
 
 /// Returns whether a word in lower case may name a column of a result without AS (`BareColLabel`).
 pub fn may_be_bare_label(word: &str) -> bool {
-    !is_in(BEHIND_AS, word)
+    !BEHIND_AS.has(word)
 }
