@@ -519,6 +519,8 @@ TAKES: Dict[str, float] = {
     "statements_of_many_types": 96,
 }
 LEAVES = 16.0
+# Those that ask for the large table.
+OF_BIG = ("readers_that_are_never_level", "results_that_nobody_reads", "whole_results", "portals_with_rows_left")
 # No attack may take the machine: past this the gateway gets no memory.
 MOST_MEMORY = 2 << 30
 
@@ -543,7 +545,8 @@ def too_much(name: str, seconds: float) -> str:
     with Gateway() as gateway:
         resource.prlimit(gateway.running().pid, resource.RLIMIT_AS, (MOST_MEMORY, MOST_MEMORY))
         honest.prepare(gateway.socket)
-        fill_big(gateway.socket, 2000, 200)
+        if name in OF_BIG:
+            fill_big(gateway.socket, 2000, 200)
         most, left, said = attacked(gateway, name, seconds)
         with Connection(gateway.socket) as it:
             expect(len(it.rows("SELECT * FROM hot")), honest.ROWS)
@@ -580,25 +583,32 @@ def memory_of_what_is_prepared() -> None:
 @PART.alone
 def want_of_memory_ends_a_connection() -> None:
     """With 48 MB more than it has, the gateway outlives each attack, and serves others behind it."""
-    for name in ("statements_of_many_tokens", "statements_of_many_types", "portals_of_nulls", "portals_with_rows_left", "results_that_nobody_reads"):
-        with Gateway() as gateway:
-            honest.prepare(gateway.socket)
-            fill_big(gateway.socket, 2000, 200)
-            process = gateway.running().pid
-            pages = int(Path(f"/proc/{process}/statm").read_text().split()[0])
-            room = pages * resource.getpagesize() + 48 * MB
-            resource.prlimit(process, resource.RLIMIT_AS, (room, room))
+    with Gateway() as gateway:
+        honest.prepare(gateway.socket)
+        fill_big(gateway.socket, 2000, 200)
+        process = gateway.running().pid
+        pages = int(Path(f"/proc/{process}/statm").read_text().split()[0])
+        room = pages * resource.getpagesize() + 48 * MB
+        resource.prlimit(process, resource.RLIMIT_AS, (room, room))
+        for name in (
+            "statements_of_many_tokens",
+            "statements_of_many_types",
+            "portals_of_nulls",
+            "portals_with_rows_left",
+            "results_that_nobody_reads",
+        ):
             finish(begin(name, gateway.socket, 2.0, ALL))
             expect(gateway.running().poll(), None, f"{name}: the gateway ended: {gateway.said()[-300:]}")
             with Connection(gateway.socket) as it:
                 expect(len(it.rows("SELECT * FROM hot")), honest.ROWS, name)
-            gateway.expect_clean_end()
+        gateway.expect_clean_end()
 
 
 # Time
 
-# The milliseconds that the 99th of 100 statements of honest clients may take beside an attack in the gate, and how many clients they are there.
-COARSE, HONEST = 300.0 * PATIENCE, 39
+# The milliseconds that the 99th of 100 statements of honest clients may take beside an attack in the gate, also if the server has to read the large
+# table for it, and how many clients they are there.
+COARSE, COARSE_OF_BIG, HONEST = 500.0 * PATIENCE, 1500.0 * PATIENCE, 39
 
 
 @PART.alone
@@ -613,7 +623,7 @@ def others_are_served_beside_each_attack() -> None:
             attacker = begin(name, gateway.socket, 2.0)
             measured = honest.result(honest.apart(gateway.socket, HONEST, 1.2))
             said = finish(attacker)
-            if measured.p99 > COARSE or said:
+            if measured.p99 > (COARSE_OF_BIG if name in OF_BIG else COARSE) or said:
                 wrong.append(f"{name}: {measured.shown()} {said}")
         if wrong:
             raise AssertionError("\n".join(wrong))
