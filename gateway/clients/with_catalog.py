@@ -58,7 +58,7 @@ KEYS = [
     "\\dt st",
 ]
 TAKE = "UPDATE stock SET pieces = pieces - 1 WHERE id = 1;"
-QUIET, LONGEST = 0.15 * PATIENCE, 20.0 * PATIENCE
+QUIET, LONGEST = 0.25 * PATIENCE, 20.0 * PATIENCE
 
 
 def psql(dsn: str, *commands: str) -> List[str]:
