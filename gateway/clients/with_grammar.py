@@ -34,6 +34,7 @@ A_BATCH, A_TABLE = 24, 6
 # The differences that are shown before a run ends.
 MOST_SHOWN = 12
 CHANGES = re.compile(r"insert|update|delete|drop|alter|create|truncate", re.IGNORECASE)
+COMMENT = re.compile(r"--[^\n]*|/\*.*?\*/", re.DOTALL)
 ORDERED, CUT = re.compile(r"order.*by", re.IGNORECASE | re.DOTALL), re.compile(r"limit|offset|fetch", re.IGNORECASE)
 
 # What the gateway may answer where PostgreSQL acts, each with its reason.
@@ -49,6 +50,7 @@ REFUSALS: Dict[str, str] = {
     "23514": "the worst of all choices of open reservations counts, and the type of a column is a check",
     "42602": "a name with letters that the server's names cannot have",
     "42622": "a name of more than 30 bytes, which the server has at most",
+    "42883": "an operator or a function of PostgreSQL's that the gateway does not compute",
     "42P16": "a rule or a limit of the server's tables",
     "42701": "a column that a list has twice",
     "42703": "a whole row by the name of its table",
@@ -353,7 +355,7 @@ def compared(it: Statement, ours: Tuple[bytes, ...], theirs: Tuple[bytes, ...]) 
     """Returns what is wrong with rows. Without ORDER BY their order counts for nothing, and with a limit then not which ones they are."""
     if ours == theirs:
         return ""
-    if ";" in it.text or not ORDERED.search(it.text):
+    if ";" in it.text or not ORDERED.search(COMMENT.sub(" ", it.text)):
         if sorted(ours) == sorted(theirs) or (len(ours) == len(theirs) and (it.most or CUT.search(it.text))):
             return ""
     return f"rows: gateway {readable(ours)}, PostgreSQL {readable(theirs)}"
