@@ -250,7 +250,7 @@ def tables_of_a_store_are_known_at_the_start() -> None:
         for end in (signal.SIGKILL, signal.SIGTERM):
             gateway.end(end)
             gateway.start()
-            expect(re.findall(r"is open: (\d+) tables", gateway.said())[-1:], ["2"], gateway.said())
+            wait_until("both tables are found", lambda: re.findall(r"is open: (\d+) tables", gateway.said())[-1:] == ["2"])
         gateway.expect_clean_end()
 
 
@@ -353,7 +353,7 @@ esac
             gateway.kill()
             gateway.launch([*words, *more], env={**os.environ, "ESCROWD": variable})
             gateway.await_socket(beside / f".s.PGSQL.{PORT}")
-            expect(f"{unproved} is not proved\n" in gateway.said(), True, gateway.said())
+            wait_until("the log says so", lambda: f"{unproved} is not proved\n" in gateway.said())
         gateway.expect_clean_end()
 
 
@@ -452,8 +452,7 @@ def what_an_operator_sees() -> None:
         text = metrics.read_text()
         expect([line for line in text.splitlines() if not re.fullmatch(r'# (HELP|TYPE) .+|[a-z_]+(\{[^}]*\})? [0-9.e+-]+', line)], [])
         expect(all(re.search(rf"(?m)^# TYPE \S*{word}", text) for word in ("statement", "refus", "transaction", "connection")), True, text)
-        said = gateway.said()
-        expect(str(gateway.store) in said, True, said)
+        wait_until("the log names the store", lambda: str(gateway.store) in gateway.said())
         gateway.expect_clean_end()
 
 

@@ -284,7 +284,8 @@ def a_limit_of_the_sizes_of_files() -> None:
             rows += 1
         expect(it.ask(f"INSERT INTO stock VALUES ({rows + 1}, 9)"), ["ERROR 58030", "ready I"])
         expect(len(it.rows("SELECT * FROM stock")), rows)
-        expect(re.search(r"WARN bank: connection \d+ of user \"clerk\", application \"\", got 58030", gateway.said()) is not None, True, gateway.said())
+        warning = re.compile(r"WARN bank: connection \d+ of user \"clerk\", application \"\", got 58030")
+        wait_until("the log warns", lambda: warning.search(gateway.said()))
         gateway.expect_clean_end()
 
 

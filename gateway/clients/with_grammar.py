@@ -10,6 +10,7 @@ from __future__ import annotations
 
 import argparse
 import functools
+import math
 import random
 import re
 import struct
@@ -27,8 +28,8 @@ from clients.servers import LOAD, Gateway, Postgres
 from clients.suite import Part, main
 
 PART = Part("with_grammar")
-# The seconds of the case in the gate, and the seed of its generator.
-SECONDS, SEED = 120.0 * LOAD, 82
+# The case in the gate: its most seconds, and the statements behind which it ends, so that a faster machine serves no others. The seed of its generator.
+SECONDS, STATEMENTS, SEED = 120.0 * LOAD, 60_000, 82
 # The statements that are on their way at once, and the batches behind which both servers get new tables.
 A_BATCH, A_TABLE = 24, 6
 # The differences that are shown before a run ends.
@@ -399,8 +400,8 @@ Found = Tuple[List[Difference], Counts, float]
 Act = Callable[[Gateway, int, float, int], Found]
 
 
-def held_against_postgres(gateway: Gateway, seed: int, seconds: float, most: int = MOST_SHOWN) -> Found:
-    """Serves statements for some seconds, and returns the differences, each once by its shape."""
+def held_against_postgres(gateway: Gateway, seed: int, seconds: float, most: int = MOST_SHOWN, statements: float = math.inf) -> Found:
+    """Serves so many statements, or for some seconds, and returns the differences, each once by its shape."""
     found: Dict[str, Difference] = {}
     with Postgres(
         "fsync=off", "synchronous_commit=off", "full_page_writes=off", "autovacuum=off", "standard_conforming_strings=on", "log_min_messages=panic"
@@ -408,7 +409,7 @@ def held_against_postgres(gateway: Gateway, seed: int, seconds: float, most: int
         pair = Pair(gateway.socket, postgres.socket)
         grammar = Grammar(random.Random(seed))
         begin, batches = time.monotonic(), 0
-        while time.monotonic() - begin < seconds and len(found) < most:
+        while time.monotonic() - begin < seconds and len(found) < most and pair.counts.statements < statements:
             if batches % A_TABLE == 0:
                 pair.renew()
             batches += 1
@@ -442,7 +443,7 @@ def expect_none(found: Sequence[Difference], counts: Counts, seconds: float, see
 
 @PART.served
 def as_postgres_does(gateway: Gateway) -> None:
-    found, counts, seconds = held_against_postgres(gateway, SEED, SECONDS)
+    found, counts, seconds = held_against_postgres(gateway, SEED, SECONDS, statements=STATEMENTS)
     expect_none(found, counts, seconds, SEED)
 
 

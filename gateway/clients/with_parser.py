@@ -7,6 +7,7 @@ in more statements a second.
 """
 from __future__ import annotations
 
+import math
 import random
 import sys
 import time
@@ -21,8 +22,8 @@ from clients.suite import Part, main
 from clients.with_grammar import A_BATCH, A_TABLE, MOST_SHOWN, SEED, Aspect, Client, Counts, Difference, Found, by_hand, excused, expect_none, shape
 
 PART = Part("with_parser")
-# The seconds of the case in the gate, and the most mutations of a statement.
-SECONDS, MUTATIONS = 20.0 * LOAD, 8
+# The most seconds and statements of the case in the gate, and the most mutations of a statement.
+SECONDS, STATEMENTS, MUTATIONS = 20.0 * LOAD, 60_000, 8
 
 
 def refusal(it: Statement) -> str:
@@ -37,8 +38,8 @@ def refusal(it: Statement) -> str:
     return said
 
 
-def held_against_its_parser(gateway: Gateway, seed: int, seconds: float, most: int = MOST_SHOWN) -> Found:
-    """Serves statements that are mutated much for some seconds, and asks PostgreSQL's parser about each that the gateway acts on."""
+def held_against_its_parser(gateway: Gateway, seed: int, seconds: float, most: int = MOST_SHOWN, statements: float = math.inf) -> Found:
+    """Serves so many statements that are mutated much, or for some seconds, and asks PostgreSQL's parser about each that the gateway acts on."""
     grammar, client, counts = Grammar(random.Random(seed)), Client(gateway.socket), Counts()
     found: Dict[str, Difference] = {}
     begin, batches = time.monotonic(), 0
@@ -48,12 +49,12 @@ def held_against_its_parser(gateway: Gateway, seed: int, seconds: float, most: i
         for table in TABLES:
             client.do(table.ours, *table.rows)
 
-    while time.monotonic() - begin < seconds and len(found) < most:
+    while time.monotonic() - begin < seconds and len(found) < most and counts.statements < statements:
         if batches % A_TABLE == 0:
             renew()
         batches += 1
-        statements = [grammar.any(MUTATIONS) for _ in range(A_BATCH)]
-        for it, answer in zip(statements, client.ask([it.messages(it.text) for it in statements])):
+        batch = [grammar.any(MUTATIONS) for _ in range(A_BATCH)]
+        for it, answer in zip(batch, client.ask([it.messages(it.text) for it in batch])):
             counts.statements += 1
             wrong = refusal(it) if answer.acted else ""
             if answer.acted and not wrong:
@@ -75,7 +76,7 @@ def held_against_its_parser(gateway: Gateway, seed: int, seconds: float, most: i
 
 @PART.served
 def as_its_parser_does(gateway: Gateway) -> None:
-    found, counts, seconds = held_against_its_parser(gateway, SEED, SECONDS)
+    found, counts, seconds = held_against_its_parser(gateway, SEED, SECONDS, statements=STATEMENTS)
     expect_none(found, counts, seconds, SEED)
 
 

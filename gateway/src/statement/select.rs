@@ -649,6 +649,16 @@ fn bound(
     state: SqlState,
 ) -> Result<Option<u64>, Failure> {
     let place = expression.span.start;
+    let of = constant::type_of(expression, input.types).0;
+    let mismatch = || {
+        let of = constant::type_name(of);
+        let text = format!("argument of {} must be type bigint, not type {}", name, of);
+        Err(Report::error(SqlState::DATATYPE_MISMATCH, text).at(place))
+    };
+    // A NULL has a type too, if it is cast.
+    if matches!(of, oid::BOOL | oid::TEXT | oid::VARCHAR) {
+        return mismatch();
+    }
     let count = match constant::evaluate(expression, input)? {
         Datum::Null => return Ok(None),
         Datum::Integer(count, _) => Some(count),
@@ -656,11 +666,7 @@ fn bound(
         Datum::Unknown(text) => {
             Some(crate::value::integer(oid::INT8, &text).map_err(|report| report.at(place))?)
         }
-        Datum::Boolean(_) | Datum::Text(..) => {
-            let of = constant::type_name(constant::type_of(expression, input.types).0);
-            let text = format!("argument of {} must be type bigint, not type {}", name, of);
-            return Err(Report::error(SqlState::DATATYPE_MISMATCH, text).at(place));
-        }
+        Datum::Boolean(_) | Datum::Text(..) => return mismatch(),
     };
     match count.map(u64::try_from) {
         Some(Ok(count)) => Ok(Some(count)),

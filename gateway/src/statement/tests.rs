@@ -207,6 +207,7 @@ fn what_is_no_statement_or_is_missing_is_refused() {
         ("CREATE TABLE t (a INT CHECK (a < 0::varchar))", "42883", "0::varchar))"),
         ("UPDATE purse SET cards = cards + + '1' WHERE id = 1", "0A000", "+ '1' WHERE id = 1"),
         ("SELECT id FROM purse FETCH FIRST 2::int ROWS ONLY", "42601", "::int ROWS ONLY"),
+        ("SELECT id FROM purse OFFSET 2::int ROWS", "42601", "ROWS"),
         ("CREATE INDEX i ON t (a)", "0A000", "CREATE INDEX i ON t (a)"),
         ("ALTER TABLE t ADD COLUMN b INT", "0A000", "COLUMN b INT"),
         ("ALTER TABLE t RENAME TO u", "0A000", "RENAME TO u"),

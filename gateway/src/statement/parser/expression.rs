@@ -423,7 +423,8 @@ impl<'a> Parser<'a> {
         self.postfixed(operand)
     }
 
-    fn postfixed(&mut self, mut operand: Expression) -> Result<Expression, Failure> {
+    /// Reads the casts and subscripts behind an operand.
+    pub(super) fn postfixed(&mut self, mut operand: Expression) -> Result<Expression, Failure> {
         loop {
             let start = operand.span.start;
             let kind = if self.kind() == Some(TokenKind::Cast) {

@@ -3,7 +3,7 @@
 use std::mem::size_of;
 
 use crate::sqlstate::{Failure, Report, SqlState};
-use crate::statement::parser::expression::Parenthesized;
+use crate::statement::parser::expression::{Binding, Parenthesized};
 use crate::statement::parser::{keywords, Parser, TokenKind};
 use crate::statement::query::{
     Alias, Body, Expression, ExpressionKind, FunctionCall, JoinCondition, JoinKind, Locking, Name,
@@ -119,10 +119,7 @@ impl<'a> Parser<'a> {
                 has_limit = true;
                 query.limit = limit;
             } else if self.keyword("OFFSET") {
-                let offset = self.expression()?;
-                if self.keyword_of(&["ROW", "ROWS"]).is_some() && has_offset {
-                    return Err(self.fault());
-                }
+                let offset = self.nested(Parser::offset)?;
                 if has_offset {
                     return twice("OFFSET", start);
                 }
@@ -379,6 +376,19 @@ impl<'a> Parser<'a> {
                 nulls_first,
             })
         })
+    }
+
+    /// Reads what is behind OFFSET. In front of ROW and ROWS it is an operand alone, without an operator or a cast.
+    fn offset(&mut self) -> Result<Expression, Failure> {
+        if self.operator().is_some() || self.at_keyword("NOT") || self.at_keyword("OPERATOR") {
+            return self.expression();
+        }
+        let operand = self.operand()?;
+        if self.keyword_of(&["ROW", "ROWS"]).is_some() {
+            return Ok(operand);
+        }
+        let operand = self.postfixed(operand)?;
+        self.continued(operand, Binding::Or)
     }
 
     /// Reads LIMIT or FETCH FIRST. None: all rows.
