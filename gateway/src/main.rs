@@ -2,6 +2,7 @@
 #![forbid(unsafe_code)]
 #![warn(missing_docs)]
 
+mod allocator;
 mod args;
 mod client;
 mod engine;
@@ -23,6 +24,7 @@ use engine::Engine;
 use log::Log;
 
 fn main() -> ExitCode {
+    allocator::settle();
     let args = Args::read();
     let log = match Log::start(args.log_level.level()) {
         Ok(log) => log,

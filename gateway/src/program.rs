@@ -25,6 +25,7 @@ use escrowd_pg::rows::Definitions;
 pub use sessions::{Holder, Number};
 pub use version::check_version;
 
+use crate::allocator;
 use crate::args::Database;
 use crate::failure::Failure;
 use candidates::candidates;
@@ -636,6 +637,7 @@ fn spawn(path: &Path, database: &Database) -> io::Result<Child> {
         return Err(ErrorKind::PermissionDenied.into());
     }
     let mut command = Command::new("/bin/sh");
+    allocator::unsettle(&mut command);
     command
         .args(["-c", WITHOUT_KEYS, "sh"])
         .arg(path)
