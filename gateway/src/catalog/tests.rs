@@ -183,7 +183,7 @@ fn columns_have_the_names_and_types_of_postgresql_15() {
                 ("?column?", 1700),
                 ("?column?", 25),
                 ("?column?", 25),
-                ("bool", 16),
+                ("?column?", 16),
             ][..],
         ),
         (

@@ -684,7 +684,6 @@ fn named(expression: &Expression) -> Option<(&str, Strength)> {
         ExpressionKind::Cast(operand, name) => {
             inside(operand).or(Some((&name.name.name.text, Strength::Weak)))
         }
-        ExpressionKind::Boolean(_) => Some(("bool", Strength::Weak)),
         ExpressionKind::Case { otherwise, .. } => otherwise
             .as_deref()
             .and_then(inside)
