@@ -126,14 +126,19 @@ impl<'a> Parser<'a> {
             .map(|token| token.text(self.text))
     }
 
+    /// Returns the keyword that the token at this distance is, in capitals.
+    fn keyword_at(&self, ahead: usize) -> Option<&'static str> {
+        self.peek_at(ahead)?.keyword
+    }
+
     /// Returns whether the next token is this keyword.
     fn at_keyword(&self, keyword: &str) -> bool {
         self.at_keyword_ahead(0, keyword)
     }
 
     fn at_keyword_ahead(&self, ahead: usize, keyword: &str) -> bool {
-        self.word_at(ahead)
-            .map_or(false, |word| word.eq_ignore_ascii_case(keyword))
+        debug_assert_eq!(keywords::find(keyword), Some(keyword));
+        self.keyword_at(ahead) == Some(keyword)
     }
 
     /// Returns whether the next tokens are these keywords.
@@ -280,24 +285,29 @@ impl<'a> Parser<'a> {
         Ok(list)
     }
 
-    /// Reads a name, of which `may_be` says whether a word in lower case is one.
+    /// Reads a name, of which `may_be` says whether a keyword in lower case is one.
     fn name_if(&mut self, may_be: fn(&str) -> bool) -> Result<Name, Failure> {
-        let token = match self.peek() {
-            Some(token) => token,
-            None => return Err(self.fault()),
-        };
+        match self.optional_name_if(may_be) {
+            Some(name) => Ok(name),
+            None => Err(self.fault()),
+        }
+    }
+
+    /// Reads a name, if the next token is one.
+    fn optional_name_if(&mut self, may_be: fn(&str) -> bool) -> Option<Name> {
+        let token = self.peek()?;
         let is_quoted = match token.kind {
             TokenKind::Word => false,
             TokenKind::QuotedName => true,
-            _ => return Err(self.fault()),
+            _ => return None,
         };
         let text = literal::folded(token.text(self.text), is_quoted);
-        if !is_quoted && !may_be(&text) {
-            return Err(self.fault());
+        if token.keyword.is_some() && !may_be(&text) {
+            return None;
         }
         self.at += 1;
         self.size += text.capacity();
-        Ok(Name {
+        Some(Name {
             text,
             span: token.span,
         })
@@ -313,9 +323,9 @@ impl<'a> Parser<'a> {
         self.name_if(|_| true)
     }
 
-    /// Reads a name, if the next token is one.
+    /// Reads the name of a column or a table, if the next token is one.
     fn optional_name(&mut self) -> Option<Name> {
-        self.name().ok()
+        self.optional_name_if(keywords::may_name_column)
     }
 
     /// Reads a name that may have its schema in front, and in front of that the database.
@@ -326,6 +336,12 @@ impl<'a> Parser<'a> {
 
     /// Reads what may follow the first name of a qualified one.
     fn qualified_by(&mut self, first: Name) -> Result<QualifiedName, Failure> {
+        if !self.at_symbol(0, b'.') {
+            return Ok(QualifiedName {
+                schema: None,
+                name: first,
+            });
+        }
         let mut names = vec![first];
         while self.symbol(b'.') {
             names.push(self.label()?);

@@ -3,6 +3,8 @@
 //! The parser makes it. What a query means depends on what it reads: nothing or the catalog (then it is evaluated here),
 //! or a table of the database (then it has to have a form that the program serves).
 
+use std::borrow::Cow;
+
 /// The bytes of a piece in the client's text, for the position of an error.
 #[derive(Clone, Copy, Debug, Default, PartialEq, Eq)]
 pub struct Span {
@@ -44,6 +46,9 @@ pub struct TypeName {
     pub span: Span,
 }
 
+/// The name of an operator. Those that the grammar knows by themselves take no memory.
+pub type Operator = Cow<'static, str>;
+
 /// A value that is computed.
 #[derive(Clone, Debug, PartialEq, Eq)]
 pub struct Expression {
@@ -69,12 +74,12 @@ pub enum ExpressionKind {
     /// A column, with the names in front of it: `a`, `t.a`, `public.t.a`.
     Column(Vec<Name>),
     /// `-a`, `NOT a`: an operator in front, its name as written or in capitals if it is a word.
-    Unary(String, Box<Expression>),
+    Unary(Operator, Box<Expression>),
     /// `a + b`, `a AND b`, `a ~ b`, `a OPERATOR(pg_catalog.~) b`, `a LIKE b` (`~~`): left, operator, right. Words are in
     /// capitals.
-    Binary(Box<Expression>, String, Box<Expression>),
+    Binary(Box<Expression>, Operator, Box<Expression>),
     /// `a::type`, `CAST(a AS type)`, `type 'text'`.
-    Cast(Box<Expression>, TypeName),
+    Cast(Box<Expression>, Box<TypeName>),
     /// `a IS NULL`, `a IS NOT NULL` (true), `a IS TRUE` and so on: operand, the word that follows, whether NOT is there.
     Is(Box<Expression>, IsWhat, bool),
     /// `a IN (b, c)`, `a NOT IN (b, c)` (true).
@@ -84,9 +89,9 @@ pub enum ExpressionKind {
     /// `a BETWEEN b AND c`, `a NOT BETWEEN b AND c` (true).
     Between(Box<Expression>, Box<Expression>, Box<Expression>, bool),
     /// `a = ANY (b)`, `a <> ALL (b)`: left, operator, whether it is ALL, right, which is an array.
-    Quantified(Box<Expression>, String, bool, Box<Expression>),
+    Quantified(Box<Expression>, Operator, bool, Box<Expression>),
     /// `f(a, b)`, `count(*)`, `current_user`, `COALESCE(a, b)`: special forms of the grammar come as functions of that name.
-    Function(FunctionCall),
+    Function(Box<FunctionCall>),
     /// CASE.
     Case {
         /// What is compared, if something stands behind CASE.
@@ -111,7 +116,7 @@ pub enum ExpressionKind {
     /// `(a).b`: a field of a row.
     Field(Box<Expression>, Name),
     /// `a COLLATE "C"`.
-    Collate(Box<Expression>, QualifiedName),
+    Collate(Box<Expression>, Box<QualifiedName>),
 }
 
 /// What an expression is tested for by IS.

@@ -19,17 +19,17 @@ impl<'a> Parser<'a> {
     }
 
     fn unended(&mut self) -> Result<Statement, Failure> {
-        let word = match self.peek().map(|token| token.kind) {
-            Some(TokenKind::Symbol(b'(')) => return self.read(),
-            Some(TokenKind::Word) => self.word().unwrap_or("").to_ascii_uppercase(),
-            _ => return Err(self.fault()),
-        };
-        match word.as_str() {
-            "SELECT" | "VALUES" | "WITH" | "TABLE" => return self.read(),
-            _ => self.at += 1,
+        if self.at_symbol(0, b'(') {
+            return self.read();
         }
+        let word = match self.keyword_at(0) {
+            Some("SELECT" | "VALUES" | "WITH" | "TABLE") => return self.read(),
+            Some(word) => word,
+            None => return Err(self.fault()),
+        };
+        self.at += 1;
         let start = self.tokens.list[0].span.start;
-        match word.as_str() {
+        match word {
             "UPDATE" => self.update(),
             "INSERT" => self.insert(),
             "DELETE" => self.delete(),
@@ -666,7 +666,7 @@ fn assignment(
 ) -> Result<(bool, Assignment), Failure> {
     let span = value.span;
     let (left, operator, right) = match value.kind {
-        ExpressionKind::Binary(left, operator, right) if matches!(operator.as_str(), "+" | "-") => {
+        ExpressionKind::Binary(left, operator, right) if matches!(&*operator, "+" | "-") => {
             (*left, operator, *right)
         }
         kind => {

@@ -413,7 +413,7 @@ fn append_condition(written: &mut String, condition: &Expression) -> Result<(), 
             append_condition(written, right)
         }
         ExpressionKind::Binary(left, operator, right)
-            if matches!(operator.as_str(), "<" | "<=" | ">" | ">=" | "=") =>
+            if matches!(&**operator, "<" | "<=" | ">" | ">=" | "=") =>
         {
             append_sum(written, left)?;
             let _ = write!(written, " {} ", operator);
@@ -456,12 +456,12 @@ fn collect_terms(
     is_negative: bool,
 ) -> Result<(), Failure> {
     match &sum.kind {
-        ExpressionKind::Binary(left, operator, right) if matches!(operator.as_str(), "+" | "-") => {
+        ExpressionKind::Binary(left, operator, right) if matches!(&**operator, "+" | "-") => {
             collect_terms(terms, left, is_negative)?;
             collect_terms(terms, right, is_negative ^ (operator == "-"))
         }
         ExpressionKind::Unary(sign, operand)
-            if matches!(sign.as_str(), "+" | "-") && !constant::is_constant(sum) =>
+            if matches!(&**sign, "+" | "-") && !constant::is_constant(sum) =>
         {
             collect_terms(terms, operand, is_negative ^ (sign == "-"))
         }

@@ -1,5 +1,6 @@
 //! Expressions (manual 4.2; `a_expr` and `c_expr` of PostgreSQL's grammar).
 
+use std::borrow::Cow;
 use std::mem::size_of;
 
 use crate::sqlstate::{Failure, Report};
@@ -7,7 +8,8 @@ use crate::statement::literal;
 use crate::statement::parser::lexer::Token;
 use crate::statement::parser::{keywords, Parser, TokenKind};
 use crate::statement::query::{
-    Expression, ExpressionKind, FunctionCall, IsWhat, Name, QualifiedName, Query, TypeName, Window,
+    Expression, ExpressionKind, FunctionCall, IsWhat, Name, Operator, QualifiedName, Query,
+    TypeName, Window,
 };
 
 /// About what an expression takes beside itself: the name of its operator, and what the memory needs to know of it.
@@ -65,6 +67,16 @@ impl Binding {
     }
 }
 
+/// Returns the name of an operator that is written with signs.
+fn operator_named(written: &str) -> Operator {
+    const USUAL: [&str; 10] = ["=", "+", "-", "<>", "<", ">", "<=", ">=", "*", "/"];
+    let name = if written == "!=" { "<>" } else { written };
+    match USUAL.iter().find(|usual| **usual == name) {
+        Some(usual) => Cow::Borrowed(usual),
+        None => Cow::Owned(name.to_owned()),
+    }
+}
+
 /// What was read in parentheses.
 pub(super) enum Parenthesized {
     /// A query.
@@ -75,8 +87,10 @@ pub(super) enum Parenthesized {
 
 /// An operator between two expressions.
 enum Infix {
-    /// It is written with signs, or by OPERATOR(), or as AND, OR, LIKE.
-    Binary(String),
+    /// It is written with signs, or as AND, OR, LIKE.
+    Binary(Operator),
+    /// OPERATOR()
+    Named,
     /// IS and what follows.
     Is,
     /// ISNULL; true: NOTNULL.
@@ -116,13 +130,13 @@ impl<'a> Parser<'a> {
         let start = self.start();
         if self.keyword("NOT") {
             let operand = self.expression_bound(Binding::Not)?;
-            let kind = ExpressionKind::Unary("NOT".to_owned(), Box::new(operand));
+            let kind = ExpressionKind::Unary("NOT".into(), Box::new(operand));
             return Ok(self.expression_of(kind, start));
         }
         let (operator, binding) = match self.operator() {
-            Some(sign @ ("-" | "+")) => (sign.to_owned(), Binding::Sign),
+            Some(sign @ ("-" | "+")) => (operator_named(sign), Binding::Sign),
             Some(operator) if Binding::of(operator) == Some(Binding::Operator) => {
-                (operator.to_owned(), Binding::Sum)
+                (operator_named(operator), Binding::Sum)
             }
             Some(_) => return Err(self.fault()),
             None if self.at_keyword("OPERATOR") && self.at_symbol(1, b'(') => {
@@ -142,52 +156,33 @@ impl<'a> Parser<'a> {
     /// Returns the operator that follows an operand, how tightly it binds, and how many tokens it has.
     fn infix(&mut self) -> Option<(Infix, Binding, usize)> {
         if let Some(operator) = self.operator() {
-            let name = if operator == "!=" { "<>" } else { operator };
-            return Some((Infix::Binary(name.to_owned()), Binding::of(operator)?, 1));
+            let binding = Binding::of(operator)?;
+            return Some((Infix::Binary(operator_named(operator)), binding, 1));
         }
-        let word = self.word()?;
-        let is = |keyword: &str| word.eq_ignore_ascii_case(keyword);
-        let binary = |name: &str| Infix::Binary(name.to_owned());
-        Some(if is("AND") {
-            (binary("AND"), Binding::And, 1)
-        } else if is("OR") {
-            (binary("OR"), Binding::Or, 1)
-        } else if is("IS") {
-            (Infix::Is, Binding::Is, 1)
-        } else if is("IN") {
-            (Infix::In(false), Binding::Membership, 1)
-        } else if is("LIKE") {
-            (binary("~~"), Binding::Membership, 1)
-        } else if is("ILIKE") {
-            (binary("~~*"), Binding::Membership, 1)
-        } else if is("BETWEEN") {
-            (Infix::Between(false), Binding::Membership, 1)
-        } else if is("ISNULL") {
-            (Infix::IsNull(false), Binding::Is, 1)
-        } else if is("NOTNULL") {
-            (Infix::IsNull(true), Binding::Is, 1)
-        } else if is("COLLATE") {
-            (Infix::Collate, Binding::Collate, 1)
-        } else if is("OPERATOR") && self.at_symbol(1, b'(') {
-            (binary(""), Binding::Operator, 0)
-        } else if is("AT") && self.at_keywords(&["AT", "TIME", "ZONE"]) {
-            (Infix::TimeZone, Binding::TimeZone, 3)
-        } else if is("NOT") {
-            let next = self.word_at(1)?;
-            let is = |keyword: &str| next.eq_ignore_ascii_case(keyword);
-            if is("IN") {
-                (Infix::In(true), Binding::Membership, 2)
-            } else if is("LIKE") {
-                (binary("!~~"), Binding::Membership, 2)
-            } else if is("ILIKE") {
-                (binary("!~~*"), Binding::Membership, 2)
-            } else if is("BETWEEN") {
-                (Infix::Between(true), Binding::Membership, 2)
-            } else {
-                return None;
+        let binary = |name| Infix::Binary(Cow::Borrowed(name));
+        Some(match self.keyword_at(0)? {
+            "AND" => (binary("AND"), Binding::And, 1),
+            "OR" => (binary("OR"), Binding::Or, 1),
+            "IS" => (Infix::Is, Binding::Is, 1),
+            "IN" => (Infix::In(false), Binding::Membership, 1),
+            "LIKE" => (binary("~~"), Binding::Membership, 1),
+            "ILIKE" => (binary("~~*"), Binding::Membership, 1),
+            "BETWEEN" => (Infix::Between(false), Binding::Membership, 1),
+            "ISNULL" => (Infix::IsNull(false), Binding::Is, 1),
+            "NOTNULL" => (Infix::IsNull(true), Binding::Is, 1),
+            "COLLATE" => (Infix::Collate, Binding::Collate, 1),
+            "OPERATOR" if self.at_symbol(1, b'(') => (Infix::Named, Binding::Operator, 0),
+            "AT" if self.at_keywords(&["AT", "TIME", "ZONE"]) => {
+                (Infix::TimeZone, Binding::TimeZone, 3)
             }
-        } else {
-            return None;
+            "NOT" => match self.keyword_at(1)? {
+                "IN" => (Infix::In(true), Binding::Membership, 2),
+                "LIKE" => (binary("!~~"), Binding::Membership, 2),
+                "ILIKE" => (binary("!~~*"), Binding::Membership, 2),
+                "BETWEEN" => (Infix::Between(true), Binding::Membership, 2),
+                _ => return None,
+            },
+            _ => return None,
         })
     }
 
@@ -231,11 +226,10 @@ impl<'a> Parser<'a> {
         let start = left.span.start;
         let left = Box::new(left);
         let kind = match infix {
-            Infix::Binary(operator) => {
-                let operator = if operator.is_empty() {
-                    self.named_operator()?
-                } else {
-                    operator
+            Infix::Binary(_) | Infix::Named => {
+                let operator = match infix {
+                    Infix::Binary(operator) => operator,
+                    _ => self.named_operator()?,
                 };
                 if let Some(word) = self.keyword_of(&["ANY", "SOME", "ALL"]) {
                     let right = Box::new(self.in_parentheses()?);
@@ -277,7 +271,7 @@ impl<'a> Parser<'a> {
             }
             Infix::Collate => {
                 let collation = self.qualified_name()?;
-                ExpressionKind::Collate(left, collation)
+                ExpressionKind::Collate(left, Box::new(collation))
             }
         };
         Ok((self.expression_of(kind, start), false))
@@ -292,11 +286,8 @@ impl<'a> Parser<'a> {
                 "IS DISTINCT FROM"
             };
             let right = self.expression_bound(Binding::Comparison)?;
-            return Ok(ExpressionKind::Binary(
-                left,
-                operator.to_owned(),
-                Box::new(right),
-            ));
+            let right = Box::new(right);
+            return Ok(ExpressionKind::Binary(left, operator.into(), right));
         }
         let what = match self.keyword_of(&["NULL", "TRUE", "FALSE", "UNKNOWN"]) {
             Some("NULL") => IsWhat::Null,
@@ -334,7 +325,7 @@ impl<'a> Parser<'a> {
     }
 
     /// Reads `OPERATOR(schema.operator)`.
-    fn named_operator(&mut self) -> Result<String, Failure> {
+    fn named_operator(&mut self) -> Result<Operator, Failure> {
         let start = self.start();
         self.at += 2;
         if self.operator().is_none() {
@@ -346,13 +337,12 @@ impl<'a> Parser<'a> {
             }
         }
         let operator = match self.operator() {
-            Some("!=") => "<>",
-            Some(operator) => operator,
+            Some(operator) => operator_named(operator),
             None => return Err(self.fault()),
         };
         self.at += 1;
         self.expect_symbol(b')')?;
-        Ok(operator.to_owned())
+        Ok(operator)
     }
 
     /// Returns how far the first token is, from this distance on, that opens no parenthesis.
@@ -365,9 +355,10 @@ impl<'a> Parser<'a> {
     /// Returns whether a query begins at this distance, behind parentheses perhaps.
     pub(super) fn at_query(&self, ahead: usize) -> bool {
         let first = self.behind_parentheses(ahead);
-        ["SELECT", "VALUES", "WITH", "TABLE"]
-            .iter()
-            .any(|keyword| self.at_keyword_ahead(first, keyword))
+        matches!(
+            self.keyword_at(first),
+            Some("SELECT" | "VALUES" | "WITH" | "TABLE")
+        )
     }
 
     /// Reads what is in parentheses: an expression, several (a row), or a query.
@@ -429,7 +420,7 @@ impl<'a> Parser<'a> {
             let start = operand.span.start;
             let kind = if self.kind() == Some(TokenKind::Cast) {
                 self.at += 1;
-                ExpressionKind::Cast(Box::new(operand), self.type_name()?)
+                ExpressionKind::Cast(Box::new(operand), Box::new(self.type_name()?))
             } else if self.symbol(b'[') {
                 let subscript = self.expression()?;
                 if self.at_symbol(0, b':') {
@@ -510,15 +501,19 @@ impl<'a> Parser<'a> {
     /// Makes a call of a function of the catalog that has words of its own in the grammar.
     fn call_of(&mut self, name: &str, arguments: Vec<Expression>, start: usize) -> ExpressionKind {
         self.size += name.len();
-        ExpressionKind::Function(FunctionCall::plain(name, arguments, self.span_from(start)))
+        let call = FunctionCall::plain(name, arguments, self.span_from(start));
+        ExpressionKind::Function(Box::new(call))
     }
 
     /// Reads an operand that begins with a keyword. None: the next word is a name.
     fn special_form(&mut self) -> Result<Option<ExpressionKind>, Failure> {
         let start = self.start();
-        let word = self.word().unwrap_or("").to_ascii_uppercase();
+        let word = match self.keyword_at(0) {
+            Some(word) => word,
+            None => return Ok(None),
+        };
         let is_call = self.at_symbol(1, b'(');
-        let kind = match word.as_str() {
+        let kind = match word {
             "NULL" => ExpressionKind::Null,
             "TRUE" => ExpressionKind::Boolean(true),
             "FALSE" => ExpressionKind::Boolean(false),
@@ -566,7 +561,7 @@ impl<'a> Parser<'a> {
             }
             "EXTRACT" | "POSITION" | "SUBSTRING" | "TRIM" if is_call => {
                 self.at += 2;
-                let kind = self.call_with_words(&word, start)?;
+                let kind = self.call_with_words(word, start)?;
                 self.expect_symbol(b')')?;
                 return Ok(Some(kind));
             }
@@ -574,7 +569,7 @@ impl<'a> Parser<'a> {
             | "XMLEXISTS" | "XMLFOREST" | "XMLPARSE" | "XMLPI" | "XMLROOT" | "XMLSERIALIZE"
                 if is_call =>
             {
-                return Err(self.missing(&word));
+                return Err(self.missing(word));
             }
             _ => return self.typed_text(),
         };
@@ -600,7 +595,7 @@ impl<'a> Parser<'a> {
         let start = self.start();
         let text = self.text_value()?;
         let text = self.expression_of(ExpressionKind::Text(text), start);
-        Ok(ExpressionKind::Cast(Box::new(text), type_name))
+        Ok(ExpressionKind::Cast(Box::new(text), Box::new(type_name)))
     }
 
     /// Reads CASE.
@@ -659,7 +654,7 @@ impl<'a> Parser<'a> {
         self.expect_keyword("AS")?;
         let type_name = self.type_name()?;
         self.expect_symbol(b')')?;
-        Ok(ExpressionKind::Cast(Box::new(operand), type_name))
+        Ok(ExpressionKind::Cast(Box::new(operand), Box::new(type_name)))
     }
 
     /// Reads the arguments of a function that may have words between them, from behind its parenthesis.
@@ -717,14 +712,14 @@ impl<'a> Parser<'a> {
     /// Reads an operand that begins with a name: a column, a call, or a text of a type.
     fn named(&mut self) -> Result<ExpressionKind, Failure> {
         let start = self.start();
+        let is_keyword = self.keyword_at(0).is_some();
         let first = self.name_if(keywords::may_be_name)?;
-        let is_quoted = self.text.as_bytes().get(start) == Some(&b'"');
         let mut names = vec![first];
         while self.at_symbol(0, b'.') && !self.at_star(1) {
             self.at += 1;
             names.push(self.label()?);
         }
-        let only = |may_be: fn(&str) -> bool| is_quoted || may_be(&names[0].text);
+        let only = |may_be: fn(&str) -> bool| !is_keyword || may_be(&names[0].text);
         if self.at_symbol(0, b'(') || self.at_text() {
             let may_be = if names.len() == 1 {
                 keywords::may_name_function
@@ -736,7 +731,7 @@ impl<'a> Parser<'a> {
             }
             let name = self.qualified(names)?;
             if self.at_symbol(0, b'(') {
-                return self.call(name).map(ExpressionKind::Function);
+                return self.call(name).map(Box::new).map(ExpressionKind::Function);
             }
             return self.cast_text(TypeName {
                 name,

@@ -1,6 +1,44 @@
-//! The keywords of PostgreSQL 15 that may not stand where any name may (manual, appendix C).
+//! The keywords of statements, and which of PostgreSQL 15 may not stand where any name may (manual, appendix C).
 
 use crate::statement::words::Words;
+
+/// All keywords that a statement may have here, in capitals.
+#[rustfmt::skip]
+static KEYWORDS: Words = Words::new(&[
+    "ABORT", "ABSOLUTE", "ADD", "ALL", "ALTER", "ANALYSE", "ANALYZE", "AND", "ANY", "ARRAY", "AS",
+    "ASC", "ASENSITIVE", "ASYMMETRIC", "AT", "AUTHORIZATION", "BACKWARD", "BEGIN", "BETWEEN",
+    "BIGINT", "BINARY", "BIT", "BOOLEAN", "BOTH", "BOUNDS", "BY", "CALL", "CASCADE", "CASE", "CAST",
+    "CHAIN", "CHAR", "CHARACTER", "CHARACTERISTICS", "CHECK", "CHECKPOINT", "CLOSE", "CLUSTER",
+    "COALESCE", "COLLATE", "COLLATION", "COLUMN", "COMMENT", "COMMIT", "COMMITTED", "CONCURRENTLY",
+    "CONSTRAINT", "CONSTRAINTS", "COPY", "CREATE", "CROSS", "CUBE", "CURRENT", "CURRENT_CATALOG",
+    "CURRENT_DATE", "CURRENT_ROLE", "CURRENT_SCHEMA", "CURRENT_TIME", "CURRENT_TIMESTAMP",
+    "CURRENT_USER", "CURSOR", "CYCLE", "DAY", "DEALLOCATE", "DEC", "DECIMAL", "DECLARE", "DEFAULT",
+    "DEFERRABLE", "DEFERRED", "DELETE", "DESC", "DISCARD", "DISTINCT", "DO", "DOUBLE", "DROP",
+    "ELSE", "END", "ESCAPE", "EXCEPT", "EXCLUDE", "EXECUTE", "EXISTS", "EXPLAIN", "EXTRACT",
+    "FALSE", "FETCH", "FILTER", "FIRST", "FLOAT", "FOR", "FOREIGN", "FORWARD", "FREEZE", "FROM",
+    "FULL", "GENERATED", "GRANT", "GREATEST", "GROUP", "GROUPING", "GROUPS", "HAVING", "HOLD",
+    "HOUR", "IF", "ILIKE", "IMMEDIATE", "IMPORT", "IN", "INHERIT", "INHERITS", "INITIALLY", "INNER",
+    "INOUT", "INSENSITIVE", "INSERT", "INT", "INTEGER", "INTERSECT", "INTERVAL", "INTO", "IS",
+    "ISNULL", "ISOLATION", "JOIN", "JOURNAL", "KEY", "LAST", "LATERAL", "LEADING", "LEAST", "LEFT",
+    "LEVEL", "LIKE", "LIMIT", "LISTEN", "LOAD", "LOCAL", "LOCALTIME", "LOCALTIMESTAMP", "LOCK",
+    "LOCKED", "MATERIALIZED", "MERGE", "MINUTE", "MONTH", "MOVE", "NAMES", "NATIONAL", "NATURAL",
+    "NCHAR", "NEXT", "NO", "NONE", "NORMALIZE", "NOT", "NOTIFY", "NOTNULL", "NOWAIT", "NULL",
+    "NULLIF", "NULLS", "NUMBER", "NUMERIC", "OF", "OFFSET", "ON", "ONLY", "OPERATOR", "OR", "ORDER",
+    "ORDINALITY", "OUT", "OUTER", "OVER", "OVERLAPS", "OVERLAY", "OVERRIDING", "PARTITION",
+    "PLACING", "PLANS", "POSITION", "PRECISION", "PREPARE", "PREPARED", "PRIMARY", "PRIOR", "RANGE",
+    "READ", "REAL", "REASSIGN", "RECURSIVE", "REFERENCES", "REFRESH", "REINDEX", "RELATIVE",
+    "RELEASE", "REPEATABLE", "RESERVABLE", "RESET", "RESTRICT", "RETURNING", "REVOKE", "RIGHT",
+    "ROLE", "ROLLBACK", "ROLLUP", "ROW", "ROWS", "SAVEPOINT", "SCROLL", "SEARCH", "SECOND",
+    "SECURITY", "SELECT", "SEQUENCES", "SERIALIZABLE", "SESSION", "SESSION_USER", "SET", "SETOF",
+    "SHARE", "SHOW", "SIMILAR", "SKIP", "SMALLINT", "SOME", "START", "STATISTICS", "SUBSTRING",
+    "SYMMETRIC", "TABLE", "TABLESAMPLE", "TABLESPACE", "TEMP", "TEMPORARY", "THEN", "TIES", "TIME",
+    "TIMESTAMP", "TO", "TRAILING", "TRANSACTION", "TREAT", "TRIM", "TRUE", "TRUNCATE",
+    "UNCOMMITTED", "UNION", "UNIQUE", "UNKNOWN", "UNLISTEN", "UPDATE", "USER", "USING", "VACUUM",
+    "VALID", "VALUES", "VARCHAR", "VARIADIC", "VARYING", "VERBOSE", "WHEN", "WHERE", "WINDOW",
+    "WITH", "WITHIN", "WITHOUT", "WORK", "WRITE", "XMLATTRIBUTES", "XMLCONCAT", "XMLELEMENT",
+    "XMLEXISTS", "XMLFOREST", "XMLNAMESPACES", "XMLPARSE", "XMLPI", "XMLROOT", "XMLSERIALIZE",
+    "XMLTABLE", "YEAR", "ZONE",
+]);
 
 /// The words that are never a name without quotes.
 #[rustfmt::skip]
@@ -43,6 +81,11 @@ static BEHIND_AS: Words = Words::new(&[
     "notnull", "offset", "on", "order", "over", "overlaps", "precision", "returning", "second",
     "to", "union", "varying", "where", "window", "with", "within", "without", "year",
 ]);
+
+/// Returns the keyword that a word is, in capitals. None: it is none, and so it may be any name.
+pub fn find(word: &str) -> Option<&'static str> {
+    KEYWORDS.find(word)
+}
 
 /// Returns whether a word in lower case may be the name of a column or a table (`ColId` of PostgreSQL's grammar).
 pub fn may_name_column(word: &str) -> bool {

@@ -3,10 +3,14 @@
 use crate::sqlstate::{Failure, Report, SqlState};
 use crate::statement::line::LONGEST_LINE;
 use crate::statement::literal;
+use crate::statement::parser::keywords;
 use crate::statement::query::Span;
 
 /// The most tokens of a statement. More would not fit into a line of the program.
 pub const MOST_TOKENS: usize = 4_096;
+
+/// How many tokens a statement usually has at the most.
+const USUAL_TOKENS: usize = 32;
 
 /// What a token is.
 #[derive(Clone, Copy, Debug, PartialEq, Eq)]
@@ -42,17 +46,14 @@ pub struct Token {
     pub kind: TokenKind,
     /// Its bytes.
     pub span: Span,
+    /// The keyword that it is, in capitals, if it is a word without quotes.
+    pub keyword: Option<&'static str>,
 }
 
 impl Token {
     /// Returns the token as it is written.
     pub fn text<'a>(&self, text: &'a str) -> &'a str {
         &text[self.span.start..self.span.end]
-    }
-
-    /// Returns whether it is this keyword.
-    pub fn is(&self, text: &str, keyword: &str) -> bool {
-        self.kind == TokenKind::Word && self.text(text).eq_ignore_ascii_case(keyword)
     }
 }
 
@@ -97,6 +98,9 @@ pub fn next_statement(text: &str, at: &mut usize) -> Option<Tokens> {
                         end: token.span,
                         fault: None,
                     });
+                }
+                if list.is_empty() {
+                    list.reserve(USUAL_TOKENS);
                 }
                 if list.len() < MOST_TOKENS {
                     list.push(token);
@@ -222,9 +226,14 @@ fn token(text: &str, start: usize) -> Result<Token, Failure> {
         }
         byte => (TokenKind::Symbol(byte), start + 1),
     };
+    let keyword = match kind {
+        TokenKind::Word => keywords::find(&text[start..end]),
+        _ => None,
+    };
     Ok(Token {
         kind,
         span: Span { start, end },
+        keyword,
     })
 }
 
@@ -243,7 +252,25 @@ fn word_end(bytes: &[u8], start: usize) -> usize {
 
 /// Returns whether operators may have this character.
 fn is_operator(byte: u8) -> bool {
-    b"~!@#^&|`?+-*/%<>=".contains(&byte)
+    matches!(
+        byte,
+        b'~' | b'!'
+            | b'@'
+            | b'#'
+            | b'^'
+            | b'&'
+            | b'|'
+            | b'`'
+            | b'?'
+            | b'+'
+            | b'-'
+            | b'*'
+            | b'/'
+            | b'%'
+            | b'<'
+            | b'>'
+            | b'='
+    )
 }
 
 /// How many bytes are looked at for the end of an operator. PostgreSQL refuses one of 64 bytes, and no statement has one.

@@ -27,18 +27,14 @@ fn query_of(body: Body) -> Query {
 impl<'a> Parser<'a> {
     /// Returns whether what is here may follow a query in parentheses and make it a part of a longer one.
     pub(super) fn at_query_end(&self) -> bool {
-        [
-            "UNION",
-            "INTERSECT",
-            "EXCEPT",
-            "ORDER",
-            "LIMIT",
-            "OFFSET",
-            "FETCH",
-            "FOR",
-        ]
-        .iter()
-        .any(|keyword| self.at_keyword(keyword))
+        self.at_query_end_ahead(0)
+    }
+
+    fn at_query_end_ahead(&self, ahead: usize) -> bool {
+        matches!(
+            self.keyword_at(ahead),
+            Some("UNION" | "INTERSECT" | "EXCEPT" | "ORDER" | "LIMIT" | "OFFSET" | "FETCH" | "FOR")
+        )
     }
 
     /// Reads a query.
@@ -183,17 +179,14 @@ impl<'a> Parser<'a> {
 
     fn set_operation_from(&mut self, mut left: Body, least: u8) -> Result<Body, Failure> {
         loop {
-            let binding = if self.at_keyword("INTERSECT") {
-                2
-            } else if self.at_keyword("UNION") || self.at_keyword("EXCEPT") {
-                1
-            } else {
-                return Ok(left);
+            let (word, binding) = match self.keyword_at(0) {
+                Some(word @ "INTERSECT") => (word, 2),
+                Some(word @ ("UNION" | "EXCEPT")) => (word, 1),
+                _ => return Ok(left),
             };
             if binding < least {
                 return Ok(left);
             }
-            let word = self.word().unwrap_or("").to_ascii_uppercase();
             self.at += 1;
             let all = self.keyword("ALL");
             if !all {
@@ -201,7 +194,7 @@ impl<'a> Parser<'a> {
             }
             let right = self.nested(|parser| parser.set_operation(binding + 1))?;
             self.size += 2 * size_of::<Body>();
-            left = Body::Set(Box::new(left), word, all, Box::new(right));
+            left = Body::Set(Box::new(left), word.to_owned(), all, Box::new(right));
         }
     }
 
@@ -266,9 +259,10 @@ impl<'a> Parser<'a> {
             self.keyword("ALL");
         }
         let has_targets = self.tokens.list.get(self.at).map_or(false, |token| {
-            let is_clause = ["FROM", "WHERE", "GROUP", "HAVING", "WINDOW", "INTO"]
-                .iter()
-                .any(|keyword| token.is(self.text, keyword));
+            let is_clause = matches!(
+                token.keyword,
+                Some("FROM" | "WHERE" | "GROUP" | "HAVING" | "WINDOW" | "INTO")
+            );
             token.kind != TokenKind::Symbol(b')') && !is_clause && !self.at_query_end()
         });
         if has_targets || select.is_distinct || self.peek().is_none() && self.tokens.fault.is_some()
@@ -320,7 +314,7 @@ impl<'a> Parser<'a> {
         let name = if self.keyword("AS") {
             Some(self.label()?)
         } else {
-            self.name_if(keywords::may_be_bare_label).ok()
+            self.optional_name_if(keywords::may_be_bare_label)
         };
         Ok(Target::Expression(expression, name))
     }
@@ -481,9 +475,10 @@ impl<'a> Parser<'a> {
     }
 
     fn at_join(&self) -> bool {
-        ["JOIN", "INNER", "LEFT", "RIGHT", "FULL", "CROSS", "NATURAL"]
-            .iter()
-            .any(|keyword| self.at_keyword(keyword))
+        matches!(
+            self.keyword_at(0),
+            Some("JOIN" | "INNER" | "LEFT" | "RIGHT" | "FULL" | "CROSS" | "NATURAL")
+        )
     }
 
     fn join(&mut self, left: Relation) -> Result<Relation, Failure> {
@@ -558,12 +553,12 @@ impl<'a> Parser<'a> {
             return self.table(true, name);
         }
         let start = self.start();
-        let is_quoted = self.kind() == Some(TokenKind::QuotedName);
+        let is_keyword = self.keyword_at(0).is_some();
         if let Some(call) = self.keyword_call() {
             return self.function(call, is_lateral);
         }
         let first = self.name_if(keywords::may_be_name)?;
-        let may_be_table = is_quoted || keywords::may_name_column(&first.text);
+        let may_be_table = !is_keyword || keywords::may_name_column(&first.text);
         let name = self.qualified_by(first)?;
         if self.at_symbol(0, b'(') && !is_only {
             let call = self.call(name)?;
@@ -689,19 +684,7 @@ impl<'a> Parser<'a> {
                 let is_word = next.map_or(false, |next| {
                     matches!(next.kind, TokenKind::Word | TokenKind::QuotedName)
                 });
-                return is_word
-                    && ![
-                        "UNION",
-                        "INTERSECT",
-                        "EXCEPT",
-                        "ORDER",
-                        "LIMIT",
-                        "OFFSET",
-                        "FETCH",
-                        "FOR",
-                    ]
-                    .iter()
-                    .any(|keyword| self.at_keyword_ahead(ahead + 1, keyword));
+                return is_word && !self.at_query_end_ahead(ahead + 1);
             }
         }
         false

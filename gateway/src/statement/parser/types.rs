@@ -37,32 +37,32 @@ impl<'a> Parser<'a> {
     /// Reads a type that has words of its own in the grammar. None: the next words are none of these.
     pub(super) fn built_in_type(&mut self) -> Result<Option<TypeName>, Failure> {
         let start = self.start();
-        let word = match self.word() {
-            Some(word) => word.to_ascii_lowercase(),
+        let word = match self.keyword_at(0) {
+            Some(word) => word,
             None => return Ok(None),
         };
         let is_timed = |parser: &Self| parser.at_keywords(&["WITH", "TIME", "ZONE"]);
-        let (name, takes_modifiers) = match word.as_str() {
-            "int" | "integer" => ("int4", false),
-            "smallint" => ("int2", false),
-            "bigint" => ("int8", false),
-            "real" => ("float4", false),
-            "boolean" => ("bool", false),
-            "decimal" | "dec" | "numeric" => ("numeric", true),
-            "float" => ("float8", true),
-            "varchar" => ("varchar", true),
-            "char" | "character" | "nchar" => ("bpchar", true),
-            "bit" => ("bit", true),
-            "timestamp" => ("timestamp", true),
-            "time" => ("time", true),
-            "interval" => ("interval", true),
-            "national"
+        let (name, takes_modifiers) = match word {
+            "INT" | "INTEGER" => ("int4", false),
+            "SMALLINT" => ("int2", false),
+            "BIGINT" => ("int8", false),
+            "REAL" => ("float4", false),
+            "BOOLEAN" => ("bool", false),
+            "DECIMAL" | "DEC" | "NUMERIC" => ("numeric", true),
+            "FLOAT" => ("float8", true),
+            "VARCHAR" => ("varchar", true),
+            "CHAR" | "CHARACTER" | "NCHAR" => ("bpchar", true),
+            "BIT" => ("bit", true),
+            "TIMESTAMP" => ("timestamp", true),
+            "TIME" => ("time", true),
+            "INTERVAL" => ("interval", true),
+            "NATIONAL"
                 if self.at_keyword_ahead(1, "CHAR") || self.at_keyword_ahead(1, "CHARACTER") =>
             {
                 self.at += 1;
                 ("bpchar", true)
             }
-            "double" if self.at_keyword_ahead(1, "PRECISION") => {
+            "DOUBLE" if self.at_keyword_ahead(1, "PRECISION") => {
                 self.at += 1;
                 ("float8", false)
             }
@@ -72,7 +72,7 @@ impl<'a> Parser<'a> {
         let mut name = name.to_owned();
         if self.keyword("VARYING") {
             name = match name.as_str() {
-                "bpchar" if word != "varchar" => "varchar".to_owned(),
+                "bpchar" if word != "VARCHAR" => "varchar".to_owned(),
                 "bit" => "varbit".to_owned(),
                 _ => {
                     self.at -= 1;
