@@ -198,6 +198,12 @@ impl Number {
         Number::from_digits(negative, digits, 4 * (i64::from(weight) + 1))
     }
 
+    /// Returns it as a whole number. None: it has a point.
+    pub fn integer(&self) -> Option<i64> {
+        let digits: i64 = self.digits.parse().ok()?;
+        Some(if self.negative { -digits } else { digits })
+    }
+
     /// Makes a number of its digits, `point` of which are in front of the point.
     fn from_digits(
         negative: bool,

@@ -137,6 +137,10 @@ pub fn by_name(schema: Option<&str>, name: &str) -> Option<&'static Relation> {
         Some("information_schema") => "information_schema",
         Some(_) => return None,
     };
+    // All names of pg_catalog begin so: most tables of a database are told apart by that alone.
+    if schema == "pg_catalog" && !name.starts_with("pg_") {
+        return None;
+    }
     BY_NAME.get(&(schema, name)).map(|&place| &RELATIONS[place])
 }
 
@@ -165,6 +169,9 @@ mod tests {
             (1043, 7)
         );
         assert!(by_name(None, "columns").is_none());
+        for relation in all().iter().filter(|it| it.schema == "pg_catalog") {
+            assert!(by_name(None, relation.name).is_some());
+        }
         assert_eq!(by_oid(columns.oid).unwrap().name, "columns");
     }
 

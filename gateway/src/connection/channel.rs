@@ -1,6 +1,7 @@
 //! What comes from the client, what goes to it, and what goes to the program.
 
 use std::collections::VecDeque;
+use std::iter;
 
 use crate::connection::Request;
 use crate::queue::Queue;
@@ -156,14 +157,32 @@ impl Requests {
         question: Question,
         write: impl FnOnce(&mut Vec<u8>) -> Result<(), E>,
     ) -> Result<(), E> {
-        let start = self.lines.len();
-        if let Err(fault) = write(&mut self.lines) {
-            self.lines.truncate(start);
-            return Err(fault);
-        }
-        self.lines.push(b'\n');
-        self.questions.push_back(question);
+        self.lines(question, |out| {
+            write(out)?;
+            out.push(b'\n');
+            Ok(1)
+        })?;
         Ok(())
+    }
+
+    /// Asks the program by lines that `write` appends, each with its line feed, and whose number it returns. Nothing is
+    /// asked if it fails.
+    pub fn lines<E>(
+        &mut self,
+        question: Question,
+        write: impl FnOnce(&mut Vec<u8>) -> Result<usize, E>,
+    ) -> Result<usize, E> {
+        let start = self.lines.len();
+        match write(&mut self.lines) {
+            Ok(count) => {
+                self.questions.extend(iter::repeat(question).take(count));
+                Ok(count)
+            }
+            Err(fault) => {
+                self.lines.truncate(start);
+                Err(fault)
+            }
+        }
     }
 
     /// Asks the program by this line.

@@ -27,6 +27,9 @@ const MOST_STATEMENTS: usize = 4_096;
 /// The most portals of a connection.
 const MOST_PORTALS: usize = 1_024;
 
+/// For how many portals a connection keeps the memory of their list.
+const USUAL_PORTALS: usize = 4;
+
 /// How many bytes all prepared statements and portals of a connection take at the most: texts with what is read of them,
 /// values and formats. Rows that wait in portals are bounded by themselves.
 pub const MOST_BYTES: u64 = 64 * 1024 * 1024;
@@ -459,8 +462,7 @@ impl Prepared {
 
     /// Removes all portals, because the transaction ends.
     pub fn drop_portals(&mut self) {
-        if !self.portals.is_empty() {
-            self.portals = HashMap::new();
-        }
+        self.portals.clear();
+        self.portals.shrink_to(USUAL_PORTALS);
     }
 }

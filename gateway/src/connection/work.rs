@@ -349,12 +349,10 @@ impl Connection {
         let definition = running.definition.clone();
         if let (Served::Select(select), Some(definition)) = (served, &definition) {
             let shape = select.shape(definition, input)?;
-            let lines = line::of_select(select, definition, input)?;
+            running.replies = self.requests.lines(question, |out| {
+                line::write_select(select, definition, input, out)
+            })?;
             running.reader = Some(Reader::of_table(Rc::clone(definition), shape));
-            running.replies = lines.len();
-            for line in &lines {
-                self.requests.push(question, &[line]);
-            }
             return Ok(());
         }
         if question != Question::Order {

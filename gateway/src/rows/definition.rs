@@ -1,5 +1,7 @@
 //! A table's definition, as SHOW TABLE prints it.
 
+use std::rc::Rc;
+
 use crate::value::{oid, Value};
 use crate::wire::backend::Column;
 
@@ -51,6 +53,8 @@ pub struct Definition {
     pub key: usize,
     /// The checks that were declared, in order.
     pub checks: Vec<Check>,
+    /// Its columns as a result describes them.
+    described: Rc<[Column]>,
 }
 
 /// The bytes that PostgreSQL counts in a type's modifier beside the size.
@@ -121,6 +125,7 @@ impl Definition {
         }
         Some(Definition {
             table: table.to_ascii_lowercase(),
+            described: columns.iter().map(DefinedColumn::result_column).collect(),
             columns,
             key: key?,
             checks,
@@ -133,11 +138,8 @@ impl Definition {
     }
 
     /// Returns the columns as a result describes them.
-    pub fn result_columns(&self) -> Vec<Column> {
-        self.columns
-            .iter()
-            .map(DefinedColumn::result_column)
-            .collect()
+    pub fn result_columns(&self) -> Rc<[Column]> {
+        Rc::clone(&self.described)
     }
 }
 

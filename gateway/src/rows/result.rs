@@ -347,9 +347,13 @@ impl Reader {
 
     fn check_names(&self, line: &str) -> Result<(), LineFault> {
         let definition = self.definition.as_ref().ok_or(LineFault::Unknown)?;
-        let columns = definition.columns.iter().map(|column| column.name.as_str());
-        let same = line.split(" | ").map(str::to_ascii_lowercase).eq(columns);
-        if same {
+        let mut names = line.split(" | ");
+        let mut is_next = |name: &str| {
+            let next = names.next();
+            next.map_or(false, |next| next.eq_ignore_ascii_case(name))
+        };
+        let mut columns = definition.columns.iter();
+        if columns.all(|column| is_next(&column.name)) && names.next().is_none() {
             Ok(())
         } else {
             Err(LineFault::OtherColumns)
@@ -557,7 +561,7 @@ mod tests {
     }
 
     fn all_of_shop() -> Reader {
-        Reader::of_table(shop(), Shape::all(shop().result_columns().into()))
+        Reader::of_table(shop(), Shape::all(shop().result_columns()))
     }
 
     /// Reads lines, and returns what the cells of each row show.

@@ -252,16 +252,16 @@ fn datum_of(value: &Value, oid: Oid) -> Result<Datum, Failure> {
         Value::Null => Datum::Null,
         Value::Text(text) if oid == oid::UNKNOWN => Datum::Unknown(text.clone()),
         Value::Text(text) => Datum::Text(text.clone(), oid),
-        Value::Number(number) => {
-            let written = number.to_string();
-            match (oid, written.parse()) {
-                (oid::INT2 | oid::INT4 | oid::INT8, Ok(integer)) => Datum::Integer(integer, oid),
-                _ => match Decimal::parse(&written) {
+        Value::Number(number) => match (oid, number.integer()) {
+            (oid::INT2 | oid::INT4 | oid::INT8, Some(integer)) => Datum::Integer(integer, oid),
+            _ => {
+                let written = number.to_string();
+                match Decimal::parse(&written) {
                     Some(decimal) => Datum::Numeric(decimal),
                     None => return Err(value::out_of_range(&written)),
-                },
+                }
             }
-        }
+        },
         Value::List(_) => return Err(Report::missing("an array in place of a value")),
     })
 }

@@ -1,7 +1,5 @@
 //! Writes a statement as lines of the program.
 
-use std::io::Write;
-
 use crate::limits;
 use crate::rows::{DefinedColumn, Definition};
 use crate::sqlstate::{Failure, Report, SqlState};
@@ -38,7 +36,7 @@ pub fn needs_definition(served: &Served, input: Input<'_>) -> bool {
     }
 }
 
-/// Appends a statement to `out` as a line. A SELECT has [others](of_select).
+/// Appends a statement to `out` as a line. A SELECT has [others](write_select).
 ///
 /// `row` is the row of an INSERT. The table's definition is known if [`needs_definition`] says so.
 ///
@@ -97,32 +95,38 @@ fn append(
     Ok(())
 }
 
-/// Returns the lines of a SELECT: one for each key, or one for all rows.
+/// Appends the lines of a SELECT to `out`, each with its line feed: one for each key, or one for all rows. Returns how
+/// many they are.
 ///
 /// # Errors
 ///
 /// Fails if the key's column doesn't take one of the values, or if a line becomes too long.
-pub fn of_select(
+pub fn write_select(
     select: &Select,
     definition: &Definition,
     input: Input<'_>,
-) -> Result<Vec<String>, Failure> {
-    let begin = format!("SELECT * FROM {}", select.table.name.text);
-    let (keys, name) = match (select.key_values(definition, input)?, &select.keys) {
-        (Some(keys), Some(named)) => (keys, &named.column.text),
-        _ => return Ok(vec![begin]),
+    out: &mut Vec<u8>,
+) -> Result<usize, Failure> {
+    let table = &select.table.name.text;
+    let (keys, named) = match (select.key_values(definition, input)?, &select.keys) {
+        (Some(keys), Some(named)) => (keys, named),
+        _ => {
+            words(out, &["SELECT * FROM ", table, "\n"]);
+            return Ok(1);
+        }
     };
-    let place = select.keys.as_ref().and_then(|named| named.values.first());
-    let place = place.map_or(0, |value| value.span.start);
-    let line = |key: &Value| {
-        let mut line = format!("{} WHERE {} = ", begin, name).into_bytes();
-        append_value(&mut line, key).map_err(|report| report.at(place))?;
-        if line.len() > LONGEST_LINE {
+    let place = named.values.first().map_or(0, |value| value.span.start);
+    for key in &keys {
+        let start = out.len();
+        let column = &named.column.text;
+        words(out, &["SELECT * FROM ", table, " WHERE ", column, " = "]);
+        append_value(out, key).map_err(|report| report.at(place))?;
+        if out.len() - start > LONGEST_LINE {
             return Err(too_long());
         }
-        Ok(String::from_utf8_lossy(&line).into_owned())
-    };
-    keys.iter().map(line).collect()
+        out.push(b'\n');
+    }
+    Ok(keys.len())
 }
 
 /// Returns the values that are known of the row that a statement writes, as a SELECT would show them: one for each column
@@ -183,8 +187,8 @@ fn append_value(out: &mut Vec<u8>, value: &Value) -> Result<(), Failure> {
     match value {
         Value::Null => Err(constant::null_value()),
         Value::Number(number) => {
-            // Writing to memory doesn't fail.
-            let _ = write!(out, "{}", number);
+            let sign = if number.negative { "-" } else { "" };
+            words(out, &[sign, &number.digits]);
             Ok(())
         }
         Value::Text(text) => literal::append_text(out, text),

@@ -419,13 +419,20 @@ fn outputs(
     definition: &Definition,
     input: Option<Input<'_>>,
     types: &[Oid],
-) -> Result<(Vec<Column>, Vec<Output>), Failure> {
+) -> Result<(Rc<[Column]>, Vec<Output>), Failure> {
+    let all = || (0..definition.columns.len()).map(Output::Column);
+    if let [Shown {
+        what: What::All, ..
+    }] = shown
+    {
+        return Ok((definition.result_columns(), all().collect()));
+    }
     let (mut columns, mut outputs) = (Vec::new(), Vec::new());
     for shown in shown {
         match &shown.what {
             What::All => {
-                columns.extend(definition.result_columns());
-                outputs.extend((0..definition.columns.len()).map(Output::Column));
+                columns.extend(definition.result_columns().iter().cloned());
+                outputs.extend(all());
                 continue;
             }
             What::Column(name) => {
@@ -465,7 +472,7 @@ fn outputs(
             column.name = label.clone();
         }
     }
-    Ok((columns, outputs))
+    Ok((columns.into(), outputs))
 }
 
 fn place_of(name: &Name, definition: &Definition) -> Result<usize, Failure> {
@@ -484,7 +491,7 @@ pub fn columns(
     definition: &Definition,
     types: &[Oid],
 ) -> Result<Rc<[Column]>, Failure> {
-    outputs(shown, definition, None, types).map(|(columns, _)| columns.into())
+    outputs(shown, definition, None, types).map(|(columns, _)| columns)
 }
 
 /// Returns the row that RETURNING shows of a row whose values are known: `value` gives that of a column.
@@ -546,7 +553,7 @@ impl Select {
             SqlState::INVALID_ROW_COUNT_IN_OFFSET,
         )?;
         Ok(Shape {
-            columns: columns.into(),
+            columns,
             outputs,
             order,
             offset: offset.unwrap_or(0),

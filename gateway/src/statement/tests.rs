@@ -34,7 +34,14 @@ fn lines_with(text: &str, input: Input<'_>) -> Result<Vec<String>, Failure> {
     let served = served(text)?;
     let definition = purse();
     let rows = match &served {
-        Served::Select(select) => return line::of_select(select, &definition, input),
+        Served::Select(select) => {
+            let mut out = Vec::new();
+            let count = line::write_select(select, &definition, input, &mut out)?;
+            let lines = String::from_utf8(out).unwrap();
+            let lines: Vec<String> = lines.split_terminator('\n').map(str::to_owned).collect();
+            assert_eq!(lines.len(), count);
+            return Ok(lines);
+        }
         Served::Insert(insert) => insert.rows.len(),
         _ => 1,
     };
