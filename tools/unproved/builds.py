@@ -11,8 +11,8 @@ from unproved.kit import Unexpected
 from unproved.sources import PROGRAM, TOP, Changed
 from unproved.steps import Steps
 
-# How long the steps take on one processor, in seconds.
-TRANSLATED, STRIPPED, COMPILED, LINKED, CHECKED = 120, 25, 180, 1, 240
+# How long the steps of the program take on one of two processors, in seconds, while the gateway is built on the other.
+TRANSLATED, STRIPPED, COMPILED, LINKED, CHECKED = 180, 12, 200, 1, 240
 # The lines of a store that a program with checks serves over files in good time: each takes a tenth of a second.
 LINES_WITH_CHECKS = 30
 # The GB of memory that a build may take. With checks it takes 6.
