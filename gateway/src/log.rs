@@ -238,22 +238,23 @@ mod tests {
         let (word, wait) = channel();
         let (given, written) = channel();
         let log = Log::to(Slow { word: wait, given }, Style::Plain).unwrap();
+        log.make_writer().write_all(b"line\n").unwrap();
+        // The thread takes this line, and then waits for a word.
+        while !log.0.lock().lines.is_empty() {
+            thread::yield_now();
+        }
         for _ in 0..2 * WAITING {
             log.make_writer().write_all(b"line\n").unwrap();
         }
-        // The thread may hold one line beside those in the queue.
         let dropped = log.0.lock().dropped;
-        assert!(
-            dropped == WAITING as u64 || dropped == WAITING as u64 - 1,
-            "{dropped}"
-        );
+        assert_eq!(dropped, WAITING as u64);
         for _ in 0..2 * WAITING {
             word.send(()).unwrap();
         }
         log.finish();
         let written: Vec<_> = written.try_iter().collect();
         let lines = written.iter().filter(|line| *line == b"line\n").count();
-        assert_eq!(lines as u64, 2 * WAITING as u64 - dropped);
+        assert_eq!(lines, WAITING + 1);
         let told = format!("{dropped} lines were dropped: standard error was not read in time\n")
             .into_bytes();
         assert!(written.contains(&told));
