@@ -36,7 +36,7 @@ impl Words {
 
     /// Returns whether a word is one of them.
     pub fn has(&self, word: &str) -> bool {
-        self.like(word).iter().any(|known| *known == word)
+        self.like(word).contains(&word)
     }
 
     /// Returns the one that a word is in its own case or in another.
