@@ -108,6 +108,13 @@ enum Infix {
 impl<'a> Parser<'a> {
     pub(super) fn expression_of(&mut self, kind: ExpressionKind, start: usize) -> Expression {
         self.size += size_of::<Expression>() + OVERHEAD;
+        // What these have in a box of its own.
+        self.size += match kind {
+            ExpressionKind::Cast(..) => size_of::<TypeName>() + OVERHEAD,
+            ExpressionKind::Function(_) => size_of::<FunctionCall>() + OVERHEAD,
+            ExpressionKind::Collate(..) => size_of::<QualifiedName>() + OVERHEAD,
+            _ => 0,
+        };
         let span = self.span_from(start);
         Expression { kind, span }
     }
