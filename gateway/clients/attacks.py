@@ -339,7 +339,7 @@ def parse_of_many() -> bytes:
 
 @attack
 def portals_of_nulls(path: Path, end: float) -> None:
-    """Portals of 32,767 NULLs, and then small Binds, each of which may cost no more than itself."""
+    """Binds portals of 32,767 NULLs, and then small ones. A small Bind may cost no more than itself."""
     for _ in until(end):
         with Connection(path, timeout=120.0) as it:
             it.send(wire.query("BEGIN"), parse_of_many(), wire.parse("SELECT * FROM hot WHERE id = 1", "s"), wire.sync())

@@ -196,7 +196,7 @@ class Statement:
 
 # Below, tokens are written with a blank between them. A blank and a line feed within a token are written so:
 BLANK, LINE = "\u2423", "\u2424"
-# Words by which mutations replace others, and what they put between tokens.
+# Mutations replace words by these, and put these between tokens.
 STRANGE = (
     'a s x "stock" "Stock" STOCK stock stocks public . , ( ) ; = < <> == - + * / :: : 1 1. .5 1..5 1e2 0x1 1_0 1a $1 $2 $1$2 $0 \' '
     '\'\' \'a\' E\'a\' e\'\\\' U&\'a\' N\'a\' B\'1\' X\'1\' $$ $$a$$ $a$b$a$ " "" -- /* */ NULL DEFAULT TRUE AND OR NOT IN IS AS FROM WHERE SET '
@@ -379,7 +379,7 @@ class Grammar:
         return before + self.cased(table.name)
 
     def named(self, table: Table) -> Tuple[str, str]:
-        """Returns a table with an alias or none, and the name by which its columns are qualified."""
+        """Returns a table, perhaps with an alias, and the name that qualifies its columns."""
         name = self.table_name(table)
         if not self.one_in(4):
             return name, table.name

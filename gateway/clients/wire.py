@@ -226,7 +226,7 @@ class Connection:
         return [it.shown() for it in self.until_ready()]
 
     def do(self, *statements: str) -> None:
-        """Runs statements, each of which has to succeed."""
+        """Runs statements. Fails unless each succeeds."""
         for it in statements:
             self.send(query(it))
             for found in self.until_ready():

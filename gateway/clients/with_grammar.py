@@ -141,7 +141,7 @@ class Client:
         self.connection = wire.Connection(path, timeout=60.0)
 
     def ask(self, requests: Sequence[bytes]) -> List[Answer]:
-        """Sends requests, each of which ends with one ReadyForQuery, and returns their answers."""
+        """Sends requests, and returns their answers. Each request ends with one ReadyForQuery."""
         self.connection.send(b"".join(requests))
         found: List[Answer] = []
         tags: List[bytes] = []
@@ -180,7 +180,7 @@ class Client:
         return found
 
     def do(self, *statements: str) -> None:
-        """Runs statements, each of which has to succeed."""
+        """Runs statements. Fails unless each succeeds."""
         for statement, answer in zip(statements, self.ask([wire.query(it) for it in statements])):
             if answer.error:
                 raise AssertionError(f"{statement}: {answer.text}")

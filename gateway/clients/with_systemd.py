@@ -132,7 +132,7 @@ class Manager(Server):
         return [json.loads(line) for line in done.stdout.splitlines()]
 
     def path(self, path: str) -> Path:
-        """Returns the path by which this process reaches one of the manager's."""
+        """Returns the path under which this process reaches a path of the manager's."""
         return Path(f"/proc/{children(self.running().pid)[0]}/root{path}")
 
     @property

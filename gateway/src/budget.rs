@@ -4,7 +4,7 @@ use std::cell::Cell;
 use std::fmt;
 use std::rc::Rc;
 
-/// An amount of bytes, of which parts are taken and given back.
+/// An amount of bytes. Its users take parts of it and give them back.
 ///
 /// What is taken of a pool within another one is taken of both.
 #[derive(Clone, Debug)]
@@ -47,7 +47,7 @@ impl Pool {
         Pool::with(limit, None, None)
     }
 
-    /// Returns a pool of so many bytes, of which some can be taken only while `has_room` says that the system has them.
+    /// Returns a pool of so many bytes. It gives some only while `has_room` says that the system has them.
     /// It is asked now and then, as more are taken.
     pub fn guarded(limit: u64, has_room: fn() -> bool) -> Pool {
         let looked = Cell::new(0);

@@ -142,7 +142,7 @@ impl World {
     }
 }
 
-/// What a client is told of a query before it runs.
+/// The parameters and columns of a query, which a client may ask for before it runs.
 #[derive(Clone, Debug, PartialEq, Eq)]
 pub struct Description {
     /// The types of its parameters.
