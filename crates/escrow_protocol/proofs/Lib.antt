@@ -1,0 +1,12 @@
+pub mod Again
+pub mod Applied
+pub mod Chosen
+pub mod Ends
+pub mod Example
+pub mod Events
+pub mod Filtered
+pub mod Granted
+pub mod Placed
+pub mod Reached
+pub mod Runs
+pub mod Sound

@@ -1,0 +1,4 @@
+pub mod Laws
+pub mod Protocol
+pub mod Step
+pub mod Wrong
