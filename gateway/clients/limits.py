@@ -349,7 +349,8 @@ esac
         found = subprocess.run(words, capture_output=True, text=True, timeout=END, env={**os.environ, "ESCROWD": ""})
         expect(found.returncode, 3, found.stderr)
         expect(f"{unproved} is not proved: --program or ESCROWD has to name it" in found.stderr, True, found.stderr)
-        for more, variable in ((["--program", str(unproved)], ""), ([], str(unproved))):
+        named: List[Tuple[List[str], str]] = [(["--program", str(unproved)], ""), ([], str(unproved))]
+        for more, variable in named:
             gateway.kill()
             gateway.launch([*words, *more], env={**os.environ, "ESCROWD": variable})
             gateway.await_socket(beside / f".s.PGSQL.{PORT}")

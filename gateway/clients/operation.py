@@ -211,6 +211,28 @@ def a_store_that_is_open_elsewhere() -> None:
 
 
 @PART.alone
+def a_stop_while_a_store_is_open_elsewhere() -> None:
+    """It ends the wait for that store in order, and closes the other one."""
+    with Operated({"bank": Path("bank.db"), "shop": Path("shop.db")}, "--log-level", "debug") as gateway:
+        with_stock(gateway, 9).close()
+        gateway.expect_clean_end()
+        holder = subprocess.Popen([PROGRAM, "serve", "--store", gateway.store], stdin=subprocess.PIPE, stdout=subprocess.PIPE)
+        assert holder.stdin and holder.stdout
+        holder.stdin.write(b"bank.1: SHOW STATISTICS\n")
+        holder.stdin.flush()
+        holder.stdout.readline()
+        for number in (signal.SIGTERM, signal.SIGINT):
+            (gateway.folder / "said").unlink()
+            gateway.begin()
+            wait_until("it has met the lock", lambda: "another program has it open" in gateway.said())
+            expect(gateway.end(number), 0, gateway.said())
+            expect("all stores are closed" in gateway.said(), True, gateway.said())
+        expect((gateway.folder / "shop.db-wal").exists(), False)
+        holder.stdin.close()
+        expect(holder.wait(END), 0)
+
+
+@PART.alone
 def folders_of_a_killed_start() -> None:
     """The next start removes them."""
     with Operated() as gateway:

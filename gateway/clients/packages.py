@@ -48,6 +48,7 @@ SHOWS: Dict[str, Sequence[str]] = {
     "systemd": ["/lib/systemd/systemd-journald"],
     "prometheus": ["/usr/bin/promtool"],
     "gnuplot-nox": ["/usr/bin/gnuplot"],
+    "openssl": ["/usr/bin/openssl"],
 }
 
 

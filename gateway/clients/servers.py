@@ -215,7 +215,7 @@ class Postgres(Server):
 
     def __init__(self, *settings: str) -> None:
         super().__init__()
-        self.settings = settings
+        self.settings, self.port = settings, PORT
         self.sockets = self.socket = Path()
 
     def start(self) -> None:
@@ -229,9 +229,9 @@ class Postgres(Server):
         cluster = home / "cluster"
         initdb = [postgres_binary("initdb"), "-D", cluster, "-U", "clerk", "-A", "trust", "-E", "UTF8", "--locale=C", "--no-sync"]
         subprocess.run([str(it) for it in initdb], check=True, user=user, cwd="/", stdout=subprocess.DEVNULL)
-        settings = ("listen_addresses=", f"port={PORT}", f"unix_socket_directories={home}", "max_connections=120", *self.settings)
+        settings = ("listen_addresses=", f"port={self.port}", f"unix_socket_directories={home}", "max_connections=120", *self.settings)
         chosen = [word for it in settings for word in ("-c", it)]
-        self.sockets, self.socket = home, home / f".s.PGSQL.{PORT}"
+        self.sockets, self.socket = home, home / f".s.PGSQL.{self.port}"
         self.launch([postgres_binary("postgres"), "-D", cluster, *chosen], user=user)
         self.await_socket(self.socket)
         wait_until("PostgreSQL creates a database", lambda: self.psql("postgres", "CREATE DATABASE bank") == 0)
@@ -247,7 +247,7 @@ class Postgres(Server):
 
     def dsn(self, database: str = "bank") -> str:
         """Returns a connection string for libpq."""
-        return f"host={self.sockets} port={PORT} dbname={database} user=clerk"
+        return f"host={self.sockets} port={self.port} dbname={database} user=clerk"
 
 
 def free_port() -> int:

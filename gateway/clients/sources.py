@@ -13,8 +13,9 @@ from clients.servers import BUILT, GATEWAY, PROGRAM, TOP
 from clients.suite import FAILED, PASSED, SKIPPED, Report
 
 PART = "sources"
-CRATES = ["clap", "mio", "once-cell", "postgres-protocol", "prometheus", "regex", "signal-hook", "signal-hook-mio", "thiserror",
-          "tracing", "tracing-subscriber", "proptest", "proptest+std", "tokio", "tokio-postgres"]
+CRATES = ["bytes", "clap", "hmac", "mio", "once-cell", "postgres-protocol", "prometheus", "proptest", "proptest+std", "rand", "regex",
+          "rustls-pemfile", "sha2", "signal-hook", "signal-hook-mio", "thiserror", "tokio", "tokio-postgres", "tokio-rustls", "tracing",
+          "tracing-subscriber", "webpki"]
 PACKAGES = [f"librust-{it}-dev" for it in CRATES]
 COMPILER = ["cargo", "rustc", "gcc"]
 OLDEST = (1, 63)  # of rustc
@@ -86,21 +87,21 @@ def reported(case: str, words: Sequence[str], end: float, add: Callable[[Report]
 
 def build(end: float, add: Callable[[Report], None]) -> bool:
     """Builds the gateway, if the environment does not name one. Returns whether it is there."""
-    return "ESCROWD_PG" in os.environ or reported("build", ["build", "--offline", "--release"], end, add).status == 0
+    return "ESCROWD_PG" in os.environ or reported("build", ["build", "--workspace", "--offline", "--release"], end, add).status == 0
 
 
 def build_tests(end: float, add: Callable[[Report], None]) -> None:
     """Builds the tests in Rust."""
-    reported("tests are built", ["test", "--offline", "--no-run"], end, add)
+    reported("tests are built", ["test", "--workspace", "--offline", "--no-run"], end, add)
 
 
 def examine(end: float, add: Callable[[Report], None]) -> None:
     """Runs the tests in Rust, and the tools that judge the sources where cargo has them."""
-    done = reported("test", ["test", "--offline"], end, add)
+    done = reported("test", ["test", "--workspace", "--offline"], end, add)
     passed = sum(int(it) for it in re.findall(r"(?m)^test result: \w+\. (\d+) passed", done.said))
     if done.status == 0:
         add(Report(PART, "tests in Rust", PASSED if passed else FAILED, why="" if passed else "no test ran", count=passed))
-    for tool, words in {"fmt": ["fmt", "--check"], "clippy": ["clippy", "--offline", "--all-targets", "--", "-D", "warnings"]}.items():
+    for tool, words in {"fmt": ["fmt", "--all", "--check"], "clippy": ["clippy", "--workspace", "--offline", "--all-targets", "--", "-D", "warnings"]}.items():
         if shutil.which(f"cargo-{tool}") and run(["cargo", tool, "--version"], time.monotonic() + SOON).status == 0:
             reported(tool, words, end, add)
         else:

@@ -5,7 +5,7 @@ import importlib
 import sys
 import types
 from decimal import Decimal
-from typing import Any, List
+from typing import Any, Callable, List
 
 import django
 import django.db
@@ -27,7 +27,7 @@ def model() -> Any:
     """Returns the model of the table. Django wants a module as its application."""
     if APPLICATION not in sys.modules:
         module = types.ModuleType(APPLICATION)
-        module.__path__ = []  # type: ignore[attr-defined]
+        module.__path__ = []
         module.__file__ = f"/{APPLICATION}/__init__.py"
         sys.modules[APPLICATION] = module
         settings.configure(
@@ -41,7 +41,7 @@ def model() -> Any:
         django.setup()
         importlib.invalidate_caches()
 
-        class Stock(models.Model):
+        class Stock(models.Model):  # type: ignore[misc]
             id = models.BigIntegerField(primary_key=True)
             pieces = models.BigIntegerField()
             price = models.DecimalField(max_digits=8, decimal_places=2)
@@ -53,7 +53,7 @@ def model() -> Any:
                 managed = False
 
         module.Stock = Stock  # type: ignore[attr-defined]
-    return sys.modules[APPLICATION].Stock  # type: ignore[attr-defined]
+    return sys.modules[APPLICATION].Stock
 
 
 def stock(gateway: Gateway) -> Any:
@@ -114,7 +114,7 @@ def reserves_in_atomic_blocks(gateway: Gateway) -> None:
             with transaction.atomic():
                 objects.filter(pk=1).update(pieces=F("pieces") - 3)
         except IntegrityError as error:
-            expect(error.__cause__.diag.constraint_name, "in_stock")  # type: ignore[union-attr]
+            expect(error.__cause__.diag.constraint_name, "in_stock")
         else:
             raise AssertionError("no IntegrityError")
     expect(pieces(gateway), ["2", "8"])
@@ -147,7 +147,7 @@ def creates_saves_and_deletes(gateway: Gateway) -> None:
     try:
         made.objects.filter(pk=2).delete()  # Django opens a block for it
     except InternalError as error:
-        expect(error.__cause__.pgcode, "25001")  # type: ignore[union-attr]
+        expect(error.__cause__.pgcode, "25001")
     else:
         raise AssertionError("a DELETE was served inside a block")
     connections["default"].close()
@@ -157,11 +157,12 @@ def creates_saves_and_deletes(gateway: Gateway) -> None:
 def what_is_not_there_is_refused_by_its_name(gateway: Gateway) -> None:
     """0A000 or a fault of the syntax, and Django goes on behind it."""
     objects = stock(gateway).objects
-    for act in (
+    refused: List[Callable[[], object]] = [
         lambda: objects.filter(name="tea").count(),
         lambda: objects.aggregate(models.Sum("pieces")),
         lambda: list(objects.filter(pieces__gt=1)),
-    ):
+    ]
+    for act in refused:
         try:
             act()
         except (NotSupportedError, ProgrammingError, OperationalError):

@@ -51,10 +51,8 @@ REFUSALS: Dict[str, str] = {
     "23514": "the worst of all choices of open reservations counts, and the type of a column is a check",
     "42602": "a name with letters that the server's names cannot have",
     "42622": "a name of more than 30 bytes, which the server has at most",
-    "42883": "an operator or a function of PostgreSQL's that the gateway does not compute",
     "42P16": "a rule or a limit of the server's tables",
     "42701": "a column that a list has twice",
-    "42703": "a whole row by the name of its table",
     "42704": "a constraint whose name is another in the server",
     "42P18": "a parameter whose type does not follow from its place",
     "54000": "a statement that is longer than a line of the server",
@@ -113,6 +111,7 @@ ON_PURPOSE = [
     purpose(
         "SHOW TABLE, BOUNDS, JOURNAL and STATISTICS are the server's own statements", r"^[\s(;]*show\s+(table|bounds|journal|statistics)\b", *Aspect
     ),
+    purpose("SHOW ALL shows the settings that the gateway has", r"^[\s(;]*show\s+all\b", Aspect.ROWS),
     purpose("a column of a created table has the server's nearest type: INT has 15 digits and is int8", rf"\b{MADE}\b", Aspect.COLUMNS, Aspect.ROWS),
     purpose("rows of one INSERT are INSERTs by themselves: those before a refused one stay", r"\binsert\b.*\(.*\(", Aspect.BEHIND),
     purpose("a reservation is applied at the end of its message: a SELECT behind it does not show it", r"update.*;.*select", Aspect.ROWS),
@@ -312,11 +311,9 @@ class Pair:
                 wrong = f"state: gateway {our.state!r} ({our.text or our.tags}), PostgreSQL {their.state!r} ({their.text or their.tags})"
             if wrong:
                 return Difference(it, wrong, tuple(block[:at]), True)
-            if our.acted != their.acted:
+            if our.acted != their.acted or (not our.acted and excused(Aspect.BEHIND, it)):
                 return None if are_equal else Difference(it, "")
             has_reserved = our.state == b"T" and (has_reserved or any(tag.startswith(b"UPDATE") for tag in our.tags))
-        if not are_equal and any(not our.acted and excused(Aspect.BEHIND, it) for it, our in zip(block, ours)):
-            return Difference(block[-1], "")
         if not are_equal:
             only = [readable(set(one) - set(other)) for one, other in ((ours[-1].rows, theirs[-1].rows), (theirs[-1].rows, ours[-1].rows))]
             return Difference(block[-1], f"rows behind the block: gateway {only[0]}, PostgreSQL {only[1]}", tuple(block[:-1]), True)

@@ -124,6 +124,16 @@ def repeats_until_interrupted(gateway: Gateway) -> None:
 
 
 @PART.served
+def pg_dump_is_refused(gateway: Gateway) -> None:
+    """It asks for REPEATABLE READ before it reads the catalog, for a schema alone too."""
+    lines(gateway, STOCK)
+    for words in (["pg_dump"], ["pg_dump", "-s"], ["pg_dump", "-a", "-t", "stock"]):
+        done = subprocess.run([*words, "-d", gateway.dsn()], capture_output=True, text=True, timeout=SECONDS)
+        expect((done.returncode, done.stdout), (1, ""), " ".join(words))
+        expect("an isolation level above READ COMMITTED is not supported" in done.stderr, True, done.stderr)
+
+
+@PART.served
 def unknown_database(gateway: Gateway) -> None:
     status, got = psql(gateway, "-c", "COMMIT", database="nothing")
     expect(status, 2)

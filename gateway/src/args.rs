@@ -8,9 +8,9 @@ use std::time::Duration;
 
 use clap::builder::{OsStringValueParser, TypedValueParser};
 use clap::error::ErrorKind;
-use clap::{CommandFactory, Parser, ValueEnum};
+use clap::{CommandFactory, Parser};
+use escrowd_pg::system::log::LogLevel;
 use escrowd_pg::variables::Limits;
-use tracing::Level;
 
 /// The longest name of a database, in bytes: PostgreSQL's clients cut longer ones.
 const NAME_LIMIT: usize = 63;
@@ -78,31 +78,6 @@ pub struct Args {
     /// Logs what is at least this grave. `debug` shows each connection
     #[arg(long, value_name = "LEVEL", value_enum, default_value_t = LogLevel::Info)]
     pub log_level: LogLevel,
-}
-
-/// How grave a line of the log is.
-#[derive(Clone, Copy, Debug, PartialEq, Eq, ValueEnum)]
-pub enum LogLevel {
-    /// The gateway ends.
-    Error,
-    /// An operator should look.
-    Warning,
-    /// A store is open, the gateway stops.
-    Info,
-    /// A client connects or leaves.
-    Debug,
-}
-
-impl LogLevel {
-    /// Returns the level that a line must have at least.
-    pub fn level(self) -> Level {
-        match self {
-            LogLevel::Error => Level::ERROR,
-            LogLevel::Warning => Level::WARN,
-            LogLevel::Info => Level::INFO,
-            LogLevel::Debug => Level::DEBUG,
-        }
-    }
 }
 
 /// A database that is served.
@@ -183,6 +158,7 @@ fn database(value: &OsString) -> Result<Database, String> {
 #[cfg(test)]
 mod tests {
     use super::*;
+    use tracing::Level;
 
     fn read(words: &[&str]) -> Result<Args, clap::Error> {
         Args::from(["escrowd-pg"].iter().chain(words).map(OsString::from))

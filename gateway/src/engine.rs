@@ -40,6 +40,10 @@ const WITHOUT_SESSION: usize = 256;
 /// How many clients are accepted in a turn at most. Then others have their turn.
 const ACCEPTED: usize = 64;
 
+/// How many of these may take the place of others that do not begin. More would come for as long as the others come
+/// back, and each takes the time of a statement.
+const REPLACED: usize = 4;
+
 /// How many bytes of a client are read in a turn at most. Then others have their turn.
 const READ: usize = 16 * 1024;
 
@@ -363,8 +367,11 @@ impl Engine {
             _ => return false,
         };
         let sessions: usize = self.programs.iter().map(Program::clients).sum();
-        for _ in 0..ACCEPTED {
+        for count in 0..ACCEPTED {
             let is_full = self.clients.len() >= sessions + WITHOUT_SESSION;
+            if is_full && count >= REPLACED {
+                return true;
+            }
             let oldest = self.clients.oldest_in_startup().filter(|_| is_full);
             if is_full && oldest.is_none() {
                 return false;

@@ -3,9 +3,8 @@
 use std::io;
 use std::path::PathBuf;
 
+use escrowd_pg::system::socket::SocketError;
 use thiserror::Error;
-
-use crate::socket::SocketError;
 
 /// A reason to end. Its text is the last line on standard error.
 #[derive(Debug, Error)]

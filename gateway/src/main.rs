@@ -7,21 +7,19 @@ mod args;
 mod client;
 mod engine;
 mod failure;
-mod log;
 mod metrics;
-mod notify;
 mod program;
-mod socket;
 #[cfg(test)]
+#[path = "system/temporary.rs"]
 mod temporary;
 
 use std::process::ExitCode;
 
+use escrowd_pg::system::log::Log;
 use tracing::error;
 
 use args::Args;
 use engine::Engine;
-use log::Log;
 
 fn main() -> ExitCode {
     allocator::settle();

@@ -1,19 +1,19 @@
 //! Metrics, written to a file for the textfile collector of node_exporter.
 
-use std::fs::{self, OpenOptions};
-use std::io::{self, ErrorKind, Write};
+use std::fs;
+use std::io::{self, ErrorKind};
 use std::path::{Path, PathBuf};
 use std::time::{Duration, Instant};
 
 use escrowd_pg::connection::Event;
 use escrowd_pg::statement::Kind;
+use escrowd_pg::system::textfile::{with_suffix, TextFile};
 use prometheus::core::Collector;
 use prometheus::local::LocalHistogram;
 use prometheus::{
-    Encoder, Gauge, GaugeVec, HistogramOpts, HistogramVec, IntCounter, IntCounterVec, IntGauge,
-    IntGaugeVec, Opts, Registry, TextEncoder,
+    Gauge, GaugeVec, HistogramOpts, HistogramVec, IntCounter, IntCounterVec, IntGauge, IntGaugeVec,
+    Opts, Registry,
 };
-use tracing::{info, warn};
 
 use crate::args::Database;
 use crate::failure::Failure;
@@ -35,10 +35,8 @@ pub struct Metrics {
     registry: Registry,
     databases: Vec<DatabaseMetrics>,
     refusals: IntCounterVec,
-    path: PathBuf,
-    beside: PathBuf,
+    file: TextFile,
     due: Instant,
-    is_failing: bool,
 }
 
 /// What is counted of one database.
@@ -112,14 +110,10 @@ impl Metrics {
         path: &Path,
         now: Instant,
     ) -> Result<Metrics, Failure> {
-        // The collector reads files that end in `.prom` alone.
-        let beside = with_suffix(path, ".new");
-        for path in [path, &beside] {
-            check_regular(path).map_err(|error| Failure::Metrics {
-                path: path.to_owned(),
-                error,
-            })?;
-        }
+        let file = TextFile::new(path).map_err(|error| Failure::Metrics {
+            path: path.to_owned(),
+            error,
+        })?;
         let failed = |error| Failure::system("metrics")(io::Error::new(ErrorKind::Other, error));
         let registry = Registry::new();
         let families = Families::register(&registry).map_err(failed)?;
@@ -130,10 +124,8 @@ impl Metrics {
             databases: databases.iter().map(of).collect(),
             registry,
             refusals: families.refusals.clone(),
-            path: path.to_owned(),
-            beside,
+            file,
             due: now,
-            is_failing: false,
         })
     }
 
@@ -167,45 +159,12 @@ impl Metrics {
         for (database, state) in self.databases.iter().zip(states) {
             database.show(state, now);
         }
-        match (self.replace(), self.is_failing) {
-            (Err(error), false) => {
-                warn!(
-                    "the metrics cannot be written to {}: {error}",
-                    self.path.display()
-                );
-                self.is_failing = true;
-            }
-            (Ok(()), true) => {
-                info!("the metrics are written to {} again", self.path.display());
-                self.is_failing = false;
-            }
-            (Ok(()), false) | (Err(_), true) => {}
-        }
-    }
-
-    /// Writes a file beside, and renames it: a reader sees one or the other whole.
-    fn replace(&self) -> io::Result<()> {
-        let mut text = Vec::new();
-        TextEncoder::new()
-            .encode(&self.registry.gather(), &mut text)
-            .map_err(|error| io::Error::new(ErrorKind::Other, error))?;
-        check_regular(&self.path)?;
-        // What a killed gateway left is removed. A link or a pipe that somebody put there is neither followed nor opened.
-        if check_regular(&self.beside)? {
-            fs::remove_file(&self.beside)?;
-        }
-        OpenOptions::new()
-            .write(true)
-            .create_new(true)
-            .open(&self.beside)?
-            .write_all(&text)?;
-        fs::rename(&self.beside, &self.path)
+        self.file.write(&self.registry);
     }
 
     /// Takes the file away, so that no old values are collected.
     pub fn remove(&self) {
-        // If it stays, its time of change tells that it is old.
-        let _ = fs::remove_file(&self.path);
+        self.file.remove();
     }
 }
 
@@ -238,30 +197,6 @@ impl DatabaseMetrics {
             .map_or(Duration::ZERO, |since| now.saturating_duration_since(since));
         self.oldest.set(age.as_secs_f64());
     }
-}
-
-/// Returns whether there is a file at `path`.
-///
-/// # Errors
-///
-/// Fails if it is not a regular file: a link would be followed, and a pipe waited for.
-fn check_regular(path: &Path) -> io::Result<bool> {
-    match fs::symlink_metadata(path) {
-        Ok(found) if found.is_file() => Ok(true),
-        Ok(_) => {
-            let text = format!("{} is not a regular file", path.display());
-            Err(io::Error::new(ErrorKind::Other, text))
-        }
-        Err(error) if error.kind() == ErrorKind::NotFound => Ok(false),
-        Err(error) => Err(error),
-    }
-}
-
-/// Returns a path with a text behind it.
-fn with_suffix(path: &Path, suffix: &str) -> PathBuf {
-    let mut path = path.as_os_str().to_owned();
-    path.push(suffix);
-    path.into()
 }
 
 /// The metrics before they are told apart by database.
@@ -457,39 +392,5 @@ mod tests {
         assert_eq!(folder.entries(), 2);
         metrics.remove();
         assert_eq!(folder.entries(), 1);
-        metrics.path = folder.0.join("none/x.prom");
-        metrics.beside = folder.0.join("none/x.prom.new");
-        metrics.write(&[], now);
-        assert!(metrics.is_failing);
-    }
-
-    #[test]
-    fn another_kind_of_file_is_neither_followed_nor_opened() {
-        let folder = Folder::new("links");
-        let (path, other) = (folder.0.join("x.prom"), folder.0.join("other"));
-        let beside = folder.0.join("x.prom.new");
-        let now = Instant::now();
-        let new = || Metrics::new(&[database("shop", None)], 64, &path, now);
-        fs::write(&other, "text").unwrap();
-        for place in [&path, &beside] {
-            std::os::unix::fs::symlink(&other, place).unwrap();
-            assert!(matches!(new(), Err(Failure::Metrics { .. })));
-            fs::remove_file(place).unwrap();
-        }
-        let mut metrics = new().unwrap();
-        // What a killed gateway left is replaced.
-        fs::write(&beside, "half").unwrap();
-        metrics.write(&[State::default()], now);
-        assert!(!metrics.is_failing && !beside.exists() && path.exists());
-        for place in [&path, &beside] {
-            let _ = fs::remove_file(place);
-            std::os::unix::fs::symlink(&other, place).unwrap();
-            metrics.write(&[State::default()], now);
-            assert!(metrics.is_failing);
-            fs::remove_file(place).unwrap();
-        }
-        assert_eq!(fs::read(&other).unwrap(), b"text");
-        metrics.write(&[State::default()], now);
-        assert!(!metrics.is_failing);
     }
 }

@@ -29,7 +29,7 @@ use crate::allocator;
 use crate::args::Database;
 use crate::failure::Failure;
 use candidates::candidates;
-use long::{is_of_whole_table, LongSelects, Waiting};
+use long::{is_of_whole_table, LongSelects};
 use replies::{Replies, Wrong};
 use sessions::{Asked, Sessions};
 use statements::Statements;
@@ -191,11 +191,16 @@ impl Program {
         Ok(program)
     }
 
+    /// Returns whether it ended because another program has its store open. Then it has served nothing.
+    pub fn found_its_store_open(&self) -> bool {
+        let last = self.error_lines.last.as_deref().unwrap_or_default();
+        !self.is_open && self.exit.is_some() && last.ends_with(LOCKED)
+    }
+
     /// Returns when to start it again, if it ended because another program has its store open. None: it is not to be
     /// started again.
     pub fn retry_at(&self) -> Option<Instant> {
-        let last = self.error_lines.last.as_deref().unwrap_or_default();
-        if self.is_open || self.exit.is_none() || !last.ends_with(LOCKED) {
+        if !self.found_its_store_open() {
             return None;
         }
         let retry = self.ending_since? + RETRY;
@@ -250,43 +255,27 @@ impl Program {
         &self.definitions
     }
 
-    /// Queues a statement of a session.
+    /// Queues a statement of a session, behind all that the session asked before.
     pub fn ask(&mut self, session: Number, question: Question, statement: &[u8], now: Instant) {
-        if is_of_whole_table(question, statement) {
-            if self.long.must_wait(statement, now) {
-                return self.long.wait(Waiting {
-                    session,
-                    statement: statement.to_vec(),
-                    since: now,
-                });
-            }
-            self.long.ask(statement, now);
+        if self.long.admit(session, question, statement, now) {
+            self.send(session, question, statement, now);
         }
-        self.send(session, question, statement, now);
     }
 
     fn send(&mut self, session: Number, question: Question, statement: &[u8], since: Instant) {
-        let is_of_whole_table = is_of_whole_table(question, statement);
-        let asked = Asked {
+        self.sessions.ask(Asked {
             session,
             question,
             since,
-            is_of_whole_table,
-        };
-        self.sessions.ask(asked);
+            is_of_whole_table: is_of_whole_table(question, statement),
+        });
         self.statements.push(session, statement);
     }
 
-    /// Queues the SELECTs of whole tables whose turn it is.
-    fn ask_long(&mut self, now: Instant) {
-        while let Some(select) = self.long.next(now) {
-            self.long.ask(&select.statement, now);
-            self.send(
-                select.session,
-                Question::Rows,
-                &select.statement,
-                select.since,
-            );
+    /// Queues the statements that waited, as far as it is their turn.
+    fn ask_waiting(&mut self, now: Instant) {
+        while let Some(it) = self.long.next(now) {
+            self.send(it.session, it.question, &it.statement, it.since);
         }
     }
 
@@ -347,7 +336,7 @@ impl Program {
 
     /// Writes the queued statements, as far as the pipe takes them.
     pub fn write(&mut self, now: Instant) {
-        self.ask_long(now);
+        self.ask_waiting(now);
         if let (Some(input), true) = (&mut self.input, self.input_is_ready) {
             match self.statements.write(input) {
                 Ok(all) => self.input_is_ready = all,

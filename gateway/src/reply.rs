@@ -197,7 +197,7 @@ impl Refusal<'_> {
 
 /// Reads the last line of a reply, without its prefix and its line feed. None: it is none.
 pub fn outcome(line: &str) -> Option<Outcome<'_>> {
-    let (word, words) = line.split_once(' ')?;
+    let (word, words) = first_word(line);
     match word {
         "OK" => done(words).map(Outcome::Done),
         "ERR" => refusal(words).map(Outcome::Refused),
@@ -205,9 +205,18 @@ pub fn outcome(line: &str) -> Option<Outcome<'_>> {
     }
 }
 
+/// Returns the first word of a text, and what is behind it and its blank.
+fn first_word(text: &str) -> (&str, &str) {
+    match text.bytes().position(|byte| byte == b' ') {
+        Some(end) => (&text[..end], &text[end + 1..]),
+        None => (text, ""),
+    }
+}
+
 fn done(words: &str) -> Option<Done> {
-    let mut words = words.split(' ');
-    Some(match words.next()? {
+    let (word, words) = first_word(words);
+    let count = || first_word(words).0.parse().ok();
+    Some(match word {
         "created" => Done::Created,
         "dropped" => Done::Dropped,
         "altered" => Done::Altered,
@@ -218,17 +227,17 @@ fn done(words: &str) -> Option<Done> {
         "committed" => Done::Committed,
         "rolled" => Done::RolledBack,
         "savepoint" => Done::Savepoint,
-        "rows" => Done::Rows(words.next()?.parse().ok()?),
+        "rows" => Done::Rows(count()?),
         "table" => Done::Table,
         "bounds" => Done::Bounds,
-        "reservations" => Done::Reservations(words.next()?.parse().ok()?),
+        "reservations" => Done::Reservations(count()?),
         "statistics" => Done::Statistics,
         _ => return None,
     })
 }
 
 fn refusal(text: &str) -> Option<Refusal<'_>> {
-    let (number, words) = text.split_once(' ').unwrap_or((text, ""));
+    let (number, words) = first_word(text);
     Some(match number.parse().ok()? {
         11 => Refusal::Syntax {
             column: words.strip_prefix("syntax column ")?.parse().ok()?,

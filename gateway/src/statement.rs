@@ -16,6 +16,8 @@ pub mod words;
 #[cfg(test)]
 mod tests;
 
+use std::rc::Rc;
+
 use query::{Name, Query};
 use served::Served;
 use session::{Modes, Setting};
@@ -238,7 +240,7 @@ impl Statement {
 #[derive(Clone, Debug, PartialEq, Eq)]
 pub struct Parsed {
     /// The statement.
-    pub statement: Statement,
+    pub statement: Rc<Statement>,
     /// What its parameters stand for.
     pub places: Vec<parameters::Place>,
     /// The number of its first parameter, and where that is.

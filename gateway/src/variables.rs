@@ -216,6 +216,8 @@ pub struct Variables {
     local: Rc<Values>,
     /// How long transactions may last, as these values say.
     limits: Limits,
+    /// Whether transactions only read unless they say otherwise.
+    reads_only: bool,
 }
 
 /// The values at a place of a transaction, to which a rollback goes back.
@@ -434,6 +436,7 @@ impl Variables {
             session: values,
             local: Rc::new(Values::new()),
             limits: Limits::default(),
+            reads_only: false,
         };
         variables.changed();
         variables
@@ -445,6 +448,7 @@ impl Variables {
             idle_in_transaction: self.limit(IDLE_LIMIT),
             transaction: self.limit(TRANSACTION_LIMIT),
         };
+        self.reads_only = self.value("default_transaction_read_only") == "on";
     }
 
     /// Returns the time of a setting. None: it is 0, which is no limit.
@@ -714,7 +718,7 @@ impl Variables {
 
     /// Returns whether transactions only read unless they say otherwise.
     pub fn is_read_only_by_default(&self) -> bool {
-        self.value("default_transaction_read_only") == "on"
+        self.reads_only
     }
 }
 

@@ -4,6 +4,7 @@ mod calls;
 mod coercion;
 mod expressions;
 mod from;
+mod locking;
 mod queries;
 mod scope;
 

@@ -190,10 +190,7 @@ fn number(value: Value, to: Oid) -> Result<Value, Failure> {
             .and_then(whole),
         (Value::Float(number), oid::FLOAT4) => Ok(Value::Float(f64::from(number as f32))),
         (Value::Float(number), oid::FLOAT8) => Ok(Value::Float(number)),
-        (value, _) => {
-            let _ = value;
-            Err(missing(&format!("a cast to {}", types::display(to))))
-        }
+        _ => Err(missing(&format!("a cast to {}", types::display(to)))),
     }
 }
 

@@ -115,11 +115,15 @@ fn columns(text: &str) -> Vec<(String, Oid)> {
     answer(text).map_or_else(|report| panic!("{}: {:?}", text, report), |answer| answer.0)
 }
 
-fn state(text: &str) -> SqlState {
+fn refusal(text: &str) -> Failure {
     match answer(text) {
         Ok(answer) => panic!("{}: {:?}", text, answer),
-        Err(report) => report.state,
+        Err(report) => report,
     }
+}
+
+fn state(text: &str) -> SqlState {
+    refusal(text).state
 }
 
 #[test]
@@ -344,6 +348,9 @@ fn faults_have_the_codes_of_postgresql_15() {
             SqlState::AMBIGUOUS_COLUMN,
         ),
         ("SELECT nothing(1)", SqlState::UNDEFINED_FUNCTION),
+        ("SELECT - 'a'::text", SqlState::UNDEFINED_FUNCTION),
+        ("SELECT - NULL", SqlState::AMBIGUOUS_FUNCTION),
+        ("SELECT + NULL", SqlState::FEATURE_NOT_SUPPORTED),
         ("SELECT 'a'::text = 1", SqlState::UNDEFINED_FUNCTION),
         ("SELECT 'x'::int", SqlState::INVALID_TEXT_REPRESENTATION),
         ("SELECT 'none'::regclass", SqlState::UNDEFINED_TABLE),
@@ -371,6 +378,121 @@ fn faults_have_the_codes_of_postgresql_15() {
         ),
     ] {
         assert_eq!(state(text), expected, "{}", text);
+    }
+}
+
+#[test]
+fn operators_that_are_missing_are_refused_by_their_names() {
+    for text in ["SELECT @ 1", "SELECT |/ 25", "SELECT ~ 5", "SELECT 2 ^ 3"] {
+        assert_eq!(state(text), SqlState::FEATURE_NOT_SUPPORTED, "{}", text);
+    }
+}
+
+#[test]
+fn subscripts_stand_where_the_grammar_has_them() {
+    for text in [
+        "SELECT 1[1]",
+        "SELECT 'a'[1]",
+        "SELECT NULL[1]",
+        "SELECT ARRAY[1][1]",
+        "SELECT current_schemas(true)[1]",
+        "SELECT (1, 2)[1]",
+        "SELECT (1)::int.a",
+    ] {
+        assert_eq!(state(text), SqlState::SYNTAX_ERROR, "{}", text);
+    }
+    assert_eq!(state("SELECT (1)[1]"), SqlState::DATATYPE_MISMATCH);
+    assert_eq!(
+        rows("SELECT (ARRAY[7, 8])[2], (SELECT ARRAY[9])[1]"),
+        ["8|9"]
+    );
+    assert_eq!(
+        rows("SELECT indkey[0] FROM pg_index WHERE indkey[0] = 1 LIMIT 1"),
+        ["1"]
+    );
+}
+
+#[test]
+fn rows_are_locked_only_where_postgresql_would_lock_them() {
+    for text in [
+        "SELECT 1 FOR UPDATE",
+        "SELECT 1 FROM pg_class c, pg_type t FOR UPDATE OF t FOR SHARE OF c LIMIT 1",
+        "SELECT 1 FROM (pg_class a CROSS JOIN pg_type b) FOR UPDATE OF b LIMIT 1",
+        "SELECT 1 FROM (VALUES (1)) g FOR UPDATE OF g",
+        "WITH g AS (SELECT count(*)) SELECT 1 FROM g FOR UPDATE",
+        "SELECT 1 FROM pg_class c LEFT JOIN generate_series(1, 1) ON true FOR UPDATE LIMIT 1",
+    ] {
+        assert_eq!(rows(text), ["1"], "{}", text);
+    }
+    for (text, expected) in [
+        (
+            "SELECT (1) FOR UPDATE OF t$1",
+            "42P01 relation \"t$1\" in FOR UPDATE clause not found in FROM clause",
+        ),
+        (
+            "SELECT 1 FROM pg_class c FOR SHARE OF pg_class",
+            "42P01 relation \"pg_class\" in FOR SHARE clause not found in FROM clause",
+        ),
+        (
+            "SELECT (SELECT 1 FOR UPDATE OF c) FROM pg_class c",
+            "42P01 relation \"c\" in FOR UPDATE clause not found in FROM clause",
+        ),
+        (
+            "SELECT 1 FROM pg_class c FOR UPDATE OF pg_catalog.c",
+            "42601 FOR UPDATE must specify unqualified relation names",
+        ),
+        (
+            "VALUES (1) FOR UPDATE",
+            "0A000 FOR UPDATE cannot be applied to VALUES",
+        ),
+        (
+            "SELECT 1 UNION SELECT 2 FOR UPDATE",
+            "0A000 FOR UPDATE is not allowed with UNION/INTERSECT/EXCEPT",
+        ),
+        (
+            "SELECT DISTINCT 1 FOR UPDATE",
+            "0A000 FOR UPDATE is not allowed with DISTINCT clause",
+        ),
+        (
+            "SELECT 1 GROUP BY 1 FOR NO KEY UPDATE",
+            "0A000 FOR NO KEY UPDATE is not allowed with GROUP BY clause",
+        ),
+        (
+            "SELECT 1 HAVING true FOR UPDATE",
+            "0A000 FOR UPDATE is not allowed with HAVING clause",
+        ),
+        (
+            "SELECT 1 FROM (SELECT count(*)) g FOR UPDATE",
+            "0A000 FOR UPDATE is not allowed with aggregate functions",
+        ),
+        (
+            "SELECT 1 FROM (SELECT count(*)) g FOR UPDATE OF g",
+            "0A000 FOR UPDATE is not allowed with aggregate functions",
+        ),
+        (
+            "SELECT row_number() OVER () FOR UPDATE",
+            "0A000 FOR UPDATE is not allowed with window functions",
+        ),
+        (
+            "SELECT generate_series(1, 2) FOR UPDATE",
+            "0A000 FOR UPDATE is not allowed with set-returning functions in the target list",
+        ),
+        (
+            "SELECT 1 FROM generate_series(1, 2) g FOR UPDATE OF g",
+            "0A000 FOR UPDATE cannot be applied to a function",
+        ),
+        (
+            "WITH g AS (SELECT 1) SELECT 1 FROM g FOR UPDATE OF g",
+            "0A000 FOR UPDATE cannot be applied to a WITH query",
+        ),
+        (
+            "SELECT 1 FROM pg_class a LEFT JOIN pg_type b ON true FOR UPDATE",
+            "0A000 FOR UPDATE cannot be applied to the nullable side of an outer join",
+        ),
+    ] {
+        let report = refusal(text);
+        let shown = format!("{} {}", report.state.code(), report.message);
+        assert_eq!(shown, expected, "{}", text);
     }
 }
 

@@ -3,6 +3,8 @@
 use std::cmp::Ordering;
 use std::rc::Rc;
 
+use postgres_protocol::Oid;
+
 use crate::decimal::Decimal;
 
 /// A value of a query. Which type of PostgreSQL it has, the plan knows.
@@ -68,6 +70,11 @@ impl Value {
             Value::Integer(number) => *number,
             _ => 0,
         }
+    }
+
+    /// Returns the Oid that a whole number is. Another value has 0, which is none.
+    pub fn as_oid(&self) -> Oid {
+        self.as_integer() as Oid
     }
 
     /// Returns the elements of an array. Another value has none.

@@ -1,7 +1,6 @@
 //! What comes from the client, what goes to it, and what goes to the program.
 
 use std::collections::VecDeque;
-use std::iter;
 
 use crate::connection::Request;
 use crate::queue::Queue;
@@ -129,8 +128,8 @@ pub struct Requests {
     terminate: Vec<i32>,
     /// The lines, each with its line feed.
     lines: Vec<u8>,
-    /// What each of them asks for.
-    questions: VecDeque<Question>,
+    /// What each of them asks for, and its length with its line feed.
+    questions: VecDeque<(Question, usize)>,
     at: usize,
     unanswered: usize,
 }
@@ -157,12 +156,21 @@ impl Requests {
         question: Question,
         write: impl FnOnce(&mut Vec<u8>) -> Result<(), E>,
     ) -> Result<(), E> {
-        self.lines(question, |out| {
-            write(out)?;
-            out.push(b'\n');
-            Ok(1)
-        })?;
-        Ok(())
+        let start = self.lines.len();
+        let written = write(&mut self.lines);
+        match written {
+            Ok(()) => self.end_line(question, start),
+            Err(_) => self.lines.truncate(start),
+        }
+        written
+    }
+
+    /// Ends the line that begins at this byte.
+    fn end_line(&mut self, question: Question, start: usize) {
+        debug_assert!(!self.lines[start..].contains(&b'\n'));
+        self.lines.push(b'\n');
+        self.questions
+            .push_back((question, self.lines.len() - start));
     }
 
     /// Asks the program by lines that `write` appends, each with its line feed, and whose number it returns. Nothing is
@@ -175,7 +183,9 @@ impl Requests {
         let start = self.lines.len();
         match write(&mut self.lines) {
             Ok(count) => {
-                self.questions.extend(iter::repeat(question).take(count));
+                let lines = self.lines[start..].split_inclusive(|&byte| byte == b'\n');
+                let lengths = lines.map(|line| (question, line.len()));
+                self.questions.extend(lengths);
                 Ok(count)
             }
             Err(fault) => {
@@ -187,11 +197,11 @@ impl Requests {
 
     /// Asks the program by this line.
     pub fn push(&mut self, question: Question, words: &[&str]) {
+        let start = self.lines.len();
         for word in words {
             self.lines.extend_from_slice(word.as_bytes());
         }
-        self.lines.push(b'\n');
-        self.questions.push_back(question);
+        self.end_line(question, start);
     }
 
     /// Returns the next request.
@@ -205,19 +215,18 @@ impl Requests {
         if let Some(process_id) = self.terminate.pop() {
             return Some(Request::Terminate { process_id });
         }
-        let question = match self.questions.pop_front() {
-            Some(question) => question,
+        let (question, length) = match self.questions.pop_front() {
+            Some(asked) => asked,
             None => {
                 self.drop_untaken();
                 return None;
             }
         };
         let start = self.at;
-        let length = self.lines[start..].iter().position(|&byte| byte == b'\n')?;
-        self.at = start + length + 1;
+        self.at = start + length;
         self.unanswered += 1;
         Some(Request::Statement {
-            line: &self.lines[start..start + length],
+            line: &self.lines[start..self.at - 1],
             question,
         })
     }

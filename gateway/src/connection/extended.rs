@@ -208,7 +208,7 @@ impl Connection {
         types: &[Oid],
     ) -> Result<Option<Rc<[Column]>>, Failure> {
         let tree = match &statement.parsed {
-            Some(parsed) => &parsed.statement,
+            Some(parsed) => &*parsed.statement,
             None => return Ok(None),
         };
         let shown = match tree {

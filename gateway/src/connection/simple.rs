@@ -19,7 +19,7 @@ pub struct Query {
     /// Where its next statement begins.
     at: usize,
     /// Its next statement, if that was read.
-    statement: Option<Statement>,
+    statement: Option<Rc<Statement>>,
 }
 
 impl Connection {
@@ -72,7 +72,7 @@ impl Connection {
         match statement {
             Ok(Some(statement)) => {
                 let commits = !self.transaction.several;
-                self.execute(Subject::Simple(Rc::new(statement)), Target::Simple, commits);
+                self.execute(Subject::Simple(statement), Target::Simple, commits);
             }
             Ok(None) if self.transaction.block == Block::None && self.transaction.dirty => {
                 self.commit(AfterCommit::Query);
@@ -98,7 +98,7 @@ impl Connection {
 /// # Errors
 ///
 /// Fails if any of its statements isn't read.
-fn first_statement(text: &str, at: &mut usize) -> Result<Option<(Statement, bool)>, Failure> {
+fn first_statement(text: &str, at: &mut usize) -> Result<Option<(Rc<Statement>, bool)>, Failure> {
     let first = match next_statement(text, at)? {
         Some(first) => without_parameters(first)?,
         None => return Ok(None),
@@ -108,6 +108,9 @@ fn first_statement(text: &str, at: &mut usize) -> Result<Option<(Statement, bool
     while next_statement(text, &mut ahead)?.is_some() {
         several = true;
     }
+    if !several {
+        *at = ahead;
+    }
     Ok(Some((first, several)))
 }
 
@@ -116,7 +119,7 @@ fn first_statement(text: &str, at: &mut usize) -> Result<Option<(Statement, bool
 /// # Errors
 ///
 /// Fails if it has parameters, since no simple query gives them values.
-fn without_parameters(parsed: Parsed) -> Result<Statement, Failure> {
+fn without_parameters(parsed: Parsed) -> Result<Rc<Statement>, Failure> {
     match parsed.parameter {
         Some((number, place)) => Err(no_parameter(number, place)),
         None => Ok(parsed.statement),

@@ -870,6 +870,12 @@ fn rows_are_picked_ordered_and_counted() {
     );
     for (text, error) in [
         ("SELECT nothing FROM stock", "ERROR 42703 P=8"),
+        // The table's name is its row as one value.
+        ("SELECT stock FROM stock", "ERROR 0A000 P=8"),
+        ("SELECT \"S\" FROM stock \"S\"", "ERROR 0A000 P=8"),
+        ("SELECT count(s) FROM stock s", "ERROR 0A000 P=14"),
+        ("SELECT id FROM stock s ORDER BY s", "ERROR 0A000 P=33"),
+        ("SELECT id FROM stock s ORDER BY stock", "ERROR 42703 P=33"),
         ("SELECT id FROM stock ORDER BY name", "ERROR 0A000 P=31"),
         ("SELECT id FROM stock ORDER BY 2", "ERROR 42P10 P=31"),
         ("SELECT id FROM stock LIMIT -1", "ERROR 2201W"),
@@ -877,11 +883,6 @@ fn rows_are_picked_ordered_and_counted() {
         ("SELECT s.id FROM stock", "ERROR 42P01 P=8"),
         ("SELECT id FROM stock WHERE pieces > 1", "ERROR 0A000 P=28"),
         ("SELECT id FROM stock a, stock b", "ERROR 0A000 P=1"),
-        (
-            "SELECT count(*) FROM (SELECT x FROM stock) y",
-            "ERROR 42703 P=30",
-        ),
-        ("SELECT id FROM (SELECT id FROM stock) y", "ERROR 0A000 P=1"),
         (
             "SELECT count(*) FROM (SELECT x FROM stock) y",
             "ERROR 42703 P=30",
@@ -986,10 +987,13 @@ fn returning_shows_what_the_statement_itself_tells() {
         ),
         ["columns 1", "complete DELETE 0", "ready I"]
     );
-    assert_eq!(
-        client.ask(&format!("{} RETURNING pieces", TAKE), &[]),
-        ["ERROR 0A000 P=61", "ready I"]
-    );
+    // The position is that of the column that isn't known, and of * where that has it.
+    for (returning, place) in [("pieces", 61), ("id, pieces", 65), ("id, *, pieces", 65)] {
+        assert_eq!(
+            client.ask(&format!("{} RETURNING {}", TAKE, returning), &[]),
+            [&format!("ERROR 0A000 P={}", place), "ready I"]
+        );
+    }
 }
 
 #[test]

@@ -955,7 +955,7 @@ impl Connection {
             is_move: false,
         };
         let parsed = Parsed {
-            statement,
+            statement: Rc::new(statement),
             places: Vec::new(),
             parameter: None,
             size: name.len(),

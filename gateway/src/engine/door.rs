@@ -4,12 +4,12 @@ use std::io::ErrorKind;
 use std::path::Path;
 use std::time::{Duration, Instant};
 
+use escrowd_pg::system::socket::{Socket, SocketError};
 use mio::net::{UnixListener, UnixStream};
 use mio::{Interest, Registry, Token};
 use tracing::warn;
 
 use crate::failure::Failure;
-use crate::socket::{Socket, SocketError};
 
 /// How long no client is accepted after the system refused to.
 const PAUSE: Duration = Duration::from_secs(1);

@@ -1,11 +1,11 @@
 //! How the gateway begins and ends.
 
 use escrowd_pg::connection::Ending;
+use escrowd_pg::system::notify;
 use tracing::{error, info};
 
 use super::{enqueue, Engine, Phase, CLOSING, FAREWELL, LISTENER, SHORT_FAREWELL};
 use crate::failure::Failure;
-use crate::notify;
 use crate::program::Program;
 
 impl Engine {
@@ -97,12 +97,17 @@ impl Engine {
             .try_for_each(|program| program.retry(registry, self.now))
     }
 
-    /// Ends the gateway if a program has ended, and won't be started again. Returns whether one has.
+    /// Ends the gateway if a program has ended, unless it will be started again. Returns whether one has.
+    ///
+    /// A stop ends the wait for a store that another program has open. That is no fault.
     fn notice_end(&mut self) -> bool {
         let is_opening = self.phase == Phase::Opening;
-        let program = match self.programs.iter().find(|program| {
-            program.has_ended(self.now) && !(is_opening && program.retry_at().is_some())
-        }) {
+        let waits = |program: &Program| match is_opening {
+            true => program.retry_at().is_some(),
+            false => program.found_its_store_open(),
+        };
+        let has_failed = |program: &&Program| program.has_ended(self.now) && !waits(program);
+        let program = match self.programs.iter().find(has_failed) {
             None => return false,
             Some(program) => program,
         };
@@ -143,7 +148,7 @@ impl Engine {
     fn judge_ends(&mut self) {
         for program in &self.programs {
             let how = match program.has_exited(self.now) {
-                true if program.ended_well() => continue,
+                true if program.ended_well() || program.found_its_store_open() => continue,
                 true => program.how_it_ended(),
                 false => "did not end when it was killed".to_owned(),
             };

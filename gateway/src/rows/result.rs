@@ -160,22 +160,6 @@ fn value_at(values: &[u8], at: usize) -> (Option<&str>, usize) {
     }
 }
 
-fn column(name: &str, oid: Oid) -> Column {
-    let size = match oid {
-        oid::BOOL => 1,
-        oid::INT4 | oid::OID => 4,
-        oid::INT8 => 8,
-        oid::NAME => 64,
-        _ => -1,
-    };
-    Column {
-        name: name.to_owned(),
-        oid,
-        size,
-        modifier: -1,
-    }
-}
-
 /// Reads the value that `line` begins with: a text in quotes, or a number. Returns it and what is behind it.
 ///
 /// A text comes as it is meant, with each quote once; `scratch` has it then.
@@ -259,6 +243,14 @@ pub enum LineFault {
     OtherColumns,
     /// It is not understood.
     Unknown,
+}
+
+/// Returns what is behind a name with which a line begins, in any case. None: it begins otherwise.
+fn behind_name<'l>(line: &'l str, name: &str) -> Option<&'l str> {
+    let first = line.get(..name.len())?;
+    first
+        .eq_ignore_ascii_case(name)
+        .then(|| &line[name.len()..])
 }
 
 impl Reader {
@@ -347,16 +339,17 @@ impl Reader {
 
     fn check_names(&self, line: &str) -> Result<(), LineFault> {
         let definition = self.definition.as_ref().ok_or(LineFault::Unknown)?;
-        let mut names = line.split(" | ");
-        let mut is_next = |name: &str| {
-            let next = names.next();
-            next.map_or(false, |next| next.eq_ignore_ascii_case(name))
-        };
-        let mut columns = definition.columns.iter();
-        if columns.all(|column| is_next(&column.name)) && names.next().is_none() {
-            Ok(())
-        } else {
-            Err(LineFault::OtherColumns)
+        let mut columns = definition.columns.iter().enumerate();
+        let rest = columns.try_fold(line, |rest, (place, column)| {
+            let rest = match place {
+                0 => rest,
+                _ => rest.strip_prefix(" | ")?,
+            };
+            behind_name(rest, &column.name)
+        });
+        match rest {
+            Some("") => Ok(()),
+            _ => Err(LineFault::OtherColumns),
         }
     }
 
@@ -526,12 +519,17 @@ pub fn shown_columns(question: Question) -> Rc<[Column]> {
             ("column_name", oid::TEXT),
             ("change", oid::NUMERIC),
         ],
-        Question::Statistics => return TOTALS.iter().map(|name| column(name, oid::INT8)).collect(),
+        Question::Statistics => {
+            return TOTALS
+                .iter()
+                .map(|name| Column::plain(name, oid::INT8))
+                .collect()
+        }
         Question::Rows | Question::Order => &[],
     };
     columns
         .iter()
-        .map(|(name, oid)| column(name, *oid))
+        .map(|(name, oid)| Column::plain(name, *oid))
         .collect()
 }
 
@@ -539,7 +537,7 @@ pub fn shown_columns(question: Question) -> Rc<[Column]> {
 pub fn constants(columns: &[(&str, Oid)], rows: &[Vec<Option<String>>]) -> ResultSet {
     let described: Vec<Column> = columns
         .iter()
-        .map(|(name, oid)| column(name, *oid))
+        .map(|(name, oid)| Column::plain(name, *oid))
         .collect();
     let mut result = ResultSet::new(described);
     for row in rows {
@@ -656,7 +654,10 @@ mod tests {
 
     #[test]
     fn a_shape_shows_columns_constants_and_the_count() {
-        let columns = vec![column("one", oid::TEXT), column("stock", oid::INT8)];
+        let columns = vec![
+            Column::plain("one", oid::TEXT),
+            Column::plain("stock", oid::INT8),
+        ];
         let shape = Shape {
             columns: columns.into(),
             outputs: vec![Output::Constant(None), Output::Column(2)],

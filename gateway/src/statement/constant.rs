@@ -111,8 +111,8 @@ pub fn check(expression: &Expression, verb: Verb) -> Result<(), Failure> {
             cast_to(to)?;
             check(operand, verb)
         }
-        ExpressionKind::Column(names) => {
-            let name = names.last().map_or("", |name| name.text.as_str());
+        ExpressionKind::Column(column) => {
+            let name = column.names().last().map_or("", |name| name.text.as_str());
             let what = format!("column \"{}\" in place of a value", name);
             Err(verb.missing(&what, expression.span.start))
         }

@@ -6,7 +6,7 @@ use crate::sqlstate::{Failure, Report, SqlState};
 use crate::statement::constant::{self, Input, Usage};
 use crate::statement::literal;
 use crate::statement::parser::lexer::too_long;
-use crate::statement::query::Expression;
+use crate::statement::query::{Expression, ExpressionKind};
 use crate::statement::select::Select;
 use crate::statement::served::{no_column, Insert, Keys, Served, Show, Update};
 use crate::value::Value;
@@ -203,8 +203,25 @@ fn append_for(
     column: Option<&DefinedColumn>,
     usage: Usage,
 ) -> Result<(), Failure> {
+    if let Some(digits) = digits(expression, column) {
+        words(out, &[digits]);
+        return Ok(());
+    }
     let value = constant::value_for(expression, input, column, usage)?;
     append_value(out, &value).map_err(|report| report.at(expression.span.start))
+}
+
+/// Returns the digits of a whole number that is written as the program writes it, if a column takes it as it is. None: it
+/// is another value, which has to be computed.
+fn digits<'a>(expression: &'a Expression, column: Option<&DefinedColumn>) -> Option<&'a str> {
+    let digits = match &expression.kind {
+        ExpressionKind::Number(written) if column.map_or(true, DefinedColumn::is_number) => written,
+        _ => return None,
+    };
+    let is_plain = digits.len() <= limits::MOST_DIGITS
+        && digits.bytes().all(|byte| byte.is_ascii_digit())
+        && (!digits.starts_with('0') || digits.len() == 1);
+    is_plain.then_some(digits.as_str())
 }
 
 fn append_key(
@@ -230,18 +247,25 @@ fn append_assignments(
     for (at, assignment) in update.assignments.iter().enumerate() {
         let name = &assignment.column.text;
         let column = definition.and_then(|definition| definition.column(name));
+        let sign = |is_negative| match is_negative ^ assignment.is_subtracted {
+            true => " - ",
+            false => " + ",
+        };
         words(out, &[if at > 0 { ", " } else { "" }, name, " = "]);
         if !update.reserves {
             append_for(out, &assignment.value, input, column, Usage::Assigned)?;
+            continue;
+        }
+        if let Some(digits) = digits(&assignment.value, column) {
+            words(out, &[name, sign(false), digits]);
             continue;
         }
         let place = assignment.value.span.start;
         let value = constant::value_for(&assignment.value, input, column, Usage::Changed)?;
         match value {
             Value::Number(mut number) => {
-                let is_negative = number.negative ^ assignment.is_subtracted;
+                words(out, &[name, sign(number.negative)]);
                 number.negative = false;
-                words(out, &[name, if is_negative { " - " } else { " + " }]);
                 append_value(out, &Value::Number(number))?;
             }
             _ => {

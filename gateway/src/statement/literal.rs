@@ -13,8 +13,10 @@ pub const LONGEST_NAME: usize = 63;
 pub fn folded(written: &str, is_quoted: bool) -> String {
     let mut name = if is_quoted {
         written[1..written.len() - 1].replace("\"\"", "\"")
-    } else {
+    } else if written.bytes().any(|byte| byte.is_ascii_uppercase()) {
         written.to_ascii_lowercase()
+    } else {
+        written.to_owned()
     };
     if name.len() > LONGEST_NAME {
         let mut end = LONGEST_NAME;

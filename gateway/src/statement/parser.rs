@@ -8,10 +8,13 @@ pub mod lexer;
 mod query;
 mod types;
 
+use std::mem::size_of;
+use std::rc::Rc;
+
 use crate::sqlstate::{Failure, Report, SqlState};
 use crate::statement::parameters::{self, Place};
-use crate::statement::query::{Name, QualifiedName, Query, Span};
-use crate::statement::{literal, Parsed};
+use crate::statement::query::{Name, QualifiedName, Query, Span, Update};
+use crate::statement::{literal, Parsed, Statement};
 pub use lexer::TokenKind;
 use lexer::{Token, Tokens};
 
@@ -46,6 +49,24 @@ pub fn parse_query(text: &str) -> Result<Query, Failure> {
     Ok(query)
 }
 
+/// Reads a text that is one UPDATE of one table. None: it is another statement, or several.
+///
+/// # Errors
+///
+/// Fails at what PostgreSQL's grammar doesn't have, and at what is missing here.
+pub fn parse_update(text: &str) -> Result<Option<Update>, Failure> {
+    let mut at = 0;
+    let tokens = match lexer::next_statement(text, &mut at) {
+        Some(tokens) => tokens,
+        None => return Ok(None),
+    };
+    let mut parser = Parser::new(text, &tokens);
+    if !parser.keyword("UPDATE") || lexer::next_statement(text, &mut at).is_some() {
+        return Ok(None);
+    }
+    parser.update_tree().map(Some)
+}
+
 /// Reads the next statement of `text`, from the byte `at`, and moves `at` behind it and its semicolon. None: there is none.
 ///
 /// # Errors
@@ -58,15 +79,18 @@ pub fn next_statement(text: &str, at: &mut usize) -> Result<Option<Parsed>, Fail
     };
     let mut parser = Parser::new(text, &tokens);
     let statement = parser.statement()?;
-    let places = parameters::places(&statement, &tokens.list);
     let parameter = tokens.list.iter().find_map(|token| match token.kind {
-        TokenKind::Parameter(number) => Some((number, token.span.start)),
+        TokenKind::Parameter(number) => Some((number, token.span().start)),
         _ => None,
     });
+    let places = match parameter {
+        Some(_) => parameters::places(&statement, &tokens.list),
+        None => Vec::new(),
+    };
     let names = places.iter().map(Place::size).sum::<usize>();
-    let size = parser.size + names + std::mem::size_of::<Parsed>();
+    let size = parser.size + names + size_of::<Parsed>() + size_of::<Statement>();
     Ok(Some(Parsed {
-        statement,
+        statement: Rc::new(statement),
         places,
         parameter,
         size,
@@ -103,13 +127,13 @@ impl<'a> Parser<'a> {
     /// Returns where the next token begins.
     fn start(&self) -> usize {
         self.peek()
-            .map_or(self.tokens.end.start, |token| token.span.start)
+            .map_or(self.tokens.end.start, |token| token.span().start)
     }
 
     /// Returns the piece of the text from this byte up to the last token that was read.
     fn span_from(&self, start: usize) -> Span {
         let end = match self.at.checked_sub(1) {
-            Some(last) => self.tokens.list[last].span.end,
+            Some(last) => self.tokens.list[last].span().end,
             None => start,
         };
         Span { start, end }
@@ -132,10 +156,12 @@ impl<'a> Parser<'a> {
     }
 
     /// Returns whether the next token is this keyword.
+    #[inline]
     fn at_keyword(&self, keyword: &str) -> bool {
         self.at_keyword_ahead(0, keyword)
     }
 
+    #[inline]
     fn at_keyword_ahead(&self, ahead: usize, keyword: &str) -> bool {
         debug_assert_eq!(keywords::find(keyword), Some(keyword));
         self.keyword_at(ahead) == Some(keyword)
@@ -150,8 +176,11 @@ impl<'a> Parser<'a> {
     }
 
     /// Moves behind the next token if it is this keyword, and returns whether it was.
+    #[inline]
     fn keyword(&mut self, keyword: &str) -> bool {
-        self.keywords(&[keyword])
+        let found = self.at_keyword(keyword);
+        self.at += usize::from(found);
+        found
     }
 
     /// Moves behind the next tokens if they are these keywords, and returns whether they were.
@@ -164,11 +193,12 @@ impl<'a> Parser<'a> {
     }
 
     /// Moves behind the next token if it is one of these keywords, and returns which.
-    fn keyword_of<'b>(&mut self, keywords: &[&'b str]) -> Option<&'b str> {
-        keywords
-            .iter()
-            .copied()
-            .find(|keyword| self.keyword(keyword))
+    fn keyword_of(&mut self, keywords: &[&str]) -> Option<&'static str> {
+        let found = self
+            .keyword_at(0)
+            .filter(|found| keywords.contains(found))?;
+        self.at += 1;
+        Some(found)
     }
 
     /// Moves behind the next token, which has to be this keyword.
@@ -181,12 +211,14 @@ impl<'a> Parser<'a> {
     }
 
     /// Returns whether the token at this distance is this character.
+    #[inline]
     fn at_symbol(&self, ahead: usize, symbol: u8) -> bool {
         self.peek_at(ahead)
             .map_or(false, |token| token.kind == TokenKind::Symbol(symbol))
     }
 
     /// Moves behind the next token if it is this character, and returns whether it was.
+    #[inline]
     fn symbol(&mut self, symbol: u8) -> bool {
         let found = self.at_symbol(0, symbol);
         self.at += usize::from(found);
@@ -232,7 +264,7 @@ impl<'a> Parser<'a> {
     /// Makes the report of a syntax error at the next token.
     fn fault(&self) -> Failure {
         let span = match (self.peek(), &self.tokens.fault) {
-            (Some(token), _) => token.span,
+            (Some(token), _) => token.span(),
             (None, Some(fault)) => return fault.clone(),
             (None, None) => self.tokens.end,
         };
@@ -245,10 +277,19 @@ impl<'a> Parser<'a> {
     }
 
     /// Reads a piece that may have others of its kind inside of it.
+    #[inline]
     fn nested<T>(
         &mut self,
         read: impl FnOnce(&mut Self) -> Result<T, Failure>,
     ) -> Result<T, Failure> {
+        self.enter()?;
+        let result = read(self);
+        self.depth -= 1;
+        result
+    }
+
+    /// Begins a piece that may have others of its kind inside of it. Where it ends, `depth` is one less again.
+    fn enter(&mut self) -> Result<(), Failure> {
         if self.depth == MOST_DEPTH {
             let text = "stack depth limit exceeded";
             let detail = "The pieces of a statement may be 100 deep inside of each other.";
@@ -256,9 +297,7 @@ impl<'a> Parser<'a> {
             return Err(report.at(self.start()));
         }
         self.depth += 1;
-        let result = read(self);
-        self.depth -= 1;
-        result
+        Ok(())
     }
 
     /// Reads one or several pieces with commas between them.
@@ -266,11 +305,14 @@ impl<'a> Parser<'a> {
         &mut self,
         mut read: impl FnMut(&mut Self) -> Result<T, Failure>,
     ) -> Result<Vec<T>, Failure> {
-        let mut list = vec![read(self)?];
+        let first = read(self)?;
+        let usual = if self.at_symbol(0, b',') { 4 } else { 1 };
+        let mut list = Vec::with_capacity(usual);
+        list.push(first);
         while self.symbol(b',') {
             list.push(read(self)?);
         }
-        self.size += list.capacity() * std::mem::size_of::<T>();
+        self.size += list.capacity() * size_of::<T>();
         Ok(list)
     }
 
@@ -309,7 +351,7 @@ impl<'a> Parser<'a> {
         self.size += text.capacity();
         Some(Name {
             text,
-            span: token.span,
+            span: token.span(),
         })
     }
 
@@ -371,8 +413,9 @@ mod tests {
             match kind {
                 ExpressionKind::Number(written) => written.clone(),
                 ExpressionKind::Text(text) => format!("'{}'", text),
-                ExpressionKind::Column(names) => {
-                    let names: Vec<&str> = names.iter().map(|name| name.text.as_str()).collect();
+                ExpressionKind::Column(column) => {
+                    let names = column.names().iter();
+                    let names: Vec<&str> = names.map(|name| name.text.as_str()).collect();
                     names.join(".")
                 }
                 ExpressionKind::Unary(operator, operand) => {

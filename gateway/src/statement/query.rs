@@ -4,6 +4,9 @@
 //! or a table of the database (then it has to have a form that the program serves).
 
 use std::borrow::Cow;
+use std::slice;
+
+use crate::sqlstate::{Failure, Report, SqlState};
 
 /// The bytes of a piece in the client's text, for the position of an error.
 #[derive(Clone, Copy, Debug, Default, PartialEq, Eq)]
@@ -31,6 +34,25 @@ pub struct QualifiedName {
     pub schema: Option<Name>,
     /// The name itself.
     pub name: Name,
+}
+
+/// The names of a column.
+#[derive(Clone, Debug, PartialEq, Eq)]
+pub enum ColumnName {
+    /// `a`
+    Plain(Name),
+    /// With names in front: `t.a`, `public.t.a`.
+    Qualified(Vec<Name>),
+}
+
+impl ColumnName {
+    /// Returns all of its names. The column's own is the last one.
+    pub fn names(&self) -> &[Name] {
+        match self {
+            ColumnName::Plain(name) => slice::from_ref(name),
+            ColumnName::Qualified(names) => names,
+        }
+    }
 }
 
 /// A type as a cast names it.
@@ -71,8 +93,8 @@ pub enum ExpressionKind {
     Text(String),
     /// `$1`: 1 is the first one.
     Parameter(u16),
-    /// A column, with the names in front of it: `a`, `t.a`, `public.t.a`.
-    Column(Vec<Name>),
+    /// A column.
+    Column(ColumnName),
     /// `-a`, `NOT a`: an operator in front, its name as written or in capitals if it is a word.
     Unary(Operator, Box<Expression>),
     /// `a + b`, `a AND b`, `a ~ b`, `a OPERATOR(pg_catalog.~) b`, `a LIKE b` (`~~`): left, operator, right. Words are in
@@ -291,6 +313,31 @@ pub struct Locking {
     pub span: Span,
 }
 
+impl Locking {
+    /// Returns the names behind OF. Each fails if a schema is in front of it.
+    pub fn names(&self) -> impl Iterator<Item = Result<&Name, Failure>> + '_ {
+        self.of.iter().map(move |of| match &of.schema {
+            None => Ok(&of.name),
+            Some(schema) => {
+                let text = format!(
+                    "FOR {} must specify unqualified relation names",
+                    self.strength
+                );
+                Err(Report::error(SqlState::SYNTAX_ERROR, text).at(schema.span.start))
+            }
+        })
+    }
+
+    /// Makes the report of a name behind OF that is no relation of FROM.
+    pub fn unknown(&self, name: &Name) -> Failure {
+        let text = format!(
+            "relation \"{}\" in FOR {} clause not found in FROM clause",
+            name.text, self.strength
+        );
+        Report::error(SqlState::UNDEFINED_TABLE, text).at(name.span.start)
+    }
+}
+
 /// One SELECT or VALUES of a query.
 #[derive(Clone, Debug, PartialEq, Eq)]
 pub enum Body {
@@ -353,4 +400,19 @@ pub struct Query {
     pub locking: Vec<Locking>,
     /// Where it is written.
     pub span: Span,
+}
+
+/// UPDATE of one table, as it is written, whatever of it is served.
+#[derive(Clone, Debug, PartialEq, Eq)]
+pub struct Update {
+    /// The table's name.
+    pub table: QualifiedName,
+    /// The name that it has in the statement, if another one is given.
+    pub alias: Option<Name>,
+    /// Each column, and what it becomes.
+    pub changes: Vec<(Name, Expression)>,
+    /// WHERE.
+    pub condition: Option<Expression>,
+    /// RETURNING.
+    pub returning: Vec<Target>,
 }

@@ -1,5 +1,6 @@
 //! SELECT of a table: which of its forms are served, and what its result has of the table's rows.
 
+use std::iter;
 use std::rc::Rc;
 
 use postgres_protocol::Oid;
@@ -9,10 +10,10 @@ use crate::rows::Definition;
 use crate::sqlstate::{Failure, Report, SqlState};
 use crate::statement::constant::{self, Datum, Input, Usage};
 use crate::statement::query::{
-    Body, Expression, ExpressionKind, Name, OrderBy, Query, Relation, Span, Target,
+    Body, ColumnName, Expression, ExpressionKind, Name, OrderBy, Query, Relation, Span, Target,
 };
 use crate::statement::relations;
-use crate::statement::served::{unknown_column, Keys, Table, Verb};
+use crate::statement::served::{unknown_column, whole_row, Keys, Table, Verb};
 use crate::value::{oid, Value};
 use crate::wire::backend::Column;
 
@@ -165,15 +166,10 @@ pub fn lowered(query: Query) -> Result<Select, Failure> {
             let report = Report::error(SqlState::FEATURE_NOT_SUPPORTED, text);
             return Err(report.at(locking.span.start));
         }
-        for of in &locking.of {
-            let name = &table.alias.as_ref().unwrap_or(&table.name).text;
-            if of.schema.is_some() || of.name.text != *name {
-                let text = format!(
-                    "relation \"{}\" in FOR {} clause not found in FROM clause",
-                    of.name.text, locking.strength
-                );
-                let place = of.name.span.start;
-                return Err(Report::error(SqlState::UNDEFINED_TABLE, text).at(place));
+        for name in locking.names() {
+            let name = name?;
+            if name.text != table.shown_name().text {
+                return Err(locking.unknown(name));
             }
         }
     }
@@ -290,8 +286,12 @@ pub fn shown(table: &Table, targets: Vec<Target>, verb: Verb) -> Result<Vec<Show
                 let span = expression.span;
                 let (what, name) = what(table, expression, verb)?;
                 let label = label.map(|label| label.text).or(name);
-                let own = table.alias.as_ref().unwrap_or(&table.name);
-                let may_be_row = matches!(&what, What::Column(name) if name.text == own.text);
+                let may_be_row = match &what {
+                    What::Column(name) | What::Count(Some(name)) => {
+                        name.text == table.shown_name().text
+                    }
+                    _ => false,
+                };
                 Ok(Shown {
                     what,
                     label,
@@ -310,7 +310,7 @@ fn what(
     verb: Verb,
 ) -> Result<(What, Option<String>), Failure> {
     match expression.kind {
-        ExpressionKind::Column(names) => Ok((What::Column(table.column(names)?), None)),
+        ExpressionKind::Column(column) => Ok((What::Column(table.column(column)?), None)),
         ExpressionKind::Function(call)
             if call.name.name.text == "count"
                 && call
@@ -326,7 +326,7 @@ fn what(
             let mut arguments = call.arguments;
             let column = match (arguments.pop().map(|it| it.kind), arguments.is_empty()) {
                 (None, true) if call.is_star => None,
-                (Some(ExpressionKind::Column(names)), true) => Some(table.column(names)?),
+                (Some(ExpressionKind::Column(column)), true) => Some(table.column(column)?),
                 (Some(ExpressionKind::Number(_) | ExpressionKind::Boolean(_)), true) => None,
                 _ => return Err(verb.missing("count of this", span.start)),
             };
@@ -390,10 +390,10 @@ fn sort_key(
                 return Err(Report::error(SqlState::SYNTAX_ERROR, text).at(span.start));
             }
         },
-        ExpressionKind::Column(names) => {
-            let named = match &names[..] {
-                [name] => by_label(&name.text)?,
-                _ => None,
+        ExpressionKind::Column(column) => {
+            let named = match &column {
+                ColumnName::Plain(name) => by_label(&name.text)?,
+                ColumnName::Qualified(_) => None,
             };
             match named.map(|shown| &shown.what) {
                 Some(What::Column(name)) => SortKey::Column(name.clone()),
@@ -401,7 +401,7 @@ fn sort_key(
                 None if counts => {
                     return Err(missing("ORDER BY of a count", span));
                 }
-                None => SortKey::Column(table.column(names)?),
+                None => SortKey::Column(table.column(column)?),
             }
         }
         _ => return Err(missing("ORDER BY an expression", span)),
@@ -436,12 +436,7 @@ fn outputs(
                 continue;
             }
             What::Column(name) => {
-                let place = match place_of(name, definition) {
-                    Err(_) if shown.may_be_row => {
-                        return Err(missing("a row as one value", name.span));
-                    }
-                    place => place?,
-                };
+                let place = place_of(name, shown.may_be_row, definition)?;
                 columns.push(definition.columns[place].result_column());
                 outputs.push(Output::Column(place));
             }
@@ -458,7 +453,7 @@ fn outputs(
             }
             What::Count(column) => {
                 if let Some(column) = column {
-                    place_of(column, definition)?;
+                    place_of(column, shown.may_be_row, definition)?;
                 }
                 columns.push(Column::plain("count", oid::INT8));
                 outputs.push(Output::Count);
@@ -475,10 +470,14 @@ fn outputs(
     Ok((columns.into(), outputs))
 }
 
-fn place_of(name: &Name, definition: &Definition) -> Result<usize, Failure> {
+/// Returns the place of a column. `may_be_row`: its name is the table's too.
+fn place_of(name: &Name, may_be_row: bool, definition: &Definition) -> Result<usize, Failure> {
     let mut columns = definition.columns.iter();
     let place = columns.position(|column| column.name == name.text);
-    place.ok_or_else(|| unknown_column(name))
+    place.ok_or_else(|| match may_be_row {
+        true => whole_row(name),
+        false => unknown_column(name),
+    })
 }
 
 /// Returns the columns of the result of what is shown of a table.
@@ -506,13 +505,19 @@ pub fn returned_row(
     mut value: impl FnMut(usize) -> Option<String>,
 ) -> Result<Vec<Option<String>>, Failure> {
     let (_, outputs) = outputs(shown, definition, Some(input), input.types)?;
-    let row = outputs.into_iter().map(|output| match output {
+    let places = shown.iter().flat_map(|shown| {
+        let columns = match shown.what {
+            What::All => definition.columns.len(),
+            _ => 1,
+        };
+        iter::repeat(shown.span.start).take(columns)
+    });
+    let row = outputs.into_iter().zip(places).map(|(output, at)| match output {
         Output::Column(place) => value(place).map(Some).ok_or_else(|| {
             let what = format!("RETURNING column \"{}\"", definition.columns[place].name);
             let hint = "Only what the statement itself tells is known: the key, constants, and values that it \
                         gives. SELECT the row for the rest.";
-            let place = shown.first().map_or(0, |shown| shown.span.start);
-            Report::missing(&what).hint(hint).at(place)
+            Report::missing(&what).hint(hint).at(at)
         }),
         Output::Constant(text) => Ok(text),
         Output::Count | Output::Exists => Ok(None),
@@ -571,7 +576,10 @@ impl Select {
         let mut order = None;
         for (key, is_descending, span) in &self.order {
             let column = match key {
-                SortKey::Column(name) => Some(place_of(name, definition)?),
+                SortKey::Column(name) => {
+                    let may_be_row = name.text == self.table.shown_name().text;
+                    Some(place_of(name, may_be_row, definition)?)
+                }
                 SortKey::Constant => None,
                 SortKey::Place(place) => {
                     match place.checked_sub(1).and_then(|at| outputs.get(at)) {

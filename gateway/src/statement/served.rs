@@ -3,7 +3,7 @@
 use crate::limits;
 use crate::sqlstate::{Failure, Report, SqlState};
 use crate::statement::query::{
-    Expression, ExpressionKind, Name, QualifiedName, Query, Span, Target,
+    ColumnName, Expression, ExpressionKind, Name, QualifiedName, Query, Span, Target,
 };
 use crate::statement::select::{self, Select, Shown};
 use crate::statement::words::Words;
@@ -132,19 +132,17 @@ pub struct Table {
 /// The words that are no names for the program, in lower case and in order.
 #[rustfmt::skip]
 static RESERVED: Words = Words::new(&[
-    "add", "alter", "and", "between", "bounds", "check", "commit", "constraint", "create", "delete",
-    "drop", "from", "insert", "integer", "into", "journal", "key", "not", "null", "number",
-    "primary", "reservable", "rollback", "savepoint", "select", "set", "show", "statistics",
-    "table", "to", "update", "values", "varchar2", "where", "work",
+    "add", "and", "alter", "bounds", "between", "check", "commit", "create", "constraint", "drop",
+    "delete", "from", "into", "insert", "integer", "journal", "key", "not", "null", "number",
+    "primary", "rollback", "reservable", "set", "show", "select", "savepoint", "statistics", "to",
+    "table", "update", "values", "varchar2", "work", "where",
 ]);
 
 /// Returns whether the program may have something of this name, which it tells in lower case.
 pub fn is_legal_name(name: &str) -> bool {
-    let is_part = |byte: u8| {
-        byte.is_ascii_lowercase() || byte.is_ascii_digit() || matches!(byte, b'_' | b'$' | b'#')
-    };
+    let is_part = |byte| matches!(byte, b'a'..=b'z' | b'0'..=b'9' | b'_' | b'$' | b'#');
     name.len() <= limits::NAME
-        && name.starts_with(|first: char| first.is_ascii_lowercase())
+        && matches!(name.as_bytes().first(), Some(b'a'..=b'z'))
         && name.bytes().all(is_part)
         && !RESERVED.has(name)
 }
@@ -200,6 +198,11 @@ pub fn unknown_column(column: &Name) -> Failure {
     Report::error(SqlState::UNDEFINED_COLUMN, text).at(column.span.start)
 }
 
+/// Makes the report of a table's name in place of a column: it is the whole row as one value.
+pub fn whole_row(name: &Name) -> Failure {
+    Report::missing("a row as one value").at(name.span.start)
+}
+
 impl Table {
     /// Makes the table of a name as it is written.
     ///
@@ -226,19 +229,33 @@ impl Table {
     /// # Errors
     ///
     /// Fails if another table is in front, or if no column of the program can have this name.
-    pub fn column(&self, mut names: Vec<Name>) -> Result<Name, Failure> {
-        let place = names.first().map_or(0, |name| name.span.start);
-        let column = match names.pop() {
-            Some(column) => column,
-            None => return Err(Report::missing("a column without a name").at(place)),
+    pub fn column(&self, column: ColumnName) -> Result<Name, Failure> {
+        let is_plain = matches!(column, ColumnName::Plain(_));
+        let column = match column {
+            ColumnName::Plain(name) => name,
+            ColumnName::Qualified(mut names) => {
+                let place = names.first().map_or(0, |name| name.span.start);
+                let column = match names.pop() {
+                    Some(column) => column,
+                    None => return Err(Report::missing("a column without a name").at(place)),
+                };
+                let written: Vec<&str> = names.iter().map(|name| name.text.as_str()).collect();
+                self.check_qualifier(&written, place)?;
+                column
+            }
         };
-        let written: Vec<&str> = names.iter().map(|name| name.text.as_str()).collect();
-        self.check_qualifier(&written, place)?;
         if is_legal_name(&column.text) {
             Ok(column)
+        } else if is_plain && column.text == self.shown_name().text {
+            Err(whole_row(&column))
         } else {
             Err(unknown_column(&column))
         }
+    }
+
+    /// Returns its name in the statement: its alias, if it has one.
+    pub fn shown_name(&self) -> &Name {
+        self.alias.as_ref().unwrap_or(&self.name)
     }
 
     /// Checks that no other table is in front of a column or of `*`.
@@ -321,13 +338,13 @@ impl Keys {
         let (column, values) = match condition.kind {
             ExpressionKind::Binary(left, operator, right) if operator == "=" => {
                 match (left.kind, right.kind) {
-                    (ExpressionKind::Column(names), kind) => {
+                    (ExpressionKind::Column(column), kind) => {
                         let span = right.span;
-                        (names, vec![Expression { kind, span }])
+                        (column, vec![Expression { kind, span }])
                     }
-                    (kind, ExpressionKind::Column(names)) => {
+                    (kind, ExpressionKind::Column(column)) => {
                         let span = left.span;
-                        (names, vec![Expression { kind, span }])
+                        (column, vec![Expression { kind, span }])
                     }
                     _ => return Err(not_the_key(verb, span)),
                 }
@@ -337,24 +354,26 @@ impl Keys {
                 return Err(verb.missing(&what, span.start));
             }
             ExpressionKind::In(left, members, false) => match left.kind {
-                ExpressionKind::Column(names) if several || members.len() == 1 => (names, members),
+                ExpressionKind::Column(column) if several || members.len() == 1 => {
+                    (column, members)
+                }
                 _ => return Err(not_the_key(verb, span)),
             },
             ExpressionKind::Quantified(left, operator, false, right) if operator == "=" => {
                 match (left.kind, right.kind) {
-                    (ExpressionKind::Column(names), ExpressionKind::Array(members))
+                    (ExpressionKind::Column(column), ExpressionKind::Array(members))
                         if !members.is_empty() && (several || members.len() == 1) =>
                     {
-                        (names, members)
+                        (column, members)
                     }
-                    (ExpressionKind::Column(names), kind) => {
+                    (ExpressionKind::Column(column), kind) => {
                         let span = right.span;
                         let array = Expression { kind, span };
                         is_array = true;
                         if !several || !constant::is_array(&array) {
                             return Err(not_the_key(verb, span));
                         }
-                        (names, vec![array])
+                        (column, vec![array])
                     }
                     _ => return Err(not_the_key(verb, span)),
                 }

@@ -1,37 +1,39 @@
 //! Lists of words in which names are looked up.
 
+/// The most letters of a word.
+const LONGEST: usize = 31;
+
 /// Words, all in lower case or all in capitals.
 ///
-/// Most names that are looked up are none of them. So it is looked first whether one has the name's first letter and
-/// length.
+/// A name is compared with those alone that have its first letter and its length. Most names have none.
 pub struct Words {
-    /// In order.
     words: &'static [&'static str],
-    /// For each letter: the place of the first word that begins with it or with a later one.
-    starts: [usize; 27],
-    /// For each letter: the lengths of the words that begin with it, a bit for each.
-    lengths: [u32; 26],
+    /// For each letter and each length: the place of the first word that has both, or of the next one.
+    starts: [[u16; LONGEST + 2]; 26],
 }
 
 impl Words {
-    /// Returns a list of words of at most 31 letters, which begin with a letter and are in order.
+    /// Returns a list of words of at most 31 letters, which begin with a letter. They are in the order of their first
+    /// letters, and those of one letter in the order of their lengths.
     pub const fn new(words: &'static [&'static str]) -> Words {
-        let (mut starts, mut lengths) = ([0; 27], [0; 26]);
+        let mut starts = [[0; LONGEST + 2]; 26];
         let (mut place, mut letter) = (0, 0);
-        while letter < 26 {
-            starts[letter] = place;
-            while place < words.len() && letter_of(words[place].as_bytes()[0]) == letter {
-                lengths[letter] |= 1 << words[place].len();
-                place += 1;
+        while letter < starts.len() {
+            let mut length = 0;
+            while length < LONGEST + 2 {
+                starts[letter][length] = place as u16;
+                while place < words.len()
+                    && words[place].len() == length
+                    && letter_of(words[place].as_bytes()[0]) == letter
+                {
+                    place += 1;
+                }
+                length += 1;
             }
             letter += 1;
         }
-        starts[26] = place;
-        Words {
-            words,
-            starts,
-            lengths,
-        }
+        assert!(place == words.len(), "words are in order");
+        Words { words, starts }
     }
 
     /// Returns whether a word is one of them.
@@ -39,29 +41,33 @@ impl Words {
         self.like(word).contains(&word)
     }
 
-    /// Returns the one that a word is in its own case or in another.
+    /// Returns the one that a word is in its own case or in another. A word has letters, digits, `_` and `$` alone: any
+    /// two of these that differ in the bit of the case alone are the same letter.
     pub fn find(&self, word: &str) -> Option<&'static str> {
-        let is_same = |known: &&&str| known.eq_ignore_ascii_case(word);
+        const CASE: u8 = 0x20;
+        let is_same = |known: &&&str| {
+            let mut pairs = known.bytes().zip(word.bytes());
+            pairs.all(|(known, byte)| (known ^ byte) & !CASE == 0)
+        };
         self.like(word).iter().find(is_same).copied()
     }
 
-    /// Returns those with the first letter of a word, if one of them is as long.
+    /// Returns those with the first letter and the length of a word.
     fn like(&self, word: &str) -> &'static [&'static str] {
-        let letter = match word.as_bytes().first() {
-            Some(&first) if first.is_ascii_alphabetic() => letter_of(first),
-            _ => return &[],
-        };
-        if word.len() < 32 && self.lengths[letter] >> word.len() & 1 == 1 {
-            &self.words[self.starts[letter]..self.starts[letter + 1]]
-        } else {
-            &[]
+        let first = word.as_bytes().first().copied().unwrap_or_default();
+        match self.starts.get(letter_of(first)) {
+            Some(starts) if word.len() <= LONGEST => {
+                let (start, end) = (starts[word.len()], starts[word.len() + 1]);
+                &self.words[usize::from(start)..usize::from(end)]
+            }
+            _ => &[],
         }
     }
 }
 
-/// Returns the place of a letter in the alphabet, from 0.
+/// Returns the place of a letter in the alphabet, from 0. Of what is no letter it is 26 or more.
 const fn letter_of(byte: u8) -> usize {
-    (byte.to_ascii_lowercase() - b'a') as usize
+    (byte | 0x20).wrapping_sub(b'a') as usize
 }
 
 #[cfg(test)]
@@ -70,7 +76,7 @@ mod tests {
 
     #[test]
     fn only_the_words_of_a_list_are_in_it() {
-        const WORDS: Words = Words::new(&["add", "table", "to"]);
+        const WORDS: Words = Words::new(&["add", "to", "table"]);
         for word in ["add", "table", "to"] {
             assert!(WORDS.has(word));
             assert_eq!(WORDS.find(&word.to_ascii_uppercase()), Some(word));

@@ -69,8 +69,13 @@ fn message(out: &mut Vec<u8>, kind: u8, body: impl FnOnce(&mut Vec<u8>)) {
 }
 
 fn string(out: &mut Vec<u8>, text: &str) {
-    // A zero byte would end the string early.
-    out.extend(text.bytes().filter(|&byte| byte != 0));
+    let bytes = text.as_bytes();
+    if bytes.contains(&0) {
+        // A zero byte would end the string early.
+        out.extend(bytes.iter().filter(|&&byte| byte != 0));
+    } else {
+        out.extend_from_slice(bytes);
+    }
     out.push(0);
 }
 

@@ -61,7 +61,7 @@ impl Analyser<'_> {
             );
             return Err(Report::error(SqlState::WRONG_OBJECT_TYPE, text));
         }
-        let resolved = self.resolve(call, span, scope)?;
+        let resolved = self.resolve(call, scope)?;
         let (returns_set, result) = (resolved.procedure.returns_set, resolved.result);
         let node = function_node(resolved)?;
         if returns_set {
@@ -84,15 +84,9 @@ impl Analyser<'_> {
     pub(super) fn resolve(
         &mut self,
         call: &FunctionCall,
-        span: Span,
         scope: &Scope<'_>,
     ) -> Result<Resolved, Failure> {
-        let arguments: Result<Vec<Typed>, Failure> = call
-            .arguments
-            .iter()
-            .map(|argument| self.expression(argument, scope))
-            .collect();
-        let arguments = arguments?;
+        let arguments = self.list(&call.arguments, scope)?;
         let given: Vec<Oid> = arguments.iter().map(|typed| typed.oid).collect();
         let schema = call.name.schema.as_ref().map(|schema| schema.text.as_str());
         let name = call.name.name.text.as_str();
@@ -123,7 +117,6 @@ impl Analyser<'_> {
             .zip(&call.arguments)
             .map(|((typed, &to), written)| self.cast(typed, to, -1, written.span))
             .collect();
-        let _ = span;
         Ok(Resolved {
             procedure,
             arguments: arguments?,
@@ -137,11 +130,8 @@ impl Analyser<'_> {
         span: Span,
         scope: &Scope<'_>,
     ) -> Result<Typed, Failure> {
-        let values: Result<Vec<Typed>, Failure> = arguments
-            .iter()
-            .map(|argument| self.expression(argument, scope))
-            .collect();
-        let (values, oid) = self.common(values?, "COALESCE", span)?;
+        let values = self.list(arguments, scope)?;
+        let (values, oid) = self.common(values, "COALESCE", span)?;
         Ok(Typed::new(Node::Coalesce(nodes(values)), oid))
     }
 
@@ -181,12 +171,9 @@ impl Analyser<'_> {
         span: Span,
         scope: &Scope<'_>,
     ) -> Result<Typed, Failure> {
-        let values: Result<Vec<Typed>, Failure> = arguments
-            .iter()
-            .map(|argument| self.expression(argument, scope))
-            .collect();
+        let values = self.list(arguments, scope)?;
         let what = if is_greatest { "GREATEST" } else { "LEAST" };
-        let (values, oid) = self.common(values?, what, span)?;
+        let (values, oid) = self.common(values, what, span)?;
         Ok(Typed::new(Node::Extreme(nodes(values), is_greatest), oid))
     }
 
@@ -300,7 +287,7 @@ impl Analyser<'_> {
             };
             return Ok((aggregate, oid::INT8));
         }
-        let resolved = self.resolve(call, span, scope)?;
+        let resolved = self.resolve(call, scope)?;
         let kind = aggregate_kind(resolved.procedure, resolved.result)?;
         let mut arguments = resolved.arguments;
         if kind == AggregateKind::SumDecimal {

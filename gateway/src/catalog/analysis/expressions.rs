@@ -14,6 +14,7 @@ use crate::catalog::types::{self, oid};
 use crate::catalog::value::Value;
 use crate::decimal::Decimal;
 use crate::sqlstate::{Failure, Report, SqlState};
+use crate::statement::constant::sign_of_unknown;
 use crate::statement::query::{Expression, ExpressionKind, IsWhat, Query, Span};
 
 impl Analyser<'_> {
@@ -71,7 +72,7 @@ impl Analyser<'_> {
             ExpressionKind::Number(digits) => number(digits),
             ExpressionKind::Text(text) => Ok(text_constant(text)),
             ExpressionKind::Parameter(number) => self.parameter(*number),
-            ExpressionKind::Column(names) => self.column(names, scope),
+            ExpressionKind::Column(column) => self.column(column.names(), scope),
             ExpressionKind::Unary(operator, operand) => self.unary(operator, operand, scope),
             ExpressionKind::Binary(left, operator, right) => {
                 self.binary(left, operator, right, span, scope)
@@ -174,7 +175,12 @@ impl Analyser<'_> {
         }
     }
 
-    fn list(&mut self, list: &[Expression], scope: &Scope<'_>) -> Result<Vec<Typed>, Failure> {
+    /// Reads several expressions.
+    pub(super) fn list(
+        &mut self,
+        list: &[Expression],
+        scope: &Scope<'_>,
+    ) -> Result<Vec<Typed>, Failure> {
         list.iter()
             .map(|expression| self.expression(expression, scope))
             .collect()
@@ -216,11 +222,10 @@ impl Analyser<'_> {
                 typed.oid,
             )),
             "+" if types::is_number(typed.oid) => Ok(typed),
-            _ => Err(no_operator(&format!(
-                "{} {}",
-                operator,
-                types::display(typed.oid)
-            ))),
+            "-" if typed.is_open() => Err(sign_of_unknown('-')),
+            "+" if typed.is_open() => Err(sign_of_unknown('+')),
+            "-" | "+" => Err(no_operator_before(operator, typed.oid)),
+            _ => Err(missing(&format!("the operator {}", operator))),
         }
     }
 
@@ -458,7 +463,9 @@ impl Analyser<'_> {
                     ExpressionKind::Row(rights) => {
                         Ok(self.rows(lefts, operator, rights, left.span, scope)?.node)
                     }
-                    _ => Err(no_operator("record = record").at(right.span.start)),
+                    _ => {
+                        Err(no_operator_between(oid::RECORD, "=", oid::RECORD).at(right.span.start))
+                    }
                 })
                 .collect(),
             _ => {
@@ -742,20 +749,29 @@ fn only_column(plan: &Plan, span: Span) -> Result<(Oid, i32), Failure> {
     }
 }
 
-fn no_operator(what: &str) -> Failure {
-    let text = format!("operator does not exist: {}", what);
+/// Makes the report of an operator in front that doesn't take this type.
+fn no_operator_before(operator: &str, right: Oid) -> Failure {
+    let text = format!("operator does not exist: {} {}", operator, type_name(right));
     Report::error(SqlState::UNDEFINED_FUNCTION, text).hint(
-        "No operator matches the given name and argument types. You might need to add explicit type casts.",
+        "No operator matches the given name and argument type. You might need to add an explicit type cast.",
     )
 }
 
 /// Makes the report of an operator that doesn't take these types.
 fn no_operator_between(left: Oid, operator: &str, right: Oid) -> Failure {
-    let name = |oid| match oid {
+    let (left, right) = (type_name(left), type_name(right));
+    let text = format!("operator does not exist: {} {} {}", left, operator, right);
+    Report::error(SqlState::UNDEFINED_FUNCTION, text).hint(
+        "No operator matches the given name and argument types. You might need to add explicit type casts.",
+    )
+}
+
+/// Returns the name of a type in the report of an operator.
+fn type_name(oid: Oid) -> String {
+    match oid {
         oid::UNKNOWN | oid::UNSPECIFIED => "unknown".to_owned(),
         oid => types::display(oid),
-    };
-    no_operator(&format!("{} {} {}", name(left), operator, name(right)))
+    }
 }
 
 /// Returns the type as which values of two types are compared. None: they are not.

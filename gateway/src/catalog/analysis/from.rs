@@ -185,7 +185,6 @@ impl Analyser<'_> {
         scope: &mut Scope<'_>,
     ) -> Result<(), Failure> {
         let name = call.name.name.text.clone();
-        let span = call.name.name.span;
         let several: Vec<FunctionCall> = if name == "unnest" && call.arguments.len() > 1 {
             let one = |argument: &Expression| FunctionCall {
                 arguments: vec![argument.clone()],
@@ -198,7 +197,7 @@ impl Analyser<'_> {
         scope.clause.set(Clause::From);
         let (mut calls, mut columns) = (Vec::new(), Vec::new());
         for call in &several {
-            let resolved = self.resolve(call, span, scope)?;
+            let resolved = self.resolve(call, scope)?;
             let (is_set, result) = (resolved.procedure.returns_set, resolved.result);
             let node = function_node(resolved)?;
             let node = if is_set {

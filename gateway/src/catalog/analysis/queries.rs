@@ -7,6 +7,7 @@ use postgres_protocol::Oid;
 use crate::catalog::analysis::calls::sort_key;
 use crate::catalog::analysis::coercion::common_type;
 use crate::catalog::analysis::from::{placed_conditions, Condition, Joined};
+use crate::catalog::analysis::locking;
 use crate::catalog::analysis::scope::{Clause, Extras, Scope};
 use crate::catalog::analysis::{placed, too_complex, Analyser, Named, Typed};
 use crate::catalog::casts;
@@ -17,7 +18,8 @@ use crate::catalog::plan::{
 use crate::catalog::types::{self, oid};
 use crate::sqlstate::{Failure, Report, SqlState};
 use crate::statement::query::{
-    self, Expression, ExpressionKind, FunctionCall, OrderBy, Query, Span, Target,
+    self, ColumnName, Expression, ExpressionKind, FunctionCall, Locking, OrderBy, Query, Span,
+    Target,
 };
 
 /// The most expressions of GROUP BY.
@@ -81,9 +83,12 @@ impl Analyser<'_> {
             });
         }
         let (rows, order) = match &query.body {
-            query::Body::Select(select) => self.select(select, &query.order, outer)?,
+            query::Body::Select(select) => {
+                self.select(select, &query.order, &query.locking, outer)?
+            }
             body => {
                 let rows = self.body(body, outer)?;
+                locking::check(&query.locking, &rows.body, &[], &self.named)?;
                 let order = self.order_of_columns(&query.order, &rows.columns)?;
                 (rows, order)
             }
@@ -127,7 +132,7 @@ impl Analyser<'_> {
 
     fn body(&mut self, body: &query::Body, outer: Option<&Scope<'_>>) -> Result<Rows, Failure> {
         self.deeper(|analyser| match body {
-            query::Body::Select(select) => Ok(analyser.select(select, &[], outer)?.0),
+            query::Body::Select(select) => Ok(analyser.select(select, &[], &[], outer)?.0),
             query::Body::Values(rows) => analyser.values(rows, outer),
             query::Body::Query(query) => {
                 let plan = analyser.query(query, outer)?;
@@ -372,6 +377,7 @@ impl Analyser<'_> {
         &mut self,
         select: &query::Select,
         order: &[OrderBy],
+        locking: &[Locking],
         outer: Option<&Scope<'_>>,
     ) -> Result<(Rows, Vec<SortKey>), Failure> {
         let mut scope = Scope::new(outer);
@@ -437,6 +443,7 @@ impl Analyser<'_> {
             distinct,
             visible,
         }));
+        locking::check(locking, &body, &scope.items, &self.named)?;
         let mut columns = targets.shown;
         columns.truncate(visible);
         Ok((Rows { body, columns }, order))
@@ -599,10 +606,10 @@ impl Targets {
 fn is_same(left: &Expression, right: &Expression) -> bool {
     use ExpressionKind::{Cast, Column, Function};
     match (&left.kind, &right.kind) {
-        (Column(left), Column(right)) => left
-            .iter()
-            .map(|name| &name.text)
-            .eq(right.iter().map(|name| &name.text)),
+        (Column(left), Column(right)) => {
+            let (left, right) = (left.names().iter(), right.names().iter());
+            left.map(|name| &name.text).eq(right.map(|name| &name.text))
+        }
         (Cast(left, to), Cast(right, other)) => {
             is_same(left, right)
                 && to.name.name.text == other.name.name.text
@@ -631,7 +638,7 @@ fn is_same(left: &Expression, right: &Expression) -> bool {
 /// Returns the name of a column that is named alone.
 fn only_name(expression: &Expression) -> Option<&str> {
     match &expression.kind {
-        ExpressionKind::Column(names) if names.len() == 1 => Some(&names[0].text),
+        ExpressionKind::Column(ColumnName::Plain(name)) => Some(&name.text),
         _ => None,
     }
 }
@@ -675,7 +682,7 @@ fn named(expression: &Expression) -> Option<(&str, Strength)> {
     let strong = |name| Some((name, Strength::Strong));
     let inside = |operand| named(operand).filter(|(_, strength)| *strength == Strength::Strong);
     match &expression.kind {
-        ExpressionKind::Column(names) => names.last().and_then(|name| strong(name.text.as_str())),
+        ExpressionKind::Column(column) => strong(column.names().last()?.text.as_str()),
         ExpressionKind::Field(_, name) => strong(&name.text),
         ExpressionKind::Subscript(operand, _) | ExpressionKind::Collate(operand, _) => {
             named(operand)

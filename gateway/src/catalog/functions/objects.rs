@@ -32,21 +32,16 @@ pub const BODIES: Table = &[
         })
     }),
     ("pg_table_is_visible(oid)", |executor, _, arguments| {
-        let found = executor
-            .world
-            .tables
-            .relation_name(arguments[0].as_integer() as Oid);
+        let found = executor.world.tables.relation_name(arguments[0].as_oid());
         Ok(found
             .map(|(schema, _)| schema != namespace::INFORMATION_SCHEMA)
             .into())
     }),
     ("pg_type_is_visible(oid)", |_, _, arguments| {
-        Ok(types::by_oid(arguments[0].as_integer() as Oid)
-            .map(|_| true)
-            .into())
+        Ok(types::by_oid(arguments[0].as_oid()).map(|_| true).into())
     }),
     ("pg_function_is_visible(oid)", |_, _, arguments| {
-        let found = procedures::by_oid(arguments[0].as_integer() as Oid);
+        let found = procedures::by_oid(arguments[0].as_oid());
         Ok(found
             .map(|procedure| procedure.schema == "pg_catalog")
             .into())
@@ -56,24 +51,12 @@ pub const BODIES: Table = &[
             .then(|| true)
             .into())
     }),
-    ("to_regclass(text)", |executor, call, arguments| {
-        to_named(executor, call, arguments)
-    }),
-    ("to_regtype(text)", |executor, call, arguments| {
-        to_named(executor, call, arguments)
-    }),
-    ("to_regproc(text)", |executor, call, arguments| {
-        to_named(executor, call, arguments)
-    }),
-    ("to_regprocedure(text)", |executor, call, arguments| {
-        to_named(executor, call, arguments)
-    }),
-    ("to_regnamespace(text)", |executor, call, arguments| {
-        to_named(executor, call, arguments)
-    }),
-    ("to_regrole(text)", |executor, call, arguments| {
-        to_named(executor, call, arguments)
-    }),
+    ("to_regclass(text)", to_named),
+    ("to_regtype(text)", to_named),
+    ("to_regproc(text)", to_named),
+    ("to_regprocedure(text)", to_named),
+    ("to_regnamespace(text)", to_named),
+    ("to_regrole(text)", to_named),
     ("pg_get_expr(pg_node_tree,oid)", expression),
     ("pg_get_expr(pg_node_tree,oid,bool)", expression),
     ("pg_get_constraintdef(oid)", constraint),
@@ -102,7 +85,7 @@ pub const BODIES: Table = &[
     ),
     ("pg_get_partkeydef(oid)", nothing),
     ("pg_get_function_result(oid)", |_, _, arguments| {
-        let found = procedures::by_oid(arguments[0].as_integer() as Oid);
+        let found = procedures::by_oid(arguments[0].as_oid());
         Ok(found
             .map(|procedure| {
                 let set = if procedure.returns_set { "SETOF " } else { "" };
@@ -119,10 +102,7 @@ pub const BODIES: Table = &[
     ("obj_description(oid,name)", nothing),
     ("shobj_description(oid,name)", nothing),
     ("col_description(oid,int4)", |executor, _, arguments| {
-        let table = executor
-            .world
-            .tables
-            .by_oid(arguments[0].as_integer() as Oid);
+        let table = executor.world.tables.by_oid(arguments[0].as_oid());
         let place = usize::try_from(arguments[1].as_integer() - 1).ok();
         let column = table
             .zip(place)
@@ -135,7 +115,7 @@ pub const BODIES: Table = &[
     (
         "pg_relation_is_publishable(regclass)",
         |executor, _, arguments| {
-            let oid = arguments[0].as_integer() as Oid;
+            let oid = arguments[0].as_oid();
             let is_known = executor.world.tables.relation_name(oid).is_some();
             Ok(is_known.then_some(false).into())
         },
@@ -145,10 +125,7 @@ pub const BODIES: Table = &[
         |executor, _, arguments| {
             // INSERT, UPDATE and DELETE: 1 << CMD_INSERT and so on.
             const ALL: i64 = 28;
-            let table = executor
-                .world
-                .tables
-                .by_oid(arguments[0].as_integer() as Oid);
+            let table = executor.world.tables.by_oid(arguments[0].as_oid());
             Ok(table.map_or(0, |_| ALL).into())
         },
     ),
@@ -207,10 +184,7 @@ fn expression(
     _: &Call,
     arguments: &[Value],
 ) -> Result<Value, Failure> {
-    let table = executor
-        .world
-        .tables
-        .by_oid(arguments[1].as_integer() as Oid);
+    let table = executor.world.tables.by_oid(arguments[1].as_oid());
     let condition = arguments[0].as_text();
     Ok(table
         .map(|table| constraints::condition(table, condition, is_pretty(&arguments[2..])))
@@ -222,7 +196,7 @@ fn constraint(
     _: &Call,
     arguments: &[Value],
 ) -> Result<Value, Failure> {
-    let oid = arguments[0].as_integer() as Oid;
+    let oid = arguments[0].as_oid();
     let table = executor.world.tables.owner(oid);
     Ok(table
         .and_then(|table| constraints::definition(table, oid, is_pretty(&arguments[1..])))
@@ -230,11 +204,7 @@ fn constraint(
 }
 
 fn index(executor: &mut Executor<'_>, _: &Call, arguments: &[Value]) -> Result<Value, Failure> {
-    let table = match executor
-        .world
-        .tables
-        .by_index(arguments[0].as_integer() as Oid)
-    {
+    let table = match executor.world.tables.by_index(arguments[0].as_oid()) {
         Some(table) => table,
         None => return Ok(Value::Null),
     };
@@ -250,7 +220,7 @@ fn function_arguments(
     _: &Call,
     arguments: &[Value],
 ) -> Result<Value, Failure> {
-    let found = procedures::by_oid(arguments[0].as_integer() as Oid);
+    let found = procedures::by_oid(arguments[0].as_oid());
     Ok(found
         .map(|procedure| {
             let types: Vec<String> = procedure
@@ -344,38 +314,45 @@ fn relation_of(executor: &Executor<'_>, argument: &Value) -> Result<Option<Oid>,
     }
 }
 
-/// The client may do all with its tables, and read the catalog.
-fn may(executor: &Executor<'_>, relation: Oid, privileges: &[String]) -> bool {
-    executor.world.tables.by_oid(relation).is_some()
-        || privileges.iter().any(|privilege| privilege == "SELECT")
-}
-
 fn relation_privilege(
     executor: &mut Executor<'_>,
     call: &Call,
     arguments: &[Value],
 ) -> Result<Value, Failure> {
-    let last = arguments.len() - 1;
-    check_role(executor, &arguments[..last - 1], &call.types)?;
-    let relation = relation_of(executor, &arguments[last - 1])?;
-    let privileges = privileges(arguments[last].as_text(), OF_TABLES)?;
-    Ok(relation
-        .map(|relation| may(executor, relation, &privileges))
-        .into())
+    match arguments {
+        [roles @ .., relation, list] => of_relation(executor, call, roles, relation, list),
+        _ => Ok(Value::Null),
+    }
 }
 
+/// Whoever may do something with a relation may do it with each of its columns.
 fn column_privilege(
     executor: &mut Executor<'_>,
     call: &Call,
     arguments: &[Value],
 ) -> Result<Value, Failure> {
-    let last = arguments.len() - 1;
-    check_role(executor, &arguments[..last - 2], &call.types)?;
-    let relation = relation_of(executor, &arguments[last - 2])?;
-    let privileges = privileges(arguments[last].as_text(), OF_TABLES)?;
-    Ok(relation
-        .map(|relation| may(executor, relation, &privileges))
-        .into())
+    match arguments {
+        [roles @ .., relation, _, list] => of_relation(executor, call, roles, relation, list),
+        _ => Ok(Value::Null),
+    }
+}
+
+fn of_relation(
+    executor: &Executor<'_>,
+    call: &Call,
+    roles: &[Value],
+    relation: &Value,
+    list: &Value,
+) -> Result<Value, Failure> {
+    check_role(executor, roles, &call.types)?;
+    let relation = relation_of(executor, relation)?;
+    let privileges = privileges(list.as_text(), OF_TABLES)?;
+    // The client may do all with its tables, and read the catalog.
+    let may = |oid| {
+        executor.world.tables.by_oid(oid).is_some()
+            || privileges.iter().any(|privilege| privilege == "SELECT")
+    };
+    Ok(relation.map(may).into())
 }
 
 fn schema_privilege(

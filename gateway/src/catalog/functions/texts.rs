@@ -38,24 +38,12 @@ pub const BODIES: Table = &[
         let passed = text.chars().count() - kept.min(text.chars().count());
         executor.new_text(text.chars().skip(passed).collect::<String>())
     }),
-    ("btrim(text)", |executor, _, arguments| {
-        trimmed(executor, arguments, true, true)
-    }),
-    ("btrim(text,text)", |executor, _, arguments| {
-        trimmed(executor, arguments, true, true)
-    }),
-    ("ltrim(text)", |executor, _, arguments| {
-        trimmed(executor, arguments, true, false)
-    }),
-    ("ltrim(text,text)", |executor, _, arguments| {
-        trimmed(executor, arguments, true, false)
-    }),
-    ("rtrim(text)", |executor, _, arguments| {
-        trimmed(executor, arguments, false, true)
-    }),
-    ("rtrim(text,text)", |executor, _, arguments| {
-        trimmed(executor, arguments, false, true)
-    }),
+    ("btrim(text)", trimmed::<true, true>),
+    ("btrim(text,text)", trimmed::<true, true>),
+    ("ltrim(text)", trimmed::<true, false>),
+    ("ltrim(text,text)", trimmed::<true, false>),
+    ("rtrim(text)", trimmed::<false, true>),
+    ("rtrim(text,text)", trimmed::<false, true>),
     ("replace(text,text,text)", |executor, _, arguments| {
         let (text, piece) = (arguments[0].as_text(), arguments[1].as_text());
         if piece.is_empty() {
@@ -198,19 +186,18 @@ fn from_end(text: &str, count: i64) -> usize {
     usize::try_from(kept.max(0)).unwrap_or(usize::MAX)
 }
 
-fn trimmed(
+fn trimmed<const AT_START: bool, const AT_END: bool>(
     executor: &mut Executor<'_>,
+    _: &Call,
     arguments: &[Value],
-    at_start: bool,
-    at_end: bool,
 ) -> Result<Value, Failure> {
     let marks = arguments.get(1).map_or(" ", Value::as_text);
     let mut text = arguments[0].as_text();
     executor.spend(text.len().saturating_mul(marks.len()) / 16)?;
-    if at_start {
+    if AT_START {
         text = text.trim_start_matches(|mark| marks.contains(mark));
     }
-    if at_end {
+    if AT_END {
         text = text.trim_end_matches(|mark| marks.contains(mark));
     }
     executor.new_text(text)

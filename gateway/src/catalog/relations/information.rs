@@ -31,6 +31,32 @@ fn fill_nothing(_: &mut Rows, _: &World, _: &dyn Session) -> Result<(), Failure>
     Ok(())
 }
 
+/// A value of a row, with the name of its column.
+type Named = (&'static str, Value);
+
+/// Returns what names a table of the database.
+fn table_names(world: &World, table: &str) -> [Named; 3] {
+    [
+        ("table_catalog", world.database.as_str().into()),
+        ("table_schema", "public".into()),
+        ("table_name", table.into()),
+    ]
+}
+
+/// Returns what names a constraint.
+fn constraint_names(world: &World, constraint: &str) -> [Named; 3] {
+    [
+        ("constraint_catalog", world.database.as_str().into()),
+        ("constraint_schema", "public".into()),
+        ("constraint_name", constraint.into()),
+    ]
+}
+
+/// Adds a row of what names a constraint, a table or both, and of the rest.
+fn add_named(rows: &mut Rows, names: &[[Named; 3]], rest: &[Named]) {
+    rows.add(&[names.concat().as_slice(), rest].concat());
+}
+
 /// Returns YES or NO.
 fn yes(is: bool) -> Value {
     (if is { "YES" } else { "NO" }).into()
@@ -187,18 +213,17 @@ fn not_null_name(table: &Table, place: usize) -> String {
 fn fill_table_constraints(rows: &mut Rows, world: &World, _: &dyn Session) -> Result<(), Failure> {
     for table in world.tables.all() {
         let mut add = |name: &str, kind: &str| {
-            rows.add(&[
-                ("constraint_catalog", world.database.as_str().into()),
-                ("constraint_schema", "public".into()),
-                ("constraint_name", name.into()),
-                ("table_catalog", world.database.as_str().into()),
-                ("table_schema", "public".into()),
-                ("table_name", table.name().into()),
+            let names = [
+                constraint_names(world, name),
+                table_names(world, table.name()),
+            ];
+            let rest = [
                 ("constraint_type", kind.into()),
                 ("is_deferrable", yes(false)),
                 ("initially_deferred", yes(false)),
                 ("enforced", yes(true)),
-            ]);
+            ];
+            add_named(rows, &names, &rest);
         };
         for check in &table.definition.checks {
             add(&check.name, "CHECK");
@@ -213,22 +238,15 @@ fn fill_table_constraints(rows: &mut Rows, world: &World, _: &dyn Session) -> Re
 
 fn fill_key_columns(rows: &mut Rows, world: &World, _: &dyn Session) -> Result<(), Failure> {
     for table in world.tables.all() {
-        rows.add(&[
-            ("constraint_catalog", world.database.as_str().into()),
-            ("constraint_schema", "public".into()),
-            ("constraint_name", table.key_name().into()),
-            ("table_catalog", world.database.as_str().into()),
-            ("table_schema", "public".into()),
-            ("table_name", table.name().into()),
-            (
-                "column_name",
-                table.definition.columns[table.definition.key]
-                    .name
-                    .as_str()
-                    .into(),
-            ),
+        let names = [
+            constraint_names(world, &table.key_name()),
+            table_names(world, table.name()),
+        ];
+        let rest = [
+            column_name(table, table.definition.key),
             ("ordinal_position", 1_i64.into()),
-        ]);
+        ];
+        add_named(rows, &names, &rest);
     }
     Ok(())
 }
@@ -236,18 +254,11 @@ fn fill_key_columns(rows: &mut Rows, world: &World, _: &dyn Session) -> Result<(
 fn fill_constraint_columns(rows: &mut Rows, world: &World, _: &dyn Session) -> Result<(), Failure> {
     for table in world.tables.all() {
         let mut add = |constraint: &str, place: usize| {
-            rows.add(&[
-                ("table_catalog", world.database.as_str().into()),
-                ("table_schema", "public".into()),
-                ("table_name", table.name().into()),
-                (
-                    "column_name",
-                    table.definition.columns[place].name.as_str().into(),
-                ),
-                ("constraint_catalog", world.database.as_str().into()),
-                ("constraint_schema", "public".into()),
-                ("constraint_name", constraint.into()),
-            ]);
+            let names = [
+                table_names(world, table.name()),
+                constraint_names(world, constraint),
+            ];
+            add_named(rows, &names, &[column_name(table, place)]);
         };
         for check in &table.definition.checks {
             for number in constraints::columns_of(table, &check.condition) {
@@ -259,17 +270,20 @@ fn fill_constraint_columns(rows: &mut Rows, world: &World, _: &dyn Session) -> R
     Ok(())
 }
 
+/// Returns what names the column of a table at this place.
+fn column_name(table: &Table, place: usize) -> Named {
+    let name = table.definition.columns[place].name.as_str();
+    ("column_name", name.into())
+}
+
 /// The tables that a foreign key or a unique key is of: each table has its key.
 fn fill_constraint_tables(rows: &mut Rows, world: &World, _: &dyn Session) -> Result<(), Failure> {
     for table in world.tables.all() {
-        rows.add(&[
-            ("table_catalog", world.database.as_str().into()),
-            ("table_schema", "public".into()),
-            ("table_name", table.name().into()),
-            ("constraint_catalog", world.database.as_str().into()),
-            ("constraint_schema", "public".into()),
-            ("constraint_name", table.key_name().into()),
-        ]);
+        let names = [
+            table_names(world, table.name()),
+            constraint_names(world, &table.key_name()),
+        ];
+        add_named(rows, &names, &[]);
     }
     Ok(())
 }
@@ -277,12 +291,8 @@ fn fill_constraint_tables(rows: &mut Rows, world: &World, _: &dyn Session) -> Re
 fn fill_checks(rows: &mut Rows, world: &World, _: &dyn Session) -> Result<(), Failure> {
     for table in world.tables.all() {
         let mut add = |name: &str, clause: &str| {
-            rows.add(&[
-                ("constraint_catalog", world.database.as_str().into()),
-                ("constraint_schema", "public".into()),
-                ("constraint_name", name.into()),
-                ("check_clause", clause.into()),
-            ]);
+            let names = [constraint_names(world, name)];
+            add_named(rows, &names, &[("check_clause", clause.into())]);
         };
         for check in &table.definition.checks {
             add(
@@ -336,16 +346,14 @@ fn fill_privileges(rows: &mut Rows, world: &World, _: &dyn Session) -> Result<()
             "REFERENCES",
             "TRIGGER",
         ] {
-            rows.add(&[
+            let rest = [
                 ("grantor", user.clone()),
                 ("grantee", user.clone()),
-                ("table_catalog", world.database.as_str().into()),
-                ("table_schema", "public".into()),
-                ("table_name", table.name().into()),
                 ("privilege_type", privilege.into()),
                 ("is_grantable", yes(true)),
                 ("with_hierarchy", yes(privilege == "SELECT")),
-            ]);
+            ];
+            add_named(rows, &[table_names(world, table.name())], &rest);
         }
     }
     Ok(())

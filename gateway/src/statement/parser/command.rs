@@ -1,8 +1,10 @@
 //! Statements (manual, SQL Commands), with those of the program and without the queries.
 
+use std::mem;
+
 use crate::sqlstate::{Failure, Report};
 use crate::statement::parser::{keywords, Parser, TokenKind};
-use crate::statement::query::{Expression, ExpressionKind, Name, QualifiedName};
+use crate::statement::query::{self, Expression, ExpressionKind, Name, QualifiedName};
 use crate::statement::select::Shown;
 use crate::statement::served::{
     returned, Assignment, Delete, Insert, Keys, Served, Show, Table, Update, Verb,
@@ -28,7 +30,7 @@ impl<'a> Parser<'a> {
             None => return Err(self.fault()),
         };
         self.at += 1;
-        let start = self.tokens.list[0].span.start;
+        let start = self.tokens.list[0].span().start;
         match word {
             "UPDATE" => self.update(),
             "INSERT" => self.insert(),
@@ -195,6 +197,14 @@ impl<'a> Parser<'a> {
         Ok(!no)
     }
 
+    /// Reads modes of a transaction, at least one.
+    fn some_modes(&mut self) -> Result<Modes, Failure> {
+        match self.peek() {
+            Some(_) => self.modes(),
+            None => Err(self.fault()),
+        }
+    }
+
     /// Reads modes of a transaction.
     fn modes(&mut self) -> Result<Modes, Failure> {
         let mut modes = Modes::default();
@@ -251,7 +261,7 @@ impl<'a> Parser<'a> {
     /// Reads SET, from behind that word.
     fn set(&mut self) -> Result<Statement, Failure> {
         if self.keyword("TRANSACTION") {
-            return self.modes().map(Statement::SetTransaction);
+            return self.some_modes().map(Statement::SetTransaction);
         }
         if self.keyword("CONSTRAINTS") {
             if !self.keyword("ALL") {
@@ -265,7 +275,7 @@ impl<'a> Parser<'a> {
         let local = self.keyword("LOCAL");
         if !local && self.keyword("SESSION") {
             if self.keywords(&["CHARACTERISTICS", "AS", "TRANSACTION"]) {
-                return self.modes().map(Statement::SetCharacteristics);
+                return self.some_modes().map(Statement::SetCharacteristics);
             }
             if self.keyword("AUTHORIZATION") {
                 return self.role("DEFAULT");
@@ -419,7 +429,7 @@ impl<'a> Parser<'a> {
                 return Err(self.fault());
             }
             let what = format!("{} without WHERE", verb.words());
-            return Err(verb.missing(&what, self.tokens.list[0].span.start));
+            return Err(verb.missing(&what, self.tokens.list[0].span().start));
         }
         if self.at_keywords(&["CURRENT", "OF"]) {
             return Err(self.missing("WHERE CURRENT OF"));
@@ -440,10 +450,10 @@ impl<'a> Parser<'a> {
         returned(table, targets, verb)
     }
 
-    fn update(&mut self) -> Result<Statement, Failure> {
-        let (name, alias) = self.changed_table()?;
+    /// Reads SET of an UPDATE: each column, and what it becomes.
+    fn assignments(&mut self) -> Result<Vec<Assignment>, Failure> {
         self.expect_keyword("SET")?;
-        let changes = self.list(|parser| {
+        let assignments = self.list(|parser| {
             if parser.at_symbol(0, b'(') {
                 return Err(Verb::Replace.missing("SET of several columns at once", parser.start()));
             }
@@ -454,25 +464,60 @@ impl<'a> Parser<'a> {
             if !parser.take_operator("=") {
                 return Err(parser.fault());
             }
-            Ok((column, parser.expression()?))
+            Ok(Assignment {
+                column,
+                value: parser.expression()?,
+                is_subtracted: false,
+            })
         })?;
         if self.at_keyword("FROM") {
             return Err(self.missing("UPDATE .. FROM"));
         }
+        Ok(assignments)
+    }
+
+    /// Reads an UPDATE from behind that word, whatever of it is served.
+    pub(super) fn update_tree(&mut self) -> Result<query::Update, Failure> {
+        let (table, alias) = self.changed_table()?;
+        let assignments = self.assignments()?;
+        let condition = if self.keyword("WHERE") {
+            Some(self.expression()?)
+        } else {
+            None
+        };
+        let returning = if self.keyword("RETURNING") {
+            self.targets()?
+        } else {
+            Vec::new()
+        };
+        self.expect_end()?;
+        Ok(query::Update {
+            table,
+            alias,
+            changes: assignments
+                .into_iter()
+                .map(|it| (it.column, it.value))
+                .collect(),
+            condition,
+            returning,
+        })
+    }
+
+    fn update(&mut self) -> Result<Statement, Failure> {
+        let (name, alias) = self.changed_table()?;
+        let mut assignments = self.assignments()?;
         let table = Table::new(name, alias)?;
         let keys = self.keys(&table, Verb::Replace)?;
         let returning = self.returning(&table, Verb::Replace)?;
         let mut reserves = None;
-        let mut assignments = Vec::with_capacity(changes.len());
-        for (column, value) in changes {
-            table.check_column(&column)?;
-            let place = value.span.start;
-            let (is_change, assignment) = assignment(&table, column, value)?;
+        for assignment in &mut assignments {
+            table.check_column(&assignment.column)?;
+            let place = assignment.value.span.start;
+            let is_change = settle(&table, assignment)?;
             if *reserves.get_or_insert(is_change) != is_change {
                 let text = "an UPDATE of RESERVABLE and plain columns at once";
                 return Err(Verb::Replace.missing(text, place));
             }
-            assignments.push(assignment);
         }
         Ok(Statement::Served(Served::Update(Update {
             table,
@@ -590,7 +635,7 @@ impl<'a> Parser<'a> {
             return Err(self.fault());
         }
         let read = self.read()?;
-        self.size += std::mem::size_of::<Statement>();
+        self.size += mem::size_of::<Statement>();
         Ok(Statement::Declare(Cursor {
             name,
             read: Box::new(read),
@@ -658,54 +703,38 @@ fn two_phases() -> Failure {
     Report::missing("a two-phase commit").hint("COMMIT ends a transaction at once.")
 }
 
-/// Makes what an UPDATE does with a column, and returns whether it adds to it or subtracts.
-fn assignment(
-    table: &Table,
-    column: Name,
-    value: Expression,
-) -> Result<(bool, Assignment), Failure> {
-    let span = value.span;
-    let (left, operator, right) = match value.kind {
-        ExpressionKind::Binary(left, operator, right) if matches!(&*operator, "+" | "-") => {
-            (*left, operator, *right)
-        }
-        kind => {
-            let value = Expression { kind, span };
-            constant::check(&value, Verb::Replace)?;
-            let is_subtracted = false;
-            return Ok((
-                false,
-                Assignment {
-                    column,
-                    value,
-                    is_subtracted,
-                },
-            ));
-        }
-    };
-    let is_subtracted = operator == "-";
+/// Finds out whether an UPDATE adds to a column or subtracts from it. Then what it adds or subtracts is left of the value.
+fn settle(table: &Table, assignment: &mut Assignment) -> Result<bool, Failure> {
+    let place = assignment.value.span.start;
+    let missing = || Verb::Reserve.missing("an expression in place of a value", place);
+    let (left, operator, right) =
+        match mem::replace(&mut assignment.value.kind, ExpressionKind::Null) {
+            ExpressionKind::Binary(left, operator, right) if matches!(&*operator, "+" | "-") => {
+                (*left, operator, *right)
+            }
+            kind => {
+                assignment.value.kind = kind;
+                constant::check(&assignment.value, Verb::Replace)?;
+                return Ok(false);
+            }
+        };
+    assignment.is_subtracted = operator == "-";
     let (own, value) = match own_value(table, left)? {
         (Some(own), _) => (own, right),
         // `5 + n` is `n + 5`.
-        (None, Some(left)) if !is_subtracted => match own_value(table, right)? {
+        (None, Some(left)) if !assignment.is_subtracted => match own_value(table, right)? {
             (Some(own), _) => (own, left),
-            _ => return Err(Verb::Reserve.missing("an expression in place of a value", span.start)),
+            _ => return Err(missing()),
         },
-        _ => return Err(Verb::Reserve.missing("an expression in place of a value", span.start)),
+        _ => return Err(missing()),
     };
-    if own.text != column.text {
+    if own.text != assignment.column.text {
         let what = "a column that becomes another one plus a number";
         return Err(Verb::Reserve.missing(what, own.span.start));
     }
     constant::check(&value, Verb::Reserve)?;
-    Ok((
-        true,
-        Assignment {
-            column,
-            value,
-            is_subtracted,
-        },
-    ))
+    assignment.value = value;
+    Ok(true)
 }
 
 /// Returns the column that an expression is the value of, as `n` and `COALESCE(n, 0)` are: no column is NULL. None: it is
@@ -716,7 +745,7 @@ fn own_value(
 ) -> Result<(Option<Name>, Option<Expression>), Failure> {
     let span = expression.span;
     match expression.kind {
-        ExpressionKind::Column(names) => Ok((Some(table.column(names)?), None)),
+        ExpressionKind::Column(column) => Ok((Some(table.column(column)?), None)),
         ExpressionKind::Function(mut call)
             if call.name.schema.is_none()
                 && call.name.name.text == "coalesce"

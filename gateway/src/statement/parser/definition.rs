@@ -514,7 +514,7 @@ fn limit(expression: &Expression) -> Result<Number, Failure> {
 fn column_of(expression: &Expression) -> Result<String, Failure> {
     let Span { start, .. } = expression.span;
     match &expression.kind {
-        ExpressionKind::Column(names) => match &names[..] {
+        ExpressionKind::Column(column) => match column.names() {
             [.., column] if is_legal_name(&column.text) => Ok(column.text.clone()),
             [.., column] => {
                 let text = format!("column \"{}\" does not exist", column.text);

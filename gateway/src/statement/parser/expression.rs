@@ -8,8 +8,8 @@ use crate::statement::literal;
 use crate::statement::parser::lexer::Token;
 use crate::statement::parser::{keywords, Parser, TokenKind};
 use crate::statement::query::{
-    Expression, ExpressionKind, FunctionCall, IsWhat, Name, Operator, QualifiedName, Query,
-    TypeName, Window,
+    ColumnName, Expression, ExpressionKind, FunctionCall, IsWhat, Name, Operator, QualifiedName,
+    Query, TypeName, Window,
 };
 
 /// About what an expression takes beside itself: the name of its operator, and what the memory needs to know of it.
@@ -53,28 +53,27 @@ impl Binding {
             Binding::Sign | Binding::Subscript => Binding::Subscript,
         }
     }
-
-    /// Returns how tightly an operator binds that is written with signs.
-    fn of(operator: &str) -> Option<Binding> {
-        Some(match operator {
-            "=>" => return None,
-            "<" | ">" | "=" | "<=" | ">=" | "<>" | "!=" => Binding::Comparison,
-            "+" | "-" => Binding::Sum,
-            "*" | "/" | "%" => Binding::Product,
-            "^" => Binding::Power,
-            _ => Binding::Operator,
-        })
-    }
 }
 
-/// Returns the name of an operator that is written with signs.
-fn operator_named(written: &str) -> Operator {
-    const USUAL: [&str; 10] = ["=", "+", "-", "<>", "<", ">", "<=", ">=", "*", "/"];
-    let name = if written == "!=" { "<>" } else { written };
-    match USUAL.iter().find(|usual| **usual == name) {
-        Some(usual) => Cow::Borrowed(usual),
-        None => Cow::Owned(name.to_owned()),
-    }
+/// Returns the name of an operator that is written with signs, and how tightly it binds. None: no operands are around it.
+fn operator_of(written: &str) -> (Operator, Option<Binding>) {
+    let (name, binding) = match written {
+        "=" => ("=", Binding::Comparison),
+        "<" => ("<", Binding::Comparison),
+        ">" => (">", Binding::Comparison),
+        "<=" => ("<=", Binding::Comparison),
+        ">=" => (">=", Binding::Comparison),
+        "<>" | "!=" => ("<>", Binding::Comparison),
+        "+" => ("+", Binding::Sum),
+        "-" => ("-", Binding::Sum),
+        "*" => ("*", Binding::Product),
+        "/" => ("/", Binding::Product),
+        "%" => ("%", Binding::Product),
+        "^" => ("^", Binding::Power),
+        "=>" => return (written.to_owned().into(), None),
+        _ => return (written.to_owned().into(), Some(Binding::Operator)),
+    };
+    (name.into(), Some(binding))
 }
 
 /// What was read in parentheses.
@@ -126,25 +125,35 @@ impl<'a> Parser<'a> {
 
     /// Reads an expression of operators that bind at least so tightly.
     pub(super) fn expression_bound(&mut self, least: Binding) -> Result<Expression, Failure> {
-        self.nested(|parser| {
-            let left = parser.prefixed()?;
-            parser.continued(left, least)
-        })
+        self.enter()?;
+        let expression = match self.prefixed() {
+            Ok(left) if self.at_infix() => self.continued(left, least),
+            operand => operand,
+        };
+        self.depth -= 1;
+        expression
     }
 
     /// Reads an operand with what may be in front of it.
     fn prefixed(&mut self) -> Result<Expression, Failure> {
-        let start = self.start();
+        let token = match self.peek() {
+            Some(token) => token,
+            None => return Err(self.fault()),
+        };
+        let is_prefix =
+            token.kind == TokenKind::Operator || matches!(token.keyword, Some("NOT" | "OPERATOR"));
+        if !is_prefix {
+            return self.primary();
+        }
+        let start = token.span().start;
         if self.keyword("NOT") {
             let operand = self.expression_bound(Binding::Not)?;
             let kind = ExpressionKind::Unary("NOT".into(), Box::new(operand));
             return Ok(self.expression_of(kind, start));
         }
-        let (operator, binding) = match self.operator() {
-            Some(sign @ ("-" | "+")) => (operator_named(sign), Binding::Sign),
-            Some(operator) if Binding::of(operator) == Some(Binding::Operator) => {
-                (operator_named(operator), Binding::Sum)
-            }
+        let (operator, binding) = match self.operator().map(operator_of) {
+            Some((sign, Some(Binding::Sum))) => (sign, Binding::Sign),
+            Some((operator, Some(Binding::Operator))) => (operator, Binding::Sum),
             Some(_) => return Err(self.fault()),
             None if self.at_keyword("OPERATOR") && self.at_symbol(1, b'(') => {
                 let operator = self.named_operator()?;
@@ -160,11 +169,18 @@ impl<'a> Parser<'a> {
         Ok(self.expression_of(kind, start))
     }
 
+    /// Returns whether an operator may be here.
+    fn at_infix(&self) -> bool {
+        self.peek().map_or(false, |token| {
+            token.kind == TokenKind::Operator || token.keyword.is_some()
+        })
+    }
+
     /// Returns the operator that follows an operand, how tightly it binds, and how many tokens it has.
     fn infix(&mut self) -> Option<(Infix, Binding, usize)> {
-        if let Some(operator) = self.operator() {
-            let binding = Binding::of(operator)?;
-            return Some((Infix::Binary(operator_named(operator)), binding, 1));
+        if let Some(written) = self.operator() {
+            let (operator, binding) = operator_of(written);
+            return Some((Infix::Binary(operator), binding?, 1));
         }
         let binary = |name| Infix::Binary(Cow::Borrowed(name));
         Some(match self.keyword_at(0)? {
@@ -217,7 +233,7 @@ impl<'a> Parser<'a> {
             );
             last = (is_single && !is_closed).then_some(binding);
         }
-        if self.at_keyword("SIMILAR") || self.at_keywords(&["NOT", "SIMILAR"]) {
+        if self.at_keyword_ahead(usize::from(self.at_keyword("NOT")), "SIMILAR") {
             return Err(self.missing("SIMILAR TO"));
         }
         Ok(left)
@@ -344,7 +360,7 @@ impl<'a> Parser<'a> {
             }
         }
         let operator = match self.operator() {
-            Some(operator) => operator_named(operator),
+            Some(written) => operator_of(written).0,
             None => return Err(self.fault()),
         };
         self.at += 1;
@@ -421,25 +437,38 @@ impl<'a> Parser<'a> {
         self.postfixed(operand)
     }
 
-    /// Reads the casts and subscripts behind an operand.
+    /// Reads the casts and subscripts behind an operand. Only a column, a parameter and what is in parentheses has
+    /// subscripts and fields (`c_expr` of PostgreSQL's grammar).
     pub(super) fn postfixed(&mut self, mut operand: Expression) -> Result<Expression, Failure> {
+        let start = operand.span.start;
+        let is_in_parentheses = self.text.as_bytes().get(start) == Some(&b'(')
+            && !matches!(operand.kind, ExpressionKind::Row(_));
+        let mut may_be_indirected = is_in_parentheses
+            || matches!(
+                operand.kind,
+                ExpressionKind::Column(_) | ExpressionKind::Parameter(_)
+            );
         loop {
-            let start = operand.span.start;
-            let kind = if self.kind() == Some(TokenKind::Cast) {
-                self.at += 1;
-                ExpressionKind::Cast(Box::new(operand), Box::new(self.type_name()?))
-            } else if self.symbol(b'[') {
-                let subscript = self.expression()?;
-                if self.at_symbol(0, b':') {
-                    return Err(self.missing("a slice of an array"));
+            let kind = match self.kind() {
+                Some(TokenKind::Cast) => {
+                    self.at += 1;
+                    may_be_indirected = false;
+                    ExpressionKind::Cast(Box::new(operand), Box::new(self.type_name()?))
                 }
-                self.expect_symbol(b']')?;
-                ExpressionKind::Subscript(Box::new(operand), Box::new(subscript))
-            } else if self.at_symbol(0, b'.') && self.text.as_bytes().get(start) == Some(&b'(') {
-                self.at += 1;
-                ExpressionKind::Field(Box::new(operand), self.label()?)
-            } else {
-                return Ok(operand);
+                Some(TokenKind::Symbol(b'[')) if may_be_indirected => {
+                    self.at += 1;
+                    let subscript = self.expression()?;
+                    if self.at_symbol(0, b':') {
+                        return Err(self.missing("a slice of an array"));
+                    }
+                    self.expect_symbol(b']')?;
+                    ExpressionKind::Subscript(Box::new(operand), Box::new(subscript))
+                }
+                Some(TokenKind::Symbol(b'.')) if may_be_indirected => {
+                    self.at += 1;
+                    ExpressionKind::Field(Box::new(operand), self.label()?)
+                }
+                _ => return Ok(operand),
             };
             operand = self.expression_of(kind, start);
         }
@@ -499,7 +528,7 @@ impl<'a> Parser<'a> {
             _ => return Err(self.fault()),
         };
         let value = literal::text_of(token.kind, token.text(self.text))
-            .map_err(|report| report.at(token.span.start))?;
+            .map_err(|report| report.at(token.span().start))?;
         self.at += 1;
         self.size += value.capacity();
         Ok(value)
@@ -721,22 +750,30 @@ impl<'a> Parser<'a> {
         let start = self.start();
         let is_keyword = self.keyword_at(0).is_some();
         let first = self.name_if(keywords::may_be_name)?;
-        let mut names = vec![first];
-        while self.at_symbol(0, b'.') && !self.at_star(1) {
-            self.at += 1;
-            names.push(self.label()?);
-        }
-        let only = |may_be: fn(&str) -> bool| !is_keyword || may_be(&names[0].text);
+        let column = if self.at_symbol(0, b'.') && !self.at_star(1) {
+            let mut names = vec![first];
+            while self.at_symbol(0, b'.') && !self.at_star(1) {
+                self.at += 1;
+                names.push(self.label()?);
+            }
+            self.size += names.capacity() * size_of::<Name>();
+            ColumnName::Qualified(names)
+        } else {
+            ColumnName::Plain(first)
+        };
+        let only = |may_be: fn(&str) -> bool| !is_keyword || may_be(&column.names()[0].text);
         if self.at_symbol(0, b'(') || self.at_text() {
-            let may_be = if names.len() == 1 {
-                keywords::may_name_function
-            } else {
-                keywords::may_name_column
+            let may_be = match &column {
+                ColumnName::Plain(_) => keywords::may_name_function,
+                ColumnName::Qualified(_) => keywords::may_name_column,
             };
             if !only(may_be) {
                 return Err(self.fault());
             }
-            let name = self.qualified(names)?;
+            let name = match column {
+                ColumnName::Plain(name) => QualifiedName { schema: None, name },
+                ColumnName::Qualified(names) => self.qualified(names)?,
+            };
             if self.at_symbol(0, b'(') {
                 return self.call(name).map(Box::new).map(ExpressionKind::Function);
             }
@@ -750,8 +787,7 @@ impl<'a> Parser<'a> {
         if !only(keywords::may_name_column) {
             return Err(self.fault());
         }
-        self.size += names.capacity() * size_of::<Name>();
-        Ok(ExpressionKind::Column(names))
+        Ok(ExpressionKind::Column(column))
     }
 
     fn at_star(&self, ahead: usize) -> bool {

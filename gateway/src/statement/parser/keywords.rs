@@ -5,81 +5,82 @@ use crate::statement::words::Words;
 /// All keywords that a statement may have here, in capitals.
 #[rustfmt::skip]
 static KEYWORDS: Words = Words::new(&[
-    "ABORT", "ABSOLUTE", "ADD", "ALL", "ALTER", "ANALYSE", "ANALYZE", "AND", "ANY", "ARRAY", "AS",
-    "ASC", "ASENSITIVE", "ASYMMETRIC", "AT", "AUTHORIZATION", "BACKWARD", "BEGIN", "BETWEEN",
-    "BIGINT", "BINARY", "BIT", "BOOLEAN", "BOTH", "BOUNDS", "BY", "CALL", "CASCADE", "CASE", "CAST",
-    "CHAIN", "CHAR", "CHARACTER", "CHARACTERISTICS", "CHECK", "CHECKPOINT", "CLOSE", "CLUSTER",
-    "COALESCE", "COLLATE", "COLLATION", "COLUMN", "COMMENT", "COMMIT", "COMMITTED", "CONCURRENTLY",
-    "CONSTRAINT", "CONSTRAINTS", "COPY", "CREATE", "CROSS", "CUBE", "CURRENT", "CURRENT_CATALOG",
-    "CURRENT_DATE", "CURRENT_ROLE", "CURRENT_SCHEMA", "CURRENT_TIME", "CURRENT_TIMESTAMP",
-    "CURRENT_USER", "CURSOR", "CYCLE", "DAY", "DEALLOCATE", "DEC", "DECIMAL", "DECLARE", "DEFAULT",
-    "DEFERRABLE", "DEFERRED", "DELETE", "DESC", "DISCARD", "DISTINCT", "DO", "DOUBLE", "DROP",
-    "ELSE", "END", "ESCAPE", "EXCEPT", "EXCLUDE", "EXECUTE", "EXISTS", "EXPLAIN", "EXTRACT",
-    "FALSE", "FETCH", "FILTER", "FIRST", "FLOAT", "FOR", "FOREIGN", "FORWARD", "FREEZE", "FROM",
-    "FULL", "GENERATED", "GRANT", "GREATEST", "GROUP", "GROUPING", "GROUPS", "HAVING", "HOLD",
-    "HOUR", "IF", "ILIKE", "IMMEDIATE", "IMPORT", "IN", "INHERIT", "INHERITS", "INITIALLY", "INNER",
-    "INOUT", "INSENSITIVE", "INSERT", "INT", "INTEGER", "INTERSECT", "INTERVAL", "INTO", "IS",
-    "ISNULL", "ISOLATION", "JOIN", "JOURNAL", "KEY", "LAST", "LATERAL", "LEADING", "LEAST", "LEFT",
-    "LEVEL", "LIKE", "LIMIT", "LISTEN", "LOAD", "LOCAL", "LOCALTIME", "LOCALTIMESTAMP", "LOCK",
-    "LOCKED", "MATERIALIZED", "MERGE", "MINUTE", "MONTH", "MOVE", "NAMES", "NATIONAL", "NATURAL",
-    "NCHAR", "NEXT", "NO", "NONE", "NORMALIZE", "NOT", "NOTIFY", "NOTNULL", "NOWAIT", "NULL",
-    "NULLIF", "NULLS", "NUMBER", "NUMERIC", "OF", "OFFSET", "ON", "ONLY", "OPERATOR", "OR", "ORDER",
-    "ORDINALITY", "OUT", "OUTER", "OVER", "OVERLAPS", "OVERLAY", "OVERRIDING", "PARTITION",
-    "PLACING", "PLANS", "POSITION", "PRECISION", "PREPARE", "PREPARED", "PRIMARY", "PRIOR", "RANGE",
-    "READ", "REAL", "REASSIGN", "RECURSIVE", "REFERENCES", "REFRESH", "REINDEX", "RELATIVE",
-    "RELEASE", "REPEATABLE", "RESERVABLE", "RESET", "RESTRICT", "RETURNING", "REVOKE", "RIGHT",
-    "ROLE", "ROLLBACK", "ROLLUP", "ROW", "ROWS", "SAVEPOINT", "SCROLL", "SEARCH", "SECOND",
-    "SECURITY", "SELECT", "SEQUENCES", "SERIALIZABLE", "SESSION", "SESSION_USER", "SET", "SETOF",
-    "SHARE", "SHOW", "SIMILAR", "SKIP", "SMALLINT", "SOME", "START", "STATISTICS", "SUBSTRING",
-    "SYMMETRIC", "TABLE", "TABLESAMPLE", "TABLESPACE", "TEMP", "TEMPORARY", "THEN", "TIES", "TIME",
-    "TIMESTAMP", "TO", "TRAILING", "TRANSACTION", "TREAT", "TRIM", "TRUE", "TRUNCATE",
-    "UNCOMMITTED", "UNION", "UNIQUE", "UNKNOWN", "UNLISTEN", "UPDATE", "USER", "USING", "VACUUM",
-    "VALID", "VALUES", "VARCHAR", "VARIADIC", "VARYING", "VERBOSE", "WHEN", "WHERE", "WINDOW",
-    "WITH", "WITHIN", "WITHOUT", "WORK", "WRITE", "XMLATTRIBUTES", "XMLCONCAT", "XMLELEMENT",
-    "XMLEXISTS", "XMLFOREST", "XMLNAMESPACES", "XMLPARSE", "XMLPI", "XMLROOT", "XMLSERIALIZE",
-    "XMLTABLE", "YEAR", "ZONE",
+    "AS", "AT", "ADD", "ALL", "AND", "ANY", "ASC", "ABORT", "ALTER", "ARRAY", "ANALYSE", "ANALYZE",
+    "ABSOLUTE", "ASENSITIVE", "ASYMMETRIC", "AUTHORIZATION", "BY", "BIT", "BOTH", "BEGIN", "BIGINT",
+    "BINARY", "BOUNDS", "BETWEEN", "BOOLEAN", "BACKWARD", "CALL", "CASE", "CAST", "CHAR", "COPY",
+    "CUBE", "CHAIN", "CHECK", "CLOSE", "CROSS", "CYCLE", "COLUMN", "COMMIT", "CREATE", "CURSOR",
+    "CASCADE", "CLUSTER", "COLLATE", "COMMENT", "CURRENT", "COALESCE", "CHARACTER", "COLLATION",
+    "COMMITTED", "CHECKPOINT", "CONSTRAINT", "CONSTRAINTS", "CONCURRENTLY", "CURRENT_DATE",
+    "CURRENT_ROLE", "CURRENT_TIME", "CURRENT_USER", "CURRENT_SCHEMA", "CHARACTERISTICS",
+    "CURRENT_CATALOG", "CURRENT_TIMESTAMP", "DO", "DAY", "DEC", "DESC", "DROP", "DELETE", "DOUBLE",
+    "DECIMAL", "DECLARE", "DEFAULT", "DISCARD", "DEFERRED", "DISTINCT", "DEALLOCATE", "DEFERRABLE",
+    "END", "ELSE", "ESCAPE", "EXCEPT", "EXISTS", "EXCLUDE", "EXECUTE", "EXPLAIN", "EXTRACT", "FOR",
+    "FROM", "FULL", "FALSE", "FETCH", "FIRST", "FLOAT", "FILTER", "FREEZE", "FOREIGN", "FORWARD",
+    "GRANT", "GROUP", "GROUPS", "GREATEST", "GROUPING", "GENERATED", "HOLD", "HOUR", "HAVING", "IF",
+    "IN", "IS", "INT", "INTO", "ILIKE", "INNER", "INOUT", "IMPORT", "INSERT", "ISNULL", "INHERIT",
+    "INTEGER", "INHERITS", "INTERVAL", "IMMEDIATE", "INITIALLY", "INTERSECT", "ISOLATION",
+    "INSENSITIVE", "JOIN", "JOURNAL", "KEY", "LAST", "LEFT", "LIKE", "LOAD", "LOCK", "LEAST",
+    "LEVEL", "LIMIT", "LOCAL", "LISTEN", "LOCKED", "LATERAL", "LEADING", "LOCALTIME",
+    "LOCALTIMESTAMP", "MOVE", "MERGE", "MONTH", "MINUTE", "MATERIALIZED", "NO", "NOT", "NEXT",
+    "NONE", "NULL", "NAMES", "NCHAR", "NULLS", "NOTIFY", "NOWAIT", "NULLIF", "NUMBER", "NATURAL",
+    "NOTNULL", "NUMERIC", "NATIONAL", "NORMALIZE", "OF", "ON", "OR", "OUT", "ONLY", "OVER", "ORDER",
+    "OUTER", "OFFSET", "OVERLAY", "OPERATOR", "OVERLAPS", "ORDINALITY", "OVERRIDING", "PLANS",
+    "PRIOR", "PLACING", "PREPARE", "PRIMARY", "POSITION", "PREPARED", "PARTITION", "PRECISION",
+    "ROW", "READ", "REAL", "ROLE", "ROWS", "RANGE", "RESET", "RIGHT", "REVOKE", "ROLLUP", "REFRESH",
+    "REINDEX", "RELEASE", "REASSIGN", "RELATIVE", "RESTRICT", "ROLLBACK", "RECURSIVE", "RETURNING",
+    "REFERENCES", "REPEATABLE", "RESERVABLE", "SET", "SHOW", "SKIP", "SOME", "SETOF", "SHARE",
+    "START", "SCROLL", "SEARCH", "SECOND", "SELECT", "SESSION", "SIMILAR", "SECURITY", "SMALLINT",
+    "SAVEPOINT", "SEQUENCES", "SUBSTRING", "SYMMETRIC", "STATISTICS", "SERIALIZABLE",
+    "SESSION_USER", "TO", "TEMP", "THEN", "TIES", "TIME", "TRIM", "TRUE", "TABLE", "TREAT",
+    "TRAILING", "TRUNCATE", "TEMPORARY", "TIMESTAMP", "TABLESPACE", "TABLESAMPLE", "TRANSACTION",
+    "USER", "UNION", "USING", "UNIQUE", "UPDATE", "UNKNOWN", "UNLISTEN", "UNCOMMITTED", "VALID",
+    "VACUUM", "VALUES", "VARCHAR", "VARYING", "VERBOSE", "VARIADIC", "WHEN", "WITH", "WORK",
+    "WHERE", "WRITE", "WINDOW", "WITHIN", "WITHOUT", "XMLPI", "XMLROOT", "XMLPARSE", "XMLTABLE",
+    "XMLCONCAT", "XMLEXISTS", "XMLFOREST", "XMLELEMENT", "XMLSERIALIZE", "XMLATTRIBUTES",
+    "XMLNAMESPACES", "YEAR", "ZONE",
 ]);
 
 /// The words that are never a name without quotes.
 #[rustfmt::skip]
 static RESERVED: Words = Words::new(&[
-    "all", "analyse", "analyze", "and", "any", "array", "as", "asc", "asymmetric", "both", "case",
-    "cast", "check", "collate", "column", "constraint", "create", "current_catalog", "current_date",
-    "current_role", "current_time", "current_timestamp", "current_user", "default", "deferrable",
-    "desc", "distinct", "do", "else", "end", "except", "false", "fetch", "for", "foreign", "from",
-    "grant", "group", "having", "in", "initially", "intersect", "into", "lateral", "leading",
-    "limit", "localtime", "localtimestamp", "not", "null", "offset", "on", "only", "or", "order",
-    "placing", "primary", "references", "returning", "select", "session_user", "some", "symmetric",
-    "table", "then", "to", "trailing", "true", "union", "unique", "user", "using", "variadic",
-    "when", "where", "window", "with",
+    "as", "all", "and", "any", "asc", "array", "analyse", "analyze", "asymmetric", "both", "case",
+    "cast", "check", "column", "create", "collate", "constraint", "current_date", "current_role",
+    "current_time", "current_user", "current_catalog", "current_timestamp", "do", "desc", "default",
+    "distinct", "deferrable", "end", "else", "except", "for", "from", "false", "fetch", "foreign",
+    "grant", "group", "having", "in", "into", "initially", "intersect", "limit", "lateral",
+    "leading", "localtime", "localtimestamp", "not", "null", "on", "or", "only", "order", "offset",
+    "placing", "primary", "returning", "references", "some", "select", "symmetric", "session_user",
+    "to", "then", "true", "table", "trailing", "user", "union", "using", "unique", "variadic",
+    "when", "with", "where", "window",
 ]);
 
 /// The words that may name a function or a type, and nothing else.
 #[rustfmt::skip]
 static OF_FUNCTIONS: Words = Words::new(&[
-    "authorization", "binary", "collation", "concurrently", "cross", "current_schema", "freeze",
-    "full", "ilike", "inner", "is", "isnull", "join", "left", "like", "natural", "notnull", "outer",
-    "overlaps", "right", "similar", "tablesample", "verbose",
+    "authorization", "binary", "cross", "collation", "concurrently", "current_schema", "full",
+    "freeze", "is", "ilike", "inner", "isnull", "join", "left", "like", "natural", "notnull",
+    "outer", "overlaps", "right", "similar", "tablesample", "verbose",
 ]);
 
 /// The words that may name anything but a function or a type.
 #[rustfmt::skip]
 static OF_COLUMNS: Words = Words::new(&[
-    "between", "bigint", "bit", "boolean", "char", "character", "coalesce", "dec", "decimal",
-    "exists", "extract", "float", "greatest", "grouping", "inout", "int", "integer", "interval",
-    "least", "national", "nchar", "none", "normalize", "nullif", "numeric", "out", "overlay",
-    "position", "precision", "real", "row", "setof", "smallint", "substring", "time", "timestamp",
-    "treat", "trim", "values", "varchar", "xmlattributes", "xmlconcat", "xmlelement", "xmlexists",
-    "xmlforest", "xmlnamespaces", "xmlparse", "xmlpi", "xmlroot", "xmlserialize", "xmltable",
+    "bit", "bigint", "between", "boolean", "char", "coalesce", "character", "dec", "decimal",
+    "exists", "extract", "float", "greatest", "grouping", "int", "inout", "integer", "interval",
+    "least", "none", "nchar", "nullif", "numeric", "national", "normalize", "out", "overlay",
+    "position", "precision", "row", "real", "setof", "smallint", "substring", "time", "trim",
+    "treat", "timestamp", "values", "varchar", "xmlpi", "xmlroot", "xmlparse", "xmltable",
+    "xmlconcat", "xmlexists", "xmlforest", "xmlelement", "xmlserialize", "xmlattributes",
+    "xmlnamespaces",
 ]);
 
 /// The words that name a column of a result only behind AS.
 #[rustfmt::skip]
 static BEHIND_AS: Words = Words::new(&[
-    "array", "as", "char", "character", "create", "day", "except", "fetch", "filter", "for", "from",
-    "grant", "group", "having", "hour", "intersect", "into", "isnull", "limit", "minute", "month",
-    "notnull", "offset", "on", "order", "over", "overlaps", "precision", "returning", "second",
-    "to", "union", "varying", "where", "window", "with", "within", "without", "year",
+    "as", "array", "char", "create", "character", "day", "except", "for", "from", "fetch", "filter",
+    "grant", "group", "hour", "having", "into", "isnull", "intersect", "limit", "month", "minute",
+    "notnull", "on", "over", "order", "offset", "overlaps", "precision", "returning", "second",
+    "to", "union", "varying", "with", "where", "window", "within", "without", "year",
 ]);
 
 /// Returns the keyword that a word is, in capitals. None: it is none, and so it may be any name.

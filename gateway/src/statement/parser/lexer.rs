@@ -44,16 +44,25 @@ pub enum TokenKind {
 pub struct Token {
     /// What it is.
     pub kind: TokenKind,
-    /// Its bytes.
-    pub span: Span,
+    /// Its first byte, and the one behind its last. No message has 4 GB.
+    start: u32,
+    end: u32,
     /// The keyword that it is, in capitals, if it is a word without quotes.
     pub keyword: Option<&'static str>,
 }
 
 impl Token {
+    /// Returns where it is written.
+    pub fn span(&self) -> Span {
+        Span {
+            start: self.start as usize,
+            end: self.end as usize,
+        }
+    }
+
     /// Returns the token as it is written.
     pub fn text<'a>(&self, text: &'a str) -> &'a str {
-        &text[self.span.start..self.span.end]
+        &text[self.start as usize..self.end as usize]
     }
 }
 
@@ -74,49 +83,51 @@ pub struct Tokens {
 /// what they say may be wrong before; then `at` is the end of the text.
 pub fn next_statement(text: &str, at: &mut usize) -> Option<Tokens> {
     let mut list = Vec::new();
-    let end = |end| Span {
-        start: text.len(),
-        end,
-    };
-    loop {
-        let token = match skip_blanks(text, at) {
-            Ok(()) if *at == text.len() && list.is_empty() => return None,
-            Ok(()) if *at == text.len() => Ok(None),
-            Ok(()) => token(text, *at).map(Some),
-            Err(report) => Err(report),
-        };
-        let fault = match token {
-            Ok(None) => None,
-            Ok(Some(token)) => {
-                *at = token.span.end;
-                if token.kind == TokenKind::Symbol(b';') {
-                    if list.is_empty() {
-                        continue;
-                    }
-                    return Some(Tokens {
-                        list,
-                        end: token.span,
-                        fault: None,
-                    });
-                }
-                if list.is_empty() {
-                    list.reserve(USUAL_TOKENS);
-                }
-                if list.len() < MOST_TOKENS {
-                    list.push(token);
-                    continue;
-                }
-                Some(too_long())
+    let fault = loop {
+        if let Err(report) = skip_blanks(text, at) {
+            break Some(report);
+        }
+        if *at == text.len() {
+            if list.is_empty() {
+                return None;
             }
-            Err(report) => Some(report),
+            break None;
+        }
+        let (kind, end) = match token(text, *at) {
+            Ok(found) => found,
+            Err(report) => break Some(report),
         };
-        *at = text.len();
-        return Some(Tokens {
-            list,
-            end: end(text.len()),
-            fault,
+        let start = std::mem::replace(at, end);
+        if kind == TokenKind::Symbol(b';') {
+            if list.is_empty() {
+                continue;
+            }
+            let end = Span { start, end };
+            let fault = None;
+            return Some(Tokens { list, end, fault });
+        }
+        if list.len() == MOST_TOKENS {
+            break Some(too_long());
+        }
+        if list.is_empty() {
+            list.reserve(USUAL_TOKENS);
+        }
+        list.push(Token {
+            kind,
+            start: start as u32,
+            end: end as u32,
+            keyword: match kind {
+                TokenKind::Word => keywords::find(&text[start..end]),
+                _ => None,
+            },
         });
-    }
+    };
+    *at = text.len();
+    let end = Span {
+        start: text.len(),
+        end: text.len(),
+    };
+    Some(Tokens { list, end, fault })
 }
 
 /// Makes the report of a statement that doesn't fit into a line of the program.
@@ -130,8 +141,8 @@ pub fn too_long() -> Failure {
 fn skip_blanks(text: &str, at: &mut usize) -> Result<(), Failure> {
     let bytes = text.as_bytes();
     loop {
+        *at = end_of(bytes, *at, BLANK);
         match bytes.get(*at) {
-            Some(b' ' | b'\t' | b'\n' | b'\r' | 0x0c) => *at += 1,
             Some(b'-') if bytes.get(*at + 1) == Some(&b'-') => *at = line_end(bytes, *at),
             Some(b'/') if bytes.get(*at + 1) == Some(&b'*') => *at = comment_end(text, *at)?,
             _ => return Ok(()),
@@ -176,10 +187,17 @@ fn unterminated(what: &str, text: &str, start: usize) -> Failure {
     Report::error(SqlState::SYNTAX_ERROR, message).at(start)
 }
 
-fn token(text: &str, start: usize) -> Result<Token, Failure> {
+/// Returns what the token at a place is, and the byte behind it.
+#[inline]
+fn token(text: &str, start: usize) -> Result<(TokenKind, usize), Failure> {
     let bytes = text.as_bytes();
+    let first = bytes[start];
+    let class = CLASSES[usize::from(first)];
     let next = bytes.get(start + 1).copied();
-    let (kind, end) = match bytes[start] {
+    if class & WORD_START != 0 && !matches!(next, Some(b'\'' | b'&')) {
+        return Ok((TokenKind::Word, word_end(bytes, start)));
+    }
+    Ok(match first {
         b'\'' => (TokenKind::Text, text_end(text, start, start + 1, false)?),
         b'e' | b'E' if next == Some(b'\'') => (
             TokenKind::EscapedText,
@@ -211,8 +229,8 @@ fn token(text: &str, start: usize) -> Result<Token, Failure> {
         b':' if next == Some(b':') => (TokenKind::Cast, start + 2),
         b':' if next == Some(b'=') => (TokenKind::Pair, start + 2),
         b'.' if next == Some(b'.') => (TokenKind::Pair, start + 2),
-        byte if is_word_start(byte) => (TokenKind::Word, word_end(bytes, start)),
-        byte if is_operator(byte) => {
+        _ if class & WORD_START != 0 => (TokenKind::Word, word_end(bytes, start)),
+        _ if class & OPERATOR != 0 => {
             let end = operator_end(bytes, start);
             if end - start > literal::LONGEST_NAME {
                 let text = format!("operator too long at or near \"{}\"", &text[start..end]);
@@ -225,52 +243,65 @@ fn token(text: &str, start: usize) -> Result<Token, Failure> {
             return Err(Report::error(SqlState::SYNTAX_ERROR, text).at(start));
         }
         byte => (TokenKind::Symbol(byte), start + 1),
-    };
-    let keyword = match kind {
-        TokenKind::Word => keywords::find(&text[start..end]),
-        _ => None,
-    };
-    Ok(Token {
-        kind,
-        span: Span { start, end },
-        keyword,
     })
+}
+
+/// A name may begin with the byte.
+const WORD_START: u8 = 1;
+
+/// A name may have the byte behind its first one.
+const WORD_PART: u8 = 2;
+
+/// Operators may have the byte.
+const OPERATOR: u8 = 4;
+
+/// An operator that has the byte may end in + or -.
+const BEFORE_SIGN: u8 = 8;
+
+/// The byte is a blank.
+const BLANK: u8 = 16;
+
+/// What each byte may be part of.
+static CLASSES: [u8; 256] = classes();
+
+const fn classes() -> [u8; 256] {
+    let mut classes = [0; 256];
+    let mut byte = 0;
+    while byte < classes.len() {
+        classes[byte] = match byte as u8 {
+            b'a'..=b'z' | b'A'..=b'Z' | b'_' | 0x80..=0xff => WORD_START | WORD_PART,
+            b'0'..=b'9' | b'$' => WORD_PART,
+            b'~' | b'!' | b'@' | b'#' | b'^' | b'&' | b'|' | b'`' | b'?' | b'%' => {
+                OPERATOR | BEFORE_SIGN
+            }
+            b'+' | b'-' | b'*' | b'/' | b'<' | b'>' | b'=' => OPERATOR,
+            b' ' | b'\t' | b'\n' | b'\r' | 0x0c => BLANK,
+            _ => 0,
+        };
+        byte += 1;
+    }
+    classes
+}
+
+/// Returns whether a byte has one of these classes.
+fn is_of(byte: u8, classes: u8) -> bool {
+    CLASSES[usize::from(byte)] & classes != 0
 }
 
 /// Returns whether a name may begin with this byte.
 pub fn is_word_start(byte: u8) -> bool {
-    byte.is_ascii_alphabetic() || byte == b'_' || byte >= 0x80
+    is_of(byte, WORD_START)
 }
 
-fn word_end(bytes: &[u8], start: usize) -> usize {
-    let is_part = |byte: u8| is_word_start(byte) || byte.is_ascii_digit() || byte == b'$';
-    bytes[start..]
-        .iter()
-        .position(|&byte| !is_part(byte))
+/// Returns the byte behind those from `start` on that have one of these classes.
+fn end_of(bytes: &[u8], start: usize, classes: u8) -> usize {
+    let mut rest = bytes[start..].iter();
+    rest.position(|&byte| !is_of(byte, classes))
         .map_or(bytes.len(), |count| start + count)
 }
 
-/// Returns whether operators may have this character.
-fn is_operator(byte: u8) -> bool {
-    matches!(
-        byte,
-        b'~' | b'!'
-            | b'@'
-            | b'#'
-            | b'^'
-            | b'&'
-            | b'|'
-            | b'`'
-            | b'?'
-            | b'+'
-            | b'-'
-            | b'*'
-            | b'/'
-            | b'%'
-            | b'<'
-            | b'>'
-            | b'='
-    )
+fn word_end(bytes: &[u8], start: usize) -> usize {
+    end_of(bytes, start, WORD_PART)
 }
 
 /// How many bytes are looked at for the end of an operator. PostgreSQL refuses one of 64 bytes, and no statement has one.
@@ -279,14 +310,17 @@ const LOOKED_AT: usize = 64;
 /// Returns the byte behind an operator: it ends where a comment begins, and ends in + or - only with certain characters
 /// in front.
 fn operator_end(bytes: &[u8], start: usize) -> usize {
-    let bytes = &bytes[start..bytes.len().min(start + LOOKED_AT)];
-    let count = bytes.iter().take_while(|&&byte| is_operator(byte)).count();
-    let run = &bytes[..count];
+    let bytes = &bytes[..bytes.len().min(start + LOOKED_AT)];
+    let end = end_of(bytes, start, OPERATOR);
+    if end == start + 1 {
+        return end;
+    }
+    let run = &bytes[start..end];
     let comment = run
         .windows(2)
         .position(|pair| pair == b"--" || pair == b"/*");
-    let piece = &run[..comment.unwrap_or(count)];
-    if piece.iter().any(|byte| b"~!@#^&|`?%".contains(byte)) {
+    let piece = &run[..comment.unwrap_or(run.len())];
+    if piece.iter().any(|&byte| is_of(byte, BEFORE_SIGN)) {
         return start + piece.len();
     }
     let is_sign = |byte: &&u8| matches!(byte, b'+' | b'-');

@@ -240,9 +240,9 @@ impl<'a> Parser<'a> {
             .tokens
             .list
             .iter()
-            .find(|token| token.span.start >= start);
+            .find(|token| token.span().start >= start);
         match token {
-            Some(token) => Report::syntax(self.text, token.span.start, token.span.end),
+            Some(token) => Report::syntax(self.text, token.span().start, token.span().end),
             None => self.fault(),
         }
     }
@@ -576,7 +576,7 @@ impl<'a> Parser<'a> {
     /// Reads a keyword that calls a function without parentheses. None: here is something else.
     fn keyword_call(&mut self) -> Option<FunctionCall> {
         let is_call = self.at_symbol(1, b'(');
-        let span = self.peek()?.span;
+        let span = self.peek()?.span();
         let word = self.keyword_of(&[
             "CURRENT_USER",
             "CURRENT_ROLE",

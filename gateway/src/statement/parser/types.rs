@@ -143,7 +143,7 @@ impl<'a> Parser<'a> {
                 }
                 let report = || {
                     let text = format!("value \"{}\" is out of range for type integer", written);
-                    Report::error(SqlState::NUMBER_OUT_OF_RANGE, text).at(token.span.start)
+                    Report::error(SqlState::NUMBER_OUT_OF_RANGE, text).at(token.span().start)
                 };
                 let number = written.parse().map_err(|_| report())?;
                 self.at += 1;

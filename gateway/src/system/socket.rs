@@ -264,7 +264,7 @@ impl Drop for PrivateFolder {
 #[cfg(test)]
 mod tests {
     use super::*;
-    use crate::temporary::Folder;
+    use crate::system::temporary::Folder;
     use std::os::unix::net::UnixStream;
 
     #[test]

@@ -10,6 +10,7 @@ use std::sync::{Arc, Condvar, Mutex, MutexGuard, PoisonError};
 use std::thread;
 use std::time::Duration;
 
+use clap::ValueEnum;
 use tracing::Level;
 use tracing_subscriber::fmt::MakeWriter;
 
@@ -21,6 +22,31 @@ const PATIENCE: Duration = Duration::from_secs(1);
 
 /// The environment variable in which systemd names the device and the inode of the journal's stream.
 const JOURNAL: &str = "JOURNAL_STREAM";
+
+/// How grave a line of the log is.
+#[derive(Clone, Copy, Debug, PartialEq, Eq, ValueEnum)]
+pub enum LogLevel {
+    /// The program ends.
+    Error,
+    /// An operator should look.
+    Warning,
+    /// A store is open, the program stops.
+    Info,
+    /// A client connects or leaves.
+    Debug,
+}
+
+impl LogLevel {
+    /// Returns the level that a line must have at least.
+    pub fn level(self) -> Level {
+        match self {
+            LogLevel::Error => Level::ERROR,
+            LogLevel::Warning => Level::WARN,
+            LogLevel::Info => Level::INFO,
+            LogLevel::Debug => Level::DEBUG,
+        }
+    }
+}
 
 /// Lines on their way to standard error. A thread writes them, so that a reader that stands still stops nobody.
 #[derive(Clone)]
