@@ -1,0 +1,1238 @@
+-- Installs schema escrow, version 1, or brings an older version to it. A superuser runs it, in one transaction, since it
+-- creates event triggers. Rules are those of PROTOCOL.md.
+
+DO $do$
+BEGIN
+	IF current_setting('server_version_num')::int < 150000 THEN
+		RAISE EXCEPTION 'escrowd-proxy needs PostgreSQL 15 or later' USING ERRCODE = 'feature_not_supported';
+	END IF;
+	IF to_regprocedure('escrow.version()') IS NOT NULL THEN
+		IF escrow.version() > 1 THEN
+			RAISE EXCEPTION 'schema escrow has version %, which is newer than 1', escrow.version()
+				USING ERRCODE = 'object_not_in_prerequisite_state';
+		END IF;
+		IF escrow.version() < 1 AND escrow.is_live((SELECT nullif(last_value, 0) FROM escrow.epoch)) THEN
+			RAISE EXCEPTION 'an escrowd-proxy is running' USING ERRCODE = 'object_in_use', HINT = 'Stop it first.';
+		END IF;
+	END IF;
+	-- It owns journals, secret and what reads them.
+	IF to_regrole('escrow_journal') IS NULL THEN
+		CREATE ROLE escrow_journal NOLOGIN;
+	END IF;
+	-- The role that the proxy's login role is a member of.
+	IF to_regrole('escrow_proxy') IS NULL THEN
+		CREATE ROLE escrow_proxy NOLOGIN;
+	END IF;
+	GRANT pg_signal_backend, pg_read_all_stats TO escrow_proxy;
+END
+$do$;
+
+CREATE SCHEMA IF NOT EXISTS escrow;
+GRANT USAGE ON SCHEMA escrow TO PUBLIC;
+GRANT CREATE ON SCHEMA escrow TO escrow_journal;
+
+CREATE OR REPLACE FUNCTION escrow.version() RETURNS integer LANGUAGE sql IMMUTABLE AS 'SELECT 1';
+
+-- Rule 8. Unlogged, so that it is 0 after a crash, a promotion and a restore.
+CREATE UNLOGGED SEQUENCE IF NOT EXISTS escrow.epoch MINVALUE 0 START 0;
+-- Rule 18. The last greeting of the epoch; and a session's last number, which is its currval.
+CREATE UNLOGGED SEQUENCE IF NOT EXISTS escrow.greeted MINVALUE 0 START 0;
+CREATE UNLOGGED SEQUENCE IF NOT EXISTS escrow.heard MINVALUE 0 START 0;
+ALTER SEQUENCE escrow.epoch OWNER TO escrow_journal;
+ALTER SEQUENCE escrow.greeted OWNER TO escrow_journal;
+ALTER SEQUENCE escrow.heard OWNER TO escrow_journal;
+GRANT SELECT ON SEQUENCE escrow.epoch TO escrow_proxy;
+
+-- A secret of 32 random bytes as HMAC uses it: padded to 64, and combined with each of the two pads (RFC 2104).
+CREATE TABLE IF NOT EXISTS escrow.secret (is_one boolean PRIMARY KEY DEFAULT true CHECK (is_one), inner_key bytea NOT NULL, outer_key bytea NOT NULL);
+ALTER TABLE escrow.secret OWNER TO escrow_journal;
+GRANT SELECT ON escrow.secret TO escrow_proxy;
+DO $do$
+DECLARE
+	random bytea := sha256((gen_random_uuid()::text || gen_random_uuid()::text)::bytea);
+	inner_key bytea := decode(repeat('36', 64), 'hex');
+	outer_key bytea := decode(repeat('5c', 64), 'hex');
+BEGIN
+	FOR i IN 0 .. 31 LOOP
+		inner_key := set_byte(inner_key, i, get_byte(inner_key, i) # get_byte(random, i));
+		outer_key := set_byte(outer_key, i, get_byte(outer_key, i) # get_byte(random, i));
+	END LOOP;
+	INSERT INTO escrow.secret (inner_key, outer_key) VALUES (inner_key, outer_key) ON CONFLICT DO NOTHING;
+END
+$do$;
+
+-- The tables that are declared. The proxy calls note and own fold by their texts here. `columns` are the reservable ones: name, place, type, digits, scale, least and greatest value.
+-- `checks` are linear: name, a coefficient for each of these columns, a comparison, a limit. `definition` is what the
+-- event trigger compares.
+CREATE TABLE IF NOT EXISTS escrow.declared (
+	number integer GENERATED ALWAYS AS IDENTITY PRIMARY KEY,
+	relation regclass NOT NULL UNIQUE, -- a dump has its name
+	key_name name NOT NULL,
+	key_type text NOT NULL,
+	columns jsonb NOT NULL,
+	checks jsonb NOT NULL,
+	definition jsonb NOT NULL,
+	note_text text NOT NULL,
+	own_text text NOT NULL,
+	refusal_text text NOT NULL DEFAULT '',
+	here_text text NOT NULL DEFAULT '',
+	direct_text text NOT NULL DEFAULT ''
+);
+ALTER TABLE escrow.declared OWNER TO escrow_journal;
+GRANT SELECT ON escrow.declared TO PUBLIC;
+
+-- HMAC-SHA-256 over words. Only functions of escrow_journal call it and the next, which have set their path of search.
+CREATE OR REPLACE FUNCTION escrow.mac(VARIADIC words text[]) RETURNS bytea LANGUAGE plpgsql STABLE AS $$
+DECLARE
+	inner_key bytea;
+	outer_key bytea;
+BEGIN
+	SELECT s.inner_key, s.outer_key INTO inner_key, outer_key FROM escrow.secret AS s;
+	RETURN sha256(outer_key || sha256(inner_key || convert_to(array_to_string(words, '|'), 'UTF8')));
+END
+$$;
+ALTER FUNCTION escrow.mac OWNER TO escrow_journal;
+REVOKE ALL ON FUNCTION escrow.mac FROM PUBLIC;
+
+-- Rule 18: whether a note is fresh. It keeps the number where no rollback takes it back. It raises if the session was not
+-- greeted, or has forgotten it by DISCARD.
+CREATE OR REPLACE FUNCTION escrow.is_fresh(number bigint) RETURNS boolean LANGUAGE plpgsql AS $$
+BEGIN
+	IF number <= currval('escrow.heard') THEN
+		RETURN false;
+	END IF;
+	PERFORM setval('escrow.heard', number);
+	RETURN true;
+END
+$$;
+ALTER FUNCTION escrow.is_fresh OWNER TO escrow_journal;
+REVOKE ALL ON FUNCTION escrow.is_fresh FROM PUBLIC;
+
+-- The error of a proxy that is not the owner any more (40001: the transaction may be repeated).
+CREATE OR REPLACE FUNCTION escrow.refuse_stale() RETURNS void LANGUAGE plpgsql AS $$
+BEGIN
+	RAISE EXCEPTION 'could not reserve: this escrowd-proxy is not the owner any more'
+		USING ERRCODE = 'serialization_failure', HINT = 'Repeat the transaction.';
+END
+$$;
+
+-- The error of a name that means another table than it did when the proxy asked.
+CREATE OR REPLACE FUNCTION escrow.refuse_other(name text, is_meant boolean) RETURNS void LANGUAGE plpgsql AS $$
+BEGIN
+	IF is_meant IS NOT TRUE THEN
+		RAISE EXCEPTION 'the name of table % means another one now', name
+			USING ERRCODE = 'serialization_failure', HINT = 'Repeat the transaction.';
+	END IF;
+END
+$$;
+
+-- Raises what the proxy refuses a client's UPDATE with, if the client's role may know it. `changed` are the columns that it
+-- changes. With 00000 it tests the rights alone.
+CREATE OR REPLACE FUNCTION escrow.refuse_change(table_number integer, state text, message text, detail text, about text, changed boolean[],
+	allowed boolean[], is_meant boolean) RETURNS void
+LANGUAGE plpgsql SET search_path = pg_catalog, pg_temp AS $$
+DECLARE
+	it record;
+BEGIN
+	SELECT n.nspname, c.relname INTO it FROM escrow.declared AS d JOIN pg_class AS c ON c.oid = d.relation JOIN pg_namespace AS n ON n.oid = c.relnamespace
+	WHERE d.number = table_number;
+	PERFORM escrow.refuse_other(it.relname, is_meant);
+	IF EXISTS (SELECT FROM generate_subscripts(changed, 1) AS i WHERE changed[i] AND allowed[i] IS NOT TRUE) THEN
+		RAISE EXCEPTION 'permission denied for table %', it.relname USING ERRCODE = 'insufficient_privilege';
+	ELSIF state = '00000' THEN
+		RETURN;
+	ELSIF state = '23514' THEN
+		RAISE EXCEPTION '%', message USING ERRCODE = state, DETAIL = detail, SCHEMA = it.nspname, TABLE = it.relname, CONSTRAINT = about;
+	ELSIF about <> '' THEN
+		RAISE EXCEPTION '%', message USING ERRCODE = state, DETAIL = detail, SCHEMA = it.nspname, TABLE = it.relname, COLUMN = about;
+	ELSE
+		RAISE EXCEPTION '%', message USING ERRCODE = state, DETAIL = detail, SCHEMA = it.nspname, TABLE = it.relname;
+	END IF;
+END
+$$;
+
+-- Rule 10: whether somebody holds the lock of the epoch. If nobody does, this transaction holds it shared to its end.
+CREATE OR REPLACE FUNCTION escrow.is_live(epoch bigint) RETURNS boolean LANGUAGE plpgsql AS $$
+BEGIN
+	RETURN NOT pg_catalog.pg_try_advisory_xact_lock_shared(epoch);
+END
+$$;
+
+-- The id of 64 bits of this transaction or of a subtransaction of it, by its 32 bits.
+CREATE OR REPLACE FUNCTION escrow.full_id(it xid) RETURNS bigint
+LANGUAGE plpgsql SET search_path = pg_catalog, pg_temp AS $$
+DECLARE
+	top bigint := pg_current_xact_id()::text::bigint;
+	candidate bigint := (top & ~4294967295::bigint) | it::text::bigint;
+BEGIN
+	RETURN CASE WHEN candidate >= top THEN candidate ELSE candidate + 4294967296 END;
+END
+$$;
+
+-- Whether a row that this transaction sees was written by itself: then its id is in progress.
+CREATE OR REPLACE FUNCTION escrow.is_own(it xid) RETURNS boolean
+LANGUAGE plpgsql SET search_path = pg_catalog, pg_temp AS $$
+DECLARE
+	top bigint := pg_current_xact_id()::text::bigint;
+	candidate bigint := (top & ~4294967295::bigint) | it::text::bigint;
+BEGIN
+	RETURN candidate >= top AND pg_xact_status(candidate::text::xid8) = 'in progress';
+EXCEPTION WHEN invalid_parameter_value THEN
+	RETURN false; -- an id of an earlier round of ids, which would be in the future
+END
+$$;
+
+-- Rule 18. Greets a connection before its client's first message. Greetings come one after another.
+CREATE OR REPLACE FUNCTION escrow.greet(epoch bigint, number bigint, proof bytea) RETURNS void
+LANGUAGE plpgsql SECURITY DEFINER SET search_path = pg_catalog, pg_temp AS $$
+BEGIN
+	IF proof IS NOT DISTINCT FROM escrow.mac('greet', epoch::text, pg_backend_pid()::text, number::text)
+		AND epoch <> (SELECT last_value FROM escrow.epoch) THEN
+		PERFORM escrow.refuse_stale();
+	ELSIF proof IS DISTINCT FROM escrow.mac('greet', epoch::text, pg_backend_pid()::text, number::text)
+		OR number <= (SELECT last_value FROM escrow.greeted) THEN
+		RAISE EXCEPTION 'escrow.greet is for escrowd-proxy' USING ERRCODE = 'insufficient_privilege';
+	END IF;
+	PERFORM setval('escrow.greeted', number);
+	PERFORM setval('escrow.heard', number);
+END
+$$;
+ALTER FUNCTION escrow.greet OWNER TO escrow_journal;
+
+-- What the proxy tells a session of open reservations, in front of a statement that asks for them. It is kept only for
+-- roles that may know. The entries have process, table (its number), key, changes (one for each column, or null) and since.
+CREATE OR REPLACE FUNCTION escrow.show(entries jsonb) RETURNS void
+LANGUAGE plpgsql SET search_path = pg_catalog, pg_temp AS $$
+BEGIN
+	IF pg_has_role(current_user, 'pg_monitor', 'USAGE') OR pg_has_role(current_user, 'escrow_proxy', 'USAGE') THEN
+		PERFORM set_config('escrow.shown', entries::text, false);
+	END IF;
+END
+$$;
+
+-- Open reservations, one row for each change of a column. `process` is that of pg_stat_activity.
+CREATE OR REPLACE FUNCTION escrow.reservations()
+RETURNS TABLE (process integer, relation regclass, key text, "column" name, change numeric, since timestamptz)
+LANGUAGE plpgsql SET search_path = pg_catalog, pg_temp AS $$
+BEGIN
+	IF NOT (pg_has_role(current_user, 'pg_monitor', 'USAGE') OR pg_has_role(current_user, 'escrow_proxy', 'USAGE')) THEN
+		RAISE EXCEPTION 'permission denied for function escrow.reservations' USING ERRCODE = 'insufficient_privilege',
+			HINT = 'Members of pg_monitor may call it.';
+	ELSIF coalesce(current_setting('escrow.shown', true), '') = '' THEN
+		RAISE EXCEPTION 'only escrowd-proxy knows the open reservations' USING ERRCODE = 'object_not_in_prerequisite_state',
+			HINT = 'Connect to escrowd-proxy.';
+	END IF;
+	RETURN QUERY SELECT e.process, d.relation, e.key, (d.columns->(c.place::integer - 1)->>'name')::name, c.change::numeric, e.since
+	FROM jsonb_to_recordset(current_setting('escrow.shown')::jsonb) AS e (process integer, "table" integer, key text, changes jsonb, since timestamptz)
+	JOIN escrow.declared AS d ON d.number = e."table"
+	CROSS JOIN jsonb_array_elements_text(e.changes) WITH ORDINALITY AS c (change, place)
+	WHERE c.change IS NOT NULL;
+END
+$$;
+
+-- Takes a session's and a transaction's lock on one key. PREPARE TRANSACTION fails if it finds both.
+CREATE OR REPLACE FUNCTION escrow.forbid_prepare() RETURNS void LANGUAGE plpgsql AS $$
+BEGIN
+	PERFORM pg_catalog.pg_try_advisory_lock_shared(1702064994, pg_catalog.pg_backend_pid()),
+		pg_catalog.pg_try_advisory_xact_lock_shared(1702064994, pg_catalog.pg_backend_pid());
+END
+$$;
+
+-- Rule 9, first step, after OWNER and the lock of the epoch are taken. It raises if this connection has not both.
+CREATE OR REPLACE FUNCTION escrow.set_epoch(epoch bigint) RETURNS void
+LANGUAGE plpgsql SECURITY DEFINER SET search_path = pg_catalog, pg_temp AS $$
+DECLARE
+	held bigint;
+BEGIN
+	SELECT count(*) INTO held FROM pg_locks
+	WHERE locktype = 'advisory' AND pid = pg_backend_pid() AND granted AND mode = 'ExclusiveLock'
+		AND database = (SELECT oid FROM pg_database WHERE datname = current_database())
+		AND ((objsubid = 2 AND classid = 1702064993 AND objid = 1)
+			OR (objsubid = 1 AND classid::bigint = epoch >> 32 AND objid::bigint = epoch & 4294967295));
+	IF epoch <= 0 OR held <> 2 THEN
+		RAISE EXCEPTION 'the locks of the owner are not held' USING ERRCODE = 'object_not_in_prerequisite_state';
+	END IF;
+	PERFORM setval('escrow.epoch', epoch);
+	PERFORM setval('escrow.greeted', 0);
+END
+$$;
+ALTER FUNCTION escrow.set_epoch OWNER TO escrow_journal;
+REVOKE ALL ON FUNCTION escrow.set_epoch FROM PUBLIC;
+GRANT EXECUTE ON FUNCTION escrow.set_epoch TO escrow_proxy;
+
+-- Who holds OWNER, whether it may, and how long it has said nothing. The next owner ends one that may not, and one that is
+-- silent for too long.
+CREATE OR REPLACE FUNCTION escrow.owner(OUT process integer, OUT is_proxy boolean, OUT silent double precision)
+LANGUAGE sql SET search_path = pg_catalog, pg_temp AS $$
+	SELECT l.pid, pg_has_role(a.usesysid, 'escrow_proxy', 'MEMBER'), extract(epoch FROM clock_timestamp() - a.state_change)::double precision
+	FROM pg_locks AS l LEFT JOIN pg_stat_activity AS a ON a.pid = l.pid
+	WHERE l.locktype = 'advisory' AND l.granted AND l.classid = 1702064993 AND l.objid = 1 AND l.objsubid = 2
+		AND l.database = (SELECT oid FROM pg_database WHERE datname = current_database())
+$$;
+
+-- Rule 9, second step: who may still commit a note. Without a process it is a prepared transaction.
+CREATE OR REPLACE FUNCTION escrow.holders() RETURNS TABLE (process integer, prepared text)
+LANGUAGE sql SET search_path = pg_catalog, pg_temp AS $$
+	SELECT DISTINCT l.pid, p.gid
+	FROM pg_locks AS l
+	JOIN escrow.declared AS d ON l.relation = to_regclass('escrow.journal_' || d.number)
+	LEFT JOIN pg_locks AS x ON l.pid IS NULL AND x.pid IS NULL AND x.virtualtransaction = l.virtualtransaction AND x.locktype = 'transactionid'
+	LEFT JOIN pg_prepared_xacts AS p ON p.transaction = x.transactionid
+	WHERE l.locktype = 'relation' AND l.granted AND l.mode = 'RowExclusiveLock'
+		AND l.database = (SELECT oid FROM pg_database WHERE datname = current_database())
+		AND l.pid IS DISTINCT FROM pg_backend_pid()
+$$;
+
+-- Ends who holds a journal, and returns who it was. The functions that end processes run with the rights of who installed
+-- the schema: the proxy's role need not be a superuser, and superusers' connections would stay otherwise.
+CREATE OR REPLACE FUNCTION escrow.end_holders() RETURNS TABLE (process integer, prepared text)
+LANGUAGE plpgsql SECURITY DEFINER SET search_path = pg_catalog, pg_temp AS $$
+BEGIN
+	FOR process, prepared IN SELECT h.process, h.prepared FROM escrow.holders() AS h LOOP
+		PERFORM pg_terminate_backend(process);
+		RETURN NEXT;
+	END LOOP;
+END
+$$;
+REVOKE ALL ON FUNCTION escrow.end_holders FROM PUBLIC;
+GRANT EXECUTE ON FUNCTION escrow.end_holders TO escrow_proxy;
+
+-- Ends who holds OWNER and may not, or has said nothing for so many seconds, at least one. Returns how many it were.
+CREATE OR REPLACE FUNCTION escrow.end_owner(longest double precision) RETURNS integer
+LANGUAGE plpgsql SECURITY DEFINER SET search_path = pg_catalog, pg_temp AS $$
+DECLARE
+	it record;
+	ended integer := 0;
+BEGIN
+	FOR it IN SELECT * FROM escrow.owner() WHERE NOT is_proxy OR silent > greatest(longest, 1) LOOP
+		PERFORM pg_terminate_backend(it.process);
+		ended := ended + 1;
+	END LOOP;
+	RETURN ended;
+END
+$$;
+REVOKE ALL ON FUNCTION escrow.end_owner FROM PUBLIC;
+GRANT EXECUTE ON FUNCTION escrow.end_owner TO escrow_proxy;
+
+-- Reads a CHECK as linear sums over reservable columns. Returns null if it has none of them. Each condition of it
+-- becomes one: coefficients, comparison, limit. `ranks` are the columns' types by what they can hold: 2, 4 and 8 are
+-- integers of so many bytes, 99 is numeric. PostgreSQL computes a sum of integers in the type of its widest part, and
+-- fails if that is too small. So each such sum, also as a part of another, becomes two conditions more, with "range".
+CREATE OR REPLACE FUNCTION escrow.linear(condition text, reservable name[], others name[], ranks integer[]) RETURNS jsonb
+LANGUAGE plpgsql IMMUTABLE SET search_path = pg_catalog, pg_temp AS $$
+DECLARE
+	found jsonb := '[]';
+	tokens text[];
+	token text;
+	signs integer[] := '{1}';   -- of each open parenthesis
+	sign integer := 1;          -- of the next term
+	side integer := 1;          -- -1 behind the comparison
+	comparison text;
+	sums numeric[] := array_fill(0::numeric, ARRAY[cardinality(reservable)]);
+	level numeric := 0;
+	factor numeric;
+	variable integer;
+	expects_term boolean := true;
+	rank integer := 0;          -- of the last term
+	widened integer;
+	n integer := cardinality(reservable);
+	opened numeric[] := '{}';   -- for each open parenthesis: sums and level in front of it
+	opened_ranks integer[] := '{}';
+	steps integer[] := '{}';    -- how many operators are in it; null if it has a comparison
+	change numeric[];
+	ranges jsonb := '[]';
+	names name[] := '{}';
+	i integer := 1;
+BEGIN
+	-- PostgreSQL writes constants with their types, and in parentheses: '-5'::integer, (5)::numeric.
+	condition := regexp_replace(condition, '''(-?[0-9.]+)''::(?:numeric|bigint|integer|smallint)', '(\1)', 'g');
+	condition := regexp_replace(condition, '\((-?[0-9.]+)\)::(?:numeric|bigint|integer|smallint)', ' \1 ', 'g');
+	condition := regexp_replace(condition, '\((-?[0-9.]+)\)', ' \1 ', 'g');
+	tokens := ARRAY(SELECT m[1] FROM regexp_matches(condition, '("(?:[^"]|"")+"|[a-zA-Z_][a-zA-Z0-9_$]*|[0-9.]+|<=|>=|<>|::[a-z]+(?:\([0-9,]+\))?|[^[:space:]])', 'g') AS m);
+	FOREACH token IN ARRAY tokens LOOP
+		token := CASE WHEN token LIKE '"%' THEN replace(btrim(token, '"'), '""', '"') ELSE token END;
+		names := CASE WHEN token = ANY (reservable) OR token = ANY (others) THEN names || token::name ELSE names END;
+	END LOOP;
+	IF NOT names && reservable THEN
+		RETURN NULL;
+	END IF;
+	tokens := tokens || 'AND'::text;
+	WHILE i <= cardinality(tokens) LOOP
+		token := tokens[i];
+		variable := array_position(reservable, CASE WHEN token LIKE '"%' THEN replace(btrim(token, '"'), '""', '"') ELSE token END::name);
+		IF token = '(' AND expects_term THEN
+			signs := signs || sign;
+			opened := opened || sums || level;
+			opened_ranks := opened_ranks || 0;
+			steps := steps || 0;
+		ELSIF token = ')' AND NOT expects_term AND cardinality(signs) > 1 THEN
+			rank := greatest(rank, opened_ranks[cardinality(opened_ranks)]);
+			sign := side * signs[cardinality(signs)];
+			change := ARRAY(SELECT sign * (s - o) FROM unnest(sums, opened[cardinality(opened) - n : cardinality(opened) - 1]) WITH ORDINALITY AS u (s, o, place) ORDER BY place);
+			IF steps[cardinality(steps)] > 0 AND rank < 8 AND change <> array_fill(0::numeric, ARRAY[n]) THEN
+				ranges := ranges || jsonb_build_array(
+					jsonb_build_object('range', true, 'coefficients', to_jsonb(change), 'comparison', '<=',
+						'limit', CASE rank WHEN 2 THEN 32767 ELSE 2147483647 END + sign * (level - opened[cardinality(opened)])),
+					jsonb_build_object('range', true, 'coefficients', to_jsonb(change), 'comparison', '>=',
+						'limit', CASE rank WHEN 2 THEN -32768 ELSE -2147483648 END + sign * (level - opened[cardinality(opened)])));
+			END IF;
+			signs := trim_array(signs, 1);
+			opened := trim_array(opened, n + 1);
+			opened_ranks := trim_array(opened_ranks, 1);
+			steps := trim_array(steps, 1);
+		ELSIF token LIKE '::%' AND NOT expects_term THEN
+			-- A cast that may round, or fail, is no sum.
+			widened := CASE token WHEN '::smallint' THEN 2 WHEN '::integer' THEN 4 WHEN '::bigint' THEN 8 WHEN '::numeric' THEN 99 END;
+			IF widened IS NULL OR widened < rank THEN
+				RETURN '"no sum"';
+			END IF;
+			rank := widened;
+		ELSIF token IN ('+', '-') THEN
+			IF cardinality(steps) > 0 THEN
+				steps[cardinality(steps)] := steps[cardinality(steps)] + 1;
+				opened_ranks[cardinality(opened_ranks)] := greatest(opened_ranks[cardinality(opened_ranks)], CASE WHEN NOT expects_term THEN rank END);
+			END IF;
+			sign := signs[cardinality(signs)] * CASE token WHEN '-' THEN -1 ELSE 1 END * CASE WHEN expects_term THEN sign * signs[cardinality(signs)] ELSE 1 END;
+			expects_term := true;
+		ELSIF expects_term AND (variable IS NOT NULL OR token ~ '^[0-9]+(\.[0-9]+)?$') THEN
+			factor := CASE WHEN variable IS NULL THEN token::numeric ELSE 1 END;
+			rank := CASE WHEN variable IS NOT NULL THEN ranks[variable] WHEN token LIKE '%.%' THEN 99 WHEN factor <= 2147483647 THEN 4 ELSE 8 END;
+			IF tokens[i + 1] = '*' THEN
+				IF cardinality(steps) > 0 THEN
+					steps[cardinality(steps)] := steps[cardinality(steps)] + 1;
+				END IF;
+				i := i + 2;
+				WHILE tokens[i] = '-' LOOP
+					factor := -factor;
+					i := i + 1;
+				END LOOP;
+				token := CASE WHEN tokens[i] LIKE '"%' THEN replace(btrim(tokens[i], '"'), '""', '"') ELSE tokens[i] END;
+				IF variable IS NULL AND token = ANY (reservable) THEN
+					variable := array_position(reservable, token::name);
+					rank := greatest(rank, ranks[variable]);
+				ELSIF variable IS NOT NULL AND token ~ '^[0-9]+(\.[0-9]+)?$' THEN
+					factor := factor * token::numeric;
+					rank := greatest(rank, CASE WHEN token LIKE '%.%' THEN 99 WHEN token::numeric <= 2147483647 THEN 4 ELSE 8 END);
+				ELSE
+					RETURN '"no sum"';
+				END IF;
+			END IF;
+			IF variable IS NULL THEN
+				level := level - side * sign * factor;
+			ELSE
+				sums[variable] := sums[variable] + side * sign * factor;
+			END IF;
+			expects_term := false;
+		ELSIF token IN ('<', '<=', '>', '>=', '=') AND NOT expects_term AND comparison IS NULL THEN
+			comparison := token;
+			steps := array_fill(NULL::integer, ARRAY[cardinality(steps)]);
+			side := -1;
+			sign := signs[cardinality(signs)];
+			expects_term := true;
+		ELSIF upper(token) = 'AND' AND NOT expects_term AND comparison IS NOT NULL THEN
+			found := found || jsonb_build_array(jsonb_build_object('coefficients', to_jsonb(sums), 'comparison', comparison, 'limit', level));
+			sums := array_fill(0::numeric, ARRAY[cardinality(reservable)]);
+			level := 0;
+			comparison := NULL;
+			side := 1;
+			sign := 1;
+			expects_term := true;
+		ELSE
+			RETURN '"no sum"';
+		END IF;
+		i := i + 1;
+	END LOOP;
+	RETURN CASE WHEN cardinality(signs) = 1 THEN found || ranges ELSE '"no sum"' END;
+END
+$$;
+
+-- Returns a linear condition as the server takes it: with whole factors, and a limit in units of its finest column. Returns
+-- null if it has no column, and a text if it cannot be so.
+CREATE OR REPLACE FUNCTION escrow.scaled(condition jsonb, scales integer[]) RETURNS jsonb
+LANGUAGE plpgsql IMMUTABLE SET search_path = pg_catalog, pg_temp AS $$
+DECLARE
+	factors numeric[] := ARRAY(SELECT c::numeric FROM jsonb_array_elements_text(condition->'coefficients') WITH ORDINALITY AS e (c, place) ORDER BY place);
+	comparison text := condition->>'comparison';
+	ten integer := (SELECT max(scale(trim_scale(f))) FROM unnest(factors) AS f);
+	unit integer := (SELECT max(s) FROM unnest(factors, scales) AS u (f, s) WHERE f <> 0);
+	units numeric := ((condition->>'limit')::numeric * ('1' || repeat('0', ten + unit))::numeric);
+BEGIN
+	IF unit IS NULL THEN
+		RETURN NULL;
+	END IF;
+	factors := ARRAY(SELECT trim_scale(f * ('1' || repeat('0', ten))::numeric) FROM unnest(factors) WITH ORDINALITY AS u (f, place) ORDER BY place);
+	IF units <> trunc(units) THEN
+		IF comparison = '=' THEN
+			RETURN '"holds for no value"';
+		END IF;
+		units := CASE WHEN comparison IN ('<', '<=') THEN floor(units) ELSE ceil(units) END;
+		comparison := left(comparison, 1) || '=';
+	END IF;
+	IF abs(units) > 999999999999999 OR EXISTS (SELECT FROM unnest(factors) AS f WHERE abs(f) > 1000000) THEN
+		RETURN '"has a factor above 1000000, or a limit of more than 15 digits"';
+	END IF;
+	RETURN condition || jsonb_build_object('coefficients', to_jsonb(factors), 'comparison', comparison,
+		'limit', trim_scale(units / ('1' || repeat('0', unit))::numeric));
+END
+$$;
+
+-- Returns a linear condition in words.
+CREATE OR REPLACE FUNCTION escrow.told(condition jsonb, reservable name[]) RETURNS text
+LANGUAGE sql IMMUTABLE SET search_path = pg_catalog, pg_temp AS $$
+	SELECT regexp_replace(regexp_replace(string_agg(
+			CASE WHEN c::numeric < 0 THEN ' - ' ELSE ' + ' END || CASE WHEN abs(c::numeric) = 1 THEN '' ELSE abs(c::numeric)::text || ' * ' END || reservable[n],
+			'' ORDER BY n), '^ \+ ', ''), '^ - ', '-')
+		|| ' ' || (condition->>'comparison') || ' ' || (condition->>'limit')
+	FROM jsonb_array_elements_text(condition->'coefficients') WITH ORDINALITY AS e(c, n)
+	WHERE c::numeric <> 0
+$$;
+
+-- Refuses a declaration.
+CREATE OR REPLACE FUNCTION escrow.refuse(relation regclass, why text, hint text DEFAULT NULL) RETURNS void
+LANGUAGE plpgsql AS $$
+BEGIN
+	RAISE EXCEPTION '% cannot be declared reservable: %', relation, why
+		USING ERRCODE = 'invalid_table_definition', HINT = coalesce(hint, '');
+END
+$$;
+
+-- The functions of a declared table.
+CREATE OR REPLACE FUNCTION escrow.functions(n integer) RETURNS SETOF oid LANGUAGE sql STABLE SET search_path = pg_catalog, pg_temp AS $$
+	SELECT p.oid FROM pg_proc AS p WHERE p.pronamespace = 'escrow'::regnamespace AND p.proname LIKE '%\_' || n
+$$;
+
+-- Tests a table, and returns what is declared of it. Raises the first reason against it.
+CREATE OR REPLACE FUNCTION escrow.describe(relation regclass, reservable name[]) RETURNS escrow.declared
+LANGUAGE plpgsql SET search_path = pg_catalog, pg_temp AS $$
+DECLARE
+	it pg_class;
+	key pg_attribute;
+	a pg_attribute;
+	c record;
+	read jsonb;
+	others name[];
+	result escrow.declared;
+	digits integer;
+	scale integer;
+	names_in_checks boolean;
+	ranks integer[];
+	scales integer[];
+	part jsonb;
+BEGIN
+	SELECT * INTO STRICT it FROM pg_class WHERE oid = relation;
+	IF it.relkind <> 'r' OR it.relispartition OR EXISTS (SELECT FROM pg_inherits WHERE inhrelid = relation OR inhparent = relation) THEN
+		PERFORM escrow.refuse(relation, 'it is no ordinary table by itself (a view, or part of a partitioned table or of inheritance)');
+	END IF;
+	-- Functions are made of texts that have these names between $body$ and $body$.
+	IF EXISTS (SELECT FROM unnest(ARRAY[it.relname, (SELECT nspname FROM pg_namespace WHERE oid = it.relnamespace)]
+			|| ARRAY(SELECT attname FROM pg_attribute WHERE attrelid = relation AND NOT attisdropped)) AS name WHERE name LIKE '%$body$%') THEN
+		PERFORM escrow.refuse(relation, 'a name of it has $body$');
+	END IF;
+	IF it.relpersistence <> 'p' THEN
+		PERFORM escrow.refuse(relation, 'it is temporary or unlogged');
+	END IF;
+	IF it.relrowsecurity THEN
+		PERFORM escrow.refuse(relation, 'it has row-level security');
+	END IF;
+	IF it.relhasrules AND EXISTS (SELECT FROM pg_rewrite WHERE ev_class = relation) THEN
+		PERFORM escrow.refuse(relation, 'it has rules');
+	END IF;
+	FOR c IN SELECT tgname FROM pg_trigger WHERE tgrelid = relation AND tgdeferrable AND NOT tgisinternal LOOP
+		PERFORM escrow.refuse(relation, format('the trigger %I can be deferred to the end of a fold', c.tgname), 'Create it anew as NOT DEFERRABLE.');
+	END LOOP;
+	SELECT attribute.* INTO key FROM pg_index AS i JOIN pg_attribute AS attribute ON attrelid = relation AND attnum = i.indkey[0]
+	WHERE i.indrelid = relation AND i.indisprimary AND i.indnkeyatts = 1;
+	IF key IS NULL THEN
+		PERFORM escrow.refuse(relation, 'it has no primary key of one column');
+	END IF;
+	IF key.atttypid NOT IN ('int2'::regtype, 'int4'::regtype, 'int8'::regtype, 'numeric'::regtype, 'text'::regtype, 'varchar'::regtype, 'uuid'::regtype) THEN
+		PERFORM escrow.refuse(relation, format('its key %I has the type %s', key.attname, format_type(key.atttypid, key.atttypmod)),
+			'The key may be smallint, integer, bigint, numeric, text, varchar or uuid.');
+	END IF;
+	IF NOT (SELECT collisdeterministic FROM pg_collation WHERE oid = key.attcollation) THEN
+		PERFORM escrow.refuse(relation, format('its key %I has a nondeterministic collation', key.attname));
+	END IF;
+	IF cardinality(reservable) = 0 OR cardinality(reservable) > 10 THEN
+		PERFORM escrow.refuse(relation, format('%s columns are named', cardinality(reservable)), 'Name 1 to 10 columns.');
+	END IF;
+	ranks := ARRAY(SELECT CASE atttypid WHEN 'int2'::regtype THEN 2 WHEN 'int4'::regtype THEN 4 WHEN 'int8'::regtype THEN 8 ELSE 99 END
+		FROM unnest(reservable) WITH ORDINALITY AS r (name, place) LEFT JOIN pg_attribute ON attrelid = relation AND attname = r.name AND attnum > 0
+		ORDER BY place);
+	result.columns := '[]';
+	FOR i IN 1 .. cardinality(reservable) LOOP
+		SELECT * INTO a FROM pg_attribute WHERE attrelid = relation AND attname = reservable[i] AND attnum > 0 AND NOT attisdropped;
+		IF a IS NULL THEN
+			PERFORM escrow.refuse(relation, format('it has no column %I', reservable[i]));
+		ELSIF reservable[i] = ANY (reservable[: i - 1]) THEN
+			PERFORM escrow.refuse(relation, format('the column %I is named twice', a.attname));
+		ELSIF a.attnum = key.attnum THEN
+			PERFORM escrow.refuse(relation, format('the column %I is its key', a.attname));
+		ELSIF a.atttypid NOT IN ('int2'::regtype, 'int4'::regtype, 'int8'::regtype, 'numeric'::regtype) THEN
+			PERFORM escrow.refuse(relation, format('the column %I has the type %s', a.attname, format_type(a.atttypid, a.atttypmod)),
+				'A reservable column may be smallint, integer, bigint or numeric(p,s).');
+		ELSIF NOT a.attnotnull THEN
+			PERFORM escrow.refuse(relation, format('the column %I may be NULL', a.attname), format('ALTER TABLE %s ALTER %I SET NOT NULL', relation, a.attname));
+		ELSIF a.attgenerated <> '' OR a.attidentity <> '' THEN
+			PERFORM escrow.refuse(relation, format('the column %I is generated', a.attname));
+		END IF;
+		digits := CASE a.atttypid WHEN 'int2'::regtype THEN 5 WHEN 'int4'::regtype THEN 10 WHEN 'int8'::regtype THEN 15
+			ELSE CASE WHEN a.atttypmod < 0 THEN NULL ELSE (a.atttypmod - 4) >> 16 & 65535 END END;
+		scale := CASE WHEN a.atttypid <> 'numeric'::regtype THEN 0 ELSE (a.atttypmod - 4) & 2047 END;
+		IF digits IS NULL OR digits > 15 OR scale > 6 OR scale > digits THEN
+			PERFORM escrow.refuse(relation, format('the column %I has the type %s', a.attname, format_type(a.atttypid, a.atttypmod)),
+				'A numeric column needs numeric(p,s) with p from 1 to 15 and s from 0 to 6, not above p.');
+		END IF;
+		FOR c IN SELECT conname, contype FROM pg_constraint
+			WHERE (conrelid = relation AND contype IN ('p', 'u', 'x', 'f') AND a.attnum = ANY (conkey)) OR (confrelid = relation AND a.attnum = ANY (confkey))
+		LOOP
+			PERFORM escrow.refuse(relation, format('the column %I is in the constraint %I', a.attname, c.conname));
+		END LOOP;
+		-- What a fold evaluates besides the CHECKs may fail, or refuse the new value.
+		FOR c IN SELECT x.indexrelid::regclass AS index, x.indisunique OR x.indisexclusion AS is_unique, x.indexprs IS NOT NULL AS has_expressions,
+				pg_get_expr(x.indpred, x.indrelid) AS condition
+			FROM pg_index AS x WHERE x.indrelid = relation AND EXISTS (SELECT FROM pg_depend AS d WHERE d.classid = 'pg_class'::regclass
+				AND d.objid = x.indexrelid AND d.refclassid = 'pg_class'::regclass AND d.refobjid = relation AND d.refobjsubid = a.attnum)
+		LOOP
+			read := escrow.linear(c.condition, reservable, '{}', ranks);
+			IF c.is_unique THEN
+				PERFORM escrow.refuse(relation, format('the column %I is in a unique index', a.attname));
+			ELSIF c.has_expressions OR jsonb_typeof(read) = 'string' OR read @? '$[*].range' THEN
+				PERFORM escrow.refuse(relation, format('the column %I is in an expression or the condition of the index %s', a.attname, c.index));
+			END IF;
+		END LOOP;
+		FOR c IN SELECT g.attname FROM pg_attribute AS g JOIN pg_attrdef AS e ON e.adrelid = relation AND e.adnum = g.attnum
+			WHERE g.attrelid = relation AND g.attgenerated <> '' AND NOT g.attisdropped AND EXISTS (SELECT FROM pg_depend AS d
+				WHERE d.refclassid = 'pg_class'::regclass AND d.refobjid = relation AND d.refobjsubid = a.attnum
+				AND (d.classid = 'pg_attrdef'::regclass AND d.objid = e.oid OR d.classid = 'pg_class'::regclass AND d.objid = relation AND d.objsubid = g.attnum))
+		LOOP
+			PERFORM escrow.refuse(relation, format('the column %I is generated from the column %I', c.attname, a.attname));
+		END LOOP;
+		result.columns := result.columns || jsonb_build_array(jsonb_build_object('name', a.attname, 'place', a.attnum,
+			'type', format_type(a.atttypid, a.atttypmod), 'digits', digits, 'scale', scale,
+			'least', CASE a.atttypid WHEN 'int2'::regtype THEN -32768 WHEN 'int4'::regtype THEN -2147483648 END,
+			'greatest', CASE a.atttypid WHEN 'int2'::regtype THEN 32767 WHEN 'int4'::regtype THEN 2147483647 END));
+	END LOOP;
+	others := ARRAY(SELECT attname FROM pg_attribute WHERE attrelid = relation AND attnum > 0 AND NOT attisdropped AND attname <> ALL (reservable));
+	scales := ARRAY(SELECT (x->>'scale')::integer FROM jsonb_array_elements(result.columns) WITH ORDINALITY AS e (x, place) ORDER BY place);
+	result.checks := '[]';
+	FOR c IN SELECT oid, conname, conkey, convalidated, pg_get_expr(conbin, conrelid) AS condition FROM pg_constraint
+		WHERE conrelid = relation AND contype = 'c' ORDER BY conname
+	LOOP
+		names_in_checks := c.conkey && ARRAY(SELECT attnum FROM pg_attribute WHERE attrelid = relation AND attname = ANY (reservable));
+		CONTINUE WHEN names_in_checks IS NOT TRUE; -- left to PostgreSQL
+		IF NOT c.convalidated THEN
+			PERFORM escrow.refuse(relation, format('the CHECK %I is not validated', c.conname), format('ALTER TABLE %s VALIDATE CONSTRAINT %I', relation, c.conname));
+		END IF;
+		IF c.conkey && ARRAY(SELECT attnum FROM pg_attribute WHERE attrelid = relation AND attname = ANY (others)) THEN
+			PERFORM escrow.refuse(relation, format('the CHECK %I names reservable columns and others: %s', c.conname, c.condition));
+		END IF;
+		read := escrow.linear(c.condition, reservable, others, ranks);
+		IF jsonb_typeof(read) IS DISTINCT FROM 'array' THEN
+			PERFORM escrow.refuse(relation, format('the CHECK %I compares no sums of its columns: %s', c.conname, c.condition),
+				'A CHECK may compare sums as 2 * a - b + 5, joined by AND.');
+		END IF;
+		FOR part IN SELECT escrow.scaled(condition, scales) FROM jsonb_array_elements(read) AS condition LOOP
+			IF jsonb_typeof(part) = 'string' THEN
+				PERFORM escrow.refuse(relation, format('the CHECK %I %s: %s', c.conname, part #>> '{}', c.condition));
+			ELSIF part IS NOT NULL THEN
+				result.checks := result.checks || jsonb_build_array(part || jsonb_build_object('name', c.conname));
+			END IF;
+		END LOOP;
+	END LOOP;
+	IF jsonb_array_length(result.checks) > 32 THEN
+		PERFORM escrow.refuse(relation, format('its CHECKs have %s conditions', jsonb_array_length(result.checks)),
+			'There may be 32 of them. A sum of integers counts for two more, since it has to fit its type.');
+	END IF;
+	result.relation := relation;
+	result.key_name := key.attname;
+	result.key_type := format_type(key.atttypid, key.atttypmod);
+	result.definition := jsonb_build_object('name', format('%s.%I', it.relnamespace::regnamespace, it.relname), 'key', key.attnum, 'key_name', key.attname, 'key_type', result.key_type,
+		'columns', result.columns, 'checks', result.checks, 'owner', it.relowner::regrole::text,
+		'triggers', (SELECT jsonb_object_agg(tgname, tgenabled) FROM pg_trigger WHERE tgrelid = relation AND tgname LIKE 'escrow %'),
+		-- The table's owner owns some of them. Without SECURITY DEFINER, triggers on the table would run with other rights.
+		'functions', (SELECT jsonb_object_agg(p.proname, format('%s %s %s', p.proowner::regrole, p.prosecdef, p.proconfig))
+			FROM escrow.functions((SELECT number FROM escrow.declared AS d WHERE d.relation = describe.relation)) AS f JOIN pg_proc AS p ON p.oid = f));
+	RETURN result;
+END
+$$;
+
+-- Rule 15.
+CREATE OR REPLACE FUNCTION escrow.refuse_truncate() RETURNS trigger LANGUAGE plpgsql AS $$
+BEGIN
+	RAISE EXCEPTION '% has reservable columns and cannot be truncated', TG_TABLE_NAME
+		USING ERRCODE = 'object_in_use', SCHEMA = TG_TABLE_SCHEMA, TABLE = TG_TABLE_NAME,
+			HINT = format('Call escrow.ordinary(%L) first.', TG_RELID::regclass);
+END
+$$;
+
+-- Creates or replaces what a declared table has: functions, triggers and the view. Journal and marks stay.
+CREATE OR REPLACE FUNCTION escrow.generate(it escrow.declared) RETURNS void
+LANGUAGE plpgsql SET search_path = pg_catalog, pg_temp AS $$
+DECLARE
+	n integer := it.number;
+	relation regclass := it.relation;
+	proprietor text := (SELECT relowner::regrole FROM pg_class WHERE oid = it.relation);
+	names name[] := ARRAY(SELECT (c->>'name')::name FROM jsonb_array_elements(it.columns) AS c);
+	k name := it.key_name;
+	texts text[];   -- of the parts that repeat for each column
+	allowed text;
+	meant text;
+	kind text;
+	fold_is_proved text;
+	view_name text;
+BEGIN
+	UPDATE escrow.declared AS d SET definition = '{}' WHERE d.number = n; -- the event trigger lets it alone
+	texts := ARRAY[
+		-- 1: the values that a note writes
+		(SELECT string_agg(format('coalesce(changes[%s]::numeric, 0)', i), ', ') FROM generate_subscripts(names, 1) AS i),
+		-- 2: sums of what a fold takes
+		(SELECT string_agg(format('coalesce(sum(taken.change_%s), 0)', i), ', ') FROM generate_subscripts(names, 1) AS i),
+		-- 3: what a fold sets
+		(SELECT string_agg(format('%1$I = t.%1$I::pg_catalog.numeric OPERATOR(pg_catalog.+) rises[%2$s]', names[i], i), ', ') FROM generate_subscripts(names, 1) AS i),
+		-- 4: values of a row, old and new, as a MAC sees them
+		(SELECT string_agg(format('OLD.%1$I::text, NEW.%1$I::text', names[i]), ', ') FROM generate_subscripts(names, 1) AS i),
+		(SELECT string_agg(format('t.%1$I::text, (t.%1$I + rises[%2$s])::%3$s::text', names[i], i, it.columns->(i - 1)->>'type'), ', ') FROM generate_subscripts(names, 1) AS i),
+		-- 6: whether one of them differs
+		(SELECT string_agg(format('OLD.%1$I IS DISTINCT FROM NEW.%1$I', names[i]), ' OR ') FROM generate_subscripts(names, 1) AS i),
+		-- 7: the columns with what is pending
+		(SELECT string_agg(format('(t.%1$I + coalesce(j.change_%2$s, 0))::%3$s AS %1$I', names[i], i, it.columns->(i - 1)->>'type'), ', ')
+			FROM generate_subscripts(names, 1) AS i),
+		-- 8: sums of the journal
+		(SELECT string_agg(format('sum(change_%1$s) AS change_%1$s', i), ', ') FROM generate_subscripts(names, 1) AS i),
+		-- 9: values of a row
+		(SELECT string_agg(format('t.%I::text', names[i]), ', ') FROM generate_subscripts(names, 1) AS i),
+		-- 10: columns of the journal
+		(SELECT string_agg('change_' || i, ', ') FROM generate_subscripts(names, 1) AS i),
+		-- 11: values of a locked row, old and new, as a MAC sees them
+		(SELECT string_agg(format('olds[%1$s], (olds[%1$s]::numeric + rises[%1$s])::%2$s::text', i, it.columns->(i - 1)->>'type'), ', ') FROM generate_subscripts(names, 1) AS i),
+		-- 12: what is taken and what is added to it
+		(SELECT string_agg(format('rises[%1$s] + more[%1$s]', i), ', ') FROM generate_subscripts(names, 1) AS i),
+		-- 13: whether that changes anything
+		(SELECT string_agg(format('rises[%1$s] <> 0', i), ' OR ') FROM generate_subscripts(names, 1) AS i)];
+
+	-- Rule 20: what an UPDATE needs is UPDATE and SELECT of the column, and SELECT of the key.
+	allowed := (SELECT string_agg(format('pg_catalog.has_column_privilege(current_user, %1$s::pg_catalog.oid, %2$s::pg_catalog.int2, ''UPDATE'') AND '
+				'pg_catalog.has_column_privilege(current_user, %1$s::pg_catalog.oid, %2$s::pg_catalog.int2, ''SELECT'') AND '
+				'pg_catalog.has_column_privilege(current_user, %1$s::pg_catalog.oid, %3$s::pg_catalog.int2, ''SELECT'')',
+				relation::oid, c->>'place', (SELECT attnum FROM pg_attribute WHERE attrelid = it.relation AND attname = k)), ', ')
+			FROM jsonb_array_elements(it.columns) AS c);
+	-- The client's path of search decides what its name of the table means.
+	meant := format('::pg_catalog.text)::pg_catalog.oid OPERATOR(pg_catalog.=) %s::pg_catalog.oid', relation::oid);
+	UPDATE escrow.declared AS d SET note_text = format('SELECT id, answer FROM escrow.note_%s($1, $2, $3, $4, $5, $6, ARRAY[%s], pg_catalog.to_regclass($7%s)', n, allowed, meant),
+		own_text = format('SELECT escrow.own_%s($1, ARRAY[%s])', n, allowed),
+		direct_text = format('SELECT id, answer, folded FROM escrow.direct_%s($1, $2, $3, $4, $5, $6, ARRAY[%s], pg_catalog.to_regclass($7%s)', n, allowed, meant),
+		refusal_text = format('SELECT escrow.refuse_change(%s, $1, $2, $3, $4, $5, ARRAY[%s], pg_catalog.to_regclass($6%s)', n, allowed, meant),
+		here_text = format('SELECT escrow.here_%s($1, $2, $3, $4, $5, ARRAY[%s], pg_catalog.to_regclass($6%s)', n, allowed, meant) WHERE d.number = n;
+
+	-- The note: rules 3, 4, 7, 10 and 17 to 20. And the direct note of an UPDATE that is a transaction by itself: if it gets
+	-- the row's lock at once, and in READ COMMITTED, it folds its own change with all that is pending, and writes no row of
+	-- the journal. Its DELETE in the journal takes the lock of rule 7 all the same, and its id is that which wrote the row.
+	FOREACH kind IN ARRAY ARRAY['note', 'direct'] LOOP
+	EXECUTE format($f$
+		CREATE OR REPLACE FUNCTION escrow.%6$s_%1$s(epoch bigint, tag bigint, number bigint, key text, changes text[], proof bytea, allowed boolean[], is_meant boolean,
+			OUT id bigint, OUT answer bytea%7$s)
+		LANGUAGE plpgsql SECURITY DEFINER SET search_path = pg_catalog, pg_temp SET plan_cache_mode = force_generic_plan AS $body$
+		DECLARE
+			row_id xid;
+			own text;
+			inner_key bytea;
+			outer_key bytea;
+			top bigint;
+			is_taken boolean;
+		BEGIN
+			-- A note is short of nothing but time: so what could be functions of its own stands here, as plain expressions.
+			SELECT d.%6$s_text, s.inner_key, s.outer_key INTO own, inner_key, outer_key FROM escrow.declared AS d, escrow.secret AS s WHERE d.number = %1$s;
+			-- concat_ws leaves out what is null.
+			IF proof IS NULL OR tag IS NULL OR %6$s_%1$s.number IS NULL OR key IS NULL OR changes IS NULL OR current_query() IS DISTINCT FROM own
+				OR proof IS DISTINCT FROM sha256(outer_key || sha256(inner_key || convert_to(concat_ws('|', 'note', '%1$s', %6$s_%1$s.epoch::text,
+					pg_backend_pid()::text, tag::text, %6$s_%1$s.number::text, octet_length(key)::text, key, array_to_string(changes, ',', '')), 'UTF8'))) THEN
+				RAISE EXCEPTION 'escrow.note is for escrowd-proxy' USING ERRCODE = 'insufficient_privilege';
+			END IF;
+			IF NOT (%6$s_%1$s.number > currval('escrow.heard')) THEN
+				RAISE EXCEPTION 'escrow.note is for escrowd-proxy' USING ERRCODE = 'insufficient_privilege';
+			END IF;
+			top := setval('escrow.heard', %6$s_%1$s.number);
+			IF is_meant IS NOT TRUE THEN
+				PERFORM escrow.refuse_other(%2$L, is_meant);
+			END IF;
+			FOR i IN 1 .. cardinality(changes) LOOP
+				IF changes[i] IS NOT NULL AND allowed[i] IS NOT TRUE THEN
+					RAISE EXCEPTION 'permission denied for table %%', %2$L USING ERRCODE = 'insufficient_privilege';
+				END IF;
+			END LOOP;
+			-- As escrow.forbid_prepare does.
+			is_taken := pg_try_advisory_lock_shared(1702064994, pg_backend_pid());
+			is_taken := pg_try_advisory_xact_lock_shared(1702064994, pg_backend_pid());%8$s
+			IF row_id IS NULL THEN
+				INSERT INTO escrow.journal_%1$s (epoch, tag, number, key, %3$s)
+				VALUES (%6$s_%1$s.epoch, %6$s_%1$s.tag, %6$s_%1$s.number, %6$s_%1$s.key::%4$s, %5$s) RETURNING xmin INTO row_id;
+			END IF;
+			-- The epoch is nothing if it was never set, and if nobody holds its lock, this transaction gets it: as escrow.is_live.
+			IF pg_sequence_last_value('escrow.epoch') IS DISTINCT FROM %6$s_%1$s.epoch OR pg_try_advisory_xact_lock_shared(%6$s_%1$s.epoch) THEN
+				PERFORM escrow.refuse_stale();
+			END IF;
+			-- As escrow.full_id does.
+			top := pg_current_xact_id()::text::bigint;
+			id := (top & ~4294967295::bigint) | row_id::text::bigint;
+			IF id < top THEN
+				id := id + 4294967296;
+			END IF;
+			answer := sha256(outer_key || sha256(inner_key || convert_to(concat_ws('|', 'noted', %6$s_%1$s.epoch::text, tag::text, %6$s_%1$s.number::text, id::text), 'UTF8')));
+		END
+		$body$
+	$f$, n, (SELECT relname FROM pg_class WHERE oid = it.relation), texts[10], it.key_type, texts[1], kind,
+		CASE kind WHEN 'direct' THEN ', OUT folded boolean' END,
+		CASE kind WHEN 'direct' THEN format('
+			IF current_setting(''transaction_isolation'') = ''read committed'' THEN
+				row_id := escrow.add_%1$s(direct_%1$s.key::%2$s, true, true, ARRAY[%3$s]);
+			END IF;
+			folded := row_id IS NOT NULL;', n, it.key_type, texts[1]) END);
+	EXECUTE format('ALTER FUNCTION escrow.%s_%s OWNER TO escrow_journal', kind, n);
+	END LOOP;
+
+	-- The row's lock, which returns its values, and the UPDATE of a fold, with the rights of the table's owner and the usual path of search, since
+	-- triggers on it run with them. So the UPDATE names its operators in full.
+	EXECUTE format($f$
+		CREATE OR REPLACE FUNCTION escrow.lock_%1$s(which %2$s, skips boolean) RETURNS text[]
+		LANGUAGE plpgsql SECURITY DEFINER SET search_path = pg_catalog, pg_temp SET plan_cache_mode = force_generic_plan AS $body$
+		DECLARE
+			olds text[];
+		BEGIN
+			IF skips THEN
+				SELECT ARRAY[%5$s] INTO olds FROM %3$s AS t WHERE t.%4$I = which FOR NO KEY UPDATE SKIP LOCKED;
+			ELSE
+				SELECT ARRAY[%5$s] INTO olds FROM %3$s AS t WHERE t.%4$I = which FOR NO KEY UPDATE;
+			END IF;
+			RETURN olds;
+		END
+		$body$
+	$f$, n, it.key_type, relation, k, texts[9]);
+	EXECUTE format($f$
+		CREATE OR REPLACE FUNCTION escrow.move_%1$s(which %2$s, rises numeric[]) RETURNS xid
+		LANGUAGE plpgsql SECURITY DEFINER SET search_path = "$user", public SET plan_cache_mode = force_generic_plan AS $body$
+		DECLARE
+			writer xid;
+		BEGIN
+			UPDATE %3$s AS t SET %4$s WHERE t.%5$I OPERATOR(pg_catalog.=) which RETURNING t.xmin INTO writer;
+			IF writer IS NULL THEN
+				RAISE EXCEPTION 'a trigger has kept a change of %% away', %6$L USING ERRCODE = 'triggered_data_change_violation';
+			END IF;
+			RETURN writer;
+		END
+		$body$
+	$f$, n, it.key_type, relation, texts[3], k, (SELECT relname FROM pg_class WHERE oid = it.relation));
+	EXECUTE format($f$
+		CREATE OR REPLACE FUNCTION escrow.value_%1$s(which %2$s, rises numeric[], OUT moved text[], OUT shown text[])
+		LANGUAGE plpgsql SECURITY DEFINER SET search_path = pg_catalog, pg_temp SET plan_cache_mode = force_generic_plan AS $body$
+		BEGIN
+			SELECT ARRAY[%3$s], ARRAY[%4$s] INTO moved, shown FROM %5$s AS t WHERE t.%6$I = which;
+		END
+		$body$
+	$f$, n, it.key_type, texts[5], texts[9], relation, k);
+	-- Which transaction or subtransaction has written the row.
+	EXECUTE format($f$
+		CREATE OR REPLACE FUNCTION escrow.writer_%1$s(which %2$s) RETURNS xid
+		LANGUAGE plpgsql SECURITY DEFINER SET search_path = pg_catalog, pg_temp SET plan_cache_mode = force_generic_plan AS $body$
+		BEGIN
+			RETURN (SELECT t.xmin FROM %3$s AS t WHERE t.%4$I = which);
+		END
+		$body$
+	$f$, n, it.key_type, relation, k);
+	FOREACH kind IN ARRAY ARRAY['lock', 'move', 'value', 'writer'] LOOP
+		EXECUTE format('ALTER FUNCTION escrow.%1$s_%2$s OWNER TO %3$s; REVOKE ALL ON FUNCTION escrow.%1$s_%2$s FROM PUBLIC; GRANT EXECUTE ON FUNCTION escrow.%1$s_%2$s TO escrow_journal',
+			kind, n, proprietor);
+	END LOOP;
+
+	-- Rule 11. The caller runs in READ COMMITTED, so the DELETE has a snapshot of behind the lock. Returns nothing without the
+	-- row's lock, 0 if it has changed nothing, and otherwise the transaction or subtransaction that has written the row. It adds `more` to what it takes of the journal. The guard lets just the change through that the MAC names, in this transaction.
+	EXECUTE format($f$
+		CREATE OR REPLACE FUNCTION escrow.add_%1$s(which %2$s, skips boolean, anew boolean, more numeric[]) RETURNS xid
+		LANGUAGE plpgsql SECURITY DEFINER SET search_path = pg_catalog, pg_temp SET plan_cache_mode = force_generic_plan AS $body$
+		DECLARE
+			olds text[] := escrow.lock_%1$s(which, skips);
+			rises numeric[];
+			writer xid := '0';
+			proof text;
+		BEGIN
+			IF olds IS NULL THEN
+				RETURN NULL;
+			END IF;
+			WITH taken AS (DELETE FROM escrow.journal_%1$s AS j WHERE j.key = which RETURNING %3$s)
+			SELECT ARRAY[%4$s] INTO rises FROM taken;
+			IF more IS NOT NULL THEN
+				rises := ARRAY[%6$s];
+			END IF;
+			IF anew OR %7$s THEN
+				proof := set_config('escrow.fold', encode(escrow.mac('fold', pg_current_xact_id()::text, '%1$s', which::text, array_to_string(ARRAY[%5$s], ',')), 'hex'), true);
+				writer := escrow.move_%1$s(which, rises);
+				proof := set_config('escrow.fold', '', true);
+			END IF;
+			RETURN writer;
+		END
+		$body$
+	$f$, n, it.key_type, texts[10], texts[2], texts[11], texts[12], texts[13]);
+	EXECUTE format($f$
+		CREATE OR REPLACE FUNCTION escrow.take_%1$s(which %2$s, skips boolean, anew boolean) RETURNS boolean
+		LANGUAGE plpgsql SECURITY DEFINER SET search_path = pg_catalog, pg_temp AS $body$
+		BEGIN
+			RETURN escrow.add_%1$s(which, skips, anew, NULL) IS NOT NULL;
+		END
+		$body$
+	$f$, n, it.key_type);
+	EXECUTE format($f$
+		CREATE OR REPLACE FUNCTION escrow.fold_%1$s(keys text[]) RETURNS SETOF text
+		LANGUAGE plpgsql SECURITY DEFINER SET search_path = pg_catalog, pg_temp SET plan_cache_mode = force_generic_plan AS $body$
+		DECLARE
+			which text;
+		BEGIN
+			IF current_setting('transaction_isolation') <> 'read committed' THEN
+				RAISE EXCEPTION 'a fold needs READ COMMITTED' USING ERRCODE = 'invalid_transaction_state';
+			END IF;
+			FOREACH which IN ARRAY keys LOOP
+				IF escrow.add_%1$s(which::%2$s, true, false, NULL) IS NOT NULL THEN
+					RETURN NEXT which;
+				END IF;
+			END LOOP;
+		END
+		$body$
+	$f$, n, it.key_type);
+	-- Rule 13. It locks nothing that somebody else has, and never raises. What it cannot fold is the folder's. Returns whether
+	-- it has folded all.
+	EXECUTE format($f$
+		CREATE OR REPLACE FUNCTION escrow.own_%1$s(keys text[], allowed boolean[]) RETURNS boolean
+		LANGUAGE plpgsql SECURITY DEFINER SET search_path = pg_catalog, pg_temp SET plan_cache_mode = force_generic_plan AS $body$
+		DECLARE
+			which text;
+			are_all boolean := true;
+		BEGIN
+			IF current_query() IS DISTINCT FROM (SELECT own_text FROM escrow.declared AS d WHERE d.number = %1$s)
+				OR false = ANY (allowed) OR current_setting('transaction_isolation') <> 'read committed' THEN
+				RETURN false;
+			END IF;
+			FOREACH which IN ARRAY keys LOOP
+				BEGIN
+					are_all := escrow.add_%1$s(which::%2$s, true, false, NULL) IS NOT NULL AND are_all;
+				EXCEPTION WHEN OTHERS OR query_canceled THEN
+					are_all := false;
+				END;
+			END LOOP;
+			RETURN are_all;
+		END
+		$body$
+	$f$, n, it.key_type);
+	EXECUTE format('ALTER FUNCTION escrow.own_%s OWNER TO escrow_journal', n);
+	-- Rule 16. Changes a row that this transaction has locked, or that nobody has, if no proxy holds it. Returns whether it
+	-- did. In REPEATABLE READ a mark or a row of the journal may be there unseen. If they came behind the snapshot, the row
+	-- was written anew, and its lock raises 40001; with a mark from before it is left alone.
+	EXECUTE format($f$
+		CREATE OR REPLACE FUNCTION escrow.here_%1$s(epoch bigint, number bigint, key text, changes text[], proof bytea, allowed boolean[], is_meant boolean)
+		RETURNS boolean
+		LANGUAGE plpgsql SECURITY DEFINER SET search_path = pg_catalog, pg_temp SET plan_cache_mode = force_generic_plan AS $body$
+		DECLARE
+			which %2$s := key::%2$s;
+			rises numeric[] := ARRAY[%3$s];
+			marked bigint;
+		BEGIN
+			IF current_query() IS DISTINCT FROM (SELECT here_text FROM escrow.declared AS d WHERE d.number = %1$s)
+				OR proof IS DISTINCT FROM escrow.mac('here', '%1$s', epoch::text, pg_backend_pid()::text, number::text,
+					octet_length(key)::text, key, array_to_string(changes, ',', ''))
+				OR proof IS NULL OR escrow.is_fresh(number) IS NOT TRUE THEN
+				RAISE EXCEPTION 'escrow.here is for escrowd-proxy' USING ERRCODE = 'insufficient_privilege';
+			END IF;
+			PERFORM escrow.refuse_other(%4$L, is_meant);
+			FOR i IN 1 .. cardinality(changes) LOOP
+				IF changes[i] IS NOT NULL AND allowed[i] IS NOT TRUE THEN
+					RAISE EXCEPTION 'permission denied for table %%', %4$L USING ERRCODE = 'insufficient_privilege';
+				END IF;
+			END LOOP;
+			IF current_setting('transaction_isolation') = 'read committed' THEN
+				IF NOT escrow.take_%1$s(which, true, false) THEN
+					RETURN false;
+				END IF;
+				SELECT h.epoch INTO marked FROM escrow.held_%1$s AS h WHERE h.key = which;
+				IF marked = (SELECT last_value FROM escrow.epoch) THEN
+					RETURN false;
+				END IF;
+			ELSIF escrow.lock_%1$s(which, true) IS NULL OR EXISTS (SELECT FROM escrow.held_%1$s AS h WHERE h.key = which)
+				OR EXISTS (SELECT FROM escrow.journal_%1$s AS j WHERE j.key = which) THEN
+				RETURN false;
+			END IF;
+			PERFORM set_config('escrow.fold', encode(escrow.mac('fold', pg_current_xact_id()::text, '%1$s', which::text,
+				array_to_string((escrow.value_%1$s(which, rises)).moved, ',')), 'hex'), true);
+			PERFORM escrow.move_%1$s(which, rises);
+			PERFORM set_config('escrow.fold', '', true);
+			RETURN true;
+		END
+		$body$
+	$f$, n, it.key_type, texts[1], (SELECT relname FROM pg_class WHERE oid = it.relation));
+	EXECUTE format('ALTER FUNCTION escrow.here_%s OWNER TO escrow_journal', n);
+	-- Rule 14. Returns the row's values, or nothing if there is no such row.
+	EXECUTE format($f$
+		CREATE OR REPLACE FUNCTION escrow.load_%1$s(epoch bigint, which text) RETURNS text[]
+		LANGUAGE plpgsql SECURITY DEFINER SET search_path = pg_catalog, pg_temp AS $body$
+		BEGIN
+			IF current_setting('transaction_isolation') <> 'read committed' THEN
+				RAISE EXCEPTION 'a load needs READ COMMITTED' USING ERRCODE = 'invalid_transaction_state';
+			END IF;
+			-- A cast to a type with a size cuts a text, and rounds a number: then it would be another row's key.
+			IF which::%3$s IS DISTINCT FROM which::%2$s OR NOT escrow.take_%1$s(which::%2$s, false, true) THEN
+				RETURN NULL;
+			END IF;
+			INSERT INTO escrow.held_%1$s AS h (key, epoch) VALUES (which::%2$s, load_%1$s.epoch)
+			ON CONFLICT ON CONSTRAINT held_%1$s_pkey DO UPDATE SET epoch = excluded.epoch;
+			IF load_%1$s.epoch <> (SELECT last_value FROM escrow.epoch) THEN
+				PERFORM escrow.refuse_stale();
+			END IF;
+			RETURN (escrow.value_%1$s(which::%2$s, NULL)).shown;
+		END
+		$body$
+	$f$, n, it.key_type, regexp_replace(it.key_type, '\(.*\)', ''));
+	-- Loads keys in one transaction. It returns a null for a key that no row has, and leaves out keys whose row is locked:
+	-- the caller loads them one by one.
+	EXECUTE format($f$
+		CREATE OR REPLACE FUNCTION escrow.loads_%1$s(epoch bigint, keys text[]) RETURNS TABLE (which text, loaded text[])
+		LANGUAGE plpgsql SECURITY DEFINER SET search_path = pg_catalog, pg_temp AS $body$
+		BEGIN
+			FOR which IN SELECT DISTINCT k FROM unnest(keys) AS k ORDER BY k LOOP
+				IF escrow.writer_%1$s(which::%2$s) IS NULL THEN
+					loaded := NULL;
+					RETURN NEXT;
+				ELSIF escrow.lock_%1$s(which::%2$s, true) IS NOT NULL THEN
+					loaded := escrow.load_%1$s(epoch, which);
+					RETURN NEXT;
+				END IF;
+			END LOOP;
+		END
+		$body$
+	$f$, n, it.key_type);
+	-- Folds keys that were held in former epochs, at most so many, and removes their marks. It leaves out rows that are
+	-- locked. Returns how many it has done. The take locks the journal before the epoch is tested, so a new owner ends a
+	-- sweep of the former one before it makes marks (rules 7 and 9).
+	EXECUTE format($f$
+		CREATE OR REPLACE FUNCTION escrow.sweep_%1$s(epoch bigint, most integer) RETURNS integer
+		LANGUAGE plpgsql SECURITY DEFINER SET search_path = pg_catalog, pg_temp AS $body$
+		DECLARE
+			which %2$s;
+			done integer := 0;
+		BEGIN
+			IF current_setting('transaction_isolation') <> 'read committed' THEN
+				RAISE EXCEPTION 'a fold needs READ COMMITTED' USING ERRCODE = 'invalid_transaction_state';
+			END IF;
+			LOCK TABLE escrow.journal_%1$s IN ROW EXCLUSIVE MODE;
+			IF sweep_%1$s.epoch <> (SELECT last_value FROM escrow.epoch) THEN
+				PERFORM escrow.refuse_stale();
+			END IF;
+			FOR which IN SELECT h.key FROM escrow.held_%1$s AS h WHERE h.epoch <> sweep_%1$s.epoch ORDER BY h.key LIMIT most LOOP
+				IF escrow.take_%1$s(which, true, false) THEN
+					DELETE FROM escrow.held_%1$s AS h WHERE h.key = which AND h.epoch <> sweep_%1$s.epoch;
+					done := done + 1;
+				END IF;
+			END LOOP;
+			RETURN done;
+		END
+		$body$
+	$f$, n, it.key_type);
+	-- The key is no longer held. The caller knows that nothing of it is open.
+	EXECUTE format($f$
+		CREATE OR REPLACE FUNCTION escrow.leave_%1$s(which text) RETURNS boolean
+		LANGUAGE plpgsql SECURITY DEFINER SET search_path = pg_catalog, pg_temp AS $body$
+		BEGIN
+			IF NOT escrow.take_%1$s(which::%2$s, true, false) THEN
+				RETURN false;
+			END IF;
+			DELETE FROM escrow.held_%1$s WHERE key = which::%2$s;
+			RETURN true;
+		END
+		$body$
+	$f$, n, it.key_type);
+	FOREACH kind IN ARRAY ARRAY['add', 'take', 'fold', 'load', 'loads', 'leave', 'sweep'] LOOP
+		EXECUTE format('ALTER FUNCTION escrow.%1$s_%2$s OWNER TO escrow_journal; REVOKE ALL ON FUNCTION escrow.%1$s_%2$s FROM PUBLIC', kind, n);
+	END LOOP;
+	EXECUTE format('GRANT EXECUTE ON FUNCTION escrow.fold_%1$s, escrow.load_%1$s, escrow.loads_%1$s, escrow.leave_%1$s, escrow.sweep_%1$s TO escrow_proxy', n);
+
+	-- Rules 15 and 16. AFTER, so that no other trigger changes a value behind it.
+	fold_is_proved := format('current_setting(''escrow.fold'', true) IS NOT DISTINCT FROM encode(escrow.mac(''fold'', pg_current_xact_id()::text, ''%1$s'', NEW.%2$I::text,
+				array_to_string(ARRAY[%3$s], '','')), ''hex'')', n, k, texts[4]);
+	EXECUTE format($f$
+		CREATE OR REPLACE FUNCTION escrow.guard_%1$s() RETURNS trigger
+		LANGUAGE plpgsql SECURITY DEFINER SET search_path = pg_catalog, pg_temp AS $body$
+		BEGIN
+			IF NOT (%2$s) THEN
+				RAISE EXCEPTION 'reservable columns of %% are changed by escrowd-proxy alone', TG_TABLE_NAME
+					USING ERRCODE = 'feature_not_supported', SCHEMA = TG_TABLE_SCHEMA, TABLE = TG_TABLE_NAME,
+						HINT = 'Connect to escrowd-proxy, and add or subtract by the key: UPDATE t SET c = c - 3 WHERE key = 5.';
+			END IF;
+			RETURN NULL;
+		END
+		$body$
+	$f$, n, fold_is_proved);
+	-- A row that this transaction has written itself: its own UPDATE may change it if nobody holds it.
+	EXECUTE format($f$
+		CREATE OR REPLACE FUNCTION escrow.own_guard_%1$s() RETURNS trigger
+		LANGUAGE plpgsql SECURITY DEFINER SET search_path = pg_catalog, pg_temp AS $body$
+		BEGIN
+			IF EXISTS (SELECT FROM escrow.held_%1$s WHERE key = OLD.%2$I) OR EXISTS (SELECT FROM escrow.journal_%1$s WHERE key = OLD.%2$I) THEN
+				RAISE EXCEPTION 'the row of %% is held by escrowd-proxy', TG_TABLE_NAME
+					USING ERRCODE = 'object_in_use', SCHEMA = TG_TABLE_SCHEMA, TABLE = TG_TABLE_NAME,
+						DETAIL = format('The key is %%s.', OLD.%2$I), HINT = 'Connect to escrowd-proxy, and add or subtract by the key: UPDATE t SET c = c - 3 WHERE key = 5.';
+			END IF;
+			RETURN NULL;
+		END
+		$body$
+	$f$, n, k);
+	EXECUTE format($f$
+		CREATE OR REPLACE FUNCTION escrow.keep_%1$s() RETURNS trigger
+		LANGUAGE plpgsql SECURITY DEFINER SET search_path = pg_catalog, pg_temp AS $body$
+		BEGIN
+			IF EXISTS (SELECT FROM escrow.held_%1$s WHERE key = OLD.%2$I) OR EXISTS (SELECT FROM escrow.journal_%1$s WHERE key = OLD.%2$I) THEN
+				RAISE EXCEPTION 'the row of %% is held by escrowd-proxy', TG_TABLE_NAME
+					USING ERRCODE = 'object_in_use', SCHEMA = TG_TABLE_SCHEMA, TABLE = TG_TABLE_NAME,
+						DETAIL = format('The key is %%s.', OLD.%2$I), HINT = 'Connect to escrowd-proxy, which leaves a row that nobody has reserved.';
+			END IF;
+			RETURN NULL;
+		END
+		$body$
+	$f$, n, k);
+	EXECUTE format('ALTER FUNCTION escrow.guard_%1$s OWNER TO escrow_journal; ALTER FUNCTION escrow.own_guard_%1$s OWNER TO escrow_journal; ALTER FUNCTION escrow.keep_%1$s OWNER TO escrow_journal', n);
+	-- Whoever sets escrow.fold has to prove the change, so that a fold need not look who has written the row.
+	EXECUTE format($f$
+		CREATE OR REPLACE TRIGGER "escrow guard" AFTER UPDATE ON %1$s FOR EACH ROW
+			WHEN ((%2$s) AND (current_setting('escrow.fold', true) <> '' OR NOT escrow.is_own(OLD.xmin))) EXECUTE FUNCTION escrow.guard_%3$s();
+		CREATE OR REPLACE TRIGGER "escrow guard own" AFTER UPDATE ON %1$s FOR EACH ROW
+			WHEN ((%2$s) AND coalesce(current_setting('escrow.fold', true), '') = '' AND escrow.is_own(OLD.xmin)) EXECUTE FUNCTION escrow.own_guard_%3$s();
+		CREATE OR REPLACE TRIGGER "escrow key" AFTER UPDATE ON %1$s FOR EACH ROW
+			WHEN (OLD.%4$I IS DISTINCT FROM NEW.%4$I) EXECUTE FUNCTION escrow.keep_%3$s();
+		CREATE OR REPLACE TRIGGER "escrow delete" AFTER DELETE ON %1$s FOR EACH ROW EXECUTE FUNCTION escrow.keep_%3$s();
+		CREATE OR REPLACE TRIGGER "escrow truncate" BEFORE TRUNCATE ON %1$s FOR EACH STATEMENT EXECUTE FUNCTION escrow.refuse_truncate()
+	$f$, relation, texts[6], n, k);
+	EXECUTE (SELECT string_agg(format('ALTER TABLE %s ENABLE ALWAYS TRIGGER %I', relation, t), '; ')
+		FROM unnest(ARRAY['escrow guard', 'escrow guard own', 'escrow key', 'escrow delete', 'escrow truncate']) AS t);
+
+	-- Key and reservable columns with what is pending, in one snapshot. Its owner may grant it. It has no other columns, so
+	-- that these can be altered.
+	view_name := format('escrow.%I', 'now_' || (SELECT relname FROM pg_class WHERE oid = it.relation));
+	IF to_regclass(view_name) IS NOT NULL AND obj_description(to_regclass(view_name), 'pg_class') IS DISTINCT FROM n::text THEN
+		view_name := format('escrow.%I', 'now_' || n);
+	END IF;
+	EXECUTE format('GRANT SELECT ON escrow.journal_%s TO %s', n, proprietor);
+	EXECUTE format($f$
+		CREATE OR REPLACE VIEW %1$s AS SELECT t.%6$I, %2$s FROM %3$s AS t
+		LEFT JOIN LATERAL (SELECT %4$s FROM escrow.journal_%5$s AS j WHERE j.key = t.%6$I) AS j ON true
+	$f$, view_name, texts[7], relation, texts[8], n, k);
+	EXECUTE format('ALTER VIEW %1$s OWNER TO %2$s; COMMENT ON VIEW %1$s IS %3$L', view_name, proprietor, n);
+	UPDATE escrow.declared AS d SET definition = (escrow.describe(it.relation, names)).definition WHERE d.number = n;
+END
+$$;
+
+-- Declares numeric columns of a table reservable. The table's owner calls it. Returns the CHECKs as they were understood.
+CREATE OR REPLACE FUNCTION escrow.reservable(relation regclass, VARIADIC reservable name[]) RETURNS SETOF text
+LANGUAGE plpgsql SECURITY DEFINER SET search_path = pg_catalog, pg_temp AS $$
+DECLARE
+	it escrow.declared;
+	proprietor oid := (SELECT relowner FROM pg_class WHERE oid = relation);
+	largest text;
+BEGIN
+	IF NOT pg_has_role(session_user, proprietor, 'USAGE') THEN
+		RAISE EXCEPTION 'must be owner of table %', relation USING ERRCODE = 'insufficient_privilege';
+	END IF;
+	EXECUTE format('LOCK TABLE %s IN SHARE ROW EXCLUSIVE MODE', relation);
+	IF EXISTS (SELECT FROM escrow.declared AS d WHERE d.relation = reservable.relation) THEN
+		PERFORM escrow.refuse(relation, 'it is declared already', format('Call escrow.ordinary(%L) first.', relation));
+	END IF;
+	it := escrow.describe(relation, reservable);
+	FOR i IN 1 .. cardinality(reservable) LOOP
+		EXECUTE format('SELECT %1$I::text FROM %2$s WHERE abs(%1$I::numeric) > 999999999999999 LIMIT 1', reservable[i], relation) INTO largest;
+		IF largest IS NOT NULL THEN
+			PERFORM escrow.refuse(relation, format('the column %I has the value %s, of more than 15 digits', reservable[i], largest));
+		END IF;
+	END LOOP;
+	INSERT INTO escrow.declared (relation, key_name, key_type, columns, checks, definition, note_text, own_text)
+	VALUES (it.relation, it.key_name, it.key_type, it.columns, it.checks, '{}', '', '') RETURNING number INTO it.number;
+	EXECUTE format('CREATE TABLE escrow.journal_%s (epoch bigint NOT NULL, tag bigint NOT NULL, number bigint NOT NULL, key %s NOT NULL, %s)', it.number, it.key_type,
+		(SELECT string_agg(format('change_%s numeric NOT NULL', i), ', ') FROM generate_subscripts(reservable, 1) AS i));
+	EXECUTE format('CREATE INDEX ON escrow.journal_%s (key)', it.number);
+	EXECUTE format('CREATE TABLE escrow.held_%s (key %s PRIMARY KEY, epoch bigint NOT NULL)', it.number, it.key_type);
+	EXECUTE format('ALTER TABLE escrow.journal_%1$s OWNER TO escrow_journal; ALTER TABLE escrow.held_%1$s OWNER TO escrow_journal', it.number);
+	EXECUTE format('GRANT SELECT ON escrow.journal_%1$s, escrow.held_%1$s TO escrow_proxy', it.number);
+	PERFORM escrow.generate(it);
+	NOTIFY escrow_declared;
+	RETURN QUERY SELECT format('%s: %s', condition->>'name', escrow.told(condition, reservable)) FROM jsonb_array_elements(it.checks) AS condition
+		WHERE NOT condition ? 'range';
+END
+$$;
+
+-- Makes a table ordinary again. It waits for open reservations, and folds what is pending.
+CREATE OR REPLACE FUNCTION escrow.ordinary(relation regclass) RETURNS void
+LANGUAGE plpgsql SECURITY DEFINER SET search_path = pg_catalog, pg_temp AS $$
+DECLARE
+	n integer := (SELECT number FROM escrow.declared AS d WHERE d.relation = ordinary.relation);
+	which text;
+	view_name text;
+	it record;
+BEGIN
+	IF n IS NULL THEN
+		RAISE EXCEPTION '% is not declared reservable', relation USING ERRCODE = 'object_not_in_prerequisite_state';
+	END IF;
+	IF NOT pg_has_role(session_user, (SELECT relowner FROM pg_class WHERE oid = relation), 'USAGE') THEN
+		RAISE EXCEPTION 'must be owner of table %', relation USING ERRCODE = 'insufficient_privilege';
+	END IF;
+	IF current_setting('transaction_isolation') <> 'read committed' THEN
+		RAISE EXCEPTION 'escrow.ordinary needs READ COMMITTED' USING ERRCODE = 'invalid_transaction_state';
+	END IF;
+	EXECUTE format('LOCK TABLE escrow.journal_%s IN ACCESS EXCLUSIVE MODE', n);
+	FOR which IN EXECUTE format('SELECT DISTINCT key::text FROM escrow.journal_%s', n) LOOP
+		EXECUTE format('SELECT escrow.take_%s($1::%s, false, false)', n, (SELECT key_type FROM escrow.declared WHERE number = n)) USING which;
+	END LOOP;
+	DELETE FROM escrow.declared WHERE number = n;
+	EXECUTE (SELECT string_agg(format('DROP TRIGGER %I ON %s', tgname, relation), '; ') FROM pg_trigger WHERE tgrelid = relation AND tgname LIKE 'escrow %');
+	FOR view_name IN SELECT c.oid::regclass FROM pg_class AS c WHERE c.relkind = 'v' AND c.relnamespace = 'escrow'::regnamespace
+		AND obj_description(c.oid, 'pg_class') = n::text LOOP
+		EXECUTE format('DROP VIEW %s', view_name);
+	END LOOP;
+	FOR it IN SELECT f::regprocedure AS function FROM escrow.functions(n) AS f LOOP
+		EXECUTE format('DROP FUNCTION %s', it.function);
+	END LOOP;
+	EXECUTE format('DROP TABLE escrow.journal_%1$s, escrow.held_%1$s', n);
+	NOTIFY escrow_declared; -- a proxy that listens looks anew
+END
+$$;
+
+-- Keeps DDL away that would change what was declared.
+CREATE OR REPLACE FUNCTION escrow.keep_declared() RETURNS event_trigger
+LANGUAGE plpgsql SECURITY DEFINER SET search_path = pg_catalog, pg_temp AS $$
+DECLARE
+	it escrow.declared;
+	found escrow.declared;
+BEGIN
+	FOR it IN SELECT * FROM escrow.declared AS d WHERE d.definition <> '{}' AND (TG_TAG NOT IN ('ALTER FUNCTION', 'ALTER ROUTINE')
+		OR EXISTS (SELECT FROM pg_event_trigger_ddl_commands() AS command WHERE command.objid IN (SELECT escrow.functions(d.number))))
+	LOOP
+		BEGIN
+			found := escrow.describe(it.relation, ARRAY(SELECT (c->>'name')::name FROM jsonb_array_elements(it.columns) AS c));
+		EXCEPTION WHEN invalid_table_definition OR no_data_found THEN
+			found := NULL;
+		END;
+		IF found.definition IS DISTINCT FROM it.definition THEN
+			RAISE EXCEPTION '% would change what is declared reservable of %', TG_TAG, coalesce((SELECT relname FROM pg_class WHERE oid = it.relation), 'a table that was dropped')
+				USING ERRCODE = 'object_in_use', HINT = format('Call escrow.ordinary(%L) first.', it.relation);
+		END IF;
+	END LOOP;
+END
+$$;
+DROP EVENT TRIGGER IF EXISTS escrow_keep_altered;
+CREATE EVENT TRIGGER escrow_keep_altered ON ddl_command_end
+	WHEN TAG IN ('ALTER TABLE', 'ALTER FUNCTION', 'ALTER ROUTINE', 'CREATE INDEX', 'CREATE TRIGGER', 'CREATE RULE', 'ALTER TRIGGER', 'CREATE TABLE')
+	EXECUTE FUNCTION escrow.keep_declared();
+DROP EVENT TRIGGER IF EXISTS escrow_keep_dropped;
+CREATE EVENT TRIGGER escrow_keep_dropped ON sql_drop EXECUTE FUNCTION escrow.keep_declared();
+
+-- An upgrade makes the functions of declared tables anew.
+DO $do$
+DECLARE
+	it escrow.declared;
+BEGIN
+	FOR it IN SELECT * FROM escrow.declared LOOP
+		PERFORM escrow.generate(it);
+	END LOOP;
+END
+$do$;

@@ -1,0 +1,594 @@
+//! What a connection's PostgreSQL still has to answer, and what is known of its prepared statements and portals.
+//!
+//! Each message that is sent puts what it expects into a queue; each reply takes from its front. So it is known whose a
+//! reply is: the client's, or the proxy's own. An error takes all away that PostgreSQL skips, up to the next Sync.
+
+use std::collections::{HashMap, VecDeque};
+use std::sync::Arc;
+
+use crate::protocol::{Status, Tag};
+use crate::update::Statement;
+
+/// A statement that the client has prepared, if the proxy looks at it.
+#[derive(Debug)]
+pub struct Prepared {
+    /// What its text asks for.
+    pub statement: Statement,
+    /// The types of its parameters, as far as the client has told them.
+    pub types: Vec<u32>,
+}
+
+/// A portal of such a statement.
+#[derive(Debug)]
+pub struct Bound {
+    /// The statement.
+    pub statement: Arc<Prepared>,
+    /// The formats of its values.
+    pub formats: Vec<i16>,
+    /// Its values.
+    pub values: Vec<Option<Vec<u8>>>,
+    /// The formats of the columns of its result.
+    pub results: Vec<i16>,
+}
+
+/// What is expected next.
+#[derive(Debug)]
+pub enum Expect {
+    /// The end of the startup.
+    Startup,
+    /// ParseComplete: then the name stands for the statement, or for one that is no reservation.
+    Parse(String, Option<Arc<Prepared>>),
+    /// BindComplete: then the portal is this one.
+    Bind(String, Option<Arc<Bound>>),
+    /// What a statement or a portal is described with.
+    Describe,
+    /// CloseComplete: then this statement is gone.
+    CloseStatement(String),
+    /// CloseComplete: then this portal is gone.
+    ClosePortal(String),
+    /// The replies to an Execute.
+    Execute,
+    /// The replies to a Query, up to its ReadyForQuery.
+    Query,
+    /// The replies to a FunctionCall, up to its ReadyForQuery.
+    Function,
+    /// A ReadyForQuery.
+    Sync,
+    /// ParseComplete, of the proxy's own.
+    OwnParse,
+    /// BindComplete, of the proxy's own.
+    OwnBind,
+    /// The replies to an Execute of the proxy's own.
+    OwnExecute,
+    /// The description of an own result that is the client's.
+    OwnDescribe,
+    /// The replies to an Execute of the proxy's own whose rows are the client's.
+    OwnRows,
+    /// CloseComplete, of the proxy's own.
+    OwnShut,
+    /// CloseComplete, with which an own reply is whole.
+    OwnClose,
+}
+
+impl Expect {
+    fn is_own(&self) -> bool {
+        matches!(
+            self,
+            Expect::OwnParse
+                | Expect::OwnBind
+                | Expect::OwnExecute
+                | Expect::OwnDescribe
+                | Expect::OwnRows
+                | Expect::OwnShut
+                | Expect::OwnClose
+        )
+    }
+
+    /// Returns whether a ReadyForQuery ends it.
+    fn ends_ready(&self) -> bool {
+        matches!(
+            self,
+            Expect::Startup | Expect::Query | Expect::Function | Expect::Sync
+        )
+    }
+}
+
+/// What a reply is.
+#[derive(Clone, Copy, Debug, PartialEq, Eq)]
+pub enum Reply {
+    /// It goes to the client, and ends nothing.
+    Pass,
+    /// A CommandComplete of the client's.
+    Completed(Tag),
+    /// An ErrorResponse of the client's. With it PostgreSQL skips an own request, or not.
+    Failed {
+        /// Whether an own request was skipped.
+        skips_own: bool,
+    },
+    /// A ReadyForQuery. It counts when [`Track::ready`] is called.
+    Ready(Status),
+    /// A part of an own reply.
+    Own,
+    /// The command tag of an own request whose rows are the client's.
+    OwnTag,
+    /// The last part of an own reply.
+    OwnDone,
+    /// The error that ends an own request.
+    OwnFailed,
+    /// It answers nothing that was asked.
+    Stray,
+}
+
+/// What is known of one connection.
+#[derive(Debug)]
+pub struct Track {
+    queue: VecDeque<Expect>,
+    /// Whether PostgreSQL skips what comes, up to a Sync that was not sent yet.
+    is_skipping: bool,
+    /// The status of the last ReadyForQuery.
+    status: Status,
+    /// Whether since then nothing was answered that begins or ends a transaction, and no error.
+    is_plain: bool,
+    statements: HashMap<String, Arc<Prepared>>,
+    portals: HashMap<String, Arc<Bound>>,
+    /// Whether names of tables may mean something else than before, to the end of the transaction.
+    is_volatile: bool,
+    /// What names of tables mean.
+    resolved: HashMap<String, Option<u32>>,
+    /// The statements that DEALLOCATEs on the way name.
+    deallocated: VecDeque<String>,
+    /// Whether the session has kept the proxy's statements and its greeting.
+    is_kept: bool,
+    /// Whether a COPY into PostgreSQL is under way by the extended protocol.
+    is_copying: bool,
+    /// The process that serves the client.
+    pub process: i32,
+    /// Whether texts have `standard_conforming_strings`.
+    pub is_conforming: bool,
+    /// Whether texts are in UTF-8.
+    pub is_utf8: bool,
+}
+
+impl Default for Track {
+    fn default() -> Self {
+        Track::new()
+    }
+}
+
+impl Track {
+    /// Returns a connection whose startup is under way.
+    pub fn new() -> Track {
+        Track {
+            queue: VecDeque::from([Expect::Startup]),
+            is_skipping: false,
+            status: Status::Idle,
+            is_plain: true,
+            statements: HashMap::new(),
+            portals: HashMap::new(),
+            is_volatile: false,
+            resolved: HashMap::new(),
+            deallocated: VecDeque::new(),
+            is_kept: true,
+            is_copying: false,
+            process: 0,
+            is_conforming: true,
+            is_utf8: false,
+        }
+    }
+
+    /// Notes what a message that is sent expects.
+    pub fn expect(&mut self, expect: Expect) {
+        if self.is_copying && matches!(expect, Expect::Sync) {
+            return; // PostgreSQL ignores it amid a COPY
+        }
+        if self.is_skipping {
+            if !matches!(expect, Expect::Sync) {
+                return;
+            }
+            self.is_skipping = false;
+        }
+        self.queue.push_back(expect);
+    }
+
+    /// A DEALLOCATE of this statement is on the way.
+    pub fn deallocates(&mut self, name: String) {
+        self.deallocated.push_back(name);
+    }
+
+    /// The client ends a COPY.
+    pub fn copy_ends(&mut self) {
+        self.is_copying = false;
+    }
+
+    /// Returns whether all is answered.
+    pub fn is_quiet(&self) -> bool {
+        self.queue.is_empty()
+    }
+
+    /// Returns whether something is not answered that may change what is reserved, or that may stop errors from being
+    /// skipped.
+    pub fn is_executing(&self) -> bool {
+        let executes =
+            |it: &Expect| it.ends_ready() || matches!(it, Expect::Execute) || it.is_own();
+        self.queue.iter().any(executes)
+    }
+
+    /// Returns whether PostgreSQL skips what comes.
+    pub fn is_skipping(&self) -> bool {
+        self.is_skipping
+    }
+
+    /// Returns the status of the last ReadyForQuery.
+    pub fn status(&self) -> Status {
+        self.status
+    }
+
+    /// Returns whether nothing was answered since the last ReadyForQuery that begins or ends a transaction, and no error.
+    pub fn is_plain(&self) -> bool {
+        self.is_plain
+    }
+
+    /// Returns the portal of a name, as it will be when all is answered without an error.
+    pub fn portal(&self, name: &str) -> Option<Arc<Bound>> {
+        let last = self.queue.iter().rev().find_map(|it| match it {
+            Expect::Bind(portal, bound) if portal == name => Some(bound.clone()),
+            Expect::ClosePortal(portal) if portal == name => Some(None),
+            Expect::Query if name.is_empty() => Some(None),
+            _ => None,
+        });
+        last.unwrap_or_else(|| self.portals.get(name).cloned())
+    }
+
+    /// Returns the statement of a name, as it will be when all is answered without an error.
+    pub fn statement(&self, name: &str) -> Option<Arc<Prepared>> {
+        let last = self.queue.iter().rev().find_map(|it| match it {
+            Expect::Parse(statement, prepared) if statement == name => Some(prepared.clone()),
+            Expect::CloseStatement(statement) if statement == name => Some(None),
+            Expect::Query if name.is_empty() => Some(None),
+            _ => None,
+        });
+        last.unwrap_or_else(|| self.statements.get(name).cloned())
+    }
+
+    /// Forgets all statements and portals: a message that was not looked at may have changed any of them.
+    pub fn forget_statements(&mut self) {
+        self.statements.clear();
+        self.portals.clear();
+        for it in &mut self.queue {
+            match it {
+                Expect::Parse(_, prepared) => *prepared = None,
+                Expect::Bind(_, bound) => *bound = None,
+                _ => {}
+            }
+        }
+    }
+
+    /// Returns what a name of a table means, if that is known: a relation, or nothing.
+    pub fn meaning(&self, name: &str) -> Option<Option<u32>> {
+        if self.is_volatile {
+            return None;
+        }
+        self.resolved.get(name).copied()
+    }
+
+    /// Keeps what a name of a table means.
+    pub fn set_meaning(&mut self, name: String, oid: Option<u32>) {
+        // A client that makes up names gets no more than this.
+        if self.resolved.len() >= 100 {
+            self.resolved.clear();
+        }
+        self.resolved.insert(name, oid);
+    }
+
+    /// Forgets what names mean.
+    pub fn forget_meanings(&mut self) {
+        self.resolved.clear();
+        self.is_volatile = true;
+    }
+
+    /// Returns whether the session has lost the proxy's statements and greeting since the last call.
+    pub fn take_lost(&mut self) -> bool {
+        !std::mem::replace(&mut self.is_kept, true)
+    }
+
+    /// Takes a reply, by its kind and its body.
+    pub fn reply(&mut self, kind: u8, body: &[u8]) -> Reply {
+        match kind {
+            // They come at any time.
+            b'N' | b'A' | b'R' | b'v' => return Reply::Pass,
+            b'S' => {
+                self.note_parameter(body);
+                return Reply::Pass;
+            }
+            b'K' => {
+                let process = body.get(..4).and_then(|it| it.try_into().ok());
+                self.process = process.map_or(0, i32::from_be_bytes);
+                return Reply::Pass;
+            }
+            b'Z' => {
+                return match body.first() {
+                    Some(b'I') => Reply::Ready(Status::Idle),
+                    Some(b'T') => Reply::Ready(Status::InBlock),
+                    Some(b'E') => Reply::Ready(Status::Failed),
+                    _ => Reply::Stray,
+                }
+            }
+            b'E' => return self.error(),
+            _ => {}
+        }
+        match (kind, self.queue.front()) {
+            (b'1', Some(Expect::Parse(..))) => {
+                if let Some(Expect::Parse(name, prepared)) = self.queue.pop_front() {
+                    match prepared {
+                        Some(prepared) => self.statements.insert(name, prepared),
+                        None => self.statements.remove(&name),
+                    };
+                }
+                Reply::Pass
+            }
+            (b'2', Some(Expect::Bind(..))) => {
+                if let Some(Expect::Bind(name, bound)) = self.queue.pop_front() {
+                    match bound {
+                        Some(bound) => self.portals.insert(name, bound),
+                        None => self.portals.remove(&name),
+                    };
+                }
+                Reply::Pass
+            }
+            (b'3', Some(Expect::CloseStatement(_) | Expect::ClosePortal(_))) => {
+                match self.queue.pop_front() {
+                    Some(Expect::CloseStatement(name)) => drop(self.statements.remove(&name)),
+                    Some(Expect::ClosePortal(name)) => drop(self.portals.remove(&name)),
+                    _ => {}
+                }
+                Reply::Pass
+            }
+            (b'T' | b'n', Some(Expect::Describe)) => {
+                self.queue.pop_front();
+                Reply::Pass
+            }
+            (b't', Some(Expect::Describe)) => Reply::Pass,
+            (b'C', Some(Expect::Execute)) => {
+                self.queue.pop_front();
+                Reply::Completed(self.completed(body))
+            }
+            (b'C', Some(Expect::Query)) => Reply::Completed(self.completed(body)),
+            (b'I' | b's', Some(Expect::Execute)) => {
+                self.queue.pop_front();
+                Reply::Pass
+            }
+            (b'G', Some(Expect::Execute)) => {
+                self.is_copying = true;
+                while matches!(self.queue.get(1), Some(Expect::Sync)) {
+                    self.queue.remove(1);
+                }
+                Reply::Pass
+            }
+            (
+                b'D' | b'T' | b'G' | b'H' | b'W' | b'd' | b'c' | b'I',
+                Some(Expect::Execute | Expect::Query),
+            ) => Reply::Pass,
+            (b'V', Some(Expect::Function)) => Reply::Pass,
+            (b'1', Some(Expect::OwnParse)) | (b'2', Some(Expect::OwnBind)) => {
+                self.queue.pop_front();
+                Reply::Own
+            }
+            (b'D' | b'T', Some(Expect::OwnExecute)) => Reply::Own,
+            (b'C', Some(Expect::OwnExecute)) => {
+                self.queue.pop_front();
+                Reply::Own
+            }
+            (b'T', Some(Expect::OwnDescribe)) => {
+                self.queue.pop_front();
+                Reply::Pass
+            }
+            (b'n', Some(Expect::OwnDescribe)) | (b'3', Some(Expect::OwnShut)) => {
+                self.queue.pop_front();
+                Reply::Own
+            }
+            (b'D', Some(Expect::OwnRows)) => Reply::Pass,
+            (b'C', Some(Expect::OwnRows)) => {
+                self.queue.pop_front();
+                Reply::OwnTag
+            }
+            (b'3', Some(Expect::OwnClose)) => {
+                self.queue.pop_front();
+                Reply::OwnDone
+            }
+            _ => Reply::Stray,
+        }
+    }
+
+    /// Takes an error: PostgreSQL skips all of the extended protocol up to the next Sync.
+    fn error(&mut self) -> Reply {
+        self.is_plain = false;
+        self.is_copying = false;
+        match self.queue.front() {
+            None => return Reply::Failed { skips_own: false },
+            Some(front) if front.ends_ready() => return Reply::Failed { skips_own: false },
+            Some(_) => {}
+        }
+        let is_own = self.queue.front().map_or(false, Expect::is_own);
+        let mut skips_own = false;
+        while let Some(front) = self.queue.front() {
+            if matches!(front, Expect::Sync) {
+                break;
+            }
+            skips_own |= front.is_own();
+            self.queue.pop_front();
+        }
+        self.is_skipping = self.queue.is_empty();
+        if is_own {
+            Reply::OwnFailed
+        } else {
+            Reply::Failed { skips_own }
+        }
+    }
+
+    /// A ReadyForQuery counts.
+    pub fn ready(&mut self, status: Status) {
+        while let Some(front) = self.queue.pop_front() {
+            if matches!(front, Expect::Query) {
+                // A simple query drops them.
+                self.portals.remove("");
+                self.statements.remove("");
+            }
+            if front.ends_ready() {
+                break;
+            }
+        }
+        if self.queue.is_empty() {
+            self.deallocated.clear();
+        }
+        self.status = status;
+        self.is_plain = true;
+        self.is_copying = false;
+        if status == Status::Idle {
+            self.portals.clear();
+            if self.is_volatile {
+                self.resolved.clear();
+                self.is_volatile = false;
+            }
+        }
+    }
+
+    /// Notes what a command tag says.
+    fn completed(&mut self, body: &[u8]) -> Tag {
+        let text = body.strip_suffix(&[0]).unwrap_or(body);
+        let text = std::str::from_utf8(text).unwrap_or("");
+        let tag = Tag::read(text);
+        let word = text.split(' ').next().unwrap_or("");
+        if tag != Tag::Plain || word == "BEGIN" {
+            self.is_plain = false;
+        }
+        if matches!(tag, Tag::Commit | Tag::Other) {
+            self.portals.clear();
+        }
+        match word {
+            "SELECT" | "INSERT" | "UPDATE" | "DELETE" | "BEGIN" | "COMMIT" | "SAVEPOINT"
+            | "RELEASE" | "FETCH" | "MOVE" | "COPY" | "DECLARE" | "CLOSE" | "LISTEN" | "NOTIFY"
+            | "EXPLAIN" | "LOCK" | "SHOW" => {}
+            "DEALLOCATE" if text == "DEALLOCATE" => match self.deallocated.pop_front() {
+                Some(name) => drop(self.statements.remove(&name)),
+                None => self.forget_statements(),
+            },
+            "PREPARE" | "DEALLOCATE" => self.forget_statements(),
+            "DISCARD" => {
+                self.forget_statements();
+                self.forget_meanings();
+                self.is_kept = false;
+            }
+            _ => self.forget_meanings(),
+        }
+        if text == "DEALLOCATE ALL" {
+            self.is_kept = false;
+        }
+        tag
+    }
+
+    fn note_parameter(&mut self, body: &[u8]) {
+        let mut words = body.split(|&byte| byte == 0);
+        match (words.next(), words.next()) {
+            (Some(b"standard_conforming_strings"), Some(value)) => {
+                self.is_conforming = value == b"on";
+            }
+            (Some(b"client_encoding"), Some(value)) => self.is_utf8 = value == b"UTF8",
+            _ => {}
+        }
+    }
+}
+
+#[cfg(test)]
+mod tests {
+    use super::*;
+
+    fn started() -> Track {
+        let mut track = Track::new();
+        assert_eq!(track.reply(b'Z', b"I"), Reply::Ready(Status::Idle));
+        track.ready(Status::Idle);
+        track
+    }
+
+    #[test]
+    fn an_error_skips_up_to_the_next_sync() {
+        let mut track = started();
+        track.expect(Expect::Parse("".to_owned(), None));
+        track.expect(Expect::OwnBind);
+        track.expect(Expect::OwnExecute);
+        track.expect(Expect::OwnClose);
+        assert_eq!(track.reply(b'E', b""), Reply::Failed { skips_own: true });
+        assert!(track.is_skipping() && track.is_quiet());
+        track.expect(Expect::Execute);
+        assert!(track.is_quiet(), "it is skipped");
+        track.expect(Expect::Sync);
+        assert!(!track.is_skipping() && !track.is_quiet());
+        assert_eq!(track.reply(b'Z', b"E"), Reply::Ready(Status::Failed));
+        track.ready(Status::Failed);
+        assert!(track.is_quiet());
+    }
+
+    #[test]
+    fn an_error_of_the_sync_itself_skips_nothing() {
+        let mut track = started();
+        track.expect(Expect::Execute);
+        track.expect(Expect::Sync);
+        assert_eq!(
+            track.reply(b'C', b"INSERT 0 1\0"),
+            Reply::Completed(Tag::Plain)
+        );
+        assert_eq!(track.reply(b'E', b""), Reply::Failed { skips_own: false });
+        assert!(!track.is_skipping() && !track.is_quiet());
+    }
+
+    #[test]
+    fn own_replies_are_told_from_the_clients() {
+        let mut track = started();
+        track.expect(Expect::OwnParse);
+        track.expect(Expect::OwnBind);
+        track.expect(Expect::OwnExecute);
+        track.expect(Expect::OwnClose);
+        track.expect(Expect::Sync);
+        for kind in [b'1', b'2', b'D', b'C'] {
+            assert_eq!(track.reply(kind, b""), Reply::Own);
+        }
+        assert_eq!(track.reply(b'N', b""), Reply::Pass);
+        assert_eq!(track.reply(b'3', b""), Reply::OwnDone);
+        assert_eq!(track.reply(b'2', b""), Reply::Stray);
+    }
+
+    #[test]
+    fn a_deallocate_forgets_what_it_names() {
+        let mut track = started();
+        let statement = Statement::read("UPDATE t SET n = n - 1 WHERE id = 1").unwrap();
+        let prepared = Arc::new(Prepared {
+            statement,
+            types: Vec::new(),
+        });
+        for name in ["a", "b"] {
+            track.expect(Expect::Parse(name.to_owned(), Some(prepared.clone())));
+            assert_eq!(track.reply(b'1', b""), Reply::Pass);
+        }
+        track.deallocates("a".to_owned());
+        track.expect(Expect::Query);
+        track.reply(b'C', b"DEALLOCATE\0");
+        assert!(track.statement("a").is_none() && track.statement("b").is_some());
+        // One that was not understood may have named any.
+        track.reply(b'C', b"DEALLOCATE\0");
+        assert!(track.statement("b").is_none());
+    }
+
+    #[test]
+    fn a_sync_amid_a_copy_is_not_answered() {
+        let mut track = started();
+        track.expect(Expect::Execute);
+        track.expect(Expect::Sync);
+        assert_eq!(track.reply(b'G', b""), Reply::Pass);
+        track.expect(Expect::Sync);
+        track.copy_ends();
+        track.expect(Expect::Sync);
+        assert_eq!(track.reply(b'C', b"COPY 3\0"), Reply::Completed(Tag::Plain));
+        assert_eq!(track.reply(b'Z', b"I"), Reply::Ready(Status::Idle));
+        track.ready(Status::Idle);
+        assert!(track.is_quiet());
+    }
+}

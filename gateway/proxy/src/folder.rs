@@ -1,0 +1,375 @@
+//! The connections that move what is noted into the rows of tables, that load rows, and that look what is declared.
+//!
+//! A fold skips rows that somebody else has locked. A load waits for a lock for a short time (rule 21).
+
+use std::collections::HashMap;
+use std::sync::Arc;
+use std::time::{Duration, Instant};
+
+use tokio::sync::mpsc::error::TryRecvError;
+use tokio::sync::mpsc::UnboundedReceiver;
+use tokio::time::{sleep, timeout};
+use tokio_postgres::error::SqlState;
+use tokio_postgres::{Client, Error, Statement};
+
+use crate::catalog::Catalog;
+use crate::hub::{FolderTask, Generation, Hub, Left, LoaderTask};
+use crate::protocol::Event;
+use crate::target::Target;
+use crate::update::Key;
+
+/// How long a new connection may take, and a pause behind one that failed.
+const PATIENCE: Duration = Duration::from_secs(3);
+const PAUSE: Duration = Duration::from_millis(100);
+
+/// How soon rows that were locked are tried again, and how soon at the latest if they stay locked.
+const AGAIN: Duration = Duration::from_millis(2);
+const LONGEST_AGAIN: Duration = Duration::from_millis(100);
+
+/// How often what is declared is read.
+const REFRESH: Duration = Duration::from_secs(1);
+
+/// How many keys of a journal are folded at once by a sweep.
+const PIECE: i32 = 1_000;
+
+/// How many connections load.
+pub const LOADERS: usize = 4;
+
+const ISOLATION: &str = "-c default_transaction_isolation=read\\ committed -c idle_session_timeout=0 -c statement_timeout=0";
+
+/// A connection of the proxy's own, which is opened when it is needed, with its prepared statements.
+struct Own {
+    target: Arc<Target>,
+    name: &'static str,
+    options: String,
+    client: Option<Client>,
+    prepared: HashMap<String, Statement>,
+}
+
+/// Why nothing came of a query.
+enum Failure {
+    /// PostgreSQL's error.
+    Refused(Error),
+    /// There is no connection any more.
+    Lost(String),
+}
+
+impl Own {
+    fn new(target: Arc<Target>, name: &'static str, options: &str) -> Own {
+        Own {
+            target,
+            name,
+            options: format!("{} {}", ISOLATION, options),
+            client: None,
+            prepared: HashMap::new(),
+        }
+    }
+
+    async fn client(&mut self) -> Result<&Client, Failure> {
+        if self.client.as_ref().map_or(true, Client::is_closed) {
+            self.client = None;
+            self.prepared.clear();
+            let login = self.target.login(self.name, &self.options);
+            let ((client, connection), _) = match timeout(PATIENCE, login).await {
+                Ok(Ok(connected)) => connected,
+                Ok(Err(error)) => return Err(Failure::Lost(error.to_string())),
+                Err(_) => return Err(Failure::Lost("PostgreSQL does not answer".to_owned())),
+            };
+            tokio::spawn(connection);
+            self.client = Some(client);
+        }
+        self.client
+            .as_ref()
+            .ok_or_else(|| Failure::Lost("no connection".to_owned()))
+    }
+
+    /// Runs a query that is prepared once.
+    async fn query(
+        &mut self,
+        text: &str,
+        values: &[&(dyn tokio_postgres::types::ToSql + Sync)],
+    ) -> Result<Vec<tokio_postgres::Row>, Failure> {
+        let result = self.try_query(text, values).await;
+        match result {
+            Err(Failure::Refused(error)) if error.as_db_error().is_none() => {
+                self.client = None;
+                Err(Failure::Lost(error.to_string()))
+            }
+            Err(Failure::Lost(why)) => {
+                self.client = None;
+                Err(Failure::Lost(why))
+            }
+            result => result,
+        }
+    }
+
+    async fn try_query(
+        &mut self,
+        text: &str,
+        values: &[&(dyn tokio_postgres::types::ToSql + Sync)],
+    ) -> Result<Vec<tokio_postgres::Row>, Failure> {
+        self.client().await?;
+        let statement = match (self.prepared.get(text), &self.client) {
+            (Some(statement), _) => statement.clone(),
+            (None, Some(client)) => {
+                let statement = client.prepare(text).await.map_err(Failure::Refused)?;
+                self.prepared.insert(text.to_owned(), statement.clone());
+                statement
+            }
+            (None, None) => return Err(Failure::Lost("no connection".to_owned())),
+        };
+        match &self.client {
+            Some(client) => client
+                .query(&statement, values)
+                .await
+                .map_err(Failure::Refused),
+            None => Err(Failure::Lost("no connection".to_owned())),
+        }
+    }
+}
+
+/// Folds, one fold after another.
+pub async fn fold(hub: Arc<Hub>, target: Arc<Target>, mut tasks: UnboundedReceiver<FolderTask>) {
+    let mut own = Own::new(
+        target,
+        "escrowd-proxy folder",
+        "-c synchronous_commit=off -c lock_timeout=300",
+    );
+    // The numbers of tables whose journals are still to be swept.
+    let mut sweep: Vec<i32> = Vec::new();
+    let mut pause = AGAIN;
+    loop {
+        let task = if sweep.is_empty() {
+            match tasks.recv().await {
+                Some(task) => Some(task),
+                None => return,
+            }
+        } else {
+            match tasks.try_recv() {
+                Ok(task) => Some(task),
+                Err(TryRecvError::Empty) => None,
+                Err(TryRecvError::Disconnected) => return,
+            }
+        };
+        match task {
+            Some(FolderTask::Fold(generation, keys)) => {
+                let begun = Instant::now();
+                let event = fold_keys(&mut own, &keys).await;
+                match &event {
+                    Event::FoldFailed => hub.metrics().fold_failed(),
+                    Event::FoldRefused => hub.metrics().fold_refused(),
+                    _ => hub.metrics().folded(begun.elapsed()),
+                }
+                match &event {
+                    Event::FoldFailed => sleep(PAUSE).await,
+                    Event::Folded { keys: folded } if folded.len() < keys.len() => {
+                        again(hub.clone(), generation, pause);
+                        pause = LONGEST_AGAIN.min(2 * pause);
+                    }
+                    _ => pause = AGAIN,
+                }
+                hub.report(generation, event);
+            }
+            Some(FolderTask::Sweep) => {
+                let catalog = hub.catalog().borrow().clone();
+                let tables = catalog.map_or_else(Vec::new, |it| it.tables().to_vec());
+                sweep = tables.iter().map(|table| table.number).collect();
+            }
+            None => {
+                if let Some(&number) = sweep.last() {
+                    if !sweep_piece(&mut own, number, hub.epoch()).await {
+                        sweep.pop();
+                    }
+                }
+            }
+        }
+    }
+}
+
+/// Lets a fold try again, after a short while, what was locked.
+fn again(hub: Arc<Hub>, generation: Generation, pause: Duration) {
+    tokio::spawn(async move {
+        sleep(pause).await;
+        hub.report(generation, Event::FoldAgain);
+    });
+}
+
+/// Folds keys, and returns what came of it.
+async fn fold_keys(own: &mut Own, keys: &[Key]) -> Event<Key, crate::update::Change> {
+    let mut tables: HashMap<i32, Vec<&str>> = HashMap::new();
+    for key in keys {
+        tables.entry(key.table).or_default().push(&key.text);
+    }
+    let mut folded = Vec::new();
+    for (table, keys) in tables {
+        match own.query(&fold_text(table), &[&keys]).await {
+            Ok(rows) => folded.extend(rows.iter().map(|row| Key {
+                table,
+                text: row.get::<_, &str>(0).into(),
+            })),
+            Err(Failure::Lost(why)) => {
+                tracing::debug!("a fold failed: {}", why);
+                return Event::FoldFailed;
+            }
+            Err(Failure::Refused(error)) if is_passing(&error) => {
+                tracing::debug!("a fold failed: {}", error);
+                return Event::FoldFailed;
+            }
+            Err(Failure::Refused(error)) if is_gone(&error) => {
+                // The table is ordinary again: its declaration was taken back, which folded all.
+                folded.extend(keys.iter().map(|&text| Key {
+                    table,
+                    text: text.into(),
+                }));
+            }
+            Err(Failure::Refused(error)) => {
+                tracing::error!("A FOLD WAS REFUSED (table {}): {}", table, error);
+                return Event::FoldRefused;
+            }
+        }
+    }
+    Event::Folded { keys: folded }
+}
+
+fn fold_text(table: i32) -> String {
+    format!("SELECT escrow.fold_{}($1::text[])", table)
+}
+
+/// Folds some of what former owners have left, and removes their marks. Returns whether there may be more.
+async fn sweep_piece(own: &mut Own, table: i32, epoch: i64) -> bool {
+    let text = format!("SELECT escrow.sweep_{table}($1, $2)");
+    match own.query(&text, &[&epoch, &PIECE]).await {
+        Ok(rows) => match rows.first().map_or(0, |row| row.get::<_, i32>(0)) {
+            0 => false,
+            count => {
+                tracing::info!("{count} rows of a former owner are folded (table {table})");
+                true
+            }
+        },
+        Err(Failure::Lost(why)) => {
+            tracing::warn!("a journal is not folded yet (table {}): {}", table, why);
+            sleep(PAUSE).await;
+            true
+        }
+        Err(Failure::Refused(error)) => {
+            tracing::error!("a journal cannot be folded (table {}): {}", table, error);
+            false
+        }
+    }
+}
+
+/// Returns whether an error says nothing of what was to be folded, so that it is tried again: a lock, a deadlock, a
+/// connection that is ended, want of room.
+fn is_passing(error: &Error) -> bool {
+    error.code().map_or(true, |code| {
+        *code == SqlState::LOCK_NOT_AVAILABLE
+            || ["40", "53", "57", "58", "08"]
+                .iter()
+                .any(|class| code.code().starts_with(class))
+    })
+}
+
+/// Returns whether the functions or the columns of a table are gone.
+fn is_gone(error: &Error) -> bool {
+    let gone = [
+        SqlState::UNDEFINED_FUNCTION,
+        SqlState::UNDEFINED_TABLE,
+        SqlState::UNDEFINED_COLUMN,
+        SqlState::INVALID_SCHEMA_NAME,
+    ];
+    error.code().map_or(false, |code| gone.contains(code))
+}
+
+/// Loads rows that the server is to have.
+pub async fn load(
+    hub: Arc<Hub>,
+    target: Arc<Target>,
+    tasks: Arc<tokio::sync::Mutex<UnboundedReceiver<LoaderTask>>>,
+) {
+    let mut own = Own::new(target, "escrowd-proxy loader", "-c lock_timeout=50");
+    loop {
+        let task = tasks.lock().await.recv().await;
+        let (generation, key) = match task {
+            Some(LoaderTask::Load(generation, key)) => (generation, key),
+            Some(LoaderTask::Leave(generation, key, why)) => {
+                leave(&mut own, &key).await;
+                let missing = false;
+                let event = match why {
+                    Left::Held => Event::Left { key },
+                    Left::Refused => Event::NotLoaded { key, missing },
+                };
+                hub.report(generation, event);
+                continue;
+            }
+            None => return,
+        };
+        let text = format!("SELECT escrow.load_{}($1, $2)", key.table);
+        let epoch = hub.epoch();
+        let loaded = own.query(&text, &[&epoch, &&*key.text]).await;
+        let values: Option<Vec<String>> = match &loaded {
+            Ok(rows) => rows.first().and_then(|row| row.get(0)),
+            Err(_) => None,
+        };
+        match (loaded, values) {
+            (Ok(_), Some(values)) => hub.loaded(generation, key, &values),
+            (loaded, _) => {
+                let missing = match loaded {
+                    Ok(_) => true,
+                    Err(Failure::Refused(error)) => {
+                        tracing::debug!("a row is not loaded: {}", error);
+                        is_gone(&error)
+                    }
+                    Err(Failure::Lost(why)) => {
+                        tracing::debug!("a row is not loaded: {}", why);
+                        false
+                    }
+                };
+                hub.report(generation, Event::NotLoaded { key, missing });
+            }
+        }
+    }
+}
+
+/// Removes the mark of a row that the server cannot have.
+async fn leave(own: &mut Own, key: &Key) {
+    let text = format!("SELECT escrow.leave_{}($1)", key.table);
+    match own.query(&text, &[&&*key.text]).await {
+        Ok(_) => {}
+        Err(Failure::Lost(why)) => tracing::debug!("a row is not left: {}", why),
+        Err(Failure::Refused(error)) => tracing::debug!("a row is not left: {}", error),
+    }
+}
+
+/// Looks what is declared, each second and when it is asked to.
+pub async fn watch(hub: Arc<Hub>, target: Arc<Target>) {
+    let mut own = Own::new(target, "escrowd-proxy watcher", "-c lock_timeout=1000");
+    let mut is_installed = true;
+    loop {
+        let read = match own.client().await {
+            Ok(client) => Catalog::read(client).await.map_err(Failure::Refused),
+            Err(failure) => Err(failure),
+        };
+        match read {
+            Ok(catalog) => {
+                is_installed = true;
+                hub.set_catalog(catalog);
+            }
+            Err(Failure::Refused(error)) if is_gone(&error) => {
+                if is_installed {
+                    tracing::warn!("schema escrow is not installed, or of an older version: nothing is reserved");
+                }
+                is_installed = false;
+                hub.set_catalog(Catalog::default());
+            }
+            Err(Failure::Refused(error)) => {
+                tracing::warn!("what is declared cannot be read: {}", error);
+                own.client = None;
+            }
+            Err(Failure::Lost(why)) => tracing::debug!("what is declared cannot be read: {}", why),
+        }
+        tokio::select! {
+            _ = sleep(REFRESH) => {}
+            _ = hub.is_asked_to_refresh() => {}
+        }
+    }
+}

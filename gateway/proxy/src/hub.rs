@@ -1,0 +1,543 @@
+//! Where the state machine meets the world: events go in under one lock, and actions are handed to who carries them out.
+//!
+//! Nothing waits here. The server's lines are queued under the same lock, so that it is told things in the order in which
+//! the machine decided them.
+
+use std::collections::{BTreeSet, HashMap};
+use std::sync::{Arc, Mutex, MutexGuard, PoisonError};
+use std::time::{Duration, Instant, SystemTime};
+
+use tokio::sync::mpsc::{unbounded_channel, UnboundedReceiver, UnboundedSender};
+use tokio::sync::{watch, Notify};
+
+use crate::catalog::Catalog;
+use crate::json;
+use crate::metrics::{Metrics, Now};
+use crate::note::Secret;
+use crate::process::Lines;
+use crate::protocol::{Action, Answer, Connection, Event, Ownership, Protocol, Told};
+use crate::server::{Refusal, Said, Server};
+use crate::target::Address;
+use crate::update::{Change, Key};
+
+/// An event of the proxy.
+pub type HubEvent = Event<Key, Change>;
+
+/// Counts the servers that were started. What belongs to a former one is dropped.
+pub type Generation = u64;
+
+/// What a connection's task is told about its request.
+#[derive(Debug)]
+pub enum Mail {
+    /// Send the note.
+    Note {
+        /// The row.
+        key: Key,
+        /// What it changes by.
+        change: Change,
+        /// The epoch of the owner.
+        epoch: i64,
+        /// Whether it may fold its own change, if it is a transaction by itself.
+        may_fold: bool,
+    },
+    /// The request is over.
+    Answer(Answer, Option<Refusal>),
+}
+
+/// How the hub reaches a connection's task.
+#[derive(Clone)]
+struct Link {
+    /// The process that serves the client, once it is greeted.
+    process: i32,
+    mail: UnboundedSender<Mail>,
+    delivered: UnboundedSender<()>,
+    end: Arc<Notify>,
+}
+
+/// A connection's ends of its channels.
+pub struct Ends {
+    /// Its number.
+    pub connection: Connection,
+    /// About its request.
+    pub mail: UnboundedReceiver<Mail>,
+    /// ReadyForQuery may go on.
+    pub delivered: UnboundedReceiver<()>,
+    /// The connection has to end.
+    pub end: Arc<Notify>,
+}
+
+/// What the keeper is asked for.
+#[derive(Debug)]
+pub enum KeeperTask {
+    /// An action of its own.
+    Do(Action<Key, Change>),
+    /// The server has ended: ownership begins anew.
+    Abandon,
+}
+
+/// What the folder is asked for.
+#[derive(Debug)]
+pub enum FolderTask {
+    /// Fold these keys.
+    Fold(Generation, Vec<Key>),
+    /// Fold whatever journals have.
+    Sweep,
+}
+
+/// What a loader is asked for.
+#[derive(Debug)]
+pub enum LoaderTask {
+    /// Load a row.
+    Load(Generation, Key),
+    /// Remove the mark of a row that the server does not have, and say so.
+    Leave(Generation, Key, Left),
+}
+
+/// Why a row's mark is removed.
+#[derive(Clone, Copy, Debug, PartialEq, Eq)]
+pub enum Left {
+    /// The server had it.
+    Held,
+    /// The server cannot have it.
+    Refused,
+}
+
+/// Where tasks of other connections of the proxy's own go.
+pub struct Workers {
+    /// To the keeper.
+    pub keeper: UnboundedSender<KeeperTask>,
+    /// To the folder.
+    pub folder: UnboundedSender<FolderTask>,
+    /// To the loaders.
+    pub loader: UnboundedSender<LoaderTask>,
+    /// To who starts servers: the new one's generation.
+    pub starter: UnboundedSender<Generation>,
+}
+
+struct State {
+    protocol: Protocol<Key, Change>,
+    links: HashMap<Connection, Link>,
+    connections: u32,
+    server: Server,
+    generation: Generation,
+    /// Takes the server's lines. None: it is not started yet.
+    lines: Option<Lines>,
+    refusals: HashMap<Connection, Refusal>,
+    /// When each transaction with reservations got its first one.
+    since: HashMap<Connection, Instant>,
+    /// The number of commits when the last fold began.
+    commits: u64,
+    epoch: i64,
+    /// The last number that a note, a greeting or a tag of the epoch has.
+    number: i64,
+}
+
+/// What all tasks share.
+pub struct Hub {
+    state: Mutex<State>,
+    workers: Workers,
+    catalog: watch::Sender<Option<Arc<Catalog>>>,
+    refresh: Notify,
+    metrics: Metrics,
+    secret: Mutex<Option<Secret>>,
+    address: Mutex<Option<Address>>,
+    /// Held while a connection is greeted: greetings go one after another (rule 18).
+    pub greeting: tokio::sync::Mutex<()>,
+}
+
+fn lock<T>(mutex: &Mutex<T>) -> MutexGuard<'_, T> {
+    // What is kept is whole after each change; a task that panicked has ended its own connection.
+    mutex.lock().unwrap_or_else(PoisonError::into_inner)
+}
+
+impl Hub {
+    /// Makes the hub of a standby.
+    pub fn new(workers: Workers, metrics: Metrics) -> Hub {
+        let _ = workers.starter.send(1);
+        Hub {
+            state: Mutex::new(State {
+                protocol: Protocol::new(),
+                links: HashMap::new(),
+                connections: 0,
+                server: Server::new(),
+                generation: 1,
+                lines: None,
+                refusals: HashMap::new(),
+                since: HashMap::new(),
+                commits: 0,
+                epoch: 0,
+                number: 0,
+            }),
+            workers,
+            catalog: watch::channel(None).0,
+            refresh: Notify::new(),
+            metrics,
+            secret: Mutex::new(None),
+            address: Mutex::new(None),
+            greeting: tokio::sync::Mutex::new(()),
+        }
+    }
+
+    /// Makes a connection known.
+    pub fn open(&self) -> Ends {
+        let mut state = lock(&self.state);
+        state.connections += 1;
+        let connection = Connection(state.connections);
+        let (mail, to_mail) = unbounded_channel();
+        let (delivered, to_delivered) = unbounded_channel();
+        let end = Arc::new(Notify::new());
+        let link = Link {
+            process: 0,
+            mail,
+            delivered,
+            end: end.clone(),
+        };
+        state.links.insert(connection, link);
+        Ends {
+            connection,
+            mail: to_mail,
+            delivered: to_delivered,
+            end,
+        }
+    }
+
+    /// Forgets a connection whose both sides have ended.
+    pub fn close(&self, connection: Connection) {
+        let mut state = lock(&self.state);
+        state.links.remove(&connection);
+        state.refusals.remove(&connection);
+        self.take(&mut state, Event::Lost { connection });
+    }
+
+    /// Takes an event.
+    pub fn handle(&self, event: HubEvent) {
+        self.take(&mut lock(&self.state), event);
+    }
+
+    /// Takes what belongs to a server: nothing of a former one.
+    pub fn report(&self, generation: Generation, event: HubEvent) {
+        let mut state = lock(&self.state);
+        if state.generation == generation {
+            self.take(&mut state, event);
+        }
+    }
+
+    /// Returns whether nothing of a connection is open.
+    pub fn is_idle(&self, connection: Connection) -> bool {
+        lock(&self.state).protocol.is_idle(connection)
+    }
+
+    /// Returns the keys that a transaction may fold itself with its COMMIT.
+    pub fn own_folds(&self, connection: Connection) -> BTreeSet<Key> {
+        lock(&self.state).protocol.own_folds(connection)
+    }
+
+    /// Remembers which server takes writes: clients' connections go there.
+    pub fn set_address(&self, address: Address) {
+        *lock(&self.address) = Some(address);
+    }
+
+    /// Returns the server that took writes when the keeper connected last.
+    pub fn address(&self) -> Option<Address> {
+        lock(&self.address).clone()
+    }
+
+    /// Returns how far the proxy is with becoming the owner.
+    pub fn ownership(&self) -> Ownership {
+        lock(&self.state).protocol.ownership()
+    }
+
+    /// Returns what counts.
+    pub fn metrics(&self) -> &Metrics {
+        &self.metrics
+    }
+
+    /// Returns what is true at the moment.
+    pub fn now(&self) -> Now {
+        let state = lock(&self.state);
+        let oldest = state.since.values().min();
+        Now {
+            ownership: state.protocol.ownership(),
+            connections: state.links.len(),
+            counts: state.protocol.counts(),
+            oldest: oldest.map_or(Duration::ZERO, Instant::elapsed),
+        }
+    }
+
+    /// Remembers which process serves a client.
+    pub fn set_process(&self, connection: Connection, process: i32) {
+        if let Some(link) = lock(&self.state).links.get_mut(&connection) {
+            link.process = process;
+        }
+    }
+
+    /// Returns all that is reserved, as `escrow.show` reads it.
+    pub fn reservations(&self) -> String {
+        let state = lock(&self.state);
+        let now = SystemTime::now();
+        let entries = state.protocol.reservations().map(|(connection, key, change)| {
+            let process = state.links.get(&connection).map_or(0, |link| link.process);
+            let age = state.since.get(&connection).map_or(Duration::ZERO, Instant::elapsed);
+            let changes = change.iter().map(|it| match it {
+                Some(it) => format!("\"{it}\""),
+                None => "null".to_owned(),
+            });
+            format!(
+                "{{\"process\":{process},\"table\":{},\"key\":{},\"changes\":[{}],\"since\":\"{}\"}}",
+                key.table,
+                json::string(&key.text),
+                changes.collect::<Vec<_>>().join(","),
+                json::time(now.checked_sub(age).unwrap_or(now))
+            )
+        });
+        format!("[{}]", entries.collect::<Vec<_>>().join(","))
+    }
+
+    /// Returns the epoch.
+    pub fn epoch(&self) -> i64 {
+        lock(&self.state).epoch
+    }
+
+    /// Returns a number that was not used in this epoch.
+    pub fn number(&self) -> i64 {
+        let mut state = lock(&self.state);
+        state.number += 1;
+        state.number
+    }
+
+    /// Begins an epoch, whose lock the keeper holds.
+    pub fn begin_epoch(&self, epoch: i64) {
+        let mut state = lock(&self.state);
+        state.epoch = epoch;
+        state.number = 0;
+    }
+
+    /// Keeps the secret of schema `escrow`.
+    pub fn set_secret(&self, secret: Secret) {
+        *lock(&self.secret) = Some(secret);
+    }
+
+    /// Returns the secret, once the keeper has read it.
+    pub fn secret(&self) -> Option<Secret> {
+        lock(&self.secret).clone()
+    }
+
+    /// Returns what is declared, as it was read last.
+    pub fn catalog(&self) -> watch::Receiver<Option<Arc<Catalog>>> {
+        self.catalog.subscribe()
+    }
+
+    /// Keeps what is declared.
+    pub fn set_catalog(&self, catalog: Catalog) {
+        self.catalog.send_replace(Some(Arc::new(catalog)));
+    }
+
+    /// Asks for what is declared anew.
+    pub fn refresh(&self) {
+        self.refresh.notify_one();
+    }
+
+    /// Waits until somebody asks for what is declared.
+    pub async fn is_asked_to_refresh(&self) {
+        self.refresh.notified().await;
+    }
+
+    /// Folds whatever journals have.
+    pub fn sweep(&self) {
+        let _ = self.workers.folder.send(FolderTask::Sweep);
+    }
+
+    /// Some time has passed.
+    pub fn tick(&self) {
+        let mut state = lock(&self.state);
+        for connection in state.server.tired() {
+            state.refusals.insert(connection, Refusal::NoSession);
+            self.take(&mut state, Event::Refused { connection });
+        }
+        self.take(&mut state, Event::Tick);
+    }
+
+    /// Gives the server the row that was loaded.
+    pub fn loaded(&self, generation: Generation, key: Key, values: &[String]) {
+        let mut state = lock(&self.state);
+        if state.generation != generation {
+            return;
+        }
+        let catalog = self.catalog.borrow().clone();
+        let table = catalog
+            .as_ref()
+            .and_then(|it| it.of_number(key.table))
+            .cloned();
+        let refused = match table {
+            Some(table) => state.server.insert(&table, &key, values),
+            None => Some("the table is not declared any more".to_owned()),
+        };
+        for key in state.server.oldest(key.table) {
+            let connection = None;
+            self.take(&mut state, Event::Leave { connection, key });
+        }
+        match refused {
+            None => state.write(),
+            Some(why) => self.not_loaded(&state, key, &why),
+        }
+    }
+
+    fn not_loaded(&self, state: &State, key: Key, why: &str) {
+        let Key { table, text } = &key;
+        tracing::warn!("a row cannot be held (table {table}, key {text}): {why}");
+        let task = LoaderTask::Leave(state.generation, key, Left::Refused);
+        let _ = self.workers.loader.send(task);
+    }
+
+    /// Begins to send lines to the server of a generation.
+    pub fn started(&self, generation: Generation, lines: Lines) {
+        let mut state = lock(&self.state);
+        if state.generation == generation {
+            state.lines = Some(lines);
+            state.write();
+        }
+    }
+
+    /// Takes a line of the server. Returns false if it is a former one.
+    pub fn said(&self, generation: Generation, line: &str) -> bool {
+        let mut state = lock(&self.state);
+        if state.generation != generation {
+            return false;
+        }
+        match state.server.said(line) {
+            Said::Granted(connection) => self.take(&mut state, Event::Granted { connection }),
+            Said::Refused(connection, refusal) => {
+                state.refusals.insert(connection, refusal);
+                self.take(&mut state, Event::Refused { connection });
+            }
+            Said::Inserted(key) => {
+                self.metrics.loaded();
+                self.take(&mut state, Event::Loaded { key });
+            }
+            Said::NotInserted(key, why) => self.not_loaded(&state, key, &why),
+            Said::Nothing => {}
+            Said::Broke(what) => {
+                tracing::error!("{}", what);
+                self.take(&mut state, Event::ServerBroke);
+            }
+        }
+        true
+    }
+
+    /// The server of a generation has ended.
+    pub fn ended(&self, generation: Generation) {
+        if lock(&self.state).generation == generation {
+            tracing::error!("the server has ended; it is started anew");
+            let _ = self.workers.keeper.send(KeeperTask::Abandon);
+        }
+    }
+
+    fn take(&self, state: &mut State, event: HubEvent) {
+        let actions = state.protocol.handle(event);
+        for action in actions {
+            self.carry_out(state, action);
+        }
+        state.write();
+    }
+
+    fn carry_out(&self, state: &mut State, action: Action<Key, Change>) {
+        match action {
+            Action::TakeOwner | Action::SetEpoch | Action::EndHolders | Action::Ask(..) => {
+                let _ = self.workers.keeper.send(KeeperTask::Do(action));
+            }
+            Action::RestartServer => {
+                state.generation += 1;
+                state.server = Server::new();
+                state.lines = None;
+                state.refusals.clear();
+                state.since.clear();
+                let _ = self.workers.starter.send(state.generation);
+            }
+            Action::Load(key) => {
+                let task = LoaderTask::Load(state.generation, key);
+                let _ = self.workers.loader.send(task);
+            }
+            Action::Leave(key) => {
+                state.server.delete(&key);
+                let task = LoaderTask::Leave(state.generation, key, Left::Held);
+                let _ = self.workers.loader.send(task);
+            }
+            Action::Fold(keys) => {
+                let commits = state.protocol.counts().commits;
+                // A new epoch counts anew.
+                let before = std::mem::replace(&mut state.commits, commits);
+                self.metrics
+                    .fold_begins(commits.checked_sub(before).unwrap_or(commits));
+                let task = FolderTask::Fold(state.generation, keys);
+                let _ = self.workers.folder.send(task);
+            }
+            Action::Tell(connection, told) => {
+                let is_end = matches!(told, Told::Commit | Told::Rollback);
+                if is_end && state.since.remove(&connection).is_some() {
+                    self.metrics.ended(told == Told::Commit);
+                }
+                state.server.tell(connection, told);
+            }
+            Action::Grant(connection, key, change) => {
+                if !state.server.grant(connection, &key, &change) {
+                    tracing::error!(
+                        "the server lacks a row (table {}, key {})",
+                        key.table,
+                        key.text
+                    );
+                    self.take(state, Event::ServerBroke);
+                }
+            }
+            Action::Note(connection, key, change) => {
+                state.since.entry(connection).or_insert_with(Instant::now);
+                self.metrics.granted();
+                let mail = Mail::Note {
+                    may_fold: state.protocol.may_fold(connection, &key),
+                    epoch: state.epoch,
+                    key,
+                    change,
+                };
+                state.mail(connection, mail);
+            }
+            Action::Answer(connection, answer) => {
+                let refusal = state.refusals.remove(&connection);
+                if let Some(refusal) = &refusal {
+                    self.metrics.refused(refusal);
+                }
+                state.mail(connection, Mail::Answer(answer, refusal));
+            }
+            Action::Deliver(connection) => {
+                if let Some(link) = state.links.get(&connection) {
+                    let _ = link.delivered.send(());
+                }
+            }
+            Action::Close(connection) => {
+                if let Some(link) = state.links.get(&connection) {
+                    link.end.notify_one();
+                }
+            }
+            Action::Alarm(alarm) => {
+                self.metrics.alarm(alarm);
+                tracing::error!("ALARM: {:?}: no further reservation is granted until this program is started anew", alarm);
+            }
+        }
+    }
+}
+
+impl State {
+    fn mail(&self, connection: Connection, mail: Mail) {
+        if let Some(link) = self.links.get(&connection) {
+            let _ = link.mail.send(mail);
+        }
+    }
+
+    /// Hands the server's lines on.
+    fn write(&mut self) {
+        if let Some(lines) = &mut self.lines {
+            let bytes = self.server.take_lines();
+            if !bytes.is_empty() {
+                lines.send(&bytes);
+            }
+        }
+    }
+}

@@ -1,0 +1,244 @@
+//! Messages that the proxy itself sends to PostgreSQL and to clients.
+
+use bytes::{BufMut, Bytes};
+
+/// What the names of the proxy's own prepared statements and portals begin with. Clients may not use them.
+pub const PREFIX: &str = "escrowd-proxy ";
+
+/// Flush.
+pub const FLUSH: &[u8] = b"H\0\0\0\x04";
+
+/// Sync.
+pub const SYNC: &[u8] = b"S\0\0\0\x04";
+
+/// A value of a parameter.
+#[derive(Clone, Debug)]
+pub enum Value {
+    /// In text.
+    Text(String),
+    /// In binary.
+    Binary(Vec<u8>),
+    /// NULL
+    Null,
+}
+
+/// Appends a message; `body` writes what is behind its length.
+fn message(out: &mut Vec<u8>, kind: u8, body: impl FnOnce(&mut Vec<u8>)) {
+    out.push(kind);
+    let start = out.len();
+    out.put_u32(0);
+    body(out);
+    let length = (out.len() - start) as u32;
+    out[start..start + 4].copy_from_slice(&length.to_be_bytes());
+}
+
+fn string(out: &mut Vec<u8>, text: &str) {
+    out.extend(text.bytes().filter(|&byte| byte != 0));
+    out.push(0);
+}
+
+/// Appends a Parse. PostgreSQL finds the types that are 0 or not given.
+pub fn parse(out: &mut Vec<u8>, name: &str, text: &str, types: &[u32]) {
+    message(out, b'P', |out| {
+        string(out, name);
+        string(out, text);
+        out.put_u16(types.len() as u16);
+        for &oid in types {
+            out.put_u32(oid);
+        }
+    });
+}
+
+/// Appends a Bind of values as a client has sent them.
+pub fn bind_as(
+    out: &mut Vec<u8>,
+    portal: &str,
+    statement: &str,
+    formats: &[i16],
+    values: &[Option<Vec<u8>>],
+    results: &[i16],
+) {
+    message(out, b'B', |out| {
+        string(out, portal);
+        string(out, statement);
+        out.put_u16(formats.len() as u16);
+        formats.iter().for_each(|&format| out.put_i16(format));
+        out.put_u16(values.len() as u16);
+        for value in values {
+            match value {
+                Some(bytes) => {
+                    out.put_u32(bytes.len() as u32);
+                    out.extend_from_slice(bytes);
+                }
+                None => out.put_i32(-1),
+            }
+        }
+        out.put_u16(results.len() as u16);
+        results.iter().for_each(|&result| out.put_i16(result));
+    });
+}
+
+/// Appends a Describe of a portal.
+pub fn describe_portal(out: &mut Vec<u8>, portal: &str) {
+    message(out, b'D', |out| {
+        out.push(b'P');
+        string(out, portal);
+    });
+}
+
+/// Appends a Close of a statement.
+pub fn close_statement(out: &mut Vec<u8>, name: &str) {
+    message(out, b'C', |out| {
+        out.push(b'S');
+        string(out, name);
+    });
+}
+
+/// Appends a Bind.
+pub fn bind(out: &mut Vec<u8>, portal: &str, statement: &str, values: &[Value], results: &[i16]) {
+    message(out, b'B', |out| {
+        string(out, portal);
+        string(out, statement);
+        out.put_u16(values.len() as u16);
+        for value in values {
+            out.put_u16(u16::from(matches!(value, Value::Binary(_))));
+        }
+        out.put_u16(values.len() as u16);
+        for value in values {
+            let bytes = match value {
+                Value::Text(text) => text.as_bytes(),
+                Value::Binary(bytes) => bytes,
+                Value::Null => {
+                    out.put_i32(-1);
+                    continue;
+                }
+            };
+            out.put_u32(bytes.len() as u32);
+            out.extend_from_slice(bytes);
+        }
+        out.put_u16(results.len() as u16);
+        for &result in results {
+            out.put_i16(result);
+        }
+    });
+}
+
+/// Appends an Execute of all rows.
+pub fn execute(out: &mut Vec<u8>, portal: &str) {
+    message(out, b'E', |out| {
+        string(out, portal);
+        out.put_u32(0);
+    });
+}
+
+/// Appends a Close of a portal.
+pub fn close_portal(out: &mut Vec<u8>, portal: &str) {
+    message(out, b'C', |out| {
+        out.push(b'P');
+        string(out, portal);
+    });
+}
+
+/// Returns a CommandComplete.
+pub fn command_complete(tag: &str) -> Vec<u8> {
+    let mut out = Vec::new();
+    message(&mut out, b'C', |out| string(out, tag));
+    out
+}
+
+/// Returns an ErrorResponse of severity FATAL.
+pub fn fatal(code: &str, text: &str) -> Vec<u8> {
+    let mut out = Vec::new();
+    message(&mut out, b'E', |out| {
+        for (kind, text) in [(b'S', "FATAL"), (b'V', "FATAL"), (b'C', code), (b'M', text)] {
+            out.push(kind);
+            string(out, text);
+        }
+        out.push(0);
+    });
+    out
+}
+
+/// Returns an ErrorResponse without what says where in PostgreSQL's functions it was raised.
+pub fn without_context(error: &[u8]) -> Vec<u8> {
+    let fields = error.get(5..).unwrap_or_default().split(|&byte| byte == 0);
+    let mut out = Vec::new();
+    message(&mut out, b'E', |out| {
+        let is_shown =
+            |field: &&[u8]| !matches!(field.first(), None | Some(b'W' | b'F' | b'L' | b'R'));
+        for field in fields.filter(is_shown) {
+            out.extend_from_slice(field);
+            out.push(0);
+        }
+        out.push(0);
+    });
+    out
+}
+
+/// Reads the values of a DataRow, whole with its kind and length. None: it is laid out wrongly.
+pub fn row(message: &Bytes) -> Option<Vec<Option<Bytes>>> {
+    let mut at = 7;
+    let count = u16::from_be_bytes(message.get(5..7)?.try_into().ok()?);
+    let mut values = Vec::with_capacity(usize::from(count));
+    for _ in 0..count {
+        let length = i32::from_be_bytes(message.get(at..at + 4)?.try_into().ok()?);
+        at += 4;
+        values.push(match usize::try_from(length) {
+            Ok(length) => {
+                message.get(at..at + length)?;
+                at += length;
+                Some(message.slice(at - length..at))
+            }
+            Err(_) => None,
+        });
+    }
+    Some(values)
+}
+
+#[cfg(test)]
+mod tests {
+    use super::*;
+
+    #[test]
+    fn messages_are_laid_out_as_the_protocol_says() {
+        let mut out = Vec::new();
+        parse(&mut out, "a", "SELECT 1", &[]);
+        bind(
+            &mut out,
+            "p",
+            "a",
+            &[Value::Text("x".to_owned()), Value::Null],
+            &[1],
+        );
+        execute(&mut out, "p");
+        close_portal(&mut out, "p");
+        let expected = [
+            &b"P\0\0\0\x11a\0SELECT 1\0\0\0"[..],
+            b"B\0\0\0\x1dp\0a\0\0\x02\0\0\0\0\0\x02\0\0\0\x01x\xff\xff\xff\xff\0\x01\0\x01",
+            b"E\0\0\0\x0ap\0\0\0\0\0",
+            b"C\0\0\0\x07Pp\0",
+        ]
+        .concat();
+        assert_eq!(out, expected);
+        assert_eq!(command_complete("UPDATE 1"), b"C\0\0\0\x0dUPDATE 1\0");
+    }
+
+    #[test]
+    fn an_error_says_no_more_where_it_was_raised() {
+        let error = b"E\0\0\0\x20SERROR\0C23514\0Mno\0WPL/pgSQL\0\0";
+        assert_eq!(
+            without_context(error),
+            b"E\0\0\0\x17SERROR\0C23514\0Mno\0\0"
+        );
+    }
+
+    #[test]
+    fn rows_are_read() {
+        let bytes = Bytes::from_static(b"D\0\0\0\x0f\0\x02\0\0\0\x01x\xff\xff\xff\xff");
+        assert_eq!(
+            row(&bytes),
+            Some(vec![Some(Bytes::from_static(b"x")), None])
+        );
+        assert_eq!(row(&bytes.slice(..bytes.len() - 1)), None);
+    }
+}

@@ -1,0 +1,911 @@
+//! Ownership, commit and fold as a state machine without input and output.
+//!
+//! Events go in by [`Protocol::handle`], and actions come out, which the caller carries out in their order. The machine
+//! never sees a value or a text: it knows keys, transaction ids, and what the replies of PostgreSQL say of an end. Rules
+//! are those of `PROTOCOL.md`.
+//!
+//! What the caller owes: it relays nothing of a client between [`Event::Reserve`] and the [`Action::Answer`] to it, gives
+//! each reply of PostgreSQL to what the client sent as [`Event::Completed`], [`Event::Failed`] and [`Event::Ready`], in
+//! their order and before it reads on, and keeps a ReadyForQuery back until [`Action::Deliver`].
+
+mod clients;
+mod folds;
+#[cfg(test)]
+mod tests;
+
+use std::collections::{BTreeMap, BTreeSet};
+
+use clients::{Client, Stage};
+use folds::Folds;
+
+/// The most savepoints that the server keeps of a session.
+pub const MARKS: u32 = 64;
+
+/// A client's connection.
+#[derive(Clone, Copy, Debug, PartialEq, Eq, PartialOrd, Ord, Hash)]
+pub struct Connection(pub u32);
+
+/// A transaction's or subtransaction's id of 64 bits, as `note` returns it.
+#[derive(Clone, Copy, Debug, PartialEq, Eq, PartialOrd, Ord, Hash)]
+pub struct Id(pub u64);
+
+/// A savepoint of the proxy's own in a session of the server, from 1. One of the same number replaces it.
+#[derive(Clone, Copy, Debug, PartialEq, Eq, PartialOrd, Ord, Hash)]
+pub struct Mark(pub u32);
+
+/// What `pg_xact_status` says of an id.
+#[derive(Clone, Copy, Debug, PartialEq, Eq, Hash)]
+pub enum Verdict {
+    /// Committed, and seen by later snapshots.
+    Committed,
+    /// Rolled back.
+    Aborted,
+    /// Neither yet.
+    InProgress,
+}
+
+/// What a command tag says of the end of transactions.
+#[derive(Clone, Copy, Debug, PartialEq, Eq, Hash)]
+pub enum Tag {
+    /// It ends and begins none: SELECT, INSERT, UPDATE, DELETE, BEGIN, SET and their like.
+    Plain,
+    /// SAVEPOINT or RELEASE: another subtransaction goes on.
+    Savepoint,
+    /// COMMIT.
+    Commit,
+    /// Any other, known or not: ROLLBACK, PREPARE TRANSACTION, CALL, DO.
+    Other,
+}
+
+impl Tag {
+    /// Reads the tag of a CommandComplete. A tag that is not known is [`Tag::Other`], which costs a question.
+    pub fn read(tag: &str) -> Tag {
+        let word = tag.split(' ').next().unwrap_or_default();
+        match word {
+            "COMMIT" if tag == "COMMIT" => Tag::Commit,
+            "SAVEPOINT" | "RELEASE" => Tag::Savepoint,
+            "SELECT" | "INSERT" | "UPDATE" | "DELETE" | "MERGE" | "FETCH" | "MOVE" | "COPY"
+            | "BEGIN" | "SET" | "RESET" | "SHOW" | "LOCK" | "EXPLAIN" => Tag::Plain,
+            "DECLARE" | "CLOSE" | "PREPARE" | "DEALLOCATE" | "LISTEN" | "UNLISTEN" | "NOTIFY"
+                if tag != "PREPARE TRANSACTION" =>
+            {
+                Tag::Plain
+            }
+            _ => Tag::Other,
+        }
+    }
+}
+
+/// The status of a ReadyForQuery.
+#[derive(Clone, Copy, Debug, PartialEq, Eq, Hash)]
+pub enum Status {
+    /// No transaction is open.
+    Idle,
+    /// Inside a block.
+    InBlock,
+    /// Inside a block that has failed.
+    Failed,
+}
+
+/// What happened.
+#[derive(Clone, Debug, PartialEq, Eq)]
+pub enum Event<K, C> {
+    /// The keeper has OWNER and the lock of a new epoch.
+    OwnerTaken,
+    /// Another proxy has OWNER.
+    OwnerElsewhere,
+    /// The epoch is set.
+    EpochSet,
+    /// Who holds a journal: somebody, or nobody any more.
+    Holders {
+        /// Whether somebody does.
+        any: bool,
+    },
+    /// The keeper's connection is lost.
+    KeeperLost,
+    /// Some time has passed: what was not done is tried again.
+    Tick,
+    /// The row is loaded, and the server has it.
+    Loaded {
+        /// Its key.
+        key: K,
+    },
+    /// There is no such row, or it cannot be locked in time.
+    NotLoaded {
+        /// Its key.
+        key: K,
+        /// Whether the row does not exist.
+        missing: bool,
+    },
+    /// A fold has committed.
+    Folded {
+        /// The keys whose row it could lock.
+        keys: Vec<K>,
+    },
+    /// A fold's connection was lost, or it waited too long.
+    FoldFailed,
+    /// Rows that a fold could not lock may be free again.
+    FoldAgain,
+    /// A transaction has folded all that it holds itself (rule 13), and its COMMIT is on the way.
+    OwnFolded {
+        /// Whose.
+        connection: Connection,
+    },
+    /// A fold was refused (rule 22).
+    FoldRefused,
+    /// The server has refused what it must do (rule 22).
+    ServerBroke,
+    /// A row is no longer to be held: somebody wants to delete it, or others need the room.
+    Leave {
+        /// Who waits for that, if anybody does.
+        connection: Option<Connection>,
+        /// Its key.
+        key: K,
+    },
+    /// The row's mark is removed, or cannot be.
+    Left {
+        /// Its key.
+        key: K,
+    },
+    /// The client changes reservable columns of a row.
+    Reserve {
+        /// Which connection.
+        connection: Connection,
+        /// The row.
+        key: K,
+        /// The change.
+        change: C,
+        /// Whether the UPDATE is a transaction by itself, with nothing else before the Sync that the proxy sends.
+        alone: bool,
+    },
+    /// The server has granted.
+    Granted {
+        /// To whom.
+        connection: Connection,
+    },
+    /// The server has refused.
+    Refused {
+        /// Whom.
+        connection: Connection,
+    },
+    /// The note is answered.
+    Noted {
+        /// Whose.
+        connection: Connection,
+        /// What wrote its row.
+        id: Id,
+    },
+    /// PostgreSQL has answered the note by an error.
+    NoteFailed {
+        /// Whose.
+        connection: Connection,
+    },
+    /// A CommandComplete to what the client sent.
+    Completed {
+        /// Whose.
+        connection: Connection,
+        /// Its tag.
+        tag: Tag,
+    },
+    /// An ErrorResponse to what the client sent.
+    Failed {
+        /// Whose.
+        connection: Connection,
+    },
+    /// A ReadyForQuery.
+    Ready {
+        /// Whose.
+        connection: Connection,
+        /// Its status.
+        status: Status,
+    },
+    /// The client has waited long enough for the fold.
+    WaitOver {
+        /// Which client.
+        connection: Connection,
+    },
+    /// The client or its backend is gone.
+    Lost {
+        /// Which connection.
+        connection: Connection,
+    },
+    /// The answer to [`Action::Ask`].
+    Verdicts {
+        /// Whose ids.
+        connection: Connection,
+        /// One for each id that was asked, in their order.
+        verdicts: Vec<Verdict>,
+    },
+}
+
+/// What the client gets to its UPDATE.
+#[derive(Clone, Copy, Debug, PartialEq, Eq, Hash)]
+pub enum Answer {
+    /// `UPDATE 1`.
+    Reserved,
+    /// The server's refusal, which is raised inside PostgreSQL.
+    Refused,
+    /// `UPDATE 0`.
+    Missing,
+    /// The row is locked for too long (55P03).
+    Locked,
+    /// The transaction has too many subtransactions with reservations (54000).
+    TooMany,
+    /// PostgreSQL's own error to the note.
+    Failed,
+    /// Another proxy is the owner: connect there.
+    NotOwner,
+    /// An alarm has stopped the proxy.
+    Stopped,
+}
+
+/// A rule was broken (rule 22).
+#[derive(Clone, Copy, Debug, PartialEq, Eq, Hash)]
+pub enum Alarm {
+    /// A fold was refused.
+    FoldRefused,
+    /// What survives of a transaction is no prefix of what it reserved.
+    NoPrefix,
+    /// The server has refused what it must do.
+    ServerBroke,
+}
+
+/// What a session of the server is told, beside reservations. It never refuses these.
+#[derive(Clone, Copy, Debug, PartialEq, Eq, Hash)]
+pub enum Told {
+    /// SAVEPOINT.
+    Mark(Mark),
+    /// ROLLBACK TO.
+    BackTo(Mark),
+    /// COMMIT.
+    Commit,
+    /// ROLLBACK.
+    Rollback,
+}
+
+/// How much there is of what a metric shows.
+#[derive(Clone, Copy, Debug, Default, PartialEq, Eq)]
+pub struct Counts {
+    /// Rows that the server has.
+    pub rows: usize,
+    /// Rows with committed changes that are not folded yet.
+    pub pending: usize,
+    /// Open reservations.
+    pub reservations: usize,
+    /// Transactions with reservations that were committed and left to the folder in this epoch.
+    pub commits: u64,
+}
+
+/// What is to be done.
+#[derive(Clone, Debug, PartialEq, Eq)]
+pub enum Action<K, C> {
+    /// Try to take OWNER, and the lock of a new epoch. The next [`Event::Tick`] tries again.
+    TakeOwner,
+    /// Set the epoch whose lock is held.
+    SetEpoch,
+    /// End who holds a journal, and look whether anybody still does.
+    EndHolders,
+    /// Start a server without rows in place of the present one, and forget what folder and loader were doing.
+    RestartServer,
+    /// Load a row, and give it to the server.
+    Load(K),
+    /// Take a row away from the server, and remove its mark.
+    Leave(K),
+    /// Fold these keys.
+    Fold(Vec<K>),
+    /// Tell a session of the server.
+    Tell(Connection, Told),
+    /// Ask the server for a change.
+    Grant(Connection, K, C),
+    /// Send the note and a Flush.
+    Note(Connection, K, C),
+    /// Ask for the outcome of these ids on the keeper.
+    Ask(Connection, Vec<Id>),
+    /// Answer the client's UPDATE, and relay on; send the Sync if the UPDATE is a transaction by itself (rule 3).
+    Answer(Connection, Answer),
+    /// Give the client the ReadyForQuery that was kept back.
+    Deliver(Connection),
+    /// End the connection at both sides. No [`Event::Lost`] follows.
+    Close(Connection),
+    /// Tell the operator.
+    Alarm(Alarm),
+}
+
+/// How far a proxy is with becoming the owner.
+#[derive(Clone, Copy, Debug, PartialEq, Eq, Hash)]
+pub enum Ownership {
+    /// It is not the owner, and does not know whether another is. Requests wait.
+    Standby,
+    /// Another proxy is the owner.
+    Elsewhere,
+    /// OWNER and the lock of the epoch are held.
+    Owning,
+    /// The epoch is set; older transactions may still hold a journal.
+    Raised,
+    /// It grants.
+    Serving,
+    /// An alarm has stopped it, until an operator starts it again.
+    Stopped,
+}
+
+/// The state of a proxy.
+pub struct Protocol<K, C> {
+    ownership: Ownership,
+    clients: BTreeMap<Connection, Client<K, C>>,
+    /// The rows that the server has.
+    loaded: BTreeSet<K>,
+    /// Who waits for a row's load.
+    loading: BTreeMap<K, Vec<Connection>>,
+    /// Who waits until a row is no longer held.
+    leaving: BTreeMap<K, Option<Connection>>,
+    folds: Folds<K>,
+    #[cfg(test)]
+    pub(crate) fault: Option<Fault>,
+}
+
+/// A rule that a test takes away.
+#[cfg(test)]
+#[derive(Clone, Copy, Debug, PartialEq, Eq)]
+pub(crate) enum Fault {
+    /// Rule 2: a connection that is lost has rolled back.
+    LossIsRollback,
+    /// Rule 4: an end is what the last tag says.
+    EndByTag,
+    /// Rule 5: a ROLLBACK TO passes unseen.
+    RollbackUnseen,
+    /// Rule 9: nobody is waited for.
+    NoWait,
+}
+
+impl<K: Clone + Ord, C: Clone> Default for Protocol<K, C> {
+    fn default() -> Self {
+        Protocol::new()
+    }
+}
+
+impl<K: Clone + Ord, C: Clone> Protocol<K, C> {
+    /// Returns a standby, which takes OWNER at the first [`Event::Tick`].
+    pub fn new() -> Protocol<K, C> {
+        Protocol {
+            ownership: Ownership::Standby,
+            clients: BTreeMap::new(),
+            loaded: BTreeSet::new(),
+            loading: BTreeMap::new(),
+            leaving: BTreeMap::new(),
+            folds: Folds::new(),
+            #[cfg(test)]
+            fault: None,
+        }
+    }
+
+    /// Returns how far it is with becoming the owner.
+    pub fn ownership(&self) -> Ownership {
+        self.ownership
+    }
+
+    /// Returns how much there is of each.
+    pub fn counts(&self) -> Counts {
+        Counts {
+            rows: self.loaded.len(),
+            pending: self.folds.len(),
+            reservations: self.clients.values().map(Client::reservations).sum(),
+            commits: self.folds.commits(),
+        }
+    }
+
+    /// Returns whether nothing is open: no request, no reservation, no outcome and no fold.
+    pub fn is_quiet(&self) -> bool {
+        self.clients.values().all(Client::is_idle) && self.folds.is_empty()
+    }
+
+    /// Returns all that is reserved, and by whom.
+    pub fn reservations(&self) -> impl Iterator<Item = (Connection, &K, &C)> {
+        self.clients.iter().flat_map(|(&connection, client)| {
+            let all = client.reserved();
+            all.map(move |(key, change)| (connection, key, change))
+        })
+    }
+
+    /// Returns whether nothing of a connection is open.
+    pub fn is_idle(&self, connection: Connection) -> bool {
+        self.clients.get(&connection).map_or(true, Client::is_idle)
+    }
+
+    /// Returns the keys that a transaction may fold itself with its COMMIT (rule 13): all that it holds, if nobody else wants
+    /// one of them and none waits for a fold. Otherwise none, since their rows would be locked over its flush.
+    pub fn own_folds(&self, connection: Connection) -> BTreeSet<K> {
+        let keys = match self.clients.get(&connection) {
+            Some(client) if self.ownership == Ownership::Serving => client.alive(),
+            _ => return BTreeSet::new(),
+        };
+        let is_wanted = |key: &K| {
+            let others = self
+                .clients
+                .iter()
+                .filter(|(&other, _)| other != connection);
+            self.folds.has(key) || others.into_iter().any(|(_, client)| client.wants(key))
+        };
+        if keys.iter().any(is_wanted) {
+            return BTreeSet::new();
+        }
+        keys
+    }
+
+    /// Returns whether a transaction may fold a change of this key with its note (rule 13): nobody else wants it, and none
+    /// waits for its fold.
+    pub fn may_fold(&self, connection: Connection, key: &K) -> bool {
+        let mut others = self
+            .clients
+            .iter()
+            .filter(|(&other, _)| other != connection);
+        !self.folds.has(key) && !others.any(|(_, client)| client.wants(key))
+    }
+
+    /// Takes an event, and returns what is to be done.
+    pub fn handle(&mut self, event: Event<K, C>) -> Vec<Action<K, C>> {
+        let mut actions = Vec::new();
+        match event {
+            Event::OwnerTaken => {
+                if matches!(self.ownership, Ownership::Standby | Ownership::Elsewhere) {
+                    self.ownership = Ownership::Owning;
+                    actions.push(Action::SetEpoch);
+                }
+            }
+            Event::OwnerElsewhere => {
+                if self.ownership == Ownership::Standby {
+                    self.ownership = Ownership::Elsewhere;
+                    self.advance_all(&mut actions);
+                }
+            }
+            Event::EpochSet => {
+                if self.ownership == Ownership::Owning {
+                    self.ownership = Ownership::Raised;
+                    actions.push(Action::EndHolders);
+                }
+            }
+            Event::Holders { any } => self.look(any, &mut actions),
+            Event::KeeperLost => self.reset(&mut actions),
+            Event::Tick => self.tick(&mut actions),
+            Event::Loaded { key } => {
+                if self.loading.contains_key(&key) {
+                    self.loaded.insert(key.clone());
+                    self.loads_end(&key, None, &mut actions);
+                }
+            }
+            Event::NotLoaded { key, missing } => {
+                let answer = if missing {
+                    Answer::Missing
+                } else {
+                    Answer::Locked
+                };
+                self.loads_end(&key, Some(answer), &mut actions);
+            }
+            Event::Leave { connection, key } => self.leave(connection, key, &mut actions),
+            Event::Left { key } => {
+                if let Some(Some(connection)) = self.leaving.remove(&key) {
+                    actions.push(Action::Answer(connection, Answer::Missing));
+                }
+                self.advance_all(&mut actions);
+            }
+            Event::Folded { keys } => {
+                for connection in self.folds.folded(&keys) {
+                    self.deliver(connection, &mut actions);
+                }
+                self.fold(false, &mut actions);
+            }
+            Event::FoldFailed => self.folds.failed(),
+            Event::FoldAgain => self.fold(true, &mut actions),
+            Event::OwnFolded { connection } => {
+                if let Some(client) = self.clients.get_mut(&connection) {
+                    client.folded();
+                }
+            }
+            Event::FoldRefused => {
+                self.folds.failed();
+                self.alarm(Alarm::FoldRefused, &mut actions);
+            }
+            Event::ServerBroke => self.alarm(Alarm::ServerBroke, &mut actions),
+            Event::Reserve {
+                connection,
+                key,
+                change,
+                alone,
+            } => {
+                let client = self.clients.entry(connection).or_insert_with(Client::new);
+                client.request(key, change, alone);
+                self.advance(connection, &mut actions);
+            }
+            Event::Granted { connection } => self.granted(connection, &mut actions),
+            Event::Refused { connection } => self.refused(connection, &mut actions),
+            Event::Noted { connection, id } => self.noted(connection, id, &mut actions),
+            Event::NoteFailed { connection } => self.note_failed(connection, &mut actions),
+            Event::Completed { connection, tag } => self.completed(connection, tag),
+            Event::Failed { connection } => self.completed(connection, Tag::Other),
+            Event::Ready { connection, status } => self.ready(connection, status, &mut actions),
+            Event::WaitOver { connection } => {
+                self.folds.forget(connection);
+                self.deliver(connection, &mut actions);
+            }
+            Event::Lost { connection } => self.lost(connection, &mut actions),
+            Event::Verdicts {
+                connection,
+                verdicts,
+            } => self.verdicts(connection, &verdicts, &mut actions),
+        }
+        actions
+    }
+
+    /// Serves once nobody holds a journal any more.
+    fn look(&mut self, any: bool, actions: &mut Vec<Action<K, C>>) {
+        #[cfg(test)]
+        let any = any && self.fault != Some(Fault::NoWait);
+        if self.ownership != Ownership::Raised || any {
+            return;
+        }
+        self.ownership = Ownership::Serving;
+        self.advance_all(actions);
+    }
+
+    fn advance_all(&mut self, actions: &mut Vec<Action<K, C>>) {
+        for connection in self.clients.keys().copied().collect::<Vec<_>>() {
+            self.advance(connection, actions);
+        }
+    }
+
+    /// Begins anew: what the server held is of no epoch any more.
+    fn reset(&mut self, actions: &mut Vec<Action<K, C>>) {
+        for (&connection, client) in &self.clients {
+            if !client.is_lost && !client.is_idle() {
+                actions.push(Action::Close(connection));
+            }
+        }
+        self.clients.clear();
+        self.loaded.clear();
+        self.loading.clear();
+        for connection in std::mem::take(&mut self.leaving).into_values().flatten() {
+            actions.push(Action::Answer(connection, Answer::Missing));
+        }
+        self.folds = Folds::new();
+        actions.push(Action::RestartServer);
+        if self.ownership != Ownership::Stopped {
+            self.ownership = Ownership::Standby;
+            actions.push(Action::TakeOwner);
+        }
+    }
+
+    /// Tries again what was not done.
+    fn tick(&mut self, actions: &mut Vec<Action<K, C>>) {
+        match self.ownership {
+            Ownership::Standby | Ownership::Elsewhere => actions.push(Action::TakeOwner),
+            Ownership::Raised => actions.push(Action::EndHolders),
+            Ownership::Owning | Ownership::Stopped => {}
+            Ownership::Serving => self.fold(true, actions),
+        }
+        for (&connection, client) in &mut self.clients {
+            if let Some(ids) = client.ask_again() {
+                actions.push(Action::Ask(connection, ids));
+            }
+        }
+    }
+
+    /// Begins a fold of what is pending, if none is under way.
+    fn fold(&mut self, all: bool, actions: &mut Vec<Action<K, C>>) {
+        if self.ownership != Ownership::Serving {
+            return;
+        }
+        if let Some(keys) = self.folds.begin(all) {
+            actions.push(Action::Fold(keys));
+        }
+    }
+
+    fn alarm(&mut self, alarm: Alarm, actions: &mut Vec<Action<K, C>>) {
+        self.ownership = Ownership::Stopped;
+        actions.push(Action::Alarm(alarm));
+    }
+
+    fn deliver(&mut self, connection: Connection, actions: &mut Vec<Action<K, C>>) {
+        if let Some(client) = self.clients.get_mut(&connection) {
+            if client.take_kept() {
+                actions.push(Action::Deliver(connection));
+            }
+        }
+    }
+
+    /// Answers a request, which is over.
+    fn end_request(
+        &mut self,
+        connection: Connection,
+        answer: Answer,
+        actions: &mut Vec<Action<K, C>>,
+    ) {
+        if let Some(client) = self.clients.get_mut(&connection) {
+            client.request = None;
+            if !client.is_lost {
+                actions.push(Action::Answer(connection, answer));
+            }
+        }
+    }
+
+    /// Goes on with a request, as far as it can without waiting.
+    fn advance(&mut self, connection: Connection, actions: &mut Vec<Action<K, C>>) {
+        let client = match self.clients.get_mut(&connection) {
+            Some(client) if client.is_waiting() => client,
+            _ => return,
+        };
+        match self.ownership {
+            Ownership::Serving => {}
+            Ownership::Stopped => return self.end_request(connection, Answer::Stopped, actions),
+            Ownership::Elsewhere => return self.end_request(connection, Answer::NotOwner, actions),
+            Ownership::Standby | Ownership::Owning | Ownership::Raised => return,
+        }
+        // Rule 5: the server must hold what is alive.
+        if client.is_ending() {
+            return;
+        }
+        if client.is_unsure() {
+            if let Some(ids) = client.ask() {
+                actions.push(Action::Ask(connection, ids));
+            }
+            return;
+        }
+        let (key, change) = match &client.request {
+            Some(request) => (request.key.clone(), request.change.clone()),
+            None => return,
+        };
+        if self.leaving.contains_key(&key) {
+            return;
+        }
+        if !self.loaded.contains(&key) {
+            client.stage(Stage::Loading);
+            let waiting = self.loading.entry(key.clone()).or_default();
+            if waiting.is_empty() {
+                actions.push(Action::Load(key));
+            }
+            waiting.push(connection);
+            return;
+        }
+        match client.mark() {
+            Ok(Some(mark)) => actions.push(Action::Tell(connection, Told::Mark(mark))),
+            Ok(None) => {}
+            Err(()) => return self.end_request(connection, Answer::TooMany, actions),
+        }
+        actions.push(Action::Grant(connection, key, change));
+    }
+
+    /// Holds a row no longer, if nobody has reserved it, asks for it, or may still commit a change of it (event 16).
+    fn leave(&mut self, connection: Option<Connection>, key: K, actions: &mut Vec<Action<K, C>>) {
+        let is_wanted = self.clients.values().any(|client| client.wants(&key));
+        let may_leave = self.ownership == Ownership::Serving && !is_wanted;
+        if may_leave && self.loaded.remove(&key) {
+            self.leaving.insert(key.clone(), connection);
+            actions.push(Action::Leave(key));
+        } else if let Some(connection) = connection {
+            actions.push(Action::Answer(connection, Answer::Missing));
+        }
+    }
+
+    /// Goes on with those who waited for a row, or answers them.
+    fn loads_end(&mut self, key: &K, answer: Option<Answer>, actions: &mut Vec<Action<K, C>>) {
+        for connection in self.loading.remove(key).unwrap_or_default() {
+            let client = match self.clients.get_mut(&connection) {
+                Some(client) if client.is_at(Stage::Loading) => client,
+                _ => continue,
+            };
+            client.stage(Stage::Waiting);
+            match answer {
+                Some(answer) => self.end_request(connection, answer, actions),
+                None => self.advance(connection, actions),
+            }
+        }
+    }
+
+    /// Notes what was granted, or gives it back if nobody is there any more.
+    fn granted(&mut self, connection: Connection, actions: &mut Vec<Action<K, C>>) {
+        let client = match self.clients.get_mut(&connection) {
+            Some(client) if client.is_at(Stage::Granting) => client,
+            _ => return,
+        };
+        if client.is_lost {
+            self.drop_request(connection, actions);
+            return;
+        }
+        client.stage(Stage::Noting);
+        if let Some(request) = &client.request {
+            actions.push(Action::Note(
+                connection,
+                request.key.clone(),
+                request.change.clone(),
+            ));
+        }
+    }
+
+    /// Answers what the server has refused.
+    fn refused(&mut self, connection: Connection, actions: &mut Vec<Action<K, C>>) {
+        let client = match self.clients.get_mut(&connection) {
+            Some(client) if client.is_at(Stage::Granting) => client,
+            _ => return,
+        };
+        if client.is_free() {
+            // The session has a mark, and nothing else.
+            actions.push(Action::Tell(connection, Told::Rollback));
+        }
+        self.end_request(connection, Answer::Refused, actions);
+        self.settle(connection, actions);
+    }
+
+    /// Rule 3: only now may something be sent that commits it.
+    fn noted(&mut self, connection: Connection, id: Id, actions: &mut Vec<Action<K, C>>) {
+        let client = match self.clients.get_mut(&connection) {
+            Some(client) if client.is_at(Stage::Noting) => client,
+            _ => return,
+        };
+        if client.hold(id) {
+            actions.push(Action::Answer(connection, Answer::Reserved));
+        } else {
+            // A subtransaction that no tag has told of: its fate may differ from that of its mark.
+            actions.push(Action::Close(connection));
+            self.lost(connection, actions);
+        }
+    }
+
+    /// Rule 6: a note that failed is dead, and with it all of its subtransaction.
+    fn note_failed(&mut self, connection: Connection, actions: &mut Vec<Action<K, C>>) {
+        let is_noting = |client: &Client<K, C>| client.is_at(Stage::Noting);
+        if !self.clients.get(&connection).map_or(false, is_noting) {
+            return;
+        }
+        self.drop_request(connection, actions);
+        actions.push(Action::Answer(connection, Answer::Failed));
+        self.completed(connection, Tag::Other);
+    }
+
+    /// Gives back a grant that cannot commit any more.
+    fn drop_request(&mut self, connection: Connection, actions: &mut Vec<Action<K, C>>) {
+        if let Some(client) = self.clients.get_mut(&connection) {
+            let told = client.drop_request();
+            actions.extend(told.map(|told| Action::Tell(connection, told)));
+        }
+        self.settle(connection, actions);
+    }
+
+    /// Remembers what a reply says of ends.
+    fn completed(&mut self, connection: Connection, tag: Tag) {
+        #[cfg(test)]
+        if self.fault == Some(Fault::RollbackUnseen) && tag == Tag::Other {
+            return;
+        }
+        if let Some(client) = self.clients.get_mut(&connection) {
+            client.completed(tag);
+        }
+    }
+
+    /// Takes the end of a cycle: what it says of the transaction, by rules 4 and 5.
+    fn ready(&mut self, connection: Connection, status: Status, actions: &mut Vec<Action<K, C>>) {
+        let client = match self.clients.get_mut(&connection) {
+            Some(client) => client,
+            None => {
+                actions.push(Action::Deliver(connection));
+                return;
+            }
+        };
+        client.keep();
+        let is_plain = client.is_plain_commit();
+        #[cfg(test)]
+        let is_plain = is_plain || self.fault == Some(Fault::EndByTag) && client.ends_with_commit();
+        client.next_cycle();
+        match status {
+            Status::Idle if client.is_free() => self.deliver(connection, actions),
+            Status::Idle => {
+                client.end();
+                if is_plain {
+                    client.decide_all(Verdict::Committed);
+                    self.settle(connection, actions);
+                } else if let Some(ids) = client.ask() {
+                    actions.push(Action::Ask(connection, ids));
+                }
+            }
+            Status::InBlock => {
+                // What a ROLLBACK TO has ended is free for others at once.
+                if client.is_unsure() {
+                    if let Some(ids) = client.ask() {
+                        actions.push(Action::Ask(connection, ids));
+                    }
+                }
+                self.deliver(connection, actions);
+            }
+            Status::Failed => {
+                // What the error has ended is free at once.
+                if let Some(ids) = client.ask() {
+                    actions.push(Action::Ask(connection, ids));
+                }
+                self.deliver(connection, actions);
+            }
+        }
+    }
+
+    /// Rule 2: a loss says nothing, but of a note that was not answered (rule 3).
+    fn lost(&mut self, connection: Connection, actions: &mut Vec<Action<K, C>>) {
+        let client = match self.clients.get_mut(&connection) {
+            Some(client) => client,
+            None => return,
+        };
+        client.is_lost = true;
+        client.take_kept();
+        self.folds.forget(connection);
+        if client.is_at(Stage::Noting) {
+            let told = client.drop_request();
+            actions.extend(told.map(|told| Action::Tell(connection, told)));
+        } else if !client.is_at(Stage::Granting) {
+            // The server's reply to a grant is still to come.
+            client.request = None;
+        }
+        client.end();
+        #[cfg(test)]
+        if self.fault == Some(Fault::LossIsRollback) {
+            client.decide_all(Verdict::Aborted);
+        }
+        if let Some(ids) = client.ask() {
+            actions.push(Action::Ask(connection, ids));
+        }
+        self.settle(connection, actions);
+    }
+
+    /// Takes outcomes by id.
+    fn verdicts(
+        &mut self,
+        connection: Connection,
+        verdicts: &[Verdict],
+        actions: &mut Vec<Action<K, C>>,
+    ) {
+        let client = match self.clients.get_mut(&connection) {
+            Some(client) => client,
+            None => return,
+        };
+        if !client.answered(verdicts) {
+            // Something was said since the question, so it is asked once more.
+            if let Some(ids) = client.ask() {
+                actions.push(Action::Ask(connection, ids));
+                return;
+            }
+        }
+        self.settle(connection, actions);
+        self.advance(connection, actions);
+    }
+
+    /// Tells the server what is decided: what is dead goes, and an ended transaction whose outcomes are all known ends.
+    fn settle(&mut self, connection: Connection, actions: &mut Vec<Action<K, C>>) {
+        let client = match self.clients.get_mut(&connection) {
+            Some(client) => client,
+            None => return,
+        };
+        match client.settle() {
+            Ok(settled) => {
+                actions.extend(
+                    settled
+                        .told
+                        .into_iter()
+                        .map(|told| Action::Tell(connection, told)),
+                );
+                let is_lost = client.is_lost;
+                let is_gone = is_lost && client.is_idle();
+                if !settled.folded.is_empty() {
+                    self.folds.unlocked(&settled.folded);
+                    self.fold(false, actions);
+                    self.deliver(connection, actions);
+                } else if !settled.committed.is_empty() {
+                    let waiting = Some(connection).filter(|_| !is_lost && client.is_kept());
+                    self.folds.committed(settled.committed, waiting);
+                    self.fold(false, actions);
+                } else if settled.is_over {
+                    self.deliver(connection, actions);
+                }
+                if is_gone {
+                    self.clients.remove(&connection);
+                } else if settled.is_over {
+                    self.advance(connection, actions);
+                }
+            }
+            Err(alarm) => self.alarm(alarm, actions),
+        }
+    }
+}

@@ -1,0 +1,378 @@
+//! Single cases of the state machine, event by event. The simulation has all the others.
+
+use super::*;
+
+type Machine = Protocol<&'static str, i64>;
+
+const ONE: Connection = Connection(1);
+
+/// Returns an owner that has loaded the row `a`.
+fn serving() -> Machine {
+    let mut it = Machine::new();
+    assert_eq!(it.handle(Event::Tick), [Action::TakeOwner]);
+    assert_eq!(it.handle(Event::OwnerTaken), [Action::SetEpoch]);
+    assert_eq!(it.handle(Event::EpochSet), [Action::EndHolders]);
+    assert_eq!(it.handle(Event::Holders { any: true }), []);
+    assert_eq!(it.handle(Event::Tick), [Action::EndHolders]);
+    assert_eq!(it.handle(Event::Holders { any: false }), []);
+    assert_eq!(reserve(&mut it, "a", true), [Action::Load("a")]);
+    let missing = Event::NotLoaded {
+        key: "a",
+        missing: true,
+    };
+    assert_eq!(it.handle(missing), [Action::Answer(ONE, Answer::Missing)]);
+    assert_eq!(reserve(&mut it, "a", false), [Action::Load("a")]);
+    let granted = [
+        Action::Tell(ONE, Told::Mark(Mark(1))),
+        Action::Grant(ONE, "a", 1),
+    ];
+    assert_eq!(it.handle(Event::Loaded { key: "a" }), granted);
+    let refused = [
+        Action::Tell(ONE, Told::Rollback),
+        Action::Answer(ONE, Answer::Refused),
+    ];
+    assert_eq!(it.handle(Event::Refused { connection: ONE }), refused);
+    it
+}
+
+fn reserve(it: &mut Machine, key: &'static str, alone: bool) -> Vec<Action<&'static str, i64>> {
+    it.handle(Event::Reserve {
+        connection: ONE,
+        key,
+        change: 1,
+        alone,
+    })
+}
+
+/// Reserves of the row `a`, and notes it under an id.
+fn hold(it: &mut Machine, alone: bool, id: u64) {
+    let asked = reserve(it, "a", alone);
+    assert_eq!(
+        asked.last(),
+        Some(&Action::Grant(ONE, "a", 1)),
+        "{:?}",
+        asked
+    );
+    let noted = [Action::Note(ONE, "a", 1)];
+    assert_eq!(it.handle(Event::Granted { connection: ONE }), noted);
+    let answered = [Action::Answer(ONE, Answer::Reserved)];
+    assert_eq!(
+        it.handle(Event::Noted {
+            connection: ONE,
+            id: Id(id)
+        }),
+        answered
+    );
+}
+
+fn completed(it: &mut Machine, tag: &str) {
+    let event = Event::Completed {
+        connection: ONE,
+        tag: Tag::read(tag),
+    };
+    assert_eq!(it.handle(event), []);
+}
+
+fn ready(it: &mut Machine, status: Status) -> Vec<Action<&'static str, i64>> {
+    it.handle(Event::Ready {
+        connection: ONE,
+        status,
+    })
+}
+
+fn verdicts(it: &mut Machine, verdicts: &[Verdict]) -> Vec<Action<&'static str, i64>> {
+    it.handle(Event::Verdicts {
+        connection: ONE,
+        verdicts: verdicts.to_vec(),
+    })
+}
+
+#[test]
+fn tags_are_known_or_unsure() {
+    for (tag, expected) in [
+        ("SELECT 3", Tag::Plain),
+        ("INSERT 0 1", Tag::Plain),
+        ("COPY 7", Tag::Plain),
+        ("DECLARE CURSOR", Tag::Plain),
+        ("PREPARE", Tag::Plain),
+        ("SAVEPOINT", Tag::Savepoint),
+        ("RELEASE", Tag::Savepoint),
+        ("COMMIT", Tag::Commit),
+        ("COMMIT PREPARED", Tag::Other),
+        ("PREPARE TRANSACTION", Tag::Other),
+        ("ROLLBACK", Tag::Other),
+        ("CALL", Tag::Other),
+        ("DO", Tag::Other),
+        ("CREATE TABLE", Tag::Other),
+        ("", Tag::Other),
+    ] {
+        assert_eq!(Tag::read(tag), expected, "{}", tag);
+    }
+}
+
+#[test]
+fn a_lone_update_is_told_folded_and_delivered() {
+    let mut it = serving();
+    hold(&mut it, true, 7);
+    let told = [Action::Tell(ONE, Told::Commit), Action::Fold(vec!["a"])];
+    assert_eq!(ready(&mut it, Status::Idle), told);
+    assert!(!it.is_quiet());
+    let delivered = [Action::Deliver(ONE)];
+    assert_eq!(it.handle(Event::Folded { keys: vec!["a"] }), delivered);
+    assert!(it.is_quiet());
+}
+
+#[test]
+fn a_client_waits_no_longer_than_it_wants_for_a_locked_row() {
+    let mut it = serving();
+    hold(&mut it, true, 7);
+    ready(&mut it, Status::Idle);
+    assert_eq!(
+        it.handle(Event::Folded { keys: vec![] }),
+        [],
+        "the row is locked"
+    );
+    assert_eq!(
+        it.handle(Event::WaitOver { connection: ONE }),
+        [Action::Deliver(ONE)]
+    );
+    assert_eq!(it.handle(Event::WaitOver { connection: ONE }), []);
+    assert_eq!(it.handle(Event::Tick), [Action::Fold(vec!["a"])]);
+    assert_eq!(it.handle(Event::Folded { keys: vec!["a"] }), []);
+    assert!(it.is_quiet());
+}
+
+#[test]
+fn a_commit_with_anything_beside_it_is_asked() {
+    for beside in ["ROLLBACK", "COMMIT", "CALL", "DO"] {
+        let mut it = serving();
+        hold(&mut it, false, 7);
+        completed(&mut it, beside);
+        completed(&mut it, "COMMIT");
+        let asked = [Action::Ask(ONE, vec![Id(7)])];
+        assert_eq!(ready(&mut it, Status::Idle), asked, "{}", beside);
+        let told = [Action::Tell(ONE, Told::Rollback), Action::Deliver(ONE)];
+        assert_eq!(verdicts(&mut it, &[Verdict::Aborted]), told);
+        assert!(it.is_quiet());
+    }
+    // An error behind the COMMIT of a block that goes on.
+    let mut it = serving();
+    hold(&mut it, false, 7);
+    completed(&mut it, "COMMIT");
+    it.handle(Event::Failed { connection: ONE });
+    assert_eq!(
+        ready(&mut it, Status::Failed)[0],
+        Action::Ask(ONE, vec![Id(7)])
+    );
+    assert_eq!(
+        verdicts(&mut it, &[Verdict::Committed])[0],
+        Action::Tell(ONE, Told::Commit)
+    );
+}
+
+#[test]
+fn rollback_to_leaves_a_prefix() {
+    let mut it = serving();
+    hold(&mut it, false, 7);
+    hold(&mut it, false, 7);
+    completed(&mut it, "SAVEPOINT");
+    hold(&mut it, false, 8);
+    completed(&mut it, "ROLLBACK");
+    // What is dead is free for others at once. The next grant waits for the outcome.
+    let asked = [Action::Ask(ONE, vec![Id(7), Id(8)]), Action::Deliver(ONE)];
+    assert_eq!(ready(&mut it, Status::InBlock), asked);
+    assert_eq!(reserve(&mut it, "a", false), []);
+    let back = [
+        Action::Tell(ONE, Told::BackTo(Mark(2))),
+        Action::Tell(ONE, Told::Mark(Mark(2))),
+        Action::Grant(ONE, "a", 1),
+    ];
+    assert_eq!(
+        verdicts(&mut it, &[Verdict::InProgress, Verdict::Aborted]),
+        back
+    );
+}
+
+#[test]
+fn what_survives_and_is_no_prefix_is_an_alarm() {
+    let mut it = serving();
+    hold(&mut it, false, 7);
+    completed(&mut it, "SAVEPOINT");
+    hold(&mut it, false, 8);
+    completed(&mut it, "ROLLBACK");
+    assert_eq!(
+        ready(&mut it, Status::Idle),
+        [Action::Ask(ONE, vec![Id(7), Id(8)])]
+    );
+    let alarm = [Action::Alarm(Alarm::NoPrefix)];
+    assert_eq!(
+        verdicts(&mut it, &[Verdict::Aborted, Verdict::Committed]),
+        alarm
+    );
+    assert_eq!(it.ownership(), Ownership::Stopped);
+    it.handle(Event::KeeperLost);
+    assert_eq!(
+        it.ownership(),
+        Ownership::Stopped,
+        "until an operator starts it again"
+    );
+}
+
+#[test]
+fn an_error_frees_at_once_what_it_has_ended() {
+    let mut it = serving();
+    hold(&mut it, false, 7);
+    it.handle(Event::Failed { connection: ONE });
+    let asked = [Action::Ask(ONE, vec![Id(7)]), Action::Deliver(ONE)];
+    assert_eq!(ready(&mut it, Status::Failed), asked);
+    assert_eq!(
+        verdicts(&mut it, &[Verdict::Aborted]),
+        [Action::Tell(ONE, Told::Rollback)]
+    );
+    completed(&mut it, "ROLLBACK");
+    assert_eq!(ready(&mut it, Status::Idle), [Action::Deliver(ONE)]);
+    assert!(it.is_quiet());
+}
+
+#[test]
+fn an_answer_to_an_old_question_is_not_taken_for_a_new_one() {
+    let mut it = serving();
+    hold(&mut it, false, 7);
+    completed(&mut it, "SAVEPOINT");
+    hold(&mut it, false, 8);
+    it.handle(Event::Failed { connection: ONE });
+    assert_eq!(
+        ready(&mut it, Status::Failed)[0],
+        Action::Ask(ONE, vec![Id(7), Id(8)])
+    );
+    completed(&mut it, "ROLLBACK");
+    ready(&mut it, Status::InBlock);
+    assert_eq!(reserve(&mut it, "a", false), []);
+    // Both were alive when it was asked, and one of them may be dead since.
+    let both = [Verdict::InProgress, Verdict::InProgress];
+    assert_eq!(
+        verdicts(&mut it, &both),
+        [Action::Ask(ONE, vec![Id(7), Id(8)])]
+    );
+}
+
+#[test]
+fn a_loss_is_asked_until_it_is_known() {
+    let mut it = serving();
+    hold(&mut it, false, 7);
+    assert_eq!(
+        it.handle(Event::Lost { connection: ONE }),
+        [Action::Ask(ONE, vec![Id(7)])]
+    );
+    assert_eq!(
+        verdicts(&mut it, &[Verdict::InProgress]),
+        [],
+        "it is prepared"
+    );
+    assert_eq!(it.handle(Event::Tick), [Action::Ask(ONE, vec![Id(7)])]);
+    let told = [Action::Tell(ONE, Told::Commit), Action::Fold(vec!["a"])];
+    assert_eq!(verdicts(&mut it, &[Verdict::Committed]), told);
+    it.handle(Event::Folded { keys: vec!["a"] });
+    assert!(it.is_quiet());
+}
+
+#[test]
+fn a_note_without_an_answer_is_dropped_with_its_connection() {
+    let mut it = serving();
+    reserve(&mut it, "a", true);
+    it.handle(Event::Granted { connection: ONE });
+    let told = [Action::Tell(ONE, Told::Rollback)];
+    assert_eq!(it.handle(Event::Lost { connection: ONE }), told);
+    assert!(it.is_quiet());
+    // The server's reply may be still to come.
+    let mut it = serving();
+    reserve(&mut it, "a", true);
+    assert_eq!(it.handle(Event::Lost { connection: ONE }), []);
+    assert_eq!(it.handle(Event::Granted { connection: ONE }), told);
+    assert!(it.is_quiet());
+}
+
+#[test]
+fn a_subtransaction_that_no_tag_has_told_of_ends_the_connection() {
+    let mut it = serving();
+    hold(&mut it, false, 7);
+    reserve(&mut it, "a", false);
+    it.handle(Event::Granted { connection: ONE });
+    let closed = [Action::Close(ONE), Action::Ask(ONE, vec![Id(7), Id(8)])];
+    assert_eq!(
+        it.handle(Event::Noted {
+            connection: ONE,
+            id: Id(8)
+        }),
+        closed
+    );
+}
+
+#[test]
+fn a_transaction_has_64_marks() {
+    let mut it = serving();
+    for id in 0..64 {
+        hold(&mut it, false, id);
+        completed(&mut it, "SAVEPOINT");
+    }
+    assert_eq!(
+        reserve(&mut it, "a", false),
+        [Action::Answer(ONE, Answer::TooMany)]
+    );
+}
+
+#[test]
+fn requests_wait_for_a_takeover_unless_another_owns() {
+    let mut it = Machine::new();
+    assert_eq!(reserve(&mut it, "a", true), []);
+    let answered = [Action::Answer(ONE, Answer::NotOwner)];
+    assert_eq!(it.handle(Event::OwnerElsewhere), answered);
+    assert_eq!(reserve(&mut it, "a", true), answered);
+    it.handle(Event::OwnerTaken);
+    it.handle(Event::EpochSet);
+    assert_eq!(reserve(&mut it, "a", true), []);
+    assert_eq!(
+        it.handle(Event::Holders { any: false }),
+        [Action::Load("a")]
+    );
+}
+
+#[test]
+fn a_lost_keeper_ends_what_was_reserved() {
+    let mut it = serving();
+    hold(&mut it, false, 7);
+    let begun = [Action::Close(ONE), Action::RestartServer, Action::TakeOwner];
+    assert_eq!(it.handle(Event::KeeperLost), begun);
+    assert!(it.is_quiet());
+    assert_eq!(verdicts(&mut it, &[Verdict::Committed]), []);
+}
+
+#[test]
+fn a_row_that_nobody_wants_is_left_and_loaded_anew() {
+    let mut it = serving();
+    hold(&mut it, false, 7);
+    let key = "a";
+    let two = Connection(2);
+    let leave = |connection| Event::Leave { connection, key };
+    // Somebody has reserved it.
+    let answer = [Action::Answer(two, Answer::Missing)];
+    assert_eq!(it.handle(leave(Some(two))), answer);
+    assert_eq!(it.handle(leave(None)), []);
+    // Its outcome is not known.
+    it.handle(Event::Lost { connection: ONE });
+    assert_eq!(it.handle(leave(Some(two))), answer);
+    verdicts(&mut it, &[Verdict::Aborted]);
+    assert_eq!(it.handle(leave(Some(two))), [Action::Leave(key)]);
+    // A request waits until it is left, and then loads it.
+    let connection = Connection(3);
+    let reserve = Event::Reserve {
+        connection,
+        key,
+        change: 1,
+        alone: false,
+    };
+    assert_eq!(it.handle(reserve), []);
+    let left = [answer[0].clone(), Action::Load(key)];
+    assert_eq!(it.handle(Event::Left { key }), left);
+    assert_eq!(it.handle(leave(Some(two))), answer, "it is wanted");
+}

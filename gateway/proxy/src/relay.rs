@@ -1,0 +1,420 @@
+//! The relay of one client's connection to a connection of its own at PostgreSQL.
+//!
+//! Messages go on one by one, so that what is reserved can be taken out of the stream; what is large passes in parts.
+
+use std::future::Future;
+use std::io;
+use std::sync::atomic::{AtomicBool, Ordering};
+use std::sync::{Arc, Mutex, MutexGuard, PoisonError};
+use std::time::Duration;
+
+use bytes::BytesMut;
+use escrowd_pg::wire::frontend::startup_parameters;
+use tokio::io::{AsyncRead, AsyncReadExt, AsyncWrite, AsyncWriteExt};
+use tokio::sync::mpsc::unbounded_channel;
+use tokio::sync::Notify;
+use tokio::time::timeout;
+
+use crate::expected::Track;
+use crate::frames::{BadLength, Frames, Startup};
+use crate::hub::Hub;
+use crate::own;
+use crate::protocol::{Connection, Ownership};
+use crate::replies::Replies;
+use crate::requests::Requests;
+use crate::sasl;
+use crate::stream::Stream;
+use crate::target::Target;
+use crate::tls::{self, Acceptor};
+
+/// How long a client may take to its StartupMessage.
+pub const STARTUP: Duration = Duration::from_secs(10);
+
+/// The bytes that are read at once, and the most that are kept unsent.
+pub const CHUNK: usize = 65_536;
+
+/// What the proxy serves clients with.
+#[derive(Clone)]
+pub struct Service {
+    /// The hub.
+    pub hub: Arc<Hub>,
+    /// PostgreSQL.
+    pub target: Arc<Target>,
+    /// TLS for clients.
+    pub acceptor: Option<Arc<Acceptor>>,
+    /// How long a COMMIT waits for its fold.
+    pub fold_wait: Duration,
+}
+
+/// What both directions of a connection share. One task polls them in turn, so nobody ever waits for a lock.
+pub struct Shared {
+    track: Mutex<Track>,
+    /// Something was answered.
+    pub changed: Notify,
+    is_engaged: AtomicBool,
+    waits: AtomicBool,
+}
+
+impl Shared {
+    fn new() -> Shared {
+        Shared {
+            track: Mutex::new(Track::new()),
+            changed: Notify::new(),
+            is_engaged: AtomicBool::new(false),
+            waits: AtomicBool::new(true),
+        }
+    }
+
+    /// Returns what is expected and known.
+    pub fn track(&self) -> MutexGuard<'_, Track> {
+        self.track.lock().unwrap_or_else(PoisonError::into_inner)
+    }
+
+    /// The hub is told of all replies from now on.
+    pub fn engage(&self) {
+        self.is_engaged.store(true, Ordering::Relaxed);
+    }
+
+    /// The hub has nothing of the connection's any more.
+    pub fn disengage(&self) {
+        self.is_engaged.store(false, Ordering::Relaxed);
+    }
+
+    /// Returns whether the hub is told of all replies.
+    pub fn is_engaged(&self) -> bool {
+        self.is_engaged.load(Ordering::Relaxed)
+    }
+
+    /// Whether a COMMIT waits for its fold.
+    pub fn set_wait(&self, waits: bool) {
+        self.waits.store(waits, Ordering::Relaxed);
+    }
+
+    /// Returns whether a COMMIT waits for its fold.
+    pub fn waits(&self) -> bool {
+        self.waits.load(Ordering::Relaxed)
+    }
+}
+
+/// Why a connection ended early.
+#[derive(Debug, thiserror::Error)]
+pub enum Error {
+    /// The system refused a read or a write.
+    #[error("{0}")]
+    System(#[from] io::Error),
+    /// A message of no length that there is.
+    #[error("{0}")]
+    Protocol(#[from] BadLength),
+    /// The client's connection did not begin.
+    #[error("{0}")]
+    Begin(#[from] tls::Error),
+    /// The client can bind its authentication, and PostgreSQL would refuse it.
+    #[error("a client wants channel binding")]
+    Binding,
+    /// PostgreSQL lets the proxy's own role in without a question, so every client could be it.
+    #[error("a client comes as the proxy's own role, and PostgreSQL asks for no password")]
+    Unasked,
+    /// The client sent no StartupMessage in time.
+    #[error("no startup within {} s", STARTUP.as_secs())]
+    Late,
+    /// No server of the target accepts connections.
+    #[error("PostgreSQL cannot be reached: {0}")]
+    Unreachable(io::Error),
+    /// A client uses a name of the proxy's own (rule 19).
+    #[error("names that begin with \"escrowd-proxy \" are the proxy's own")]
+    OwnName,
+    /// A client sends a text of the proxy's own (rule 19).
+    #[error("only the proxy itself may send this text")]
+    OwnText,
+    /// Another proxy is the owner: clients find it under another host.
+    #[error("another escrowd-proxy is the owner")]
+    NotOwner,
+    /// Nobody has become the owner in time.
+    #[error("no escrowd-proxy serves reservations yet")]
+    NoOwner,
+    /// What a note answered is not what PostgreSQL's function answers.
+    #[error("an answer that no note gives")]
+    Forged,
+    /// PostgreSQL answers what nobody asked.
+    #[error("a reply that was not expected (kind {0})")]
+    Stray(char),
+    /// The state machine has ended the connection.
+    #[error("the proxy has begun anew as the owner")]
+    Ended,
+}
+
+impl Error {
+    /// Returns what the client is told, if it is told anything.
+    fn fatal(&self) -> Option<Vec<u8>> {
+        let code = match self {
+            Error::OwnName | Error::OwnText => "42501",
+            Error::NotOwner | Error::NoOwner | Error::Ended => "57P01",
+            Error::Forged | Error::Stray(_) => "08P01",
+            _ => return None,
+        };
+        Some(own::fatal(code, &self.to_string()))
+    }
+}
+
+/// Serves a client until either side ends.
+pub async fn serve(client: Stream, service: &Service) -> Result<(), Error> {
+    let target = &service.target;
+    let acceptor = service.acceptor.as_deref();
+    let mut input = BytesMut::new();
+    let (mut client, first) = match timeout(STARTUP, tls::begin(client, &mut input, acceptor)).await
+    {
+        Ok(Ok(Some(begun))) => begun,
+        Ok(Ok(None)) => return Ok(()),
+        Ok(Err(error)) => return Err(error.into()),
+        Err(_) => return Err(Error::Late),
+    };
+    match first {
+        Startup::Tls | Startup::Gss => Ok(()),
+        Startup::Cancel(packet) => {
+            let mut server = connect(service).await.map_err(Error::Unreachable)?;
+            server.write_all(&packet).await?;
+            server.flush().await?;
+            // PostgreSQL closes it once the cancel is sent on; the client waits for that.
+            while server.read_buf(&mut input).await? > 0 {}
+            Ok(())
+        }
+        Startup::Message(packet) => {
+            if is_served(&packet, target) && service.hub.ownership() == Ownership::Elsewhere {
+                // A client goes on to its next host.
+                let bytes = own::fatal("57P03", &Error::NotOwner.to_string());
+                client.write_all(&bytes).await?;
+                client.shutdown().await?;
+                return Err(Error::NotOwner);
+            }
+            let mut server = match connect(service).await {
+                Ok(server) => server,
+                Err(error) => {
+                    let message = format!("PostgreSQL cannot be reached: {error}");
+                    client.write_all(&own::fatal("57P03", &message)).await?;
+                    client.shutdown().await?;
+                    return Err(Error::Unreachable(error));
+                }
+            };
+            server.write_all(&packet).await?;
+            server.flush().await?;
+            let mut output = BytesMut::new();
+            let guarded = target.is_guarded(user(&packet));
+            let (from, to) = (&mut input, &mut output);
+            match authenticate(&mut client, &mut server, from, to, guarded).await? {
+                true if is_served(&packet, target) => {
+                    reserve(client, server, (input, output), service).await
+                }
+                true => relay(client, server, input, output).await,
+                false => Ok(()),
+            }
+        }
+    }
+}
+
+/// Connects to the server that takes writes, as far as the keeper knows it, or to the first that accepts.
+async fn connect(service: &Service) -> io::Result<Stream> {
+    if let Some(address) = service.hub.address() {
+        match service.target.connect_to(&address).await {
+            Ok(stream) => return Ok(stream),
+            Err(error) => tracing::debug!("{error}"),
+        }
+    }
+    service.target.connect().await
+}
+
+/// Relays the client's authentication. Returns true behind AuthenticationOk, and false if a side has ended. What was read
+/// behind it is in `input` and `output`.
+///
+/// # Errors
+///
+/// Fails as a relay does, if the client wants its authentication bound to a certificate that is not PostgreSQL's, and if
+/// it is `guarded` and PostgreSQL lets it in without a question.
+pub async fn authenticate(
+    client: &mut Stream,
+    server: &mut Stream,
+    input: &mut BytesMut,
+    output: &mut BytesMut,
+    guarded: bool,
+) -> Result<bool, Error> {
+    let mut is_asked = false;
+    let may_bind = client.certificate() == server.certificate();
+    let is_tls = client.certificate().is_some() && server.certificate().is_some();
+    let (mut from_client, mut from_server) = (Frames::default(), Frames::default());
+    loop {
+        while let Some(piece) = from_server.next(output)? {
+            is_asked |= sasl::asks(piece.bytes());
+            if guarded && !is_asked && sasl::is_ok(piece.bytes()) {
+                client.write_all(&own::fatal("28000", UNASKED)).await?;
+                client.shutdown().await?;
+                return Err(Error::Unasked);
+            }
+            match sasl::without_binding(piece.bytes()).filter(|_| !may_bind) {
+                Some(changed) => client.write_all(&changed).await?,
+                None => client.write_all(piece.bytes()).await?,
+            }
+            if sasl::is_ok(piece.bytes()) {
+                client.flush().await?;
+                return Ok(true);
+            }
+        }
+        client.flush().await?;
+        while let Some(piece) = from_client.next(input)? {
+            if is_tls && !may_bind && sasl::misses_binding(piece.bytes()) {
+                client.write_all(&own::fatal("28000", NO_BINDING)).await?;
+                client.shutdown().await?;
+                return Err(Error::Binding);
+            }
+            server.write_all(piece.bytes()).await?;
+        }
+        server.flush().await?;
+        let read = tokio::select! {
+            read = server.read_buf(output) => read?,
+            read = client.read_buf(input) => read?,
+        };
+        if read == 0 {
+            return Ok(false);
+        }
+    }
+}
+
+/// Returns the user of a StartupMessage.
+fn user(packet: &[u8]) -> Option<&str> {
+    let parameters = packet.get(8..).and_then(startup_parameters)?;
+    let user = parameters.iter().rev().find(|(name, _)| *name == "user");
+    user.map(|(_, user)| *user)
+}
+
+/// Returns whether a StartupMessage is for the database of the proxy's, and for statements.
+fn is_served(packet: &[u8], target: &Target) -> bool {
+    let parameters = packet.get(8..).and_then(startup_parameters);
+    let parameters = parameters.unwrap_or_default();
+    let value = |name: &str| {
+        let mut found = parameters.iter().filter(|(known, _)| *known == name);
+        found.next_back().map(|(_, value)| *value)
+    };
+    let config = target.config();
+    let own = config.get_dbname().or_else(|| config.get_user());
+    let replicates = !matches!(
+        value("replication"),
+        None | Some("off" | "false" | "no" | "0")
+    );
+    !replicates && own.is_some() && own == value("database").or_else(|| value("user"))
+}
+
+/// Forgets a connection when its task ends, however that is.
+struct Open<'a>(&'a Hub, Connection);
+
+impl Drop for Open<'_> {
+    fn drop(&mut self) {
+        self.0.close(self.1);
+    }
+}
+
+/// Relays both directions, but for reservations, until one of them ends.
+async fn reserve(
+    client: Stream,
+    server: Stream,
+    (input, output): (BytesMut, BytesMut),
+    service: &Service,
+) -> Result<(), Error> {
+    let (from_client, mut to_client) = client.split();
+    let (from_server, to_server) = server.split();
+    let ends = service.hub.open();
+    let _open = Open(&service.hub, ends.connection);
+    let shared = Shared::new();
+    let (own, replies) = unbounded_channel();
+    let (resume, resumed) = unbounded_channel();
+    let requests = Requests::new(
+        from_client,
+        to_server,
+        &shared,
+        &service.hub,
+        (ends.connection, ends.mail),
+        replies,
+        resume,
+    );
+    let answers = Replies {
+        from: from_server,
+        to: &mut to_client,
+        shared: &shared,
+        hub: &service.hub,
+        connection: ends.connection,
+        delivered: ends.delivered,
+        own,
+        resumed,
+        fold_wait: service.fold_wait,
+        out: Vec::new(),
+        row: None,
+    };
+    let ended = tokio::select! {
+        ended = first_end(requests.run(input), answers.run(output)) => ended,
+        _ = ends.end.notified() => Err(Error::Ended),
+    };
+    if let Some(bytes) = ended.as_ref().err().and_then(Error::fatal) {
+        // The client may be gone.
+        let _ = to_client.write_all(&bytes).await;
+        let _ = to_client.shutdown().await;
+    }
+    ended
+}
+
+/// Relays both directions until one of them ends. `input` and `output` were read from the client and from the server.
+async fn relay(
+    client: Stream,
+    server: Stream,
+    input: BytesMut,
+    output: BytesMut,
+) -> Result<(), Error> {
+    let (from_client, to_client) = client.split();
+    let (from_server, to_server) = server.split();
+    let there = pass(from_client, to_server, input);
+    let back = pass(from_server, to_client, output);
+    first_end(there, back).await
+}
+
+/// Waits for the first end. What PostgreSQL has sent before its own end has reached the client then.
+async fn first_end(
+    there: impl Future<Output = Result<(), Error>>,
+    back: impl Future<Output = Result<(), Error>>,
+) -> Result<(), Error> {
+    tokio::pin!(there, back);
+    tokio::select! {
+        ended = &mut back => ended,
+        // The server's socket may still hold a last error for a client that reads on.
+        ended = &mut there => match ended {
+            Ok(()) | Err(Error::System(_)) => match timeout(Duration::from_secs(1), back).await {
+                Ok(Err(error)) if ended.is_ok() => Err(error),
+                _ => ended,
+            },
+            ended => ended,
+        },
+    }
+}
+
+/// Passes the messages of one direction until its end, and shuts the other side's direction then.
+async fn pass(
+    mut from: impl AsyncRead + Unpin,
+    mut to: impl AsyncWrite + Unpin,
+    mut input: BytesMut,
+) -> Result<(), Error> {
+    let mut frames = Frames::default();
+    loop {
+        while let Some(piece) = frames.next(&mut input)? {
+            to.write_all(piece.bytes()).await?;
+        }
+        to.flush().await?;
+        input.reserve(CHUNK);
+        if from.read_buf(&mut input).await? == 0 {
+            to.shutdown().await?;
+            return Ok(());
+        }
+    }
+}
+
+/// What a client is told that comes as the proxy's own role.
+const UNASKED: &str =
+    "the role of escrowd-proxy needs a password here; change pg_hba.conf for its connections";
+
+/// What a client is told that can neither bind its authentication nor go on without it.
+const NO_BINDING: &str =
+    "SCRAM channel binding does not pass escrowd-proxy; connect with channel_binding=disable";

@@ -1,0 +1,192 @@
+//! What PostgreSQL sends: it goes on to the client, but for what answers the proxy itself.
+//!
+//! While a transaction has reservations, each end that a reply tells of is told to the hub, and a ReadyForQuery waits until
+//! the hub lets it go on.
+
+use std::sync::Arc;
+use std::time::Duration;
+
+use bytes::{Bytes, BytesMut};
+use tokio::io::{AsyncReadExt, AsyncWriteExt};
+use tokio::sync::mpsc::{UnboundedReceiver, UnboundedSender};
+use tokio::time::sleep;
+
+use crate::expected::Reply;
+use crate::frames::{Frames, Piece};
+use crate::hub::Hub;
+use crate::own;
+use crate::protocol::{Connection, Event, Status};
+use crate::relay::{Error, Shared, CHUNK};
+use crate::requests::OwnReply;
+use crate::stream::{Reader, Writer};
+
+/// The direction from PostgreSQL to a client.
+pub struct Replies<'a> {
+    /// PostgreSQL.
+    pub from: Reader,
+    /// The client.
+    pub to: &'a mut Writer,
+    /// What both directions share.
+    pub shared: &'a Shared,
+    /// The hub.
+    pub hub: &'a Arc<Hub>,
+    /// The number of the connection.
+    pub connection: Connection,
+    /// ReadyForQuery may go on.
+    pub delivered: UnboundedReceiver<()>,
+    /// Takes own replies.
+    pub own: UnboundedSender<OwnReply>,
+    /// What is to be written before it goes on behind an own reply.
+    pub resumed: UnboundedReceiver<Bytes>,
+    /// How long a COMMIT waits for its fold.
+    pub fold_wait: Duration,
+    /// What is not written yet.
+    pub out: Vec<u8>,
+    /// The row of the own reply that is under way.
+    pub row: Option<Vec<Option<Bytes>>>,
+}
+
+impl Replies<'_> {
+    /// Serves PostgreSQL until it ends. `input` was read before.
+    pub async fn run(mut self, mut input: BytesMut) -> Result<(), Error> {
+        let mut frames = Frames::default();
+        loop {
+            while let Some(piece) = frames.next(&mut input)? {
+                match piece {
+                    Piece::Message(kind, bytes) => self.message(kind, &bytes).await?,
+                    Piece::Part(bytes, is_first) => {
+                        if is_first {
+                            self.large(bytes[0])?;
+                        }
+                        self.out.extend_from_slice(&bytes);
+                    }
+                }
+                if self.out.len() > CHUNK {
+                    self.flush().await?;
+                }
+            }
+            self.flush().await?;
+            input.reserve(CHUNK);
+            tokio::select! {
+                biased;
+                // The other direction answers by itself.
+                Some(bytes) = self.resumed.recv() => self.out.extend_from_slice(&bytes),
+                read = self.from.read_buf(&mut input) => if read? == 0 {
+                    self.to.shutdown().await?;
+                    return Ok(());
+                },
+            }
+        }
+    }
+
+    async fn flush(&mut self) -> Result<(), Error> {
+        if !self.out.is_empty() {
+            self.to.write_all(&self.out).await?;
+            self.to.flush().await?;
+            self.out.clear();
+        }
+        Ok(())
+    }
+
+    /// Takes the kind of a message that passes in parts. No reply to the proxy itself is as large.
+    fn large(&mut self, kind: u8) -> Result<(), Error> {
+        let reply = self.shared.track().reply(kind, &[]);
+        let connection = self.connection;
+        match reply {
+            Reply::Pass => {}
+            Reply::Failed { skips_own: false } => {
+                if self.shared.is_engaged() {
+                    self.hub.handle(Event::Failed { connection });
+                }
+            }
+            _ => return Err(Error::Stray(char::from(kind))),
+        }
+        self.shared.changed.notify_one();
+        Ok(())
+    }
+
+    async fn message(&mut self, kind: u8, bytes: &Bytes) -> Result<(), Error> {
+        let reply = self.shared.track().reply(kind, &bytes[5..]);
+        let connection = self.connection;
+        let is_engaged = self.shared.is_engaged();
+        match reply {
+            Reply::Pass => self.out.extend_from_slice(bytes),
+            Reply::Completed(tag) => {
+                if is_engaged {
+                    self.hub.handle(Event::Completed { connection, tag });
+                }
+                self.out.extend_from_slice(bytes);
+            }
+            Reply::Failed { skips_own } => {
+                if is_engaged {
+                    self.hub.handle(Event::Failed { connection });
+                }
+                self.out.extend_from_slice(bytes);
+                if skips_own {
+                    self.hand_over(OwnReply::Skipped).await?;
+                }
+            }
+            Reply::Ready(status) => {
+                if is_engaged {
+                    self.keep_back(status).await?;
+                }
+                self.shared.track().ready(status);
+                self.out.extend_from_slice(bytes);
+            }
+            Reply::Own => {
+                if kind == b'D' {
+                    self.row = own::row(bytes);
+                }
+            }
+            Reply::OwnTag => {
+                let tag = bytes.slice(5..bytes.len().saturating_sub(1).max(5));
+                self.row = Some(vec![Some(tag)]);
+            }
+            Reply::OwnDone => {
+                let row = self.row.take();
+                self.hand_over(OwnReply::Row(row)).await?;
+            }
+            Reply::OwnFailed => {
+                self.row = None;
+                self.hand_over(OwnReply::Failed(bytes.clone())).await?;
+            }
+            Reply::Stray => return Err(Error::Stray(char::from(kind))),
+        }
+        if reply != Reply::Pass || self.shared.track().is_quiet() {
+            self.shared.changed.notify_one();
+        }
+        Ok(())
+    }
+
+    /// Hands an own reply over, and waits until what the client gets behind it is known.
+    async fn hand_over(&mut self, reply: OwnReply) -> Result<(), Error> {
+        self.own.send(reply).map_err(|_| Error::Ended)?;
+        self.shared.changed.notify_one();
+        let bytes = self.resumed.recv().await.ok_or(Error::Ended)?;
+        self.out.extend_from_slice(&bytes);
+        Ok(())
+    }
+
+    /// Keeps a ReadyForQuery back until the hub delivers it, or the client has waited long enough.
+    async fn keep_back(&mut self, status: Status) -> Result<(), Error> {
+        let connection = self.connection;
+        self.hub.handle(Event::Ready { connection, status });
+        let wait = match self.shared.waits() {
+            true => self.fold_wait,
+            false => Duration::ZERO,
+        };
+        let delivered = tokio::select! {
+            biased;
+            delivered = self.delivered.recv() => delivered,
+            _ = sleep(wait) => {
+                self.hub.handle(Event::WaitOver { connection });
+                self.delivered.recv().await
+            }
+        };
+        delivered.ok_or(Error::Ended)?;
+        if status == Status::Idle && self.hub.is_idle(connection) {
+            self.shared.disengage();
+        }
+        Ok(())
+    }
+}

@@ -1,0 +1,547 @@
+//! What a client sends: it goes on to PostgreSQL message by message, but for UPDATEs that are reservations.
+//!
+//! Such an UPDATE is asked of the server, and then noted in the client's own transaction (rules 3 to 6). Nothing else of
+//! the client's is sent in between.
+
+use std::collections::HashMap;
+use std::sync::Arc;
+
+use bytes::{Bytes, BytesMut};
+use escrowd_pg::wire::frontend::{self, Message, Raw};
+use tokio::io::{AsyncReadExt, AsyncWriteExt};
+use tokio::sync::mpsc::{UnboundedReceiver, UnboundedSender};
+
+use crate::expected::{Bound, Expect, Prepared};
+use crate::frames::{Frames, Piece};
+use crate::hub::{Hub, Mail};
+use crate::own::{self, Value};
+use crate::parameters::Parameters;
+use crate::protocol::Connection;
+use crate::relay::{Error, Shared, CHUNK};
+use crate::stream::{Reader, Writer};
+use crate::update::Statement;
+
+/// What PostgreSQL has answered the proxy itself.
+#[derive(Debug)]
+pub enum OwnReply {
+    /// The last row, if there was one.
+    Row(Option<Vec<Option<Bytes>>>),
+    /// An ErrorResponse, whole.
+    Failed(Bytes),
+    /// Nothing: an error of the client's came before.
+    Skipped,
+    /// Nothing was sent, since PostgreSQL skips what comes.
+    Unsent,
+}
+
+/// By which protocol an UPDATE came.
+#[derive(Clone, Copy, Debug, PartialEq, Eq)]
+pub(crate) enum How {
+    Simple,
+    Extended,
+}
+
+/// A statement that PostgreSQL serves beside a reservation: its text and its parameters, as the client has sent them.
+#[derive(Clone, Debug)]
+pub(crate) struct Rest {
+    pub(crate) text: String,
+    pub(crate) types: Vec<u32>,
+    pub(crate) formats: Vec<i16>,
+    pub(crate) values: Vec<Option<Vec<u8>>>,
+    pub(crate) results: Vec<i16>,
+}
+
+/// What an own request ends with.
+#[derive(Clone, Debug, PartialEq, Eq)]
+pub(crate) enum End {
+    Flush,
+    /// A Sync whose ReadyForQuery is the client's.
+    Sync,
+    /// The client's Query, which PostgreSQL skips if the request fails.
+    Query(Vec<u8>),
+    /// The client's Execute, likewise, and a Flush.
+    Execute(Vec<u8>),
+}
+
+/// The direction from a client to PostgreSQL.
+pub struct Requests<'a> {
+    /// The client.
+    pub from: Reader,
+    /// PostgreSQL.
+    pub to: Writer,
+    /// What both directions share.
+    pub shared: &'a Shared,
+    /// The hub.
+    pub hub: &'a Arc<Hub>,
+    /// The number of the connection.
+    pub connection: Connection,
+    /// What the hub tells.
+    pub mail: UnboundedReceiver<Mail>,
+    /// Own replies.
+    pub replies: UnboundedReceiver<OwnReply>,
+    /// What the other direction is to write to the client before it goes on behind an own reply.
+    pub resume: UnboundedSender<Bytes>,
+    pub(crate) own: Session,
+    out: Vec<u8>,
+}
+
+/// What the proxy has made in the client's session.
+#[derive(Default)]
+pub(crate) struct Session {
+    /// The names of its prepared statements, by their texts.
+    pub(crate) prepared: HashMap<String, String>,
+    /// How many names were given so far.
+    names: u64,
+    /// The epoch in which it was greeted.
+    pub(crate) greeted: i64,
+    /// Whether what is declared may have been changed by this client.
+    pub(crate) is_old: bool,
+}
+
+impl<'a> Requests<'a> {
+    /// Makes the direction.
+    pub fn new(
+        from: Reader,
+        to: Writer,
+        shared: &'a Shared,
+        hub: &'a Arc<Hub>,
+        ends: (Connection, UnboundedReceiver<Mail>),
+        replies: UnboundedReceiver<OwnReply>,
+        resume: UnboundedSender<Bytes>,
+    ) -> Requests<'a> {
+        Requests {
+            from,
+            to,
+            shared,
+            hub,
+            connection: ends.0,
+            mail: ends.1,
+            replies,
+            resume,
+            own: Session::default(),
+            out: Vec::new(),
+        }
+    }
+
+    /// Serves the client until it ends. `input` was read before.
+    pub async fn run(mut self, mut input: BytesMut) -> Result<(), Error> {
+        let mut frames = Frames::default();
+        loop {
+            while let Some(piece) = frames.next(&mut input)? {
+                match piece {
+                    Piece::Message(kind, bytes) => self.message(kind, bytes).await?,
+                    Piece::Part(bytes, is_first) => self.part(&bytes, is_first),
+                }
+                if self.out.len() > CHUNK {
+                    self.flush().await?;
+                }
+            }
+            self.flush().await?;
+            input.reserve(CHUNK);
+            if self.from.read_buf(&mut input).await? == 0 {
+                self.to.shutdown().await?;
+                return Ok(());
+            }
+        }
+    }
+
+    pub(crate) async fn flush(&mut self) -> Result<(), Error> {
+        if !self.out.is_empty() {
+            self.to.write_all(&self.out).await?;
+            self.to.flush().await?;
+            self.out.clear();
+        }
+        Ok(())
+    }
+
+    pub(crate) fn expect(&self, expect: Expect) {
+        self.shared.track().expect(expect);
+    }
+
+    pub(crate) fn pass(&mut self, bytes: &[u8], expect: Expect) {
+        self.expect(expect);
+        self.out.extend_from_slice(bytes);
+    }
+
+    /// Passes a part of a message that is too large to be looked at.
+    fn part(&mut self, bytes: &[u8], is_first: bool) {
+        if is_first {
+            let nameless = String::new;
+            match bytes.first() {
+                Some(b'Q') => self.expect(Expect::Query),
+                Some(b'P') => {
+                    self.shared.track().forget_statements();
+                    self.expect(Expect::Parse(nameless(), None));
+                }
+                Some(b'B') => {
+                    self.shared.track().forget_statements();
+                    self.expect(Expect::Bind(nameless(), None));
+                }
+                Some(b'F') => self.expect(Expect::Function),
+                Some(b'D') => self.expect(Expect::Describe),
+                Some(b'E') => self.expect(Expect::Execute),
+                Some(b'C') => {
+                    self.shared.track().forget_statements();
+                    self.expect(Expect::CloseStatement(nameless()));
+                }
+                _ => {}
+            }
+        }
+        self.out.extend_from_slice(bytes);
+    }
+
+    async fn message(&mut self, kind: u8, bytes: Bytes) -> Result<(), Error> {
+        let raw = Raw {
+            kind,
+            body: &bytes[5..],
+        };
+        let message = match frontend::message(raw) {
+            Ok(message) => message,
+            // PostgreSQL says what is wrong with it.
+            Err(_) => return self.unknown(kind, &bytes),
+        };
+        match message {
+            Message::Query(text) => self.query(text, &bytes).await?,
+            Message::Parse(parse) => {
+                self.check_name(parse.name)?;
+                self.check_text(parse.text)?;
+                if contains(parse.text, b"escrow.reservations") {
+                    self.show().await?;
+                }
+                let statement = self.statement(parse.text);
+                let types = parse.types;
+                let prepared = statement.map(|statement| Arc::new(Prepared { statement, types }));
+                self.pass(&bytes, Expect::Parse(parse.name.to_owned(), prepared));
+            }
+            Message::Bind(bind) => {
+                self.check_name(bind.statement)?;
+                self.check_name(bind.portal)?;
+                let statement = self.shared.track().statement(bind.statement);
+                let bound = statement.map(|statement| {
+                    let values = bind.values.iter().map(|it| it.map(<[u8]>::to_vec));
+                    Arc::new(Bound {
+                        statement,
+                        values: values.collect(),
+                        formats: bind.formats.clone(),
+                        results: bind.result_formats.clone(),
+                    })
+                });
+                self.pass(&bytes, Expect::Bind(bind.portal.to_owned(), bound));
+            }
+            Message::Describe(target) => {
+                self.check_target(target)?;
+                self.pass(&bytes, Expect::Describe);
+            }
+            Message::Close(target) => {
+                self.check_target(target)?;
+                let expect = match target {
+                    frontend::Target::Statement(name) => Expect::CloseStatement(name.to_owned()),
+                    frontend::Target::Portal(name) => Expect::ClosePortal(name.to_owned()),
+                };
+                self.pass(&bytes, expect);
+            }
+            Message::Execute { portal, .. } => {
+                self.check_name(portal)?;
+                let bound = self.shared.track().portal(portal);
+                let prepared = bound
+                    .as_ref()
+                    .map(|bound| (bound, &bound.statement.statement));
+                match prepared {
+                    Some((bound, Statement::Update(form))) => {
+                        let parameters = Parameters {
+                            types: &bound.statement.types,
+                            formats: &bound.formats,
+                            values: &bound.values,
+                        };
+                        self.update(form, parameters, &bound.results, &bytes, How::Extended)
+                            .await?;
+                    }
+                    Some((bound, Statement::Delete(deletion))) => {
+                        let parameters = Parameters {
+                            types: &bound.statement.types,
+                            formats: &bound.formats,
+                            values: &bound.values,
+                        };
+                        self.delete(deletion, parameters).await?;
+                        self.pass(&bytes, Expect::Execute);
+                    }
+                    Some((_, Statement::Deallocate(name))) => {
+                        self.shared.track().deallocates(name.clone());
+                        self.pass(&bytes, Expect::Execute);
+                    }
+                    Some((_, Statement::Commit)) => self.commit(&bytes, How::Extended).await?,
+                    None => self.pass(&bytes, Expect::Execute),
+                }
+            }
+            Message::Sync => self.pass(&bytes, Expect::Sync),
+            Message::FunctionCall => self.pass(&bytes, Expect::Function),
+            Message::Flush | Message::Terminate => self.out.extend_from_slice(&bytes),
+            Message::Copy => {
+                if kind != b'd' {
+                    self.shared.track().copy_ends();
+                }
+                self.out.extend_from_slice(&bytes);
+            }
+        }
+        Ok(())
+    }
+
+    /// Passes a message that is laid out wrongly. PostgreSQL answers it by an error.
+    fn unknown(&mut self, kind: u8, bytes: &[u8]) -> Result<(), Error> {
+        self.shared.track().forget_statements();
+        let name = String::new();
+        match kind {
+            b'Q' => self.expect(Expect::Query),
+            b'P' => self.expect(Expect::Parse(name, None)),
+            b'B' => self.expect(Expect::Bind(name, None)),
+            b'D' => self.expect(Expect::Describe),
+            b'E' => self.expect(Expect::Execute),
+            b'C' => self.expect(Expect::CloseStatement(name)),
+            b'S' => self.expect(Expect::Sync),
+            _ => {}
+        }
+        self.out.extend_from_slice(bytes);
+        Ok(())
+    }
+
+    /// Ends a client that uses a name of the proxy's own (rule 19).
+    fn check_name(&self, name: &str) -> Result<(), Error> {
+        if name.starts_with(own::PREFIX) {
+            return Err(Error::OwnName);
+        }
+        Ok(())
+    }
+
+    fn check_target(&self, target: frontend::Target<'_>) -> Result<(), Error> {
+        match target {
+            frontend::Target::Statement(name) | frontend::Target::Portal(name) => {
+                self.check_name(name)
+            }
+        }
+    }
+
+    /// Ends a client that sends a text of the proxy's own (rule 19).
+    fn check_text(&mut self, text: &[u8]) -> Result<(), Error> {
+        if contains(text, b"set_config") {
+            self.shared.track().forget_meanings();
+        }
+        if !contains(text, b"escrow") {
+            return Ok(());
+        }
+        let catalog = self.hub.catalog().borrow().clone();
+        if catalog.map_or(false, |it| it.is_own_text(text)) {
+            return Err(Error::OwnText);
+        }
+        // What may change what is declared, or what names mean.
+        if contains(text, b"reservable") || contains(text, b"ordinary") {
+            self.own.is_old = true;
+        }
+        Ok(())
+    }
+
+    /// Reads a text that the proxy looks at, if its letters are those that it knows.
+    fn statement(&self, text: &[u8]) -> Option<Statement> {
+        let track = self.shared.track();
+        if !track.is_conforming || !track.is_utf8 && !text.is_ascii() {
+            return None;
+        }
+        drop(track);
+        Statement::read(std::str::from_utf8(text).ok()?)
+    }
+
+    async fn query(&mut self, text: &[u8], bytes: &[u8]) -> Result<(), Error> {
+        self.check_text(text)?;
+        if let Some(wait) = asks_to_wait(text) {
+            self.shared.set_wait(wait);
+        }
+        match self.statement(text) {
+            Some(Statement::Update(form)) => {
+                let parameters = Parameters::default();
+                self.update(&form, parameters, &[], bytes, How::Simple)
+                    .await
+            }
+            Some(Statement::Delete(deletion)) => {
+                self.delete(&deletion, Parameters::default()).await?;
+                self.pass(bytes, Expect::Query);
+                Ok(())
+            }
+            Some(Statement::Deallocate(name)) => {
+                self.shared.track().deallocates(name);
+                self.pass(bytes, Expect::Query);
+                Ok(())
+            }
+            Some(Statement::Commit) => self.commit(bytes, How::Simple).await,
+            None => {
+                if contains(text, b"escrow.reservations") {
+                    self.show().await?;
+                    if self.shared.track().is_skipping() {
+                        // Its error has answered the client.
+                        self.pass(own::SYNC, Expect::Sync);
+                        return Ok(());
+                    }
+                }
+                self.pass(bytes, Expect::Query);
+                if self.own.is_old {
+                    // Others shall know it as soon as this client is told.
+                    self.settle().await?;
+                    drop(self.known_catalog().await);
+                }
+                Ok(())
+            }
+        }
+    }
+
+    /// Waits until all that was sent is answered.
+    pub(crate) async fn settle(&mut self) -> Result<(), Error> {
+        if self.shared.track().is_quiet() {
+            return Ok(());
+        }
+        self.out.extend_from_slice(own::FLUSH);
+        self.flush().await?;
+        while !self.shared.track().is_quiet() {
+            self.shared.changed.notified().await;
+        }
+        Ok(())
+    }
+
+    /// Lets the other direction go on behind an own reply, with what it writes to the client first. An error goes to the
+    /// client.
+    pub(crate) fn go_on(&self, reply: &OwnReply, bytes: Vec<u8>) {
+        let bytes = match reply {
+            OwnReply::Failed(error) => own::without_context(error).into(),
+            OwnReply::Unsent => return,
+            OwnReply::Row(_) | OwnReply::Skipped => bytes.into(),
+        };
+        // If that fails, the other direction has ended.
+        let _ = self.resume.send(bytes);
+    }
+
+    /// Writes to the client, while the other direction waits for nothing of this one.
+    pub(crate) fn say(&self, bytes: Vec<u8>) {
+        // If that fails, the other direction has ended.
+        let _ = self.resume.send(bytes.into());
+    }
+
+    /// Sends a statement whose rows are the client's, and waits for its tag. The other direction waits for
+    /// [`Requests::go_on`] then.
+    pub(crate) async fn ask_rest(
+        &mut self,
+        rest: &Rest,
+        is_described: bool,
+    ) -> Result<OwnReply, Error> {
+        if self.shared.track().is_skipping() {
+            return Ok(OwnReply::Unsent);
+        }
+        self.own.names += 1;
+        let name = format!("{}{}", own::PREFIX, self.own.names);
+        let Rest {
+            text,
+            types,
+            formats,
+            values,
+            results,
+        } = rest;
+        own::parse(&mut self.out, &name, text, types);
+        own::bind_as(&mut self.out, &name, &name, formats, values, results);
+        if is_described {
+            own::describe_portal(&mut self.out, &name);
+        }
+        own::execute(&mut self.out, &name);
+        own::close_portal(&mut self.out, &name);
+        own::close_statement(&mut self.out, &name);
+        self.out.extend_from_slice(own::FLUSH);
+        self.expect(Expect::OwnParse);
+        self.expect(Expect::OwnBind);
+        if is_described {
+            self.expect(Expect::OwnDescribe);
+        }
+        self.expect(Expect::OwnRows);
+        self.expect(Expect::OwnShut);
+        self.expect(Expect::OwnClose);
+        self.flush().await?;
+        self.replies.recv().await.ok_or(Error::Ended)
+    }
+
+    /// Sends a request of the proxy's own, and waits for its reply. The other direction waits for [`Requests::go_on`] then.
+    pub(crate) async fn ask(
+        &mut self,
+        text: &str,
+        values: &[Value],
+        results: &[i16],
+        end: End,
+    ) -> Result<OwnReply, Error> {
+        if self.shared.track().is_skipping() {
+            return Ok(OwnReply::Unsent);
+        }
+        if self.shared.track().take_lost() {
+            self.own.prepared.clear();
+            self.own.greeted = 0;
+        }
+        let session = &mut self.own;
+        session.names += 1;
+        let portal = format!("{}{}", own::PREFIX, session.names);
+        let name = match session.prepared.get(text) {
+            Some(name) => name.clone(),
+            None => {
+                own::parse(&mut self.out, &portal, text, &[]);
+                self.shared.track().expect(Expect::OwnParse);
+                session.prepared.insert(text.to_owned(), portal.clone());
+                portal.clone()
+            }
+        };
+        own::bind(&mut self.out, &portal, &name, values, results);
+        own::execute(&mut self.out, &portal);
+        own::close_portal(&mut self.out, &portal);
+        {
+            let mut track = self.shared.track();
+            track.expect(Expect::OwnBind);
+            track.expect(Expect::OwnExecute);
+            track.expect(Expect::OwnClose);
+        }
+        match end {
+            End::Flush => self.out.extend_from_slice(own::FLUSH),
+            End::Sync => {
+                self.out.extend_from_slice(own::SYNC);
+                self.expect(Expect::Sync);
+            }
+            End::Query(bytes) => self.pass(&bytes, Expect::Query),
+            End::Execute(bytes) => {
+                self.pass(&bytes, Expect::Execute);
+                self.out.extend_from_slice(own::FLUSH);
+            }
+        }
+        self.flush().await?;
+        let reply = self.replies.recv().await.ok_or(Error::Ended)?;
+        if !matches!(reply, OwnReply::Row(_)) {
+            // Its statements may be gone, and its greeting; what a name means may have been wrong.
+            self.own.prepared.clear();
+            self.own.greeted = 0;
+            self.shared.track().forget_meanings();
+        }
+        Ok(reply)
+    }
+}
+
+fn contains(text: &[u8], word: &[u8]) -> bool {
+    text.windows(word.len())
+        .any(|it| it.eq_ignore_ascii_case(word))
+}
+
+/// Reads `SET escrow.wait = off` and its like. None: it is another text.
+fn asks_to_wait(text: &[u8]) -> Option<bool> {
+    let text = std::str::from_utf8(text).ok()?;
+    let mut words = text
+        .split(|it: char| it.is_ascii_whitespace() || matches!(it, '=' | ';' | '\''))
+        .filter(|word| !word.is_empty())
+        .map(str::to_ascii_lowercase)
+        .filter(|word| !matches!(word.as_str(), "session" | "to"));
+    if words.next()? != "set" || words.next()? != "escrow.wait" {
+        return None;
+    }
+    let value = words.next()?;
+    match value.as_str() {
+        "off" | "false" | "0" | "no" => Some(false),
+        "on" | "true" | "1" | "yes" | "default" => Some(true),
+        _ => None,
+    }
+}

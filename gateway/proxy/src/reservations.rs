@@ -1,0 +1,713 @@
+//! UPDATEs that are reservations, and COMMITs.
+//!
+//! A change is asked of the server, and then noted in the client's own transaction (rules 3 to 6). Nothing else of the
+//! client's is sent in between. What an UPDATE asks for besides is PostgreSQL's.
+
+use std::sync::Arc;
+use std::time::{Duration, Instant};
+
+use bytes::Bytes;
+use tokio::time::timeout;
+
+use crate::catalog::{Catalog, Table};
+use crate::expected::Expect;
+use crate::hub::Mail;
+use crate::note::{Grant, Secret};
+use crate::own::{self, Value};
+use crate::parameters::Parameters;
+use crate::protocol::{Answer, Event, Id, Status};
+use crate::refusals::{words, Words};
+use crate::relay::Error;
+use crate::requests::{End, How, OwnReply, Requests, Rest};
+use crate::server::Refusal;
+use crate::update::{Asked, Change, Deletion, Form, Key};
+
+/// How long an UPDATE waits until what is declared is known.
+const CATALOG_WAIT: Duration = Duration::from_secs(5);
+
+/// How long an UPDATE waits for a row that others have locked (rule 21).
+const LOCK_WAIT: Duration = Duration::from_secs(1);
+
+/// How long an UPDATE waits for the owner to serve (rule 21). All else has limits of its own.
+const OWNER_WAIT: Duration = Duration::from_secs(20);
+
+/// The text that finds out what the client's name of a table means.
+const MEANING: &str = "SELECT pg_catalog.to_regclass($1)::pg_catalog.oid::pg_catalog.int8";
+
+/// The text that tells what is reserved.
+const SHOW: &str = "SELECT escrow.show($1)";
+
+/// The text that greets a connection (rule 18).
+const GREETING: &str = "SELECT escrow.greet($1, $2, $3)";
+
+/// An UPDATE that is served.
+struct Job<'a> {
+    form: &'a Form,
+    table: &'a Table,
+    change: Change,
+    /// The CHECK that refuses where the statement's condition does not hold.
+    condition: Option<String>,
+    how: How,
+    /// Whether it is a transaction by itself, as far as is known.
+    alone: bool,
+    /// Whether it is about one row, and asks for nothing else.
+    is_single: bool,
+}
+
+/// What the hub has decided of a row.
+enum Decided {
+    /// It is noted.
+    Noted(OwnReply, End),
+    /// Its note has failed, or was not sent.
+    Failed(Option<(OwnReply, End)>),
+    /// There is no such row.
+    Missing,
+    /// It is refused.
+    Refused(Answer, Option<Refusal>),
+}
+
+/// What became of a row.
+enum RowEnd {
+    /// It is reserved, or changed. The other direction waits behind this reply.
+    Done(OwnReply, End),
+    /// There is no such row.
+    Missing,
+    /// The statement's condition does not hold.
+    NotSo,
+    /// An error has answered the client.
+    Failed,
+}
+
+/// What became of a change without a reservation.
+enum Here {
+    /// It is done. The other direction waits behind this reply.
+    Done(OwnReply),
+    /// Somebody holds the row or has locked it, or there is none.
+    Not,
+    /// An error has answered the client.
+    Failed,
+}
+
+impl Requests<'_> {
+    /// Passes a COMMIT, with a fold in front of what only this transaction holds (rule 13). If that fails, PostgreSQL skips
+    /// the COMMIT, so that the transaction fails by an error.
+    pub(crate) async fn commit(&mut self, bytes: &[u8], how: How) -> Result<(), Error> {
+        if self.shared.is_engaged() && self.shared.waits() {
+            if how == How::Simple || self.shared.track().is_executing() {
+                self.settle().await?;
+            }
+            let keys = self.own_folds();
+            let last = keys.len().saturating_sub(1);
+            let mut are_folded = !keys.is_empty();
+            for (at, (table, keys)) in keys.into_iter().enumerate() {
+                let keys: Vec<String> = keys.iter().map(|key| quoted_element(&key.text)).collect();
+                let values = [Value::Text(format!("{{{}}}", keys.join(",")))];
+                let end = match how {
+                    How::Simple if at == last => End::Query(bytes.to_vec()),
+                    How::Extended if at == last => End::Execute(bytes.to_vec()),
+                    _ => End::Flush,
+                };
+                let reply = self.ask(&table.own_text, &values, &[0], end).await?;
+                let connection = self.connection;
+                are_folded &= matches!(&reply, OwnReply::Row(Some(row)) if is_true(row.first()));
+                if at == last && are_folded {
+                    self.hub.handle(Event::OwnFolded { connection });
+                }
+                let has_failed = !matches!(reply, OwnReply::Row(_));
+                if matches!(reply, OwnReply::Failed(_)) {
+                    self.hub.handle(Event::Failed { connection });
+                }
+                self.go_on(&reply, Vec::new());
+                if has_failed {
+                    self.pass_update(bytes, how);
+                    return Ok(());
+                }
+                if at == last {
+                    return Ok(());
+                }
+            }
+        }
+        match how {
+            How::Simple => self.pass(bytes, Expect::Query),
+            How::Extended => self.pass(bytes, Expect::Execute),
+        }
+        Ok(())
+    }
+
+    /// Returns the keys that the transaction may fold itself, by their tables.
+    fn own_folds(&self) -> Vec<(Arc<Table>, Vec<Key>)> {
+        let is_sure = {
+            let track = self.shared.track();
+            !track.is_skipping() && track.status() == Status::InBlock && track.is_plain()
+        };
+        let catalog = self.hub.catalog().borrow().clone().unwrap_or_default();
+        let mut tables: Vec<(Arc<Table>, Vec<Key>)> = Vec::new();
+        if !is_sure {
+            return tables;
+        }
+        for key in self.hub.own_folds(self.connection) {
+            match tables.last_mut() {
+                Some((table, keys)) if table.number == key.table => keys.push(key),
+                _ => match catalog.of_number(key.table) {
+                    Some(table) => tables.push((table.clone(), vec![key])),
+                    None => return Vec::new(),
+                },
+            }
+        }
+        tables
+    }
+
+    /// Tells PostgreSQL what is reserved, so that `escrow.reservations()` of this client shows it.
+    pub(crate) async fn show(&mut self) -> Result<(), Error> {
+        self.settle().await?;
+        let is_failed = {
+            let track = self.shared.track();
+            track.is_skipping() || track.status() == Status::Failed && track.is_plain()
+        };
+        if is_failed {
+            return Ok(());
+        }
+        let values = [Value::Text(self.hub.reservations())];
+        let reply = self.ask(SHOW, &values, &[], End::Flush).await?;
+        self.tell_failure(&reply);
+        self.go_on(&reply, Vec::new());
+        Ok(())
+    }
+
+    /// Has the rows left that a DELETE may be of, since PostgreSQL deletes no row that is held. The tables of its name are
+    /// those of any schema: a row that is left for nothing is loaded again.
+    pub(crate) async fn delete(
+        &mut self,
+        deletion: &Deletion,
+        parameters: Parameters<'_>,
+    ) -> Result<(), Error> {
+        let catalog = self.hub.catalog().borrow().clone().unwrap_or_default();
+        for table in catalog.named(deletion.table_name()) {
+            if let Some(key) = deletion.key(table, parameters) {
+                let connection = Some(self.connection);
+                self.hub.handle(Event::Leave { connection, key });
+                while !matches!(self.mail.recv().await, Some(Mail::Answer(..)) | None) {}
+            }
+        }
+        Ok(())
+    }
+
+    /// Serves an UPDATE that may be a reservation. `bytes` are the client's message.
+    pub(crate) async fn update(
+        &mut self,
+        form: &Form,
+        parameters: Parameters<'_>,
+        results: &[i16],
+        bytes: &[u8],
+        how: How,
+    ) -> Result<(), Error> {
+        if how == How::Simple || self.shared.track().is_executing() {
+            self.settle().await?;
+        }
+        let is_failed = {
+            let track = self.shared.track();
+            track.is_skipping() || track.status() == Status::Failed && track.is_plain()
+        };
+        let table = match is_failed {
+            true => None,
+            false => self.declared(form).await?,
+        };
+        let plan = table.as_deref().and_then(|table| form.plan(table));
+        let asked = plan.as_ref().and_then(|plan| plan.bind(parameters));
+        let (table, plan, asked) = match (&table, plan, asked) {
+            (Some(table), Some(plan), Some(asked)) => (table, plan, asked),
+            _ => {
+                self.pass_update(bytes, how);
+                return Ok(());
+            }
+        };
+        let Asked {
+            keys,
+            change,
+            condition,
+        } = asked;
+        let has_rest = plan.rest(true).is_some();
+        if condition.is_some() && has_rest && keys.len() > 1 {
+            // The rest would have to be that of some rows.
+            self.pass_update(bytes, how);
+            return Ok(());
+        }
+        let alone = {
+            let track = self.shared.track();
+            track.status() == Status::Idle && track.is_plain()
+        };
+        let job = Job {
+            form,
+            table,
+            change,
+            condition,
+            how,
+            alone,
+            is_single: keys.len() == 1 && !has_rest,
+        };
+        let mut count = 0;
+        for key in &keys {
+            match self.row(&job, key).await? {
+                RowEnd::Done(reply, end) if job.is_single => {
+                    self.go_on(&reply, own::command_complete("UPDATE 1"));
+                    if how == How::Simple && end == End::Flush {
+                        self.pass(own::SYNC, Expect::Sync);
+                    }
+                    return Ok(());
+                }
+                RowEnd::Done(reply, _) => {
+                    self.go_on(&reply, Vec::new());
+                    count += 1;
+                }
+                RowEnd::Missing if keys.len() == 1 => {
+                    self.pass_update(bytes, how);
+                    return Ok(());
+                }
+                // The transaction may have inserted it itself.
+                RowEnd::Missing => match self.change_here(&job, key).await? {
+                    Here::Done(reply) => {
+                        self.go_on(&reply, Vec::new());
+                        count += 1;
+                    }
+                    Here::Not => {}
+                    Here::Failed => return Ok(()),
+                },
+                RowEnd::NotSo => {}
+                RowEnd::Failed => return Ok(()),
+            }
+        }
+        let rest = plan.rest(count > 0).map(|text| Rest {
+            text,
+            types: plan.rest_types(parameters),
+            formats: parameters.formats.to_vec(),
+            values: parameters.values.to_vec(),
+            results: results.to_vec(),
+        });
+        self.end_update(&job, count, rest).await
+    }
+
+    /// Ends an UPDATE whose rows are reserved: PostgreSQL serves what it asks for besides.
+    async fn end_update(
+        &mut self,
+        job: &Job<'_>,
+        count: usize,
+        rest: Option<Rest>,
+    ) -> Result<(), Error> {
+        let tag = own::command_complete(&format!("UPDATE {count}"));
+        match rest {
+            Some(rest) => {
+                let reply = self.ask_rest(&rest, job.how == How::Simple).await?;
+                self.tell_failure(&reply);
+                let served = match &reply {
+                    OwnReply::Row(Some(row)) => rows_of(row),
+                    OwnReply::Row(None) => None,
+                    _ => {
+                        self.go_on(&reply, Vec::new());
+                        self.end_failed(job.how);
+                        return Ok(());
+                    }
+                };
+                if served != Some(count) {
+                    self.go_on(&reply, Vec::new());
+                    return self.refuse(job, changed_row()).await;
+                }
+                self.go_on(&reply, tag);
+            }
+            None if count == 0 => {
+                // The client's role may ask for it, or not.
+                let words = Words {
+                    state: "00000",
+                    message: String::new(),
+                    detail: String::new(),
+                    about: String::new(),
+                };
+                let reply = self.tell(job, words, End::Flush).await?;
+                self.tell_failure(&reply);
+                self.go_on(&reply, tag);
+            }
+            None => self.say(tag),
+        }
+        if job.how == How::Simple {
+            self.pass(own::SYNC, Expect::Sync);
+        }
+        Ok(())
+    }
+
+    /// Reserves a change of a row.
+    async fn row(&mut self, job: &Job<'_>, key: &Key) -> Result<RowEnd, Error> {
+        self.shared.engage();
+        let begun = Instant::now();
+        loop {
+            self.hub.handle(Event::Reserve {
+                connection: self.connection,
+                key: key.clone(),
+                change: job.change.clone(),
+                alone: job.alone,
+            });
+            let (answer, refusal) = match self.reserve(job).await? {
+                Decided::Noted(reply, end) => return Ok(RowEnd::Done(reply, end)),
+                Decided::Failed(waiting) => {
+                    let end = waiting.map(|(reply, end)| {
+                        self.go_on(&reply, Vec::new());
+                        end
+                    });
+                    if job.how == How::Simple && end != Some(End::Sync) {
+                        self.pass(own::SYNC, Expect::Sync);
+                    }
+                    return Ok(RowEnd::Failed);
+                }
+                Decided::Missing => return Ok(RowEnd::Missing),
+                Decided::Refused(answer, refusal) => (answer, refusal),
+            };
+            if let (Some(Refusal::Check { constraint, .. }), Some(condition)) =
+                (&refusal, &job.condition)
+            {
+                if answer == Answer::Refused && constraint == condition {
+                    return Ok(RowEnd::NotSo);
+                }
+            }
+            if answer == Answer::Locked {
+                match self.change_here(job, key).await? {
+                    Here::Done(reply) => return Ok(RowEnd::Done(reply, End::Flush)),
+                    Here::Failed => return Ok(RowEnd::Failed),
+                    Here::Not if begun.elapsed() < LOCK_WAIT => continue,
+                    Here::Not => {}
+                }
+            }
+            self.refuse(job, words(job.table, answer, refusal)).await?;
+            return Ok(RowEnd::Failed);
+        }
+    }
+
+    /// Changes a row that nobody holds, and that the client itself may have locked, in the client's transaction (rule 16).
+    async fn change_here(&mut self, job: &Job<'_>, key: &Key) -> Result<Here, Error> {
+        let secret = self.hub.secret().ok_or(Error::Ended)?;
+        let epoch = self.hub.epoch();
+        if let Some(reply) = self.be_greeted(&secret, epoch).await? {
+            self.tell_failure(&reply);
+            self.go_on(&reply, Vec::new());
+            self.end_failed(job.how);
+            return Ok(Here::Failed);
+        }
+        let grant = Grant {
+            table: job.table.number,
+            epoch,
+            process: self.shared.track().process,
+            tag: 0,
+            number: self.hub.number(),
+            key: &key.text,
+            changes: &job.change,
+        };
+        let values = [
+            Value::Text(epoch.to_string()),
+            Value::Text(grant.number.to_string()),
+            Value::Text(key.text.to_string()),
+            Value::Text(changes_array(&job.change)),
+            Value::Binary(secret.of_here(&grant).to_vec()),
+            Value::Text(job.form.relation()),
+        ];
+        let text = &job.table.here_text;
+        let reply = self.ask(text, &values, &[0], End::Flush).await?;
+        self.tell_failure(&reply);
+        match &reply {
+            OwnReply::Row(Some(row)) if is_true(row.first()) => return Ok(Here::Done(reply)),
+            OwnReply::Row(_) => {
+                self.go_on(&reply, Vec::new());
+                return Ok(Here::Not);
+            }
+            _ => {}
+        }
+        self.go_on(&reply, Vec::new());
+        self.end_failed(job.how);
+        Ok(Here::Failed)
+    }
+
+    /// Tells the hub of an error of an own request that is no note.
+    fn tell_failure(&self, reply: &OwnReply) {
+        if matches!(reply, OwnReply::Failed(_)) && self.shared.is_engaged() {
+            let connection = self.connection;
+            self.hub.handle(Event::Failed { connection });
+        }
+    }
+
+    /// Ends a simple query whose own request has failed: its error has answered the client.
+    fn end_failed(&mut self, how: How) {
+        if how == How::Simple {
+            self.pass(own::SYNC, Expect::Sync);
+        }
+    }
+
+    /// Passes an UPDATE on. If an own request has failed, its error has answered the client.
+    fn pass_update(&mut self, bytes: &[u8], how: How) {
+        let is_skipping = self.shared.track().is_skipping();
+        match how {
+            How::Simple if is_skipping => self.pass(own::SYNC, Expect::Sync),
+            How::Simple => self.pass(bytes, Expect::Query),
+            How::Extended => self.pass(bytes, Expect::Execute),
+        }
+    }
+
+    /// Returns the declared table that the client's name means. None: none, or it cannot be asked.
+    async fn declared(&mut self, form: &Form) -> Result<Option<Arc<Table>>, Error> {
+        let catalog = self.known_catalog().await;
+        if catalog.named(form.table_name()).next().is_none() {
+            return Ok(None);
+        }
+        Ok(match self.meaning(form).await? {
+            Some(oid) => catalog.of_oid(oid).cloned(),
+            None => None,
+        })
+    }
+
+    /// Returns what is declared, at least as new as what this client has changed of it.
+    pub(crate) async fn known_catalog(&mut self) -> Arc<Catalog> {
+        let mut catalog = self.hub.catalog();
+        if std::mem::take(&mut self.own.is_old) || catalog.borrow().is_none() {
+            drop(catalog.borrow_and_update());
+            self.hub.refresh();
+            // If it is not read in time, PostgreSQL's triggers refuse what is a reservation.
+            let _ = timeout(CATALOG_WAIT, catalog.changed()).await;
+        }
+        let known = catalog.borrow().clone();
+        known.unwrap_or_default()
+    }
+
+    /// Returns the relation that the client's name of a table means. None: none, or it cannot be asked.
+    async fn meaning(&mut self, form: &Form) -> Result<Option<u32>, Error> {
+        let name = form.relation();
+        if let Some(known) = self.shared.track().meaning(&name) {
+            return Ok(known);
+        }
+        let values = [Value::Text(name.clone())];
+        let reply = self.ask(MEANING, &values, &[0], End::Flush).await?;
+        let oid = match &reply {
+            OwnReply::Row(Some(row)) => match row.first() {
+                Some(Some(text)) => Some(
+                    std::str::from_utf8(text)
+                        .ok()
+                        .and_then(|it| it.parse().ok()),
+                ),
+                _ => Some(None),
+            },
+            _ => None,
+        };
+        self.tell_failure(&reply);
+        self.go_on(&reply, Vec::new());
+        if let Some(oid) = oid {
+            self.shared.track().set_meaning(name, oid);
+        }
+        Ok(oid.flatten())
+    }
+
+    /// Goes through a reservation to its end, as the hub says.
+    async fn reserve(&mut self, job: &Job<'_>) -> Result<Decided, Error> {
+        // The reply behind which the other direction waits, and what was sent with its request.
+        let mut waiting: Option<(OwnReply, End)> = None;
+        loop {
+            let mail = match timeout(OWNER_WAIT, self.mail.recv()).await {
+                Ok(mail) => mail.ok_or(Error::Ended)?,
+                Err(_) => return Err(Error::NoOwner),
+            };
+            match mail {
+                Mail::Note {
+                    key,
+                    epoch,
+                    may_fold,
+                    ..
+                } => waiting = self.note(job, &key, epoch, may_fold).await?,
+                Mail::Answer(answer, refusal) => {
+                    return match (answer, waiting) {
+                        (Answer::Reserved, Some((reply, end))) => Ok(Decided::Noted(reply, end)),
+                        (Answer::Reserved, None) => Err(Error::Ended),
+                        (Answer::Failed, waiting) => Ok(Decided::Failed(waiting)),
+                        (Answer::Missing, _) => Ok(Decided::Missing),
+                        (Answer::NotOwner, _) => Err(Error::NotOwner),
+                        (answer, _) => Ok(Decided::Refused(answer, refusal)),
+                    };
+                }
+            }
+        }
+    }
+
+    /// Sends a note, and tells the hub what came of it. Returns its reply, behind which the other direction waits. None:
+    /// nothing was sent.
+    async fn note(
+        &mut self,
+        job: &Job<'_>,
+        key: &Key,
+        epoch: i64,
+        may_fold: bool,
+    ) -> Result<Option<(OwnReply, End)>, Error> {
+        let connection = self.connection;
+        if self.shared.track().is_skipping() {
+            self.hub.handle(Event::NoteFailed { connection });
+            return Ok(None);
+        }
+        let secret = self.hub.secret().ok_or(Error::Ended)?;
+        if let Some(reply) = self.be_greeted(&secret, epoch).await? {
+            self.hub.handle(Event::NoteFailed { connection });
+            return Ok(Some((reply, End::Flush)));
+        }
+        let number = self.hub.number();
+        let grant = Grant {
+            table: job.table.number,
+            epoch,
+            process: self.shared.track().process,
+            tag: number,
+            number,
+            key: &key.text,
+            changes: &job.change,
+        };
+        let values = [
+            Value::Text(epoch.to_string()),
+            Value::Text(grant.tag.to_string()),
+            Value::Text(number.to_string()),
+            Value::Text(key.text.to_string()),
+            Value::Text(changes_array(&job.change)),
+            Value::Binary(secret.of_note(&grant).to_vec()),
+            Value::Text(job.form.relation()),
+        ];
+        // A Sync in a block commits nothing.
+        let is_block = job.how == How::Simple && self.shared.track().status() == Status::InBlock;
+        let end = match is_block && job.is_single {
+            true => End::Sync,
+            false => End::Flush,
+        };
+        // What changes nothing writes no row.
+        let is_change = job.change.iter().flatten().any(|it| it != "0");
+        let folds = job.alone && job.is_single && may_fold && is_change && self.shared.waits();
+        let (text, results) = match folds {
+            true => (&job.table.direct_text, &[0, 1, 0][..]),
+            false => (&job.table.note_text, &[0, 1][..]),
+        };
+        let reply = self.ask(text, &values, results, end.clone()).await?;
+        match &reply {
+            OwnReply::Row(Some(row)) => {
+                let id = noted_id(row, &secret, &grant).ok_or(Error::Forged)?;
+                self.hub.handle(Event::Noted { connection, id });
+                if is_true(row.get(2)) {
+                    self.hub.handle(Event::OwnFolded { connection });
+                }
+            }
+            OwnReply::Row(None) => return Err(Error::Forged),
+            OwnReply::Failed(_) | OwnReply::Skipped | OwnReply::Unsent => {
+                self.hub.handle(Event::NoteFailed { connection });
+            }
+        }
+        Ok(Some((reply, end)))
+    }
+
+    /// Greets the connection, unless it was greeted in this epoch. Returns the reply if it failed.
+    async fn be_greeted(&mut self, secret: &Secret, epoch: i64) -> Result<Option<OwnReply>, Error> {
+        if self.shared.track().take_lost() {
+            self.own.prepared.clear();
+            self.own.greeted = 0;
+        }
+        if self.own.greeted == epoch {
+            return Ok(None);
+        }
+        let process = self.shared.track().process;
+        self.hub.set_process(self.connection, process);
+        let reply = self.greet(secret, epoch).await?;
+        if !matches!(reply, OwnReply::Row(_)) {
+            return Ok(Some(reply));
+        }
+        self.go_on(&reply, Vec::new());
+        self.own.greeted = epoch;
+        Ok(None)
+    }
+
+    /// Greets the connection. Greetings go one after another.
+    async fn greet(&mut self, secret: &Secret, epoch: i64) -> Result<OwnReply, Error> {
+        let hub = self.hub.clone();
+        let _turn = hub.greeting.lock().await;
+        let number = hub.number();
+        let process = self.shared.track().process;
+        let values = [
+            Value::Text(epoch.to_string()),
+            Value::Text(number.to_string()),
+            Value::Binary(secret.of_greeting(epoch, process, number).to_vec()),
+        ];
+        self.ask(GREETING, &values, &[0], End::Flush).await
+    }
+
+    /// Has PostgreSQL raise what the client's UPDATE is refused with, so that its transaction fails as by any error.
+    async fn refuse(&mut self, job: &Job<'_>, words: Words) -> Result<(), Error> {
+        let end = match job.how {
+            How::Simple => End::Sync,
+            How::Extended => End::Flush,
+        };
+        let reply = self.tell(job, words, end).await?;
+        self.tell_failure(&reply);
+        if matches!(reply, OwnReply::Row(_)) {
+            return Err(Error::Forged); // it always raises
+        }
+        self.go_on(&reply, Vec::new());
+        Ok(())
+    }
+
+    /// Calls the function that tests the rights of the client's role, and raises these words.
+    async fn tell(&mut self, job: &Job<'_>, words: Words, end: End) -> Result<OwnReply, Error> {
+        let changed: Vec<&str> = job
+            .change
+            .iter()
+            .map(|it| if it.is_some() { "t" } else { "f" })
+            .collect();
+        let values = [
+            Value::Text(words.state.to_owned()),
+            Value::Text(words.message),
+            Value::Text(words.detail),
+            Value::Text(words.about),
+            Value::Text(format!("{{{}}}", changed.join(","))),
+            Value::Text(job.form.relation()),
+        ];
+        self.ask(&job.table.refusal_text, &values, &[], end).await
+    }
+}
+
+/// Returns whether a value is a boolean in text that is true.
+fn is_true(value: Option<&Option<Bytes>>) -> bool {
+    matches!(value, Some(Some(text)) if &text[..] == b"t")
+}
+
+/// Reads how many rows a command tag tells.
+fn rows_of(row: &[Option<Bytes>]) -> Option<usize> {
+    let tag = std::str::from_utf8(row.first()?.as_deref()?).ok()?;
+    tag.rsplit(' ').next()?.parse().ok()
+}
+
+/// The words for a row that PostgreSQL does not see as the reservation did.
+fn changed_row() -> Words {
+    Words {
+        state: "40001",
+        message: "could not serialize access due to concurrent update".to_owned(),
+        detail: "The row is not what it was when it was reserved. Repeat the transaction."
+            .to_owned(),
+        about: String::new(),
+    }
+}
+
+/// Reads the id that a note returned, if its answer is that of this note.
+fn noted_id(row: &[Option<Bytes>], secret: &Secret, grant: &Grant<'_>) -> Option<Id> {
+    let (id, answer) = match row {
+        [Some(id), Some(answer)] | [Some(id), Some(answer), _] => (id, answer),
+        _ => return None,
+    };
+    let id: i64 = std::str::from_utf8(id).ok()?.parse().ok()?;
+    let is_own = secret.is_answer(grant, id, answer);
+    is_own.then_some(Id(id as u64))
+}
+
+/// Writes changes as an array.
+fn changes_array(change: &Change) -> String {
+    let changes: Vec<&str> = change
+        .iter()
+        .map(|it| it.as_deref().unwrap_or("NULL"))
+        .collect();
+    format!("{{{}}}", changes.join(","))
+}
+
+/// Writes a text as an element of an array.
+fn quoted_element(text: &str) -> String {
+    format!("\"{}\"", text.replace('\\', "\\\\").replace('"', "\\\""))
+}

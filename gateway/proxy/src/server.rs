@@ -1,0 +1,443 @@
+//! The program `escrowd serve`, in memory, as a child on pipes: its sessions, its tables, and what it was asked.
+//!
+//! It serves lines in their order, so a reply answers the oldest line that has none. A session is given to a client's
+//! transaction at its first reservation, and free again as soon as its end is on the way.
+
+use std::collections::hash_map::Entry;
+use std::collections::{HashMap, VecDeque};
+use std::sync::Arc;
+use std::time::{Duration, Instant};
+
+use escrowd_pg::limits::{ROWS, SESSIONS};
+use escrowd_pg::reply::{self, Broken, Done, Outcome};
+
+use crate::catalog::{Column, Table};
+use crate::protocol::{Connection, Told};
+use crate::update::{Change, Key};
+
+/// How long a transaction waits for a session, since it may hold locks (rule 21).
+pub const SEAT_WAIT: Duration = Duration::from_secs(1);
+
+/// How many rows of a full table are left at once.
+const ROOM: usize = ROWS / 64;
+
+/// The session that makes tables and rows.
+const OWN: u8 = 1;
+
+/// What the server was asked.
+#[derive(Clone, Debug, PartialEq, Eq)]
+enum Asked {
+    /// A change of a row of the table of this number.
+    Grant(Connection, i32),
+    Told(Told),
+    Create(i32),
+    Insert(Key),
+    Delete(Key),
+}
+
+/// Why a reservation is refused.
+#[derive(Clone, Debug, PartialEq, Eq)]
+pub enum Refusal {
+    /// A CHECK of the table.
+    Check {
+        /// Its name.
+        constraint: String,
+        /// What its sum would come to.
+        worst: String,
+        /// Its limit.
+        limit: String,
+    },
+    /// The type of a column: its name, and the type's.
+    Range(String, String),
+    /// The session has too many reservations.
+    TooMany,
+    /// No session was free in time.
+    NoSession,
+    /// Want of memory.
+    Memory,
+}
+
+/// What a line of the server means.
+#[derive(Clone, Debug, PartialEq, Eq)]
+pub enum Said {
+    /// It has granted.
+    Granted(Connection),
+    /// It has refused.
+    Refused(Connection, Refusal),
+    /// It has the row.
+    Inserted(Key),
+    /// It cannot have the row, for this reason.
+    NotInserted(Key, String),
+    /// Nothing that anybody waits for.
+    Nothing,
+    /// It has refused what it must do, or answers what nobody asked.
+    Broke(String),
+}
+
+/// A table of the server.
+struct Made {
+    table: Arc<Table>,
+    /// The row's number of each key, and when it was used last.
+    rows: HashMap<Arc<str>, (u32, u64)>,
+    next: u32,
+    free: Vec<u32>,
+    is_refused: bool,
+}
+
+/// A transaction that waits for a session.
+struct Waiting {
+    connection: Connection,
+    lines: Vec<(Asked, String)>,
+    since: Instant,
+}
+
+/// What is known of the server, and what it is to be sent.
+pub struct Server {
+    asked: VecDeque<(u8, Asked)>,
+    /// Free sessions.
+    free: Vec<u8>,
+    seats: HashMap<Connection, u8>,
+    waiting: VecDeque<Waiting>,
+    tables: HashMap<i32, Made>,
+    /// Counts what is asked, as a clock of rows.
+    clock: u64,
+    /// Lines that were not taken yet.
+    lines: Vec<u8>,
+}
+
+impl Default for Server {
+    fn default() -> Self {
+        Server::new()
+    }
+}
+
+impl Server {
+    /// Returns a server without tables.
+    pub fn new() -> Server {
+        Server {
+            asked: VecDeque::new(),
+            free: (OWN + 1..=SESSIONS as u8).rev().collect(),
+            seats: HashMap::new(),
+            waiting: VecDeque::new(),
+            tables: HashMap::new(),
+            clock: 0,
+            lines: Vec::new(),
+        }
+    }
+
+    /// Takes the lines that are to be written.
+    pub fn take_lines(&mut self) -> Vec<u8> {
+        std::mem::take(&mut self.lines)
+    }
+
+    /// Returns how many rows it has.
+    pub fn rows(&self) -> usize {
+        self.tables.values().map(|made| made.rows.len()).sum()
+    }
+
+    fn send(&mut self, session: u8, asked: Asked, statement: &str) {
+        self.asked.push_back((session, asked));
+        let line = format!("bank.{}: {}\n", session, statement);
+        self.lines.extend_from_slice(line.as_bytes());
+    }
+
+    /// Tells a transaction's session something. One without a session holds nothing.
+    pub fn tell(&mut self, connection: Connection, told: Told) {
+        let statement = match told {
+            Told::Mark(mark) => format!("SAVEPOINT M{}", mark.0),
+            Told::BackTo(mark) => format!("ROLLBACK TO M{}", mark.0),
+            Told::Commit => "COMMIT".to_owned(),
+            Told::Rollback => "ROLLBACK".to_owned(),
+        };
+        let asked = Asked::Told(told);
+        match (self.seats.get(&connection), told) {
+            (Some(&seat), _) => {
+                self.send(seat, asked, &statement);
+                if matches!(told, Told::Commit | Told::Rollback) {
+                    self.seats.remove(&connection);
+                    self.freed(seat);
+                }
+            }
+            (None, Told::Mark(_)) => self.begin(connection, asked, statement),
+            (None, _) => {}
+        }
+    }
+
+    /// Gives a session that is free to who waits longest.
+    fn freed(&mut self, seat: u8) {
+        match self.waiting.pop_front() {
+            Some(waiting) => {
+                self.seats.insert(waiting.connection, seat);
+                for (asked, statement) in waiting.lines {
+                    self.send(seat, asked, &statement);
+                }
+            }
+            None => self.free.push(seat),
+        }
+    }
+
+    /// Sends the first line of a transaction, as soon as there is a session.
+    fn begin(&mut self, connection: Connection, asked: Asked, statement: String) {
+        match self.free.pop() {
+            Some(seat) => {
+                self.seats.insert(connection, seat);
+                self.send(seat, asked, &statement);
+            }
+            None => self.waiting.push_back(Waiting {
+                connection,
+                lines: vec![(asked, statement)],
+                since: Instant::now(),
+            }),
+        }
+    }
+
+    /// Asks for a change of a row that it has. Returns false if it has no such row.
+    #[must_use]
+    pub fn grant(&mut self, connection: Connection, key: &Key, change: &Change) -> bool {
+        self.clock += 1;
+        let made = self.tables.get_mut(&key.table);
+        let row = match made.and_then(|made| made.rows.get_mut(&key.text)) {
+            Some((row, used)) => {
+                *used = self.clock;
+                *row
+            }
+            None => return false,
+        };
+        let statement = format!(
+            "UPDATE T{} SET {} WHERE K = {}",
+            key.table,
+            assignments(change),
+            row
+        );
+        let asked = Asked::Grant(connection, key.table);
+        match self.seats.get(&connection) {
+            Some(&seat) => self.send(seat, asked, &statement),
+            None => {
+                let mut waiting = self.waiting.iter_mut();
+                match waiting.find(|it| it.connection == connection) {
+                    Some(waiting) => waiting.lines.push((asked, statement)),
+                    None => self.begin(connection, asked, statement),
+                }
+            }
+        }
+        true
+    }
+
+    /// Returns who has waited too long for a session, and lets them wait no longer.
+    pub fn tired(&mut self) -> Vec<Connection> {
+        let mut tired = Vec::new();
+        self.waiting.retain(|waiting| {
+            let stays = waiting.since.elapsed() < SEAT_WAIT;
+            if !stays {
+                tired.push(waiting.connection);
+            }
+            stays
+        });
+        tired
+    }
+
+    /// Gives it a row with these values. Returns why it cannot have it, if that is known at once.
+    pub fn insert(&mut self, table: &Arc<Table>, key: &Key, values: &[String]) -> Option<String> {
+        if let Entry::Vacant(place) = self.tables.entry(table.number) {
+            place.insert(Made {
+                table: table.clone(),
+                rows: HashMap::new(),
+                next: 1,
+                free: Vec::new(),
+                is_refused: false,
+            });
+            self.send(OWN, Asked::Create(table.number), &definition(table));
+        }
+        let made = self.tables.get_mut(&table.number)?;
+        if made.is_refused {
+            return Some("the server has refused the table".to_owned());
+        }
+        let row = match made.free.pop() {
+            Some(row) => row,
+            None if made.rows.len() < ROWS => {
+                made.next += 1;
+                made.next - 1
+            }
+            None => return Some(format!("the proxy holds {} rows of the table", ROWS)),
+        };
+        made.rows.insert(key.text.clone(), (row, self.clock));
+        let statement = format!(
+            "INSERT INTO T{} VALUES ({}, {})",
+            table.number,
+            row,
+            values.join(", ")
+        );
+        self.send(OWN, Asked::Insert(key.clone()), &statement);
+        None
+    }
+
+    /// Returns keys of a table whose rows were not used for the longest time, if it has no room for many more.
+    pub fn oldest(&self, table: i32) -> Vec<Key> {
+        let made = match self.tables.get(&table) {
+            Some(made) if made.rows.len() >= ROWS - ROOM => made,
+            _ => return Vec::new(),
+        };
+        let mut rows: Vec<(u64, &Arc<str>)> = made
+            .rows
+            .iter()
+            .map(|(key, (_, used))| (*used, key))
+            .collect();
+        rows.select_nth_unstable(ROOM);
+        rows.truncate(ROOM);
+        let keys = rows.into_iter().map(|(_, text)| text.clone());
+        keys.map(|text| Key { table, text }).collect()
+    }
+
+    /// Takes a row that nobody has reserved away from it.
+    pub fn delete(&mut self, key: &Key) {
+        let row = match self.tables.get_mut(&key.table) {
+            Some(made) => made.rows.remove(&key.text),
+            None => None,
+        };
+        if let Some((row, _)) = row {
+            if let Some(made) = self.tables.get_mut(&key.table) {
+                made.free.push(row);
+            }
+            let statement = format!("DELETE FROM T{} WHERE K = {}", key.table, row);
+            self.send(OWN, Asked::Delete(key.clone()), &statement);
+        }
+    }
+
+    /// Takes a line that it wrote.
+    pub fn said(&mut self, line: &str) -> Said {
+        let (session, asked) = match self.asked.pop_front() {
+            Some(asked) => asked,
+            None => return Said::Broke(format!("nobody asked for {:?}", line)),
+        };
+        let prefix = format!("bank.{}> ", session);
+        let outcome = line.strip_prefix(&prefix).and_then(reply::outcome);
+        match (asked, outcome) {
+            (Asked::Grant(connection, _), Some(Outcome::Done(Done::Reserved))) => {
+                Said::Granted(connection)
+            }
+            (Asked::Grant(connection, table), Some(Outcome::Refused(refusal))) => {
+                match self.refusal(table, refusal) {
+                    Some(refusal) => Said::Refused(connection, refusal),
+                    None => Said::Broke(format!("a reservation was answered {:?}", line)),
+                }
+            }
+            (Asked::Told(told), Some(Outcome::Done(done))) if is_done(told, done) => Said::Nothing,
+            (Asked::Create(_), Some(Outcome::Done(Done::Created))) => Said::Nothing,
+            (Asked::Create(number), Some(Outcome::Refused(_))) => {
+                if let Some(made) = self.tables.get_mut(&number) {
+                    tracing::error!("the server refuses the table {}: {}", made.table.name, line);
+                    made.is_refused = true;
+                }
+                Said::Nothing
+            }
+            (Asked::Insert(key), Some(Outcome::Done(Done::Inserted))) => Said::Inserted(key),
+            (Asked::Insert(key), Some(Outcome::Refused(_))) => {
+                if let Some(made) = self.tables.get_mut(&key.table) {
+                    if let Some((row, _)) = made.rows.remove(&key.text) {
+                        made.free.push(row);
+                    }
+                }
+                Said::NotInserted(key, line.to_owned())
+            }
+            (Asked::Delete(_), Some(Outcome::Done(Done::Deleted))) => Said::Nothing,
+            (asked, _) => Said::Broke(format!("{:?} was answered {:?}", asked, line)),
+        }
+    }
+
+    /// Reads a refusal of a reservation. None: it is none that there may be.
+    fn refusal(&self, table: i32, refusal: reply::Refusal<'_>) -> Option<Refusal> {
+        match refusal {
+            reply::Refusal::Broken(broken) => broken_check(&self.tables.get(&table)?.table, broken),
+            reply::Refusal::TooManyReservations => Some(Refusal::TooMany),
+            reply::Refusal::Memory => Some(Refusal::Memory),
+            _ => None,
+        }
+    }
+}
+
+/// Names a broken check as the table has it.
+fn broken_check(table: &Table, broken: Broken<'_>) -> Option<Refusal> {
+    let at = |text: &str| text.parse::<usize>().ok()?.checked_sub(1);
+    let name = broken.constraint;
+    let range = name
+        .strip_prefix("RANGE_C")
+        .or_else(|| name.strip_prefix('R'));
+    if let Some(number) = range {
+        let column = table.columns.get(at(number)?)?;
+        return Some(Refusal::Range(
+            column.name.clone(),
+            column.type_name.clone(),
+        ));
+    }
+    let check = table.checks.get(at(name.strip_prefix('X')?)?)?;
+    Some(Refusal::Check {
+        constraint: check.name.clone(),
+        worst: broken.worst.to_owned(),
+        limit: broken.limit.to_owned(),
+    })
+}
+
+/// Returns whether a reply says that what was told is done.
+fn is_done(told: Told, done: Done) -> bool {
+    match told {
+        Told::Mark(_) => done == Done::Savepoint,
+        Told::BackTo(_) | Told::Rollback => done == Done::RolledBack,
+        Told::Commit => done == Done::Committed,
+    }
+}
+
+/// Returns the changes of columns, as the server reads them. `change` has the place of each of them.
+fn assignments(change: &Change) -> String {
+    let changes = change.iter().enumerate().filter_map(|(at, change)| {
+        let change = change.as_deref()?;
+        let (sign, number) = match change.strip_prefix('-') {
+            Some(number) => ('-', number),
+            None => ('+', change),
+        };
+        Some((at + 1, sign, number))
+    });
+    let texts: Vec<String> = changes
+        .map(|(at, sign, number)| format!("C{0} = C{0} {1} {2}", at, sign, number))
+        .collect();
+    texts.join(", ")
+}
+
+/// Returns the statement that makes a table: its rows are numbered, its columns are `C1` and so on.
+fn definition(table: &Table) -> String {
+    let mut items = vec!["K NUMBER(10) PRIMARY KEY".to_owned()];
+    for (at, column) in table.columns.iter().enumerate() {
+        let Column { digits, range, .. } = column;
+        items.push(format!(
+            "C{} NUMBER({},{}) RESERVABLE",
+            at + 1,
+            digits.0,
+            digits.1
+        ));
+        if let Some((least, greatest)) = range {
+            items.push(format!(
+                "CONSTRAINT R{0} CHECK (C{0} BETWEEN {1} AND {2})",
+                at + 1,
+                least,
+                greatest
+            ));
+        }
+    }
+    for (at, check) in table.checks.iter().enumerate() {
+        let terms = check.coefficients.iter().enumerate();
+        let terms = terms.filter(|(_, coefficient)| coefficient.as_str() != "0");
+        let sum: Vec<String> = terms
+            .map(|(at, coefficient)| match coefficient.strip_prefix('-') {
+                Some(number) => format!("- {} * C{}", number, at + 1),
+                None => format!("+ {} * C{}", coefficient, at + 1),
+            })
+            .collect();
+        items.push(format!(
+            "CONSTRAINT X{} CHECK ({} {} {})",
+            at + 1,
+            sum.join(" "),
+            check.comparison,
+            check.limit
+        ));
+    }
+    format!("CREATE TABLE T{} ({})", table.number, items.join(", "))
+}

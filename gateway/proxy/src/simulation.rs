@@ -1,0 +1,234 @@
+//! Two proxies, their servers, clients and a PostgreSQL, under a scheduler that interleaves, loses and kills at every step.
+//!
+//! A run is named by its seed. `ESCROW_SEED` runs one seed, `ESCROW_STEPS` sets how many steps are run over all seeds.
+
+mod postgres;
+mod relay;
+mod server;
+
+use rand::rngs::StdRng;
+use rand::seq::SliceRandom;
+use rand::{Rng, SeedableRng};
+
+use crate::protocol::{Fault, Ownership};
+use postgres::Postgres;
+use relay::Relay;
+
+/// The rows' keys are 0 to this.
+const KEYS: usize = 2;
+/// Each row begins with this value.
+const START: i64 = 2;
+/// The CHECK of each row.
+const LEAST: i64 = 0;
+const GREATEST: i64 = 5;
+const PROXIES: usize = 2;
+const CLIENTS: usize = 6;
+/// The steps of a run, after which everything is let come to rest.
+const RUN: u64 = 4_000;
+
+type Key = usize;
+type Change = i64;
+
+/// What is taken away, of the proxy or beside it.
+#[derive(Clone, Copy, Debug, PartialEq, Eq)]
+pub(crate) enum Without {
+    /// A rule of the state machine.
+    Rule(Fault),
+    /// Rule 3: the Sync is sent with the note.
+    AnsweredNotes,
+    /// Rule 1: the server is told when COMMIT is sent.
+    PostgresFirst,
+    /// Rules 7 and 8: a note does not look at the epoch.
+    Epoch,
+    /// Rule 11: a fold takes one row of the journal.
+    WholeFolds,
+}
+
+/// Counts what a run has seen.
+#[derive(Clone, Copy, Debug, Default, PartialEq, Eq)]
+struct Seen {
+    committed: u64,
+    refused: u64,
+    questions: u64,
+    folds: u64,
+    crashes: u64,
+    deaths: u64,
+    lost_commits: u64,
+    takeovers: u64,
+    stale_notes: u64,
+}
+
+impl std::ops::AddAssign for Seen {
+    fn add_assign(&mut self, other: Seen) {
+        self.committed += other.committed;
+        self.refused += other.refused;
+        self.questions += other.questions;
+        self.folds += other.folds;
+        self.crashes += other.crashes;
+        self.deaths += other.deaths;
+        self.lost_commits += other.lost_commits;
+        self.takeovers += other.takeovers;
+        self.stale_notes += other.stale_notes;
+    }
+}
+
+struct World {
+    random: StdRng,
+    postgres: Postgres,
+    proxies: Vec<Relay>,
+    seen: Seen,
+    /// Of so many faults one happens.
+    calm: u32,
+    without: Option<Without>,
+}
+
+impl World {
+    fn new(seed: u64, without: Option<Without>) -> World {
+        let mut random = StdRng::seed_from_u64(seed);
+        let postgres = Postgres::new(random.gen(), without);
+        let proxies = (0..PROXIES).map(|place| Relay::new(place, without));
+        let calm = *[1, 5, 20, 100].choose(&mut random).unwrap_or(&1);
+        World {
+            calm,
+            proxies: proxies.collect(),
+            random,
+            postgres,
+            seen: Seen::default(),
+            without,
+        }
+    }
+
+    /// Does one random thing. `faults`: also what nobody wants.
+    fn step(&mut self, faults: bool) -> Result<(), String> {
+        let place = self.random.gen_range(0..PROXIES);
+        let proxy = &mut self.proxies[place];
+        let faults = faults && self.random.gen_range(0..self.calm) == 0;
+        match self.random.gen_range(0..1000) {
+            0..=2 if faults => {
+                self.seen.crashes += 1;
+                self.postgres.crash(&mut self.random);
+            }
+            3..=5 if faults => {
+                self.seen.deaths += 1;
+                *proxy = proxy.die(&mut self.postgres, self.without);
+            }
+            6..=8 if faults => self.postgres.end_keeper(),
+            9..=20 if faults => proxy.cut_one(&mut self.postgres, &mut self.random, &mut self.seen),
+            21..=26 if faults => self.postgres.end_one(&mut self.random),
+            27..=29 if faults => proxy.stop(self.random.gen_range(1..300)),
+            30..=499 => self.postgres.step(&mut self.random),
+            _ => proxy.step(&mut self.postgres, &mut self.random, &mut self.seen)?,
+        }
+        self.check()
+    }
+
+    /// Tests what must hold at any time.
+    fn check(&self) -> Result<(), String> {
+        self.postgres.check()?;
+        for (place, proxy) in self.proxies.iter().enumerate() {
+            if proxy.protocol.ownership() == Ownership::Stopped {
+                return Err(format!("proxy {} was stopped by an alarm", place));
+            }
+            if self.postgres.is_owner(place, proxy.epoch)
+                && proxy.protocol.ownership() == Ownership::Serving
+            {
+                proxy.server.check(&self.postgres)?;
+            }
+        }
+        Ok(())
+    }
+
+    /// Lets everything come to rest, and tests that nothing is left over.
+    fn rest(&mut self) -> Result<(), String> {
+        for proxy in &mut self.proxies {
+            proxy.finish();
+        }
+        for _ in 0..200_000 {
+            self.step(false)?;
+            let is_quiet = |proxy: &Relay| proxy.is_quiet(&self.postgres);
+            let serves = |proxy: &Relay| proxy.protocol.ownership() == Ownership::Serving;
+            if self.proxies.iter().any(serves)
+                && self.postgres.is_quiet()
+                && self.proxies.iter().all(is_quiet)
+            {
+                return self.rested();
+            }
+        }
+        Err(String::from("it does not come to rest"))
+    }
+
+    fn rested(&self) -> Result<(), String> {
+        if !self.postgres.journal_is_empty() && self.proxies.iter().any(|it| it.has_loaded_all()) {
+            return Err(String::from("the journal has rows"));
+        }
+        let serving = self
+            .proxies
+            .iter()
+            .filter(|it| it.protocol.ownership() == Ownership::Serving)
+            .count();
+        if serving != 1 {
+            return Err(format!("{} proxies serve", serving));
+        }
+        self.proxies.iter().try_for_each(|it| it.server.rested())
+    }
+}
+
+fn run(seed: u64, without: Option<Without>) -> Result<Seen, String> {
+    let mut world = World::new(seed, without);
+    for step in 0..RUN {
+        world
+            .step(true)
+            .map_err(|text| format!("seed {}, step {}: {}", seed, step, text))?;
+    }
+    world
+        .rest()
+        .map_err(|text| format!("seed {}, at rest: {}", seed, text))?;
+    world.seen.committed = world.postgres.commits();
+    Ok(world.seen)
+}
+
+fn number(name: &str) -> Option<u64> {
+    std::env::var(name).ok()?.parse().ok()
+}
+
+#[test]
+fn no_step_breaks_the_invariant() {
+    if let Some(seed) = number("ESCROW_SEED") {
+        println!("{:?}", run(seed, None).unwrap());
+        return;
+    }
+    let first = number("ESCROW_FIRST").unwrap_or_else(|| rand::thread_rng().gen_range(0..1 << 40));
+    let runs = number("ESCROW_STEPS").unwrap_or(1_000_000) / RUN;
+    println!("seeds {} to {}", first, first + runs - 1);
+    let mut seen = Seen::default();
+    for seed in first..first + runs {
+        seen += run(seed, None).unwrap_or_else(|text| panic!("{}", text));
+    }
+    println!("{} steps: {:?}", runs * RUN, seen);
+    assert!(seen.committed > runs && seen.lost_commits > 0 && seen.stale_notes > 0);
+    assert!(seen.questions > runs && seen.takeovers > runs && seen.folds > runs);
+}
+
+#[test]
+fn a_rule_that_is_taken_away_is_missed() {
+    let rules = [
+        Without::Rule(Fault::LossIsRollback),
+        Without::Rule(Fault::EndByTag),
+        Without::Rule(Fault::RollbackUnseen),
+        Without::Rule(Fault::NoWait),
+        Without::AnsweredNotes,
+        Without::PostgresFirst,
+        Without::Epoch,
+        Without::WholeFolds,
+    ];
+    for without in rules {
+        // What comes at rest may be a fault of the relay that was changed.
+        let found = (0..2_000)
+            .filter_map(|seed| run(seed, Some(without)).err())
+            .find(|text| !text.contains("at rest"));
+        match found {
+            Some(text) => println!("{:?}: {}", without, text),
+            None => panic!("{:?}: nothing was found", without),
+        }
+    }
+}

@@ -1,0 +1,704 @@
+//! PostgreSQL: rows, a journal, transactions with subtransactions, a log of which a crash leaves a first part, locks, epoch.
+
+use std::collections::{BTreeMap, BTreeSet, VecDeque};
+
+use rand::rngs::StdRng;
+use rand::seq::{IteratorRandom, SliceRandom};
+use rand::Rng;
+
+use super::server::Grant;
+use super::{Change, Key, Without, GREATEST, KEYS, LEAST, START};
+use crate::protocol::{Status, Verdict};
+
+/// What a client sends.
+#[derive(Clone, Copy, Debug, PartialEq, Eq)]
+pub(super) enum Statement {
+    Begin,
+    Savepoint,
+    /// To the savepoint of this depth, or an error.
+    RollbackTo(usize),
+    Release(usize),
+    Commit,
+    CommitAndChain,
+    Rollback,
+    RollbackAndChain,
+    Select,
+    /// One that fails.
+    Fail,
+    /// A procedure that commits, and then fails or not.
+    CallCommit {
+        fails: bool,
+    },
+    /// A procedure that rolls back.
+    CallRollback,
+}
+
+/// What a backend reads.
+#[derive(Clone, Copy, Debug)]
+pub(super) enum Message {
+    Statement(Statement),
+    Note(Note),
+    Sync,
+}
+
+/// A note.
+#[derive(Clone, Copy, Debug)]
+pub(super) struct Note {
+    pub(super) epoch: u64,
+    pub(super) key: Key,
+    pub(super) change: Change,
+    pub(super) grant: Grant,
+}
+
+/// What a backend answers.
+#[derive(Clone, Debug, PartialEq, Eq)]
+pub(super) enum Reply {
+    Completed(&'static str),
+    Noted(u64),
+    Error,
+    Ready(Status),
+}
+
+/// A subtransaction, or the transaction itself.
+#[derive(Default)]
+struct Level {
+    id: Option<u64>,
+    rows: Vec<Note>,
+    /// Its subtransactions that were released.
+    merged: Vec<u64>,
+}
+
+/// What a backend does when its next step comes.
+enum Work {
+    Read,
+    /// The note is written, and not yet tested.
+    Test(Note),
+    /// The commit record is in the log. What comes then.
+    Commit(usize, Vec<Reply>, After),
+}
+
+#[derive(Clone, Copy, PartialEq, Eq)]
+enum After {
+    Nothing,
+    /// A block goes on.
+    Chain,
+    /// The statement fails.
+    Fail,
+}
+
+/// A connection's two directions, and its backend.
+struct Backend {
+    inbox: VecDeque<Message>,
+    outbox: VecDeque<Reply>,
+    /// The proxy has closed it.
+    is_cut: bool,
+    /// The process runs.
+    is_alive: bool,
+    levels: Vec<Level>,
+    in_block: bool,
+    has_failed: bool,
+    /// An error skips what comes before the Sync.
+    skips: bool,
+    work: Work,
+}
+
+/// A row of the journal.
+type Row = Note;
+
+/// A commit record: what it moves, and whose it is.
+#[derive(Clone, Default)]
+struct Record {
+    rises: Vec<(Key, Change)>,
+    removed: Vec<Grant>,
+    added: Vec<Row>,
+    ids: Vec<u64>,
+    is_visible: bool,
+}
+
+/// What is committed.
+#[derive(Clone)]
+struct Image {
+    rows: [i64; KEYS],
+    journal: BTreeMap<Grant, Row>,
+    /// What commits have added to each row, by folds or not.
+    truth: [i64; KEYS],
+    ids: BTreeSet<u64>,
+    grants: BTreeSet<Grant>,
+}
+
+impl Image {
+    fn apply(&mut self, record: &Record) {
+        for &(key, change) in &record.rises {
+            self.rows[key] += change;
+        }
+        for grant in &record.removed {
+            self.journal.remove(grant);
+        }
+        for row in &record.added {
+            self.journal.insert(row.grant, *row);
+            self.truth[row.key] += row.change;
+            self.grants.insert(row.grant);
+        }
+        self.ids.extend(&record.ids);
+    }
+}
+
+/// A fold or load that is in the log and not yet visible.
+pub(super) struct Folding {
+    record: usize,
+    life: u32,
+    pub(super) keys: Vec<Key>,
+}
+
+/// A cluster.
+pub(super) struct Postgres {
+    visible: Image,
+    /// What is durable for sure.
+    base: Image,
+    log: Vec<Record>,
+    backends: BTreeMap<u32, Backend>,
+    aborted: BTreeSet<u64>,
+    next_id: u64,
+    next_backend: u32,
+    numbers: u64,
+    locks: [bool; KEYS],
+    sync: bool,
+    epoch: u64,
+    /// Who holds OWNER, with the epoch whose lock it holds.
+    owner: Option<(usize, u64)>,
+    pub(super) life: u32,
+    without: Option<Without>,
+}
+
+impl Postgres {
+    pub(super) fn new(sync: bool, without: Option<Without>) -> Postgres {
+        let image = Image {
+            rows: [START; KEYS],
+            journal: BTreeMap::new(),
+            truth: [START; KEYS],
+            ids: BTreeSet::new(),
+            grants: BTreeSet::new(),
+        };
+        Postgres {
+            visible: image.clone(),
+            base: image,
+            log: Vec::new(),
+            backends: BTreeMap::new(),
+            aborted: BTreeSet::new(),
+            next_id: 1,
+            next_backend: 1,
+            numbers: 0,
+            locks: [false; KEYS],
+            sync,
+            epoch: 0,
+            owner: None,
+            life: 0,
+            without,
+        }
+    }
+
+    /// Tests that each committed change counts once, and that no CHECK is broken.
+    pub(super) fn check(&self) -> Result<(), String> {
+        for key in 0..KEYS {
+            let (row, now) = (self.visible.rows[key], self.now(key));
+            if now != self.visible.truth[key] {
+                return Err(format!(
+                    "key {}: {} in place of {}",
+                    key, now, self.visible.truth[key]
+                ));
+            }
+            if !(LEAST..=GREATEST).contains(&now) || !(LEAST..=GREATEST).contains(&row) {
+                return Err(format!("key {}: {} and {} break the CHECK", key, row, now));
+            }
+        }
+        Ok(())
+    }
+
+    /// Returns D + J.
+    pub(super) fn now(&self, key: Key) -> i64 {
+        let rows = self.visible.journal.values().filter(|row| row.key == key);
+        self.visible.rows[key] + rows.map(|row| row.change).sum::<i64>()
+    }
+
+    /// Returns a number that was never used, for an epoch or a grant.
+    pub(super) fn number(&mut self) -> u64 {
+        self.numbers += 1;
+        self.numbers
+    }
+
+    /// Returns how many notes have committed, and were not lost.
+    pub(super) fn commits(&self) -> u64 {
+        self.visible.grants.len() as u64
+    }
+
+    pub(super) fn has_committed(&self, grant: Grant) -> bool {
+        self.visible.grants.contains(&grant)
+    }
+
+    /// Returns the grants of the present epoch whose COMMIT may be under way.
+    pub(super) fn may_commit(&self) -> Vec<Grant> {
+        let is_committing = |backend: &&Backend| matches!(backend.work, Work::Commit(..));
+        let levels = self
+            .backends
+            .values()
+            .filter(is_committing)
+            .flat_map(|it| &it.levels);
+        let rows = levels.flat_map(|level| &level.rows);
+        rows.filter(|row| row.epoch == self.epoch)
+            .map(|row| row.grant)
+            .collect()
+    }
+
+    pub(super) fn is_quiet(&self) -> bool {
+        let is_resting =
+            |it: &Backend| it.inbox.is_empty() && it.outbox.is_empty() && it.levels.is_empty();
+        self.backends.values().all(is_resting)
+    }
+
+    pub(super) fn journal_is_empty(&self) -> bool {
+        self.visible.journal.is_empty()
+    }
+
+    // The keeper.
+
+    /// Takes OWNER and the lock of an epoch.
+    pub(super) fn take_owner(&mut self, proxy: usize, epoch: u64) -> bool {
+        if self.owner.is_some() {
+            return false;
+        }
+        self.owner = Some((proxy, epoch));
+        true
+    }
+
+    pub(super) fn is_owner(&self, proxy: usize, epoch: u64) -> bool {
+        self.owner == Some((proxy, epoch))
+    }
+
+    pub(super) fn set_epoch(&mut self, epoch: u64) {
+        self.epoch = epoch;
+    }
+
+    /// Ends who holds the journal. Returns whether anybody still does.
+    pub(super) fn end_holders(&mut self) -> bool {
+        let holds = |backend: &Backend| backend.levels.iter().any(|level| !level.rows.is_empty());
+        let numbers: Vec<u32> = self
+            .backends
+            .iter()
+            .filter(|(_, backend)| holds(backend))
+            .map(|(&number, _)| number)
+            .collect();
+        for number in numbers {
+            self.end(number);
+        }
+        self.backends.values().any(holds)
+    }
+
+    pub(super) fn end_keeper(&mut self) {
+        self.owner = None;
+    }
+
+    pub(super) fn verdict(&self, id: u64) -> Verdict {
+        if self.visible.ids.contains(&id) {
+            Verdict::Committed
+        } else if self.aborted.contains(&id) {
+            Verdict::Aborted
+        } else {
+            Verdict::InProgress
+        }
+    }
+
+    // Folds and loads.
+
+    /// Folds what it can lock. Fails if a CHECK refuses it. The rest of it is [`Postgres::folded`].
+    pub(super) fn fold(&mut self, keys: &[Key], random: &mut StdRng) -> Result<Folding, String> {
+        let keys: Vec<Key> = keys
+            .iter()
+            .copied()
+            .filter(|&key| !self.locks[key])
+            .collect();
+        let mut record = Record::default();
+        for &key in &keys {
+            let rows = self.visible.journal.values().filter(|row| row.key == key);
+            let taken: Vec<&Row> = if self.without == Some(Without::WholeFolds) {
+                rows.choose(random).into_iter().collect()
+            } else {
+                rows.collect()
+            };
+            let rise: i64 = taken.iter().map(|row| row.change).sum();
+            if !(LEAST..=GREATEST).contains(&(self.visible.rows[key] + rise)) {
+                return Err(format!("a fold of key {} by {} is refused", key, rise));
+            }
+            record.rises.push((key, rise));
+            record.removed.extend(taken.iter().map(|row| row.grant));
+        }
+        for &key in &keys {
+            self.locks[key] = true;
+        }
+        if !keys.is_empty() {
+            self.log.push(record);
+        }
+        Ok(Folding {
+            record: self.log.len().saturating_sub(1),
+            life: self.life,
+            keys,
+        })
+    }
+
+    /// Makes a fold visible. Returns false if a crash came between.
+    pub(super) fn folded(&mut self, folding: &Folding) -> bool {
+        if folding.life != self.life {
+            return false;
+        }
+        if !folding.keys.is_empty() {
+            self.show(folding.record);
+        }
+        for &key in &folding.keys {
+            self.locks[key] = false;
+        }
+        true
+    }
+
+    pub(super) fn is_locked(&self, key: Key) -> bool {
+        self.locks[key]
+    }
+
+    pub(super) fn value(&self, key: Key) -> i64 {
+        self.visible.rows[key]
+    }
+
+    // Connections.
+
+    pub(super) fn connect(&mut self) -> u32 {
+        let number = self.next_backend;
+        self.next_backend += 1;
+        let backend = Backend {
+            inbox: VecDeque::new(),
+            outbox: VecDeque::new(),
+            is_cut: false,
+            is_alive: true,
+            levels: Vec::new(),
+            in_block: false,
+            has_failed: false,
+            skips: false,
+            work: Work::Read,
+        };
+        self.backends.insert(number, backend);
+        number
+    }
+
+    pub(super) fn send(&mut self, number: u32, message: Message) {
+        if let Some(backend) = self.backends.get_mut(&number) {
+            if backend.is_alive {
+                backend.inbox.push_back(message);
+            }
+        }
+    }
+
+    /// Returns the next reply, or Err if the connection has ended and nothing is left to read.
+    pub(super) fn receive(&mut self, number: u32) -> Result<Option<Reply>, ()> {
+        match self.backends.get_mut(&number) {
+            Some(backend) => match backend.outbox.pop_front() {
+                Some(reply) => Ok(Some(reply)),
+                None if backend.is_alive => Ok(None),
+                None => Err(()),
+            },
+            None => Err(()),
+        }
+    }
+
+    /// Closes a connection at the proxy's side. The backend reads first what was sent.
+    pub(super) fn cut(&mut self, number: u32) {
+        if let Some(backend) = self.backends.get_mut(&number) {
+            backend.is_cut = true;
+            backend.outbox.clear();
+        }
+    }
+
+    /// Ends a backend, unless it is inside its commit.
+    fn end(&mut self, number: u32) {
+        let backend = match self.backends.get_mut(&number) {
+            Some(backend) if !matches!(backend.work, Work::Commit(..)) => backend,
+            _ => return,
+        };
+        let levels = std::mem::take(&mut backend.levels);
+        backend.is_alive = false;
+        backend.inbox.clear();
+        backend.work = Work::Read;
+        self.abort(levels);
+    }
+
+    /// Ends any backend.
+    pub(super) fn end_one(&mut self, random: &mut StdRng) {
+        if let Some(number) = self.backends.keys().copied().choose(random) {
+            self.end(number);
+        }
+    }
+
+    fn abort(&mut self, levels: Vec<Level>) {
+        for level in levels {
+            self.aborted.extend(level.id);
+            self.aborted.extend(level.merged);
+        }
+    }
+
+    /// Crashes and recovers. Of what is not flushed any first part is left.
+    pub(super) fn crash(&mut self, random: &mut StdRng) {
+        let durable = if self.sync {
+            self.log
+                .iter()
+                .rposition(|record| record.is_visible && !record.ids.is_empty())
+        } else {
+            None
+        };
+        let least = durable.map_or(0, |place| place + 1);
+        let kept = random.gen_range(least..=self.log.len());
+        let mut image = self.base.clone();
+        for record in &self.log[..kept] {
+            image.apply(record);
+        }
+        self.visible = image.clone();
+        self.base = image;
+        self.log.clear();
+        let lost: Vec<Level> = self
+            .backends
+            .values_mut()
+            .flat_map(|backend| {
+                backend.is_alive = false;
+                backend.inbox.clear();
+                backend.work = Work::Read;
+                std::mem::take(&mut backend.levels)
+            })
+            .collect();
+        for level in lost {
+            let ids = level.id.into_iter().chain(level.merged);
+            self.aborted
+                .extend(ids.filter(|id| !self.visible.ids.contains(id)));
+        }
+        self.locks = [false; KEYS];
+        self.owner = None;
+        self.epoch = 0;
+        self.life += 1;
+    }
+
+    fn show(&mut self, place: usize) {
+        let record = &mut self.log[place];
+        record.is_visible = true;
+        let record = record.clone();
+        self.visible.apply(&record);
+    }
+
+    /// Lets one backend go on.
+    pub(super) fn step(&mut self, random: &mut StdRng) {
+        let is_gone = |backend: &Backend| !backend.is_alive && backend.is_cut;
+        self.backends.retain(|_, backend| !is_gone(backend));
+        if self.log.len() > 50 && self.log.iter().all(|record| record.is_visible) {
+            // A checkpoint: all of it is durable.
+            self.base = self.visible.clone();
+            self.log.clear();
+        }
+        let numbers: Vec<u32> = self
+            .backends
+            .iter()
+            .filter(|(_, it)| it.is_alive)
+            .map(|(&it, _)| it)
+            .collect();
+        let number = match numbers.choose(random) {
+            Some(&number) => number,
+            None => return,
+        };
+        let mut backend = match self.backends.remove(&number) {
+            Some(backend) => backend,
+            None => return,
+        };
+        match std::mem::replace(&mut backend.work, Work::Read) {
+            Work::Read => match backend.inbox.pop_front() {
+                Some(message) => self.read(&mut backend, message),
+                None if backend.is_cut => {
+                    backend.is_alive = false;
+                    self.abort(std::mem::take(&mut backend.levels));
+                }
+                None => {}
+            },
+            Work::Test(note) => self.test(&mut backend, note),
+            Work::Commit(record, replies, after) => {
+                self.show(record);
+                backend.levels.clear();
+                backend.in_block = after == After::Chain;
+                if after == After::Chain {
+                    backend.levels.push(Level::default());
+                }
+                if after == After::Fail {
+                    self.fail(&mut backend);
+                } else {
+                    backend.outbox.extend(replies);
+                }
+            }
+        }
+        self.backends.insert(number, backend);
+    }
+
+    fn read(&mut self, backend: &mut Backend, message: Message) {
+        match message {
+            Message::Sync => {
+                backend.skips = false;
+                if !backend.in_block && !backend.levels.is_empty() {
+                    self.commit(backend, vec![Reply::Ready(Status::Idle)], After::Nothing);
+                    return;
+                }
+                let status = match (backend.in_block, backend.has_failed) {
+                    (false, _) => Status::Idle,
+                    (true, false) => Status::InBlock,
+                    (true, true) => Status::Failed,
+                };
+                backend.outbox.push_back(Reply::Ready(status));
+            }
+            _ if backend.skips => {}
+            Message::Note(note) if backend.has_failed => {
+                let _ = note;
+                self.fail(backend);
+            }
+            Message::Note(note) => {
+                if backend.levels.is_empty() {
+                    backend.levels.push(Level::default());
+                }
+                for level in &mut backend.levels {
+                    if level.id.is_none() {
+                        level.id = Some(self.next_id);
+                        self.next_id += 1;
+                    }
+                }
+                if let Some(level) = backend.levels.last_mut() {
+                    level.rows.push(note);
+                }
+                backend.work = Work::Test(note);
+            }
+            Message::Statement(statement) => self.run(backend, statement),
+        }
+    }
+
+    /// Rules 7, 8 and 10.
+    fn test(&mut self, backend: &mut Backend, note: Note) {
+        let is_live = self.owner.map_or(false, |(_, epoch)| epoch == note.epoch);
+        let passes = self.without == Some(Without::Epoch) || self.epoch == note.epoch && is_live;
+        let id = backend.levels.last().and_then(|level| level.id);
+        match id {
+            Some(id) if passes => backend.outbox.push_back(Reply::Noted(id)),
+            _ => self.fail(backend),
+        }
+    }
+
+    /// An error: it ends the innermost subtransaction, or the transaction.
+    fn fail(&mut self, backend: &mut Backend) {
+        backend.outbox.push_back(Reply::Error);
+        backend.skips = true;
+        if !backend.in_block {
+            self.abort(std::mem::take(&mut backend.levels));
+        } else if !backend.has_failed {
+            backend.has_failed = true;
+            if let Some(level) = backend.levels.last_mut() {
+                let failed = std::mem::take(level);
+                self.abort(vec![failed]);
+            }
+        }
+    }
+
+    fn commit(&mut self, backend: &mut Backend, replies: Vec<Reply>, after: After) {
+        let ids: Vec<u64> = backend
+            .levels
+            .iter()
+            .flat_map(|level| level.id.into_iter().chain(level.merged.iter().copied()))
+            .collect();
+        let added = backend
+            .levels
+            .iter()
+            .flat_map(|level| level.rows.iter().copied())
+            .collect();
+        self.log.push(Record {
+            added,
+            ids,
+            ..Record::default()
+        });
+        backend.work = Work::Commit(self.log.len() - 1, replies, after);
+    }
+
+    fn run(&mut self, backend: &mut Backend, statement: Statement) {
+        use Statement::*;
+        if backend.has_failed
+            && !matches!(
+                statement,
+                Commit | CommitAndChain | Rollback | RollbackAndChain | RollbackTo(_)
+            )
+        {
+            self.fail(backend);
+            return;
+        }
+        let depth = backend.levels.len();
+        match statement {
+            Begin => {
+                backend.in_block = true;
+                if backend.levels.is_empty() {
+                    backend.levels.push(Level::default());
+                }
+                backend.outbox.push_back(Reply::Completed("BEGIN"));
+            }
+            Select => backend.outbox.push_back(Reply::Completed("SELECT 1")),
+            Fail => self.fail(backend),
+            Savepoint if backend.in_block => {
+                backend.levels.push(Level::default());
+                backend.outbox.push_back(Reply::Completed("SAVEPOINT"));
+            }
+            RollbackTo(to) if backend.in_block && to >= 1 && to < depth => {
+                let dead = backend.levels.split_off(to);
+                self.abort(dead);
+                backend.levels.push(Level::default());
+                backend.has_failed = false;
+                backend.outbox.push_back(Reply::Completed("ROLLBACK"));
+            }
+            Release(to) if backend.in_block && to >= 1 && to < depth => {
+                let released = backend.levels.split_off(to);
+                if let Some(level) = backend.levels.last_mut() {
+                    for it in released {
+                        level.merged.extend(it.id.into_iter().chain(it.merged));
+                        level.rows.extend(it.rows);
+                    }
+                }
+                backend.outbox.push_back(Reply::Completed("RELEASE"));
+            }
+            Savepoint | RollbackTo(_) | Release(_) => self.fail(backend),
+            Commit | CommitAndChain | Rollback | RollbackAndChain => {
+                self.end_block(backend, statement)
+            }
+            CallCommit { .. } | CallRollback if backend.in_block => self.fail(backend),
+            CallCommit { fails } => {
+                let after = if fails { After::Fail } else { After::Nothing };
+                self.commit(backend, vec![Reply::Completed("CALL")], after);
+            }
+            CallRollback => {
+                self.abort(std::mem::take(&mut backend.levels));
+                backend.outbox.push_back(Reply::Completed("CALL"));
+            }
+        }
+    }
+
+    fn end_block(&mut self, backend: &mut Backend, statement: Statement) {
+        use Statement::*;
+        let chains = matches!(statement, CommitAndChain | RollbackAndChain);
+        if chains && !backend.in_block {
+            self.fail(backend);
+            return;
+        }
+        let commits = matches!(statement, Commit | CommitAndChain) && !backend.has_failed;
+        backend.has_failed = false;
+        let after = if chains { After::Chain } else { After::Nothing };
+        if commits {
+            self.commit(backend, vec![Reply::Completed("COMMIT")], after);
+        } else {
+            self.abort(std::mem::take(&mut backend.levels));
+            backend.in_block = chains;
+            if chains {
+                backend.levels.push(Level::default());
+            }
+            backend.outbox.push_back(Reply::Completed("ROLLBACK"));
+        }
+    }
+}

@@ -1,0 +1,668 @@
+//! A proxy around its state machine: the relay of connections, keeper, folder and loader. And its clients.
+
+use std::collections::{BTreeMap, VecDeque};
+
+use rand::rngs::StdRng;
+use rand::seq::{IteratorRandom, SliceRandom};
+use rand::Rng;
+
+use super::postgres::{Folding, Message, Note, Postgres, Reply, Statement};
+use super::server::{Grant, Server};
+use super::{Change, Key, Seen, Without, CLIENTS, KEYS};
+use crate::protocol::{
+    Action, Answer, Connection, Event, Id, Ownership, Protocol, Status, Tag, Told, Verdict,
+};
+
+/// What a client sends next.
+#[derive(Clone, Copy)]
+enum Step {
+    Statement(Statement),
+    Hot(Key, Change),
+    Sync,
+}
+
+/// What a connection of a client waits for.
+#[derive(Clone, Copy, PartialEq, Eq)]
+enum Waits {
+    Nothing,
+    /// Replies to what was sent: what the client waits for may be behind them.
+    Replies,
+    /// The answer to its UPDATE.
+    Answer,
+    /// The note's answer.
+    Note,
+    /// Behind its Sync.
+    Ready,
+}
+
+struct Client {
+    backend: u32,
+    script: VecDeque<Step>,
+    waits: Waits,
+    /// Replies that are still to come.
+    expected: u32,
+    /// The present UPDATE is a transaction by itself.
+    alone: bool,
+    /// What the server was asked for last.
+    grant: Grant,
+    /// The transaction status of the last ReadyForQuery.
+    status: Status,
+    /// An error skips what comes before the Sync.
+    skips: bool,
+}
+
+/// What is under way outside of the state machine.
+enum Job {
+    Verdicts(Connection, Vec<Verdict>),
+    Load(Key, Option<Folding>),
+    Left(Key),
+    Fold(Folding),
+    Granted(Connection, bool),
+    Holders(bool),
+    EpochSet,
+    OwnerTaken,
+    OwnerElsewhere,
+    WaitOver(Connection),
+}
+
+/// A proxy.
+pub(super) struct Relay {
+    place: usize,
+    pub(super) protocol: Protocol<Key, Change>,
+    pub(super) server: Server,
+    pub(super) epoch: u64,
+    life: u32,
+    clients: BTreeMap<Connection, Client>,
+    next: u32,
+    /// In order, as each connection of the proxy's own answers: the place says which.
+    jobs: [VecDeque<Job>; 4],
+    stopped: u32,
+    is_finishing: bool,
+    without: Option<Without>,
+}
+
+/// The places of [`Relay::jobs`].
+const KEEPER: usize = 0;
+const LOADER: usize = 1;
+const FOLDER: usize = 2;
+const SERVER: usize = 3;
+
+impl Relay {
+    pub(super) fn new(place: usize, without: Option<Without>) -> Relay {
+        let mut protocol = Protocol::new();
+        if let Some(Without::Rule(fault)) = without {
+            protocol.fault = Some(fault);
+        }
+        Relay {
+            place,
+            protocol,
+            server: Server::default(),
+            epoch: 0,
+            life: 0,
+            clients: BTreeMap::new(),
+            next: 1,
+            jobs: Default::default(),
+            stopped: 0,
+            is_finishing: false,
+            without,
+        }
+    }
+
+    /// Dies: all its connections are closed. What a folder has sent is carried out all the same.
+    pub(super) fn die(&mut self, postgres: &mut Postgres, without: Option<Without>) -> Relay {
+        for client in self.clients.values() {
+            postgres.cut(client.backend);
+        }
+        self.let_folds_end(postgres);
+        if postgres.is_owner(self.place, self.epoch) {
+            postgres.end_keeper();
+        }
+        Relay {
+            next: self.next,
+            ..Relay::new(self.place, without)
+        }
+    }
+
+    fn let_folds_end(&mut self, postgres: &mut Postgres) {
+        for job in self.jobs.iter_mut().flat_map(|jobs| jobs.drain(..)) {
+            match job {
+                Job::Fold(folding) | Job::Load(_, Some(folding)) => {
+                    postgres.folded(&folding);
+                }
+                _ => {}
+            }
+        }
+    }
+
+    /// Stands still for so many of its steps.
+    pub(super) fn stop(&mut self, steps: u32) {
+        self.stopped = steps;
+    }
+
+    /// Its clients begin nothing more.
+    pub(super) fn finish(&mut self) {
+        self.is_finishing = true;
+        self.stopped = 0;
+    }
+
+    pub(super) fn is_quiet(&self, postgres: &Postgres) -> bool {
+        let is_resting = |client: &Client| {
+            client.script.is_empty()
+                && client.waits == Waits::Nothing
+                && client.status == Status::Idle
+        };
+        let is_decided = match self.protocol.ownership() {
+            Ownership::Serving => postgres.is_owner(self.place, self.epoch),
+            Ownership::Standby | Ownership::Elsewhere => true,
+            Ownership::Owning | Ownership::Raised | Ownership::Stopped => false,
+        };
+        is_decided
+            && self.protocol.is_quiet()
+            && self.jobs.iter().all(VecDeque::is_empty)
+            && self.clients.values().all(is_resting)
+    }
+
+    /// Returns whether all rows are loaded, so that nothing of former owners can be left in the journal.
+    pub(super) fn has_loaded_all(&self) -> bool {
+        self.server.values.len() == KEYS
+    }
+
+    /// Loses the connection of one client, at either side.
+    pub(super) fn cut_one(
+        &mut self,
+        postgres: &mut Postgres,
+        random: &mut StdRng,
+        seen: &mut Seen,
+    ) {
+        if let Some(connection) = self.clients.keys().copied().choose(random) {
+            self.lose(connection, postgres, random, seen);
+        }
+    }
+
+    fn lose(
+        &mut self,
+        connection: Connection,
+        postgres: &mut Postgres,
+        random: &mut StdRng,
+        seen: &mut Seen,
+    ) {
+        if let Some(client) = self.clients.remove(&connection) {
+            postgres.cut(client.backend);
+            seen.lost_commits += u64::from(client.waits == Waits::Ready);
+            let _ = self.give(Event::Lost { connection }, postgres, random, seen);
+        }
+    }
+
+    /// Does one thing of the many that it may do.
+    pub(super) fn step(
+        &mut self,
+        postgres: &mut Postgres,
+        random: &mut StdRng,
+        seen: &mut Seen,
+    ) -> Result<(), String> {
+        if self.stopped > 0 {
+            self.stopped -= 1;
+            return Ok(());
+        }
+        match random.gen_range(0..20) {
+            0 if !self.is_finishing && random.gen_range(0..5) == 0 => {
+                let (connection, key) = (None, random.gen_range(0..KEYS));
+                self.give(Event::Leave { connection, key }, postgres, random, seen)
+            }
+            0 => self.give(Event::Tick, postgres, random, seen),
+            1..=5 => self.job(postgres, random, seen),
+            _ => self.serve(postgres, random, seen),
+        }
+    }
+
+    /// Gives an event to the machine, and does what it says.
+    fn give(
+        &mut self,
+        event: Event<Key, Change>,
+        postgres: &mut Postgres,
+        random: &mut StdRng,
+        seen: &mut Seen,
+    ) -> Result<(), String> {
+        for action in self.protocol.handle(event) {
+            self.act(action, postgres, random, seen)?;
+        }
+        Ok(())
+    }
+
+    fn is_connected(&self, postgres: &Postgres) -> bool {
+        self.life == postgres.life
+    }
+
+    fn act(
+        &mut self,
+        action: Action<Key, Change>,
+        postgres: &mut Postgres,
+        random: &mut StdRng,
+        seen: &mut Seen,
+    ) -> Result<(), String> {
+        match action {
+            Action::TakeOwner => {
+                let epoch = postgres.number();
+                if self.jobs[KEEPER].is_empty() && postgres.take_owner(self.place, epoch) {
+                    self.epoch = epoch;
+                    self.life = postgres.life;
+                    seen.takeovers += 1;
+                    self.jobs[KEEPER].push_back(Job::OwnerTaken);
+                } else if self.jobs[KEEPER].is_empty() {
+                    self.jobs[KEEPER].push_back(Job::OwnerElsewhere);
+                }
+            }
+            Action::SetEpoch if postgres.is_owner(self.place, self.epoch) => {
+                postgres.set_epoch(self.epoch);
+                self.jobs[KEEPER].push_back(Job::EpochSet);
+            }
+            Action::EndHolders if postgres.is_owner(self.place, self.epoch) => {
+                let any = postgres.end_holders();
+                self.jobs[KEEPER].push_back(Job::Holders(any));
+            }
+            Action::Ask(connection, ids) if postgres.is_owner(self.place, self.epoch) => {
+                seen.questions += 1;
+                let verdicts = ids.iter().map(|id| postgres.verdict(id.0)).collect();
+                self.jobs[KEEPER].push_back(Job::Verdicts(connection, verdicts));
+            }
+            // The keeper is gone, which it will see.
+            Action::SetEpoch | Action::EndHolders | Action::Ask(..) => {}
+            Action::RestartServer => {
+                self.let_folds_end(postgres);
+                self.server = Server::default();
+            }
+            Action::Load(key) => {
+                let folding = if self.is_connected(postgres) && !postgres.is_locked(key) {
+                    Some(postgres.fold(&[key], random)?)
+                } else {
+                    None
+                };
+                self.jobs[LOADER].push_back(Job::Load(key, folding));
+            }
+            Action::Leave(key) => {
+                self.server.leave(key)?;
+                self.jobs[LOADER].push_back(Job::Left(key));
+            }
+            Action::Fold(keys) => {
+                if self.is_connected(postgres) {
+                    seen.folds += 1;
+                    let folding = postgres.fold(&keys, random)?;
+                    self.jobs[FOLDER].push_back(Job::Fold(folding));
+                }
+            }
+            Action::Tell(connection, told) => self.server.tell(connection, told)?,
+            Action::Grant(connection, key, change) => {
+                let grant = postgres.number();
+                let is_granted = self.server.grant(connection, key, change, grant);
+                seen.refused += u64::from(!is_granted);
+                if let Some(client) = self.clients.get_mut(&connection) {
+                    client.grant = grant;
+                }
+                self.jobs[SERVER].push_back(Job::Granted(connection, is_granted));
+            }
+            Action::Note(connection, key, change) => {
+                if let Some(client) = self.clients.get_mut(&connection) {
+                    let note = Note {
+                        epoch: self.epoch,
+                        key,
+                        change,
+                        grant: client.grant,
+                    };
+                    client.waits = Waits::Note;
+                    postgres.send(client.backend, Message::Note(note));
+                    if self.without == Some(Without::AnsweredNotes) && client.alone {
+                        postgres.send(client.backend, Message::Sync);
+                        client.expected += 1;
+                    }
+                }
+            }
+            Action::Answer(connection, answer) => self.answer(connection, answer, postgres)?,
+            Action::Deliver(connection) => {
+                if let Some(client) = self.clients.get_mut(&connection) {
+                    if client.waits == Waits::Ready && client.expected == 0 {
+                        client.waits = Waits::Nothing;
+                    }
+                }
+            }
+            Action::Close(connection) => {
+                if let Some(client) = self.clients.remove(&connection) {
+                    postgres.cut(client.backend);
+                }
+            }
+            Action::Alarm(alarm) => return Err(format!("{:?}", alarm)),
+        }
+        Ok(())
+    }
+
+    fn answer(
+        &mut self,
+        connection: Connection,
+        answer: Answer,
+        postgres: &mut Postgres,
+    ) -> Result<(), String> {
+        let without = self.without;
+        let client = match self.clients.get_mut(&connection) {
+            Some(client) => client,
+            None => return Ok(()),
+        };
+        client.waits = Waits::Nothing;
+        match answer {
+            Answer::Reserved | Answer::Missing => {}
+            Answer::Failed => client.skips = true,
+            // It is raised inside PostgreSQL, so that the block has failed.
+            Answer::Refused
+            | Answer::Locked
+            | Answer::TooMany
+            | Answer::NotOwner
+            | Answer::Stopped => {
+                postgres.send(client.backend, Message::Statement(Statement::Fail));
+                client.expected += 1;
+                client.skips = true;
+            }
+        }
+        if client.alone {
+            if client.expected == 0 || without != Some(Without::AnsweredNotes) {
+                postgres.send(client.backend, Message::Sync);
+                client.expected += 1;
+            }
+            client.waits = Waits::Ready;
+            client.skips = false;
+        }
+        if without == Some(Without::PostgresFirst) && answer == Answer::Reserved && client.alone {
+            self.server.tell(connection, Told::Commit)?;
+        }
+        Ok(())
+    }
+
+    /// Lets one of the proxy's own connections answer.
+    fn job(
+        &mut self,
+        postgres: &mut Postgres,
+        random: &mut StdRng,
+        seen: &mut Seen,
+    ) -> Result<(), String> {
+        let has_keeper = !matches!(
+            self.protocol.ownership(),
+            Ownership::Standby | Ownership::Elsewhere
+        ) || !self.jobs[KEEPER].is_empty();
+        if has_keeper && !postgres.is_owner(self.place, self.epoch) && random.gen_range(0..30) == 0
+        {
+            self.jobs
+                .iter_mut()
+                .take(KEEPER + 1)
+                .for_each(VecDeque::clear);
+            self.jobs[SERVER].clear();
+            self.give(Event::KeeperLost, postgres, random, seen)?;
+            // The clients' connections of before a crash are seen to have ended, each by itself.
+            return Ok(());
+        }
+        let queue = match (0..self.jobs.len())
+            .filter(|&it| !self.jobs[it].is_empty())
+            .choose(random)
+        {
+            Some(queue) => queue,
+            None => return Ok(()),
+        };
+        let job = match self.jobs[queue].pop_front() {
+            Some(job) => job,
+            None => return Ok(()),
+        };
+        let event = match job {
+            Job::OwnerTaken => Event::OwnerTaken,
+            Job::OwnerElsewhere => Event::OwnerElsewhere,
+            Job::EpochSet => Event::EpochSet,
+            Job::Holders(any) => Event::Holders { any },
+            Job::Verdicts(connection, verdicts) => Event::Verdicts {
+                connection,
+                verdicts,
+            },
+            Job::Granted(connection, true) => Event::Granted { connection },
+            Job::Granted(connection, false) => Event::Refused { connection },
+            Job::WaitOver(connection) => Event::WaitOver { connection },
+            Job::Load(key, Some(folding)) if postgres.folded(&folding) => {
+                self.server.values.insert(key, postgres.value(key));
+                Event::Loaded { key }
+            }
+            Job::Left(key) => Event::Left { key },
+            Job::Load(key, _) => Event::NotLoaded {
+                key,
+                missing: false,
+            },
+            Job::Fold(folding) if postgres.folded(&folding) => Event::Folded { keys: folding.keys },
+            Job::Fold(_) => Event::FoldFailed,
+        };
+        self.give(event, postgres, random, seen)
+    }
+
+    /// Serves one client.
+    fn serve(
+        &mut self,
+        postgres: &mut Postgres,
+        random: &mut StdRng,
+        seen: &mut Seen,
+    ) -> Result<(), String> {
+        if self.clients.len() < CLIENTS && !self.is_finishing {
+            let connection = Connection(self.next);
+            self.next += 1;
+            let client = Client {
+                backend: postgres.connect(),
+                script: VecDeque::new(),
+                waits: Waits::Nothing,
+                expected: 0,
+                alone: false,
+                grant: 0,
+                status: Status::Idle,
+                skips: false,
+            };
+            self.clients.insert(connection, client);
+        }
+        let connection = match self.clients.keys().copied().choose(random) {
+            Some(connection) => connection,
+            None => return Ok(()),
+        };
+        let client = match self.clients.get_mut(&connection) {
+            Some(client) => client,
+            None => return Ok(()),
+        };
+        match postgres.receive(client.backend) {
+            Err(()) => {
+                self.lose(connection, postgres, random, seen);
+                return Ok(());
+            }
+            Ok(Some(reply)) => return self.reply(connection, reply, postgres, random, seen),
+            Ok(None) => {}
+        }
+        match client.waits {
+            Waits::Nothing => self.send(connection, postgres, random, seen),
+            Waits::Replies if client.expected == 0 => {
+                client.waits = Waits::Nothing;
+                Ok(())
+            }
+            Waits::Ready if client.expected == 0 => {
+                // The client's patience is over before the fold is.
+                let over = Job::WaitOver(connection);
+                if self.jobs[SERVER].len() < 20 && random.gen_range(0..10) == 0 {
+                    self.jobs[SERVER].push_back(over);
+                }
+                Ok(())
+            }
+            Waits::Replies | Waits::Answer | Waits::Note | Waits::Ready => Ok(()),
+        }
+    }
+
+    fn reply(
+        &mut self,
+        connection: Connection,
+        reply: Reply,
+        postgres: &mut Postgres,
+        random: &mut StdRng,
+        seen: &mut Seen,
+    ) -> Result<(), String> {
+        let client = match self.clients.get_mut(&connection) {
+            Some(client) => client,
+            None => return Ok(()),
+        };
+        let event = match reply {
+            Reply::Noted(id) => Event::Noted {
+                connection,
+                id: Id(id),
+            },
+            Reply::Error if client.waits == Waits::Note => {
+                seen.stale_notes += 1;
+                Event::NoteFailed { connection }
+            }
+            Reply::Error => {
+                // What was sent behind it is skipped up to the Sync.
+                client.skips = true;
+                client.expected = u32::from(client.waits == Waits::Ready);
+                Event::Failed { connection }
+            }
+            Reply::Completed(tag) => {
+                client.expected -= 1;
+                Event::Completed {
+                    connection,
+                    tag: Tag::read(tag),
+                }
+            }
+            Reply::Ready(status) => {
+                client.expected -= 1;
+                client.status = status;
+                Event::Ready { connection, status }
+            }
+        };
+        self.give(event, postgres, random, seen)
+    }
+
+    /// Sends the client's next message.
+    fn send(
+        &mut self,
+        connection: Connection,
+        postgres: &mut Postgres,
+        random: &mut StdRng,
+        seen: &mut Seen,
+    ) -> Result<(), String> {
+        let is_finishing = self.is_finishing;
+        let client = match self.clients.get_mut(&connection) {
+            Some(client) => client,
+            None => return Ok(()),
+        };
+        if client.script.is_empty() {
+            if is_finishing && client.status == Status::Idle {
+                return Ok(());
+            }
+            client.script = if is_finishing {
+                VecDeque::from(vec![Step::Statement(Statement::Rollback), Step::Sync])
+            } else {
+                cycle(client.status, random)
+            };
+        }
+        match client.script.front().copied() {
+            Some(Step::Sync) => {
+                postgres.send(client.backend, Message::Sync);
+                client.expected += 1;
+                client.waits = Waits::Ready;
+                client.skips = false;
+            }
+            Some(_) if client.skips => {}
+            Some(Step::Statement(statement)) => {
+                postgres.send(client.backend, Message::Statement(statement));
+                client.expected += 1;
+            }
+            // What was sent before it is answered first.
+            Some(Step::Hot(..)) if client.expected > 0 => {
+                client.waits = Waits::Replies;
+                return Ok(());
+            }
+            Some(Step::Hot(key, change)) => {
+                client.script.pop_front();
+                client.waits = Waits::Answer;
+                // By itself, if nothing else is in its cycle.
+                client.alone = client.status == Status::Idle && client.script.is_empty();
+                let alone = client.alone;
+                return self.give(
+                    Event::Reserve {
+                        connection,
+                        key,
+                        change,
+                        alone,
+                    },
+                    postgres,
+                    random,
+                    seen,
+                );
+            }
+            None => {}
+        }
+        client.script.pop_front();
+        Ok(())
+    }
+}
+
+/// What a client does in one cycle, up to its Sync. An UPDATE by itself has none: the proxy sends it.
+fn cycle(status: Status, random: &mut StdRng) -> VecDeque<Step> {
+    use Statement::*;
+    let hot = |random: &mut StdRng| {
+        let change = *[-2, -1, -1, 1, 1, 2].choose(random).unwrap_or(&1);
+        Step::Hot(random.gen_range(0..KEYS), change)
+    };
+    let statement = |random: &mut StdRng| {
+        let depth = random.gen_range(1..3);
+        let all = [
+            Select,
+            Savepoint,
+            Savepoint,
+            RollbackTo(depth),
+            RollbackTo(depth),
+            Release(depth),
+            Commit,
+            Commit,
+            Commit,
+            Commit,
+            Commit,
+            CommitAndChain,
+            Rollback,
+            RollbackAndChain,
+            Fail,
+            Begin,
+        ];
+        *all.choose(random).unwrap_or(&Select)
+    };
+    let mut steps = VecDeque::new();
+    match (status, random.gen_range(0..10)) {
+        (Status::Idle, 0..=2) => return VecDeque::from(vec![hot(random)]),
+        (Status::Idle, 3..=4) => {
+            // A pipeline without a block, with foreign parts.
+            for _ in 0..random.gen_range(1..4) {
+                let call = *[
+                    Select,
+                    CallCommit { fails: true },
+                    CallCommit { fails: false },
+                    CallRollback,
+                    Fail,
+                    Commit,
+                ]
+                .choose(random)
+                .unwrap_or(&Select);
+                steps.push_back(Step::Statement(call));
+                steps.push_back(hot(random));
+            }
+            steps.push_back(Step::Statement(Select));
+        }
+        (Status::Idle, _) => steps.push_back(Step::Statement(Begin)),
+        (Status::InBlock, 0..=4) => steps.push_back(hot(random)),
+        (Status::InBlock, 5) => {
+            // Several at once.
+            for _ in 0..random.gen_range(1..5) {
+                steps.push_back(if random.gen() {
+                    hot(random)
+                } else {
+                    Step::Statement(statement(random))
+                });
+            }
+        }
+        (Status::InBlock, _) => steps.push_back(Step::Statement(statement(random))),
+        (Status::Failed, _) => steps.push_back(Step::Statement(statement(random))),
+    }
+    steps.push_back(Step::Sync);
+    steps
+}

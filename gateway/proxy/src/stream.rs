@@ -1,0 +1,191 @@
+//! A connection of either side: over TCP, a Unix socket, or TLS over TCP.
+
+use std::io::{self, IoSlice};
+use std::pin::Pin;
+use std::task::{Context, Poll};
+
+use tokio::io::{split, AsyncRead, AsyncWrite, ReadBuf, ReadHalf, WriteHalf};
+use tokio::net::{tcp, unix, TcpStream, UnixStream};
+use tokio_rustls::TlsStream;
+
+/// A connection. What is written to it has to be flushed: TLS keeps what the socket did not take at once.
+#[derive(Debug)]
+pub enum Stream {
+    /// TCP, not encrypted.
+    Tcp(TcpStream),
+    /// A Unix socket, which is never encrypted, as in PostgreSQL.
+    Unix(UnixStream),
+    /// TLS over TCP, with the certificate of the side that accepted, in DER.
+    Tls(Box<TlsStream<TcpStream>>, Vec<u8>),
+}
+
+/// The half of a connection that is read.
+#[derive(Debug)]
+pub enum Reader {
+    /// Of TCP.
+    Tcp(tcp::OwnedReadHalf),
+    /// Of a Unix socket.
+    Unix(unix::OwnedReadHalf),
+    /// Of TLS.
+    Tls(ReadHalf<TlsStream<TcpStream>>),
+}
+
+/// The half of a connection that is written. It has to be flushed.
+#[derive(Debug)]
+pub enum Writer {
+    /// Of TCP.
+    Tcp(tcp::OwnedWriteHalf),
+    /// Of a Unix socket.
+    Unix(unix::OwnedWriteHalf),
+    /// Of TLS.
+    Tls(WriteHalf<TlsStream<TcpStream>>),
+}
+
+/// A connection that no runtime has, on its way from one thread to another.
+#[derive(Debug)]
+pub enum Detached {
+    /// TCP.
+    Tcp(std::net::TcpStream),
+    /// A Unix socket.
+    Unix(std::os::unix::net::UnixStream),
+}
+
+impl Detached {
+    /// Gives it to the runtime of this thread.
+    ///
+    /// # Errors
+    ///
+    /// Fails if the system refuses to watch it.
+    pub fn attach(self) -> io::Result<Stream> {
+        Ok(match self {
+            Detached::Tcp(socket) => Stream::Tcp(TcpStream::from_std(socket)?),
+            Detached::Unix(socket) => Stream::Unix(UnixStream::from_std(socket)?),
+        })
+    }
+}
+
+impl Stream {
+    /// Takes it from the runtime that has it.
+    ///
+    /// # Errors
+    ///
+    /// Fails if the system refuses, or if it is encrypted already.
+    pub fn detach(self) -> io::Result<Detached> {
+        Ok(match self {
+            Stream::Tcp(socket) => Detached::Tcp(socket.into_std()?),
+            Stream::Unix(socket) => Detached::Unix(socket.into_std()?),
+            Stream::Tls(..) => return Err(io::ErrorKind::Unsupported.into()),
+        })
+    }
+
+    /// Returns a connection over TCP, whose messages are sent at once.
+    ///
+    /// # Errors
+    ///
+    /// Fails if the system refuses the option.
+    pub fn tcp(socket: TcpStream) -> io::Result<Stream> {
+        socket.set_nodelay(true)?;
+        Ok(Stream::Tcp(socket))
+    }
+
+    /// Returns the certificate of the side that accepted, in DER. None: the connection is not encrypted.
+    ///
+    /// A client of SCRAM-SHA-256-PLUS proves that it sees this certificate (`tls-server-end-point` of RFC 5929).
+    pub fn certificate(&self) -> Option<&[u8]> {
+        match self {
+            Stream::Tls(_, certificate) => Some(certificate),
+            Stream::Tcp(_) | Stream::Unix(_) => None,
+        }
+    }
+
+    /// Returns the connection's two halves, which different tasks may use.
+    pub fn split(self) -> (Reader, Writer) {
+        match self {
+            Stream::Tcp(socket) => {
+                let (reader, writer) = socket.into_split();
+                (Reader::Tcp(reader), Writer::Tcp(writer))
+            }
+            Stream::Unix(socket) => {
+                let (reader, writer) = socket.into_split();
+                (Reader::Unix(reader), Writer::Unix(writer))
+            }
+            Stream::Tls(stream, _) => {
+                let (reader, writer) = split(*stream);
+                (Reader::Tls(reader), Writer::Tls(writer))
+            }
+        }
+    }
+}
+
+/// Calls a method of what the variant holds.
+macro_rules! of_each {
+    ($it:ident.$method:ident($($argument:expr),*)) => {
+        match $it.get_mut() {
+            Self::Tcp(it) => Pin::new(it).$method($($argument),*),
+            Self::Unix(it) => Pin::new(it).$method($($argument),*),
+            Self::Tls(it, ..) => Pin::new(it).$method($($argument),*),
+        }
+    };
+}
+
+/// Implements reading for an enum whose variants can be read.
+macro_rules! can_be_read {
+    ($name:ident) => {
+        impl AsyncRead for $name {
+            fn poll_read(
+                self: Pin<&mut Self>,
+                context: &mut Context<'_>,
+                buffer: &mut ReadBuf<'_>,
+            ) -> Poll<io::Result<()>> {
+                of_each!(self.poll_read(context, buffer))
+            }
+        }
+    };
+}
+
+/// Implements writing for an enum whose variants can be written.
+macro_rules! can_be_written {
+    ($name:ident) => {
+        impl AsyncWrite for $name {
+            fn poll_write(
+                self: Pin<&mut Self>,
+                context: &mut Context<'_>,
+                bytes: &[u8],
+            ) -> Poll<io::Result<usize>> {
+                of_each!(self.poll_write(context, bytes))
+            }
+
+            fn poll_flush(self: Pin<&mut Self>, context: &mut Context<'_>) -> Poll<io::Result<()>> {
+                of_each!(self.poll_flush(context))
+            }
+
+            fn poll_shutdown(
+                self: Pin<&mut Self>,
+                context: &mut Context<'_>,
+            ) -> Poll<io::Result<()>> {
+                of_each!(self.poll_shutdown(context))
+            }
+
+            fn poll_write_vectored(
+                self: Pin<&mut Self>,
+                context: &mut Context<'_>,
+                parts: &[IoSlice<'_>],
+            ) -> Poll<io::Result<usize>> {
+                of_each!(self.poll_write_vectored(context, parts))
+            }
+
+            fn is_write_vectored(&self) -> bool {
+                match self {
+                    Self::Tcp(it) => it.is_write_vectored(),
+                    Self::Unix(it) => it.is_write_vectored(),
+                    Self::Tls(it, ..) => it.is_write_vectored(),
+                }
+            }
+        }
+    };
+}
+
+can_be_read!(Stream);
+can_be_read!(Reader);
+can_be_written!(Stream);
+can_be_written!(Writer);

@@ -1,0 +1,233 @@
+//! The PostgreSQL behind the proxy.
+
+use std::io;
+use std::os::unix::ffi::OsStringExt;
+use std::path::PathBuf;
+use std::sync::atomic::{AtomicBool, Ordering};
+use std::sync::Arc;
+use std::time::Duration;
+
+use tokio::net::{TcpStream, UnixStream};
+use tokio::time::timeout;
+use tokio_postgres::config::{Host, SslMode, TargetSessionAttrs};
+use tokio_postgres::tls::NoTlsStream;
+use tokio_postgres::{Client, Config, Connection, NoTls};
+
+use crate::conninfo::Conninfo;
+use crate::stream::Stream;
+use crate::tls::{BadFile, Connector};
+
+/// How long a host may take to accept a connection, if the connection string has no `connect_timeout`.
+const PATIENCE: Duration = Duration::from_secs(5);
+
+/// Where one server listens.
+#[derive(Clone, Debug, PartialEq, Eq)]
+pub enum Address {
+    /// A host and a port.
+    Tcp(String, u16),
+    /// The path of a socket.
+    Unix(PathBuf),
+}
+
+/// The servers that a connection string of libpq names, in its order.
+#[derive(Clone, Debug)]
+pub struct Target {
+    addresses: Vec<Address>,
+    connector: Connector,
+    config: Config,
+    /// Whether the proxy's role was seen to be no superuser.
+    is_ordinary: Arc<AtomicBool>,
+}
+
+/// Why a connection string names no servers.
+#[derive(Debug, thiserror::Error)]
+pub enum BadTarget {
+    /// It names no host, or not as many ports as hosts.
+    #[error(
+        "the connection string of --postgres needs host=, and one port or as many ports as hosts"
+    )]
+    Hosts,
+    /// A file of certificates cannot be used.
+    #[error("the root certificates of --postgres cannot be used: {0}")]
+    Roots(#[from] BadFile),
+}
+
+/// Why the proxy has no connection of its own.
+#[derive(Debug, thiserror::Error)]
+pub enum LoginError {
+    /// No server accepts connections. It has the error of the last one.
+    #[error("PostgreSQL cannot be reached: {0}")]
+    Unreachable(io::Error),
+    /// PostgreSQL refused it.
+    #[error("{0}")]
+    Postgres(#[from] tokio_postgres::Error),
+    /// The servers that answer are standbys, and the string has `target_session_attrs=read-write`.
+    #[error("no server takes writes")]
+    ReadOnly,
+}
+
+/// A connection of the proxy's own. The second half has to be polled, for instance by a task of its own.
+pub type Own = (Client, Connection<Stream, NoTlsStream>);
+
+impl Target {
+    /// Returns the servers of a connection string.
+    ///
+    /// # Errors
+    ///
+    /// See [`BadTarget`].
+    pub fn of(conninfo: &Conninfo) -> Result<Target, BadTarget> {
+        let mut config = conninfo.config.clone();
+        let (hosts, ports) = (config.get_hosts(), config.get_ports());
+        if hosts.is_empty() || ports.len() > 1 && ports.len() != hosts.len() {
+            return Err(BadTarget::Hosts);
+        }
+        let address = |(place, host): (usize, &Host)| {
+            let port = ports.get(place).or_else(|| ports.first());
+            let port = port.copied().unwrap_or(5432);
+            match host {
+                Host::Tcp(name) => Address::Tcp(name.clone(), port),
+                Host::Unix(folder) => Address::Unix(folder.join(format!(".s.PGSQL.{port}"))),
+            }
+        };
+        let addresses = hosts.iter().enumerate().map(address).collect();
+        if let (None, Some(password)) = (config.get_password(), std::env::var_os("PGPASSWORD")) {
+            config.password(password.into_vec());
+        }
+        // The stream is encrypted before tokio-postgres has it.
+        config.ssl_mode(SslMode::Disable);
+        Ok(Target {
+            addresses,
+            connector: conninfo.connector()?,
+            config,
+            is_ordinary: Arc::default(),
+        })
+    }
+
+    /// Returns whether a client of this name has to prove who it is: the proxy's own role may read what signs its notes. If
+    /// the role is a superuser, so may everybody whom PostgreSQL lets in as one.
+    pub fn is_guarded(&self, user: Option<&str>) -> bool {
+        user.is_some() && user == self.config.get_user() && self.is_ordinary.load(Ordering::Relaxed)
+    }
+
+    /// Returns the connection string's other parameters.
+    pub fn config(&self) -> &Config {
+        &self.config
+    }
+
+    /// Returns the servers.
+    pub fn addresses(&self) -> &[Address] {
+        &self.addresses
+    }
+
+    /// Connects to the first server that accepts.
+    ///
+    /// # Errors
+    ///
+    /// Fails with the error of the last server if none does.
+    pub async fn connect(&self) -> io::Result<Stream> {
+        let mut last = io::Error::from(io::ErrorKind::NotFound);
+        for address in &self.addresses {
+            match self.connect_to(address).await {
+                Ok(stream) => return Ok(stream),
+                Err(error) => last = error,
+            }
+        }
+        Err(last)
+    }
+
+    /// Connects to one server, encrypted as the connection string says.
+    ///
+    /// # Errors
+    ///
+    /// Fails if the server does not accept in time, or TLS cannot be had as it is asked for.
+    pub async fn connect_to(&self, address: &Address) -> io::Result<Stream> {
+        let patience = self.config.get_connect_timeout().copied();
+        let connecting = async {
+            match address {
+                Address::Tcp(name, port) => {
+                    let socket = TcpStream::connect((name.as_str(), *port)).await?;
+                    self.connector.encrypt(socket, name).await
+                }
+                Address::Unix(path) => Ok(Stream::Unix(UnixStream::connect(path).await?)),
+            }
+        };
+        match timeout(patience.unwrap_or(PATIENCE), connecting).await {
+            Ok(connected) => connected,
+            Err(_) => Err(io::ErrorKind::TimedOut.into()),
+        }
+    }
+
+    /// Opens a connection of the proxy's own at the first server that lets it in and, with
+    /// `target_session_attrs=read-write`, takes writes. `name` and `options` are its `application_name` and `options`.
+    ///
+    /// # Errors
+    ///
+    /// Fails with the error of the last server if none does.
+    pub async fn login(&self, name: &str, options: &str) -> Result<(Own, &Address), LoginError> {
+        let mut last = LoginError::Unreachable(io::ErrorKind::NotFound.into());
+        for address in &self.addresses {
+            match self.login_at(address, name, options).await {
+                Ok(own) => return Ok((own, address)),
+                Err(error) => last = error,
+            }
+        }
+        Err(last)
+    }
+
+    async fn login_at(
+        &self,
+        address: &Address,
+        name: &str,
+        options: &str,
+    ) -> Result<Own, LoginError> {
+        let stream = self.connect_to(address).await;
+        let stream = stream.map_err(LoginError::Unreachable)?;
+        let mut config = self.config.clone();
+        config.application_name(name).options(options);
+        let (client, mut connection) = config.connect_raw(stream, NoTls).await?;
+        let is_ordinary = connection.parameter("is_superuser") == Some("off");
+        self.is_ordinary.store(is_ordinary, Ordering::Relaxed);
+        if self.config.get_target_session_attrs() == TargetSessionAttrs::ReadWrite {
+            let query = "SELECT pg_catalog.current_setting('transaction_read_only')";
+            let asked = client.query_one(query, &[]);
+            let answer = tokio::select! {
+                row = asked => row?,
+                ended = &mut connection => return Err(match ended {
+                    Ok(()) => LoginError::Unreachable(io::ErrorKind::ConnectionReset.into()),
+                    Err(error) => error.into(),
+                }),
+            };
+            if answer.get::<_, &str>(0) == "on" {
+                return Err(LoginError::ReadOnly);
+            }
+        }
+        Ok((client, connection))
+    }
+}
+
+#[cfg(test)]
+mod tests {
+    use super::*;
+
+    fn of(text: &str) -> Option<Vec<Address>> {
+        Some(Target::of(&text.parse().unwrap()).ok()?.addresses)
+    }
+
+    #[test]
+    fn hosts_and_ports_are_those_of_libpq() {
+        let tcp = |name: &str, port| Address::Tcp(name.to_string(), port);
+        assert_eq!(
+            of("host=a,b dbname=shop"),
+            Some(vec![tcp("a", 5432), tcp("b", 5432)])
+        );
+        assert_eq!(
+            of("host=a,b port=1,2"),
+            Some(vec![tcp("a", 1), tcp("b", 2)])
+        );
+        assert_eq!(of("host=a,b port=7"), Some(vec![tcp("a", 7), tcp("b", 7)]));
+        let socket = Address::Unix(PathBuf::from("/run/pg/.s.PGSQL.5433"));
+        assert_eq!(of("host=/run/pg port=5433"), Some(vec![socket]));
+        assert_eq!(of("dbname=shop"), None);
+        assert_eq!(of("host=a,b,c port=1,2"), None);
+    }
+}

@@ -1,0 +1,964 @@
+//! UPDATEs that add to or subtract from reservable columns of a row, by its key.
+//!
+//! What is not understood here passes on to PostgreSQL, whose triggers refuse it if it touches a reservable column. So
+//! each function returns nothing in doubt.
+
+use std::sync::Arc;
+
+use escrowd_pg::decimal::Decimal;
+use escrowd_pg::statement as gateway;
+use escrowd_pg::statement::parser::{next_statement, parse_update};
+use escrowd_pg::statement::query::{
+    ColumnName, Expression, ExpressionKind, Name, QualifiedName, Span, Target, Update,
+};
+
+use escrowd_pg::statement::served::Served;
+
+use crate::catalog::Table;
+use crate::parameters::{change_text, key_text, number, Parameters};
+
+/// A row of a declared table.
+#[derive(Clone, Debug, PartialEq, Eq, PartialOrd, Ord, Hash)]
+pub struct Key {
+    /// The table's number.
+    pub table: i32,
+    /// The key as text, in one form for each value.
+    pub text: Arc<str>,
+}
+
+/// What each reservable column changes by, as text. None: it does not change.
+pub type Change = Arc<[Option<String>]>;
+
+/// A text that the proxy looks at.
+#[derive(Clone, Debug, PartialEq, Eq)]
+pub enum Statement {
+    /// An UPDATE that may be a reservation.
+    Update(Box<Form>),
+    /// A DELETE of a row by its key.
+    Delete(Deletion),
+    /// DEALLOCATE of a statement.
+    Deallocate(String),
+    /// COMMIT, and nothing else.
+    Commit,
+}
+
+/// A DELETE of rows by their key. PostgreSQL serves it, once the row is no longer held.
+#[derive(Clone, Debug, PartialEq, Eq)]
+pub struct Deletion {
+    table: String,
+    column: String,
+    key: Expression,
+}
+
+impl Deletion {
+    fn read(text: &str) -> Option<Deletion> {
+        let start = text.trim_start();
+        if !start.get(..6)?.eq_ignore_ascii_case("DELETE") {
+            return None;
+        }
+        let mut at = 0;
+        let parsed = next_statement(text, &mut at).ok()??;
+        let delete = match &*parsed.statement {
+            gateway::Statement::Served(Served::Delete(delete)) => delete,
+            _ => return None,
+        };
+        Some(Deletion {
+            table: delete.table.name.text.clone(),
+            column: delete.keys.column.text.clone(),
+            key: delete.keys.values.first()?.clone(),
+        })
+    }
+
+    /// Returns the table's name.
+    pub fn table_name(&self) -> &str {
+        &self.table
+    }
+
+    /// Returns the row of a table that it deletes. None: it is not told by the key, or not understood.
+    pub fn key(&self, table: &Table, parameters: Parameters<'_>) -> Option<Key> {
+        if self.column != table.key || parameters.is_float(&self.key) {
+            return None;
+        }
+        let key = parameters.evaluate(&self.key, table.key_type.parameter_oid())?;
+        Some(Key {
+            table: table.number,
+            text: key_text(key, table.key_type)?.into(),
+        })
+    }
+}
+
+impl Statement {
+    /// Reads a text. None: it passes on as it is.
+    pub fn read(text: &str) -> Option<Statement> {
+        if is_commit(text) {
+            return Some(Statement::Commit);
+        }
+        let update = Form::read(text).map(|form| Statement::Update(Box::new(form)));
+        let delete = || Deletion::read(text).map(Statement::Delete);
+        let deallocate = || deallocated(text).map(Statement::Deallocate);
+        update.or_else(delete).or_else(deallocate)
+    }
+}
+
+/// Returns the name in a plain DEALLOCATE, as drivers write it. None: it is another text.
+fn deallocated(text: &str) -> Option<String> {
+    let text = text.trim_matches(|it: char| it.is_ascii_whitespace() || it == ';');
+    if !text.get(..11)?.eq_ignore_ascii_case("DEALLOCATE ") {
+        return None;
+    }
+    let mut at = 0;
+    match &*next_statement(text, &mut at).ok()??.statement {
+        gateway::Statement::Deallocate(Some(name)) => Some(name.text.clone()),
+        _ => None,
+    }
+}
+
+/// Returns whether a text is a plain COMMIT, as drivers write it.
+fn is_commit(text: &str) -> bool {
+    let text = text.trim_matches(|it: char| it.is_ascii_whitespace() || it == ';');
+    [
+        "COMMIT",
+        "END",
+        "COMMIT WORK",
+        "COMMIT TRANSACTION",
+        "END TRANSACTION",
+    ]
+    .iter()
+    .any(|known| text.eq_ignore_ascii_case(known))
+}
+
+/// What a statement's text asks for: an UPDATE of rows by their key, whose values may be parameters.
+#[derive(Clone, Debug, PartialEq, Eq)]
+pub struct Form {
+    text: String,
+    table: QualifiedName,
+    alias: Option<Name>,
+    assignments: Vec<Assignment>,
+    keys: Keys,
+    /// Where the whole condition is written.
+    condition: Span,
+    at_least: Option<AtLeast>,
+    returning: Option<Returning>,
+}
+
+/// `column = value`.
+#[derive(Clone, Debug, PartialEq, Eq)]
+struct Assignment {
+    column: String,
+    /// Where it is written.
+    span: Span,
+    /// What it adds to the column or subtracts, if that is its form.
+    change: Option<ColumnChange>,
+    /// The columns that the value reads. None: it is not understood.
+    reads: Option<Vec<Vec<String>>>,
+}
+
+/// `column - value`.
+#[derive(Clone, Debug, PartialEq, Eq)]
+struct ColumnChange {
+    /// The column on the right, with what is in front of its name.
+    own: Vec<String>,
+    is_subtracted: bool,
+    value: Expression,
+}
+
+/// `column = value`, `column IN (value, ..)`.
+#[derive(Clone, Debug, PartialEq, Eq)]
+struct Keys {
+    column: Vec<String>,
+    values: Vec<Expression>,
+    span: Span,
+}
+
+/// `column >= value`, `column > value`.
+#[derive(Clone, Debug, PartialEq, Eq)]
+struct AtLeast {
+    column: Vec<String>,
+    value: Expression,
+    is_above: bool,
+}
+
+/// What RETURNING shows.
+#[derive(Clone, Debug, PartialEq, Eq)]
+struct Returning {
+    span: Span,
+    reads: Vec<Vec<String>>,
+}
+
+/// What a form means for a table.
+#[derive(Clone, Debug)]
+pub struct Plan<'a> {
+    form: &'a Form,
+    table: &'a Table,
+    /// The place of each reservable column, and what it changes by.
+    changes: Vec<(usize, &'a ColumnChange)>,
+    /// What is left to PostgreSQL.
+    plain: Vec<&'a Assignment>,
+}
+
+/// What a statement asks for.
+#[derive(Clone, Debug, PartialEq, Eq)]
+pub struct Asked {
+    /// The rows.
+    pub keys: Vec<Key>,
+    /// What each of them changes by.
+    pub change: Change,
+    /// The CHECK that says the same as the statement's condition: where it refuses, the condition does not hold.
+    pub condition: Option<String>,
+}
+
+impl Form {
+    /// Reads a text. None: it is no such UPDATE.
+    pub fn read(text: &str) -> Option<Form> {
+        if !may_be_update(text) {
+            return None;
+        }
+        let update = parse_update(text).ok()??;
+        Form::of(text, update)
+    }
+
+    fn of(text: &str, update: Update) -> Option<Form> {
+        let condition = update.condition?;
+        let span = condition.span;
+        let (keys, at_least) = condition_of(condition)?;
+        let returning = match update.returning.is_empty() {
+            true => None,
+            false => Some(returning(update.returning)?),
+        };
+        Some(Form {
+            text: text.to_owned(),
+            table: update.table,
+            alias: update.alias,
+            assignments: update.changes.into_iter().map(assignment).collect(),
+            keys,
+            condition: span,
+            at_least,
+            returning,
+        })
+    }
+
+    /// Returns the table's name without its schema.
+    pub fn table_name(&self) -> &str {
+        &self.table.name.text
+    }
+
+    /// Returns the table's name with its schema, if it is written, as `to_regclass` reads it.
+    pub fn relation(&self) -> String {
+        let quoted = |name: &Name| format!("\"{}\"", name.text.replace('"', "\"\""));
+        match &self.table.schema {
+            Some(schema) => format!("{}.{}", quoted(schema), quoted(&self.table.name)),
+            None => quoted(&self.table.name),
+        }
+    }
+
+    /// Returns what it means for a table. None: it changes no reservable column, or not by the key alone, or something of
+    /// it reads what it may not.
+    pub fn plan<'a>(&'a self, table: &'a Table) -> Option<Plan<'a>> {
+        if !self.is_own(table, &self.keys.column, &table.key) {
+            return None;
+        }
+        let mut plan = Plan {
+            form: self,
+            table,
+            changes: Vec::new(),
+            plain: Vec::new(),
+        };
+        for assignment in &self.assignments {
+            match (table.column(&assignment.column), &assignment.change) {
+                (Some(at), Some(change))
+                    if self.is_own(table, &change.own, &assignment.column)
+                        && plan.changes.iter().all(|(other, _)| *other != at) =>
+                {
+                    plan.changes.push((at, change));
+                }
+                (None, _) if assignment.column != table.key => {
+                    self.check_reads(table, assignment.reads.as_ref()?)?;
+                    plan.plain.push(assignment);
+                }
+                _ => return None,
+            }
+        }
+        if let Some(returning) = &self.returning {
+            self.check_reads(table, &returning.reads)?;
+        }
+        (!plan.changes.is_empty()).then_some(plan)
+    }
+
+    /// Checks that columns are none whose value the row shows late.
+    fn check_reads(&self, table: &Table, reads: &[Vec<String>]) -> Option<()> {
+        let is_late = |names: &Vec<String>| match names.last() {
+            Some(name) => {
+                table.column(name).is_some()
+                    || *name == table.name
+                    || self.alias.as_ref().map_or(false, |it| it.text == *name)
+            }
+            None => true,
+        };
+        (!reads.iter().any(is_late)).then_some(())
+    }
+
+    /// Returns whether names are those of a column of the table.
+    fn is_own(&self, table: &Table, names: &[String], column: &str) -> bool {
+        let named: Vec<&str> = names.iter().map(String::as_str).collect();
+        let (qualifier, name) = match named.split_last() {
+            Some((name, qualifier)) => (qualifier, *name),
+            None => return false,
+        };
+        let is_table = match (qualifier, &self.alias) {
+            ([], _) => true,
+            ([name], Some(alias)) => *name == alias.text,
+            ([name], None) => *name == table.name,
+            ([schema, name], None) => *schema == table.schema && *name == table.name,
+            _ => false,
+        };
+        is_table && name == column
+    }
+
+    fn written(&self, span: Span) -> &str {
+        self.text.get(span.start..span.end).unwrap_or("")
+    }
+}
+
+impl Plan<'_> {
+    /// Returns the rows and the change that the statement asks for. None: a value is not understood, or none that the row
+    /// could have.
+    pub fn bind(&self, parameters: Parameters<'_>) -> Option<Asked> {
+        let (form, table) = (self.form, self.table);
+        let mut keys: Vec<Key> = Vec::new();
+        for key in &form.keys.values {
+            if parameters.is_float(key) {
+                return None; // PostgreSQL compares floats
+            }
+            let key = parameters.evaluate(key, table.key_type.parameter_oid())?;
+            let key = Key {
+                table: table.number,
+                text: key_text(key, table.key_type)?.into(),
+            };
+            if !keys.contains(&key) {
+                keys.push(key);
+            }
+        }
+        // In one order, as PostgreSQL's locks are best taken.
+        keys.sort();
+        let mut changes = vec![None; table.columns.len()];
+        for (at, change) in &self.changes {
+            let column = &table.columns[*at];
+            let value = parameters.evaluate(&change.value, column.oid())?;
+            let value = number(value, column.oid())?;
+            let value = if change.is_subtracted {
+                value.negated()
+            } else {
+                value
+            };
+            changes[*at] = Some(change_text(value, column.digits.1)?);
+        }
+        let condition = match &form.at_least {
+            Some(at_least) => Some(self.same_check(at_least, &changes, parameters)?),
+            None => None,
+        };
+        Some(Asked {
+            keys,
+            change: changes.into(),
+            condition,
+        })
+    }
+
+    /// Returns the CHECK that refuses the change just where a condition does not hold: `c - 3 >= 0` says `c >= 3`.
+    fn same_check(
+        &self,
+        at_least: &AtLeast,
+        changes: &[Option<String>],
+        parameters: Parameters<'_>,
+    ) -> Option<String> {
+        let table = self.table;
+        let at = table.column(at_least.column.last()?)?;
+        let column = &table.columns[at];
+        if !self.form.is_own(table, &at_least.column, &column.name) {
+            return None;
+        }
+        let unit = Decimal::parse(&match column.digits.1 {
+            0 => "1".to_owned(),
+            scale => format!("0.{}1", "0".repeat(scale as usize - 1)),
+        })?;
+        let above = |value: Decimal, is_above| match is_above {
+            true => value.plus(unit),
+            false => Some(value),
+        };
+        let least = parameters.evaluate(&at_least.value, column.oid())?;
+        let least = above(number(least, column.oid())?, at_least.is_above)?;
+        let change = Decimal::parse(changes[at].as_deref()?)?;
+        let says_the_same = |check: &&crate::catalog::Check| {
+            let mut coefficients = check.coefficients.iter().enumerate();
+            let is_of_it =
+                coefficients.all(|(place, it)| it == if place == at { "1" } else { "0" });
+            let limit = match check.comparison.as_str() {
+                ">=" => above_limit(&check.limit, false, &above),
+                ">" => above_limit(&check.limit, true, &above),
+                _ => None,
+            };
+            let same = limit.and_then(|limit| limit.subtract(change));
+            is_of_it && same.map_or(false, |same| same.compare(&least).is_eq())
+        };
+        let mut found = table.checks.iter().filter(says_the_same);
+        Some(found.next()?.name.clone())
+    }
+
+    /// Returns the statement that PostgreSQL has to serve beside the reservation, with the same parameters: the UPDATE of
+    /// the plain columns, or a SELECT of what RETURNING shows. With `has_rows` false it is about no row.
+    pub fn rest(&self, has_rows: bool) -> Option<String> {
+        let form = self.form;
+        let key = match has_rows {
+            true => form.written(form.keys.span).to_owned(),
+            false => format!("{} AND false", form.written(form.keys.span)),
+        };
+        if !self.plain.is_empty() {
+            let first = form.assignments.first()?.span.start;
+            let last = form.assignments.last()?.span.end;
+            let plain = self.plain.iter().map(|it| form.written(it.span));
+            let plain: Vec<&str> = plain.collect();
+            return Some(format!(
+                "{}{}{}{}{}",
+                &form.text[..first],
+                plain.join(", "),
+                &form.text[last..form.condition.start],
+                key,
+                &form.text[form.condition.end..]
+            ));
+        }
+        let returning = form.returning.as_ref()?;
+        let name = &form.table;
+        let start = name.schema.as_ref().unwrap_or(&name.name).span.start;
+        let end = form.alias.as_ref().unwrap_or(&name.name).span.end;
+        let shown = form.written(returning.span);
+        Some(format!(
+            "SELECT {} FROM {} WHERE {}",
+            shown,
+            &form.text[start..end],
+            key
+        ))
+    }
+
+    /// Returns the types of the parameters for [`Plan::rest`]: those that are known, and those of the parameters that it
+    /// may not have any more.
+    pub fn rest_types(&self, parameters: Parameters<'_>) -> Vec<u32> {
+        let mut types = vec![0; parameters.values.len()];
+        let count = types.len().min(parameters.types.len());
+        types[..count].copy_from_slice(&parameters.types[..count]);
+        let mut know = |expression: &Expression, oid: u32| {
+            let mut numbers = Vec::new();
+            parameters_of(expression, &mut numbers);
+            for number in numbers {
+                if let Some(place) = types.get_mut(usize::from(number) - 1) {
+                    if *place == 0 {
+                        *place = oid;
+                    }
+                }
+            }
+        };
+        for (at, change) in &self.changes {
+            know(&change.value, self.table.columns[*at].oid());
+        }
+        if let Some(at_least) = &self.form.at_least {
+            let at = at_least.column.last().and_then(|it| self.table.column(it));
+            know(
+                &at_least.value,
+                at.map_or(0, |at| self.table.columns[at].oid()),
+            );
+        }
+        types
+    }
+}
+
+fn above_limit(
+    limit: &str,
+    is_above: bool,
+    above: &impl Fn(Decimal, bool) -> Option<Decimal>,
+) -> Option<Decimal> {
+    above(Decimal::parse(limit)?, is_above)
+}
+
+/// Returns whether a text may begin with UPDATE: comments and blanks are left to the parser.
+fn may_be_update(text: &str) -> bool {
+    let text = text.trim_start_matches(|it: char| it.is_ascii_whitespace());
+    let is_comment = text.starts_with("--") || text.starts_with("/*");
+    is_comment || matches!(text.get(..6), Some(word) if word.eq_ignore_ascii_case("UPDATE"))
+}
+
+fn texts(column: &ColumnName) -> Vec<String> {
+    column
+        .names()
+        .iter()
+        .map(|name| name.text.clone())
+        .collect()
+}
+
+/// Adds the columns that an expression reads. None: it may read something else.
+fn reads(expression: &Expression, columns: &mut Vec<Vec<String>>) -> Option<()> {
+    let mut all =
+        |expressions: &[&Expression]| expressions.iter().try_for_each(|it| reads(it, columns));
+    match &expression.kind {
+        ExpressionKind::Null
+        | ExpressionKind::Boolean(_)
+        | ExpressionKind::Number(_)
+        | ExpressionKind::Text(_)
+        | ExpressionKind::Parameter(_) => Some(()),
+        ExpressionKind::Column(column) => {
+            columns.push(texts(column));
+            Some(())
+        }
+        ExpressionKind::Unary(_, operand)
+        | ExpressionKind::Cast(operand, _)
+        | ExpressionKind::Is(operand, _, _) => all(&[operand]),
+        ExpressionKind::Binary(left, _, right) => all(&[left, right]),
+        ExpressionKind::Between(operand, low, high, _) => all(&[operand, low, high]),
+        ExpressionKind::Function(call)
+            if call.over.is_none()
+                && !call.is_star
+                && !call.is_distinct
+                && call.order.is_empty() =>
+        {
+            all(&call.arguments.iter().collect::<Vec<_>>())
+        }
+        ExpressionKind::Case {
+            operand,
+            branches,
+            otherwise,
+        } => {
+            let mut parts: Vec<&Expression> = operand.iter().map(|it| &**it).collect();
+            parts.extend(branches.iter().flat_map(|(when, then)| [when, then]));
+            parts.extend(otherwise.iter().map(|it| &**it));
+            all(&parts)
+        }
+        _ => None,
+    }
+}
+
+/// Adds the numbers of the parameters of a value.
+fn parameters_of(expression: &Expression, numbers: &mut Vec<u16>) {
+    match &expression.kind {
+        ExpressionKind::Parameter(number) => numbers.push(*number),
+        ExpressionKind::Unary(_, operand) => parameters_of(operand, numbers),
+        // A cast tells the type of its parameter.
+        _ => {}
+    }
+}
+
+/// Returns the column that an expression is the value of: `n`, or `COALESCE(n, 0)`, since no reservable column is NULL.
+fn own_column(expression: &Expression) -> Option<Vec<String>> {
+    match &expression.kind {
+        ExpressionKind::Column(column) => Some(texts(column)),
+        ExpressionKind::Function(call)
+            if call.name.schema.is_none()
+                && call.name.name.text == "coalesce"
+                && call.arguments.len() == 2
+                && matches!(call.arguments[1].kind, ExpressionKind::Number(_)) =>
+        {
+            match &call.arguments[0].kind {
+                ExpressionKind::Column(column) => Some(texts(column)),
+                _ => None,
+            }
+        }
+        _ => None,
+    }
+}
+
+fn assignment((column, value): (Name, Expression)) -> Assignment {
+    let span = Span {
+        start: column.span.start,
+        end: value.span.end,
+    };
+    let mut columns = Vec::new();
+    Assignment {
+        column: column.text,
+        span,
+        reads: reads(&value, &mut columns).map(|()| columns),
+        change: column_change(value),
+    }
+}
+
+/// Reads `column + value` and its like. None: it is another form.
+fn column_change(value: Expression) -> Option<ColumnChange> {
+    let (left, is_subtracted, right) = match value.kind {
+        ExpressionKind::Binary(left, operator, right) => match &*operator {
+            "+" => (*left, false, *right),
+            "-" => (*left, true, *right),
+            _ => return None,
+        },
+        _ => return None,
+    };
+    let (own, value) = match (own_column(&left), own_column(&right)) {
+        (Some(own), None) => (own, right),
+        (None, Some(own)) if !is_subtracted => (own, left),
+        _ => return None,
+    };
+    Some(ColumnChange {
+        own,
+        is_subtracted,
+        value,
+    })
+}
+
+/// Reads a condition: the key's, and perhaps one that a column has at least a value. None: it is another one.
+fn condition_of(condition: Expression) -> Option<(Keys, Option<AtLeast>)> {
+    match condition.kind {
+        ExpressionKind::Binary(left, operator, right) if operator == "AND" => {
+            match (at_least(&left), at_least(&right)) {
+                (None, Some(bound)) => Some((keys_of(*left)?, Some(bound))),
+                (Some(bound), None) => Some((keys_of(*right)?, Some(bound))),
+                _ => None,
+            }
+        }
+        _ => Some((keys_of(condition)?, None)),
+    }
+}
+
+fn keys_of(condition: Expression) -> Option<Keys> {
+    let span = condition.span;
+    let (column, values) = match condition.kind {
+        ExpressionKind::Binary(left, operator, right) if operator == "=" => {
+            match (left.kind, right.kind) {
+                (ExpressionKind::Column(names), kind) => {
+                    let span = right.span;
+                    (names, vec![Expression { kind, span }])
+                }
+                (kind, ExpressionKind::Column(names)) => {
+                    let span = left.span;
+                    (names, vec![Expression { kind, span }])
+                }
+                _ => return None,
+            }
+        }
+        ExpressionKind::In(left, values, false) => match left.kind {
+            ExpressionKind::Column(names) => (names, values),
+            _ => return None,
+        },
+        _ => return None,
+    };
+    Some(Keys {
+        column: texts(&column),
+        values,
+        span,
+    })
+}
+
+/// Reads `column >= value` and its like.
+fn at_least(condition: &Expression) -> Option<AtLeast> {
+    let (left, operator, right) = match &condition.kind {
+        ExpressionKind::Binary(left, operator, right) => (left, &**operator, right),
+        _ => return None,
+    };
+    let (column, value, is_above) = match (&left.kind, operator, &right.kind) {
+        (ExpressionKind::Column(names), ">=", _) => (names, right, false),
+        (ExpressionKind::Column(names), ">", _) => (names, right, true),
+        (_, "<=", ExpressionKind::Column(names)) => (names, left, false),
+        (_, "<", ExpressionKind::Column(names)) => (names, left, true),
+        _ => return None,
+    };
+    Some(AtLeast {
+        column: texts(column),
+        value: (**value).clone(),
+        is_above,
+    })
+}
+
+/// Reads what RETURNING shows. None: it shows all columns, or something that is not understood.
+fn returning(targets: Vec<Target>) -> Option<Returning> {
+    let mut columns = Vec::new();
+    let mut span: Option<Span> = None;
+    for target in targets {
+        let (expression, name) = match target {
+            Target::Expression(expression, name) => (expression, name),
+            Target::Star(..) => return None,
+        };
+        reads(&expression, &mut columns)?;
+        let end = name.map_or(expression.span.end, |name| name.span.end);
+        let start = span.map_or(expression.span.start, |span| span.start);
+        span = Some(Span { start, end });
+    }
+    Some(Returning {
+        span: span?,
+        reads: columns,
+    })
+}
+
+#[cfg(test)]
+mod tests {
+    use super::*;
+    use crate::catalog::{Column, KeyType};
+
+    fn table(key_type: KeyType) -> Table {
+        let column = |name: &str, type_name: &str, digits| Column {
+            name: name.to_owned(),
+            place: 2,
+            type_name: type_name.to_owned(),
+            digits,
+            range: None,
+        };
+        Table {
+            number: 7,
+            oid: 1,
+            schema: "public".to_owned(),
+            name: "stock".to_owned(),
+            key: "id".to_owned(),
+            key_type,
+            columns: vec![
+                column("pieces", "integer", (10, 0)),
+                column("price", "numeric(10,2)", (10, 2)),
+            ],
+            checks: vec![crate::catalog::Check {
+                name: "in_stock".to_owned(),
+                coefficients: vec!["1".to_owned(), "0".to_owned()],
+                comparison: ">=".to_owned(),
+                limit: "0".to_owned(),
+            }],
+            note_text: String::new(),
+            own_text: String::new(),
+            refusal_text: String::new(),
+            here_text: String::new(),
+            direct_text: String::new(),
+        }
+    }
+
+    const INTEGER: KeyType = KeyType::Integer(-2_147_483_648, 2_147_483_647);
+
+    /// Returns the key and the changes of a text: what reserves nothing is nothing.
+    fn read(text: &str, key: KeyType, parameters: Parameters<'_>) -> Option<String> {
+        let table = table(key);
+        let form = Form::read(text)?;
+        let plan = form.plan(&table).filter(|_| form.table_name() == "stock")?;
+        let Asked {
+            keys,
+            change,
+            condition,
+        } = plan.bind(parameters)?;
+        let changes: Vec<&str> = change
+            .iter()
+            .map(|it| it.as_deref().unwrap_or("_"))
+            .collect();
+        let keys: Vec<&str> = keys.iter().map(|it| &*it.text).collect();
+        let condition = condition.map_or_else(String::new, |it| format!(" unless {}", it));
+        let rest = plan
+            .rest(true)
+            .map_or_else(String::new, |it| format!("; {}", it));
+        Some(format!(
+            "{}: {}{}{}",
+            keys.join(","),
+            changes.join(" "),
+            condition,
+            rest
+        ))
+    }
+
+    #[test]
+    fn forms_that_drivers_write_are_understood() {
+        for (text, expected) in [
+            ("UPDATE stock SET pieces = pieces - 3 WHERE id = 5", "5: -3 _"),
+            ("update Stock set PIECES=pieces+3 where ID=5;", "5: 3 _"),
+            ("UPDATE \"stock\" SET \"pieces\" = (\"stock\".\"pieces\" - 3) WHERE \"stock\".\"id\" = 5", "5: -3 _"),
+            ("UPDATE ONLY public.stock AS s SET pieces = s.pieces - 3 WHERE s.id = 5", "5: -3 _"),
+            ("UPDATE public.stock SET pieces = public.stock.pieces - 3 WHERE 5 = stock.id", "5: -3 _"),
+            ("/* a */ UPDATE stock s SET pieces = 3 + s.pieces WHERE (s.id) = (5)", "5: 3 _"),
+            ("UPDATE stock SET pieces = COALESCE(pieces, 0) - 3, price = price + 0.50 WHERE id = '5'", "5: -3 0.5"),
+            ("UPDATE stock SET pieces = pieces - -3::smallint WHERE id = CAST('5' AS integer)", "5: 3 _"),
+            ("UPDATE stock SET pieces = pieces + 2.0 WHERE id = 5.0", "5: 2 _"),
+            ("UPDATE stock SET pieces = pieces - '3' WHERE id = -5 -- end", "-5: -3 _"),
+            ("UPDATE stock SET price = price - 1 WHERE id = 5", "5: _ -1"),
+            ("UPDATE stock SET pieces = pieces + 0 WHERE id = 5", "5: 0 _"),
+        ] {
+            let found = read(text, INTEGER, Parameters::default());
+            assert_eq!(found.as_deref(), Some(expected), "{}", text);
+        }
+    }
+
+    #[test]
+    fn what_is_not_understood_is_left_to_postgresql() {
+        for text in [
+            "UPDATE stock SET pieces = 3 WHERE id = 5",
+            "UPDATE stock SET pieces = pieces - 3",
+            "UPDATE stock SET pieces = pieces * 3 WHERE id = 5",
+            "UPDATE stock SET pieces = 3 - pieces WHERE id = 5",
+            "UPDATE stock SET pieces = price - 3 WHERE id = 5",
+            "UPDATE stock SET pieces = pieces - price WHERE id = 5",
+            "UPDATE stock SET pieces = pieces - pieces WHERE id = 5",
+            "UPDATE stock SET pieces = pieces - 2.5 WHERE id = 5",
+            "UPDATE stock SET price = price - 2.505 WHERE id = 5",
+            "UPDATE stock SET pieces = pieces - 3, pieces = pieces - 4 WHERE id = 5",
+            "UPDATE stock SET pieces = pieces - 3, title = pieces WHERE id = 5",
+            "UPDATE stock SET pieces = pieces - 3, title = (SELECT 'x') WHERE id = 5",
+            "UPDATE stock SET pieces = pieces - 3, id = 7 WHERE id = 5",
+            "UPDATE stock SET title = 'x', price = 3 WHERE id = 5",
+            "UPDATE stock SET title = 'x' WHERE id = 5",
+            "UPDATE stock SET pieces = pieces - 3 WHERE id = 5 AND pieces > 3",
+            "UPDATE stock SET pieces = pieces - 3 WHERE id = 5 AND pieces >= 2",
+            "UPDATE stock SET pieces = pieces - 3 WHERE id = 5 AND price >= 3",
+            "UPDATE stock SET pieces = pieces + 3 WHERE id = 5 AND pieces >= 3",
+            "UPDATE stock SET pieces = pieces - 3 WHERE id = 5 OR id = 6",
+            "UPDATE stock SET pieces = pieces - 3 WHERE id = 5 AND title = 'x'",
+            "UPDATE stock SET pieces = pieces - 3 WHERE id NOT IN (5)",
+            "UPDATE stock SET pieces = pieces - 3 WHERE id IN (5, NULL)",
+            "UPDATE stock SET pieces = pieces - 3 WHERE id IN (SELECT 5)",
+            "UPDATE stock SET pieces = pieces - 3 WHERE id = 5 RETURNING *",
+            "UPDATE stock SET pieces = pieces - 3 WHERE id = 5 RETURNING stock",
+            "UPDATE stock SET pieces = pieces - 3 WHERE id = 5 RETURNING id, pieces + 1",
+            "UPDATE stock SET pieces = pieces - 3 WHERE id > 5",
+            "UPDATE stock SET pieces = pieces - 3 WHERE title = 5",
+            "UPDATE stock SET pieces = pieces - 3 WHERE id = NULL",
+            "UPDATE stock SET pieces = pieces - NULL WHERE id = 5",
+            "UPDATE stock SET pieces = pieces - 3 WHERE id = 5.5",
+            "UPDATE stock SET pieces = pieces - 3 WHERE id = 3000000000",
+            "UPDATE stock SET pieces = pieces - 3 WHERE id = '5x'",
+            "UPDATE stock SET pieces = pieces - 3 WHERE id = 5 RETURNING pieces",
+            "UPDATE stock SET pieces = pieces - 3 FROM orders WHERE id = 5",
+            "UPDATE stock AS s SET pieces = stock.pieces - 3 WHERE id = 5",
+            "UPDATE stock SET pieces = other.stock.pieces - 3 WHERE id = 5",
+            "UPDATE stock SET pieces = pieces - random() WHERE id = 5",
+            "UPDATE stock SET pieces = pieces - (SELECT 3) WHERE id = 5",
+            "UPDATE stock SET pieces = pieces - $1 WHERE id = 5",
+            "UPDATE stock SET pieces = pieces - 3 WHERE id = 5; SELECT 1",
+            "WITH a AS (SELECT 1) UPDATE stock SET pieces = pieces - 3 WHERE id = 5",
+            "EXPLAIN UPDATE stock SET pieces = pieces - 3 WHERE id = 5",
+            "UPDATE stock SET pieces = pieces - 1000000000000000 WHERE id = 5",
+            "UPDATE stock SET (pieces) = (pieces - 3) WHERE id = 5",
+            "UPDATE stock SET pieces = pieces - 3 WHERE CURRENT OF c",
+            "UPDATE stock SET pieces = pieces - true WHERE id = 5",
+            "UPDATE stock SET pieces = pieces - '3'::text WHERE id = 5",
+        ] {
+            assert_eq!(read(text, INTEGER, Parameters::default()), None, "{}", text);
+        }
+    }
+
+    #[test]
+    fn what_is_beside_a_reservation_is_left_to_postgresql() {
+        for (text, expected) in [
+            ("UPDATE stock SET pieces = pieces - 3, title = 'x' WHERE id = 5", "5: -3 _; UPDATE stock SET title = 'x' WHERE id = 5"),
+            (
+                "UPDATE stock AS s SET seen = now(), pieces = s.pieces - 3, title = lower(s.title) WHERE (s.id = 5) RETURNING s.id AS n, title;",
+                "5: -3 _; UPDATE stock AS s SET seen = now(), title = lower(s.title) WHERE (s.id = 5) RETURNING s.id AS n, title;",
+            ),
+            ("UPDATE public.stock s SET pieces = pieces - 3 WHERE id IN (7, 5, 7) RETURNING id, title || 'x' AS t", "5,7: -3 _; SELECT id, title || 'x' AS t FROM public.stock s WHERE id IN (7, 5, 7)"),
+            ("UPDATE stock SET pieces = pieces - 3 WHERE id = 5 AND pieces >= 3", "5: -3 _ unless in_stock"),
+            ("UPDATE stock SET pieces = pieces - 3 WHERE 2 < stock.pieces AND id = 5", "5: -3 _ unless in_stock"),
+            ("UPDATE stock SET pieces = pieces - 3, title = 'x' WHERE id = 5 AND pieces >= 3 RETURNING id", "5: -3 _ unless in_stock; UPDATE stock SET title = 'x' WHERE id = 5 RETURNING id"),
+        ] {
+            let found = read(text, INTEGER, Parameters::default());
+            assert_eq!(found.as_deref(), Some(expected), "{}", text);
+        }
+    }
+
+    #[test]
+    fn the_rest_knows_the_types_of_parameters_that_it_lacks() {
+        let table = table(INTEGER);
+        let text =
+            "UPDATE stock SET pieces = pieces - $1, title = $2, price = price + -$3 WHERE id = $4";
+        let form = Form::read(text).unwrap();
+        let plan = form.plan(&table).unwrap();
+        let values = vec![Some(b"1".to_vec()); 4];
+        let parameters = Parameters {
+            types: &[0, 25],
+            formats: &[],
+            values: &values,
+        };
+        assert_eq!(plan.rest_types(parameters), [23, 25, 1700, 0]);
+        assert_eq!(
+            plan.rest(true).unwrap(),
+            "UPDATE stock SET title = $2 WHERE id = $4"
+        );
+    }
+
+    #[test]
+    fn a_key_has_one_text() {
+        let key = |value: &str, key| {
+            let text = format!("UPDATE stock SET pieces = pieces - 1 WHERE id = {}", value);
+            let found = read(&text, key, Parameters::default())?;
+            Some(found.strip_suffix(": -1 _")?.to_owned())
+        };
+        let numeric = KeyType::Numeric(Some((8, 2)));
+        for (value, kind, expected) in [
+            ("1.50", numeric, Some("1.5")),
+            ("1.500", numeric, Some("1.5")),
+            ("'1.5'", numeric, Some("1.5")),
+            ("-0.00", numeric, Some("0")),
+            ("1.505", numeric, None),
+            ("123456789", numeric, None),
+            ("'NaN'", numeric, None),
+            ("1e2", KeyType::Numeric(None), Some("100")),
+            ("'+007'", INTEGER, Some("7")),
+            ("' 7 '", INTEGER, Some("7")),
+            ("'abc'", KeyType::Text(Some(3)), Some("abc")),
+            ("'abcd'", KeyType::Text(Some(3)), None),
+            ("'a b '", KeyType::Text(None), Some("a b ")),
+            ("7", KeyType::Text(None), None),
+            (
+                "'A0EEBC99-9C0B-4EF8-BB6D-6BB9BD380A11'",
+                KeyType::Uuid,
+                Some("a0eebc99-9c0b-4ef8-bb6d-6bb9bd380a11"),
+            ),
+            (
+                "'a0eebc999c0b4ef8bb6d6bb9bd380a11'::uuid",
+                KeyType::Uuid,
+                Some("a0eebc99-9c0b-4ef8-bb6d-6bb9bd380a11"),
+            ),
+            ("'a0eebc99-9c0b4ef8bb6d6bb9bd380a11'", KeyType::Uuid, None),
+            ("'x'", KeyType::Uuid, None),
+        ] {
+            assert_eq!(key(value, kind).as_deref(), expected, "{}", value);
+        }
+    }
+
+    #[test]
+    fn parameters_are_read_by_their_types_and_formats() {
+        let text = "UPDATE stock SET pieces = pieces - $1 WHERE id = $2";
+        let values = |one: &[u8], two: &[u8]| [Some(one.to_vec()), Some(two.to_vec())];
+        let found = |types: &[u32], formats: &[i16], values: &[Option<Vec<u8>>]| {
+            read(
+                text,
+                INTEGER,
+                Parameters {
+                    types,
+                    formats,
+                    values,
+                },
+            )
+        };
+        let expected = Some("5: -3 _".to_owned());
+        assert_eq!(found(&[], &[], &values(b"3", b"5")), expected);
+        assert_eq!(found(&[23, 20], &[0], &values(b"3", b" 5")), expected);
+        assert_eq!(
+            found(&[21, 20], &[1], &values(&[0, 3], &[0, 0, 0, 0, 0, 0, 0, 5])),
+            expected
+        );
+        assert_eq!(
+            found(&[0, 0], &[1, 1], &values(&[0, 0, 0, 3], &[0, 0, 0, 5])),
+            expected
+        );
+        assert_eq!(
+            found(&[701, 0], &[1, 0], &values(&3f64.to_be_bytes(), b"5")),
+            expected
+        );
+        assert_eq!(
+            found(&[701, 0], &[1, 0], &values(&2.5f64.to_be_bytes(), b"5")),
+            None
+        );
+        assert_eq!(
+            found(&[23, 701], &[0, 1], &values(b"3", &5f64.to_be_bytes())),
+            None
+        );
+        assert_eq!(
+            found(&[25, 23], &[], &values(b"3", b"5")),
+            None,
+            "integer - text"
+        );
+        assert_eq!(found(&[16, 23], &[], &values(b"t", b"5")), None);
+        assert_eq!(found(&[], &[], &[Some(b"3".to_vec()), None]), None, "NULL");
+        assert_eq!(
+            found(&[], &[], &[Some(b"3".to_vec())]),
+            None,
+            "one is missing"
+        );
+        assert_eq!(
+            found(&[23, 23], &[1], &values(b"3", b"5")),
+            None,
+            "not four bytes"
+        );
+    }
+}

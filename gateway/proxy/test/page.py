@@ -1,0 +1,90 @@
+#!/usr/bin/env python3
+"""Types what docs/proxy.md shows of psql into two psqls at a proxy, and compares what their terminals show."""
+from __future__ import annotations
+
+import difflib
+import os
+import re
+from pathlib import Path
+from typing import Dict, List
+
+import psycopg
+
+from clients.servers import wait_until
+from clients.suite import Part, main
+from clients.with_pages import DATABASE, Terminal
+from proxy.test.harness import TOP, Proxy
+from proxy.test.standin import SQL, Cluster
+
+PART = Part("proxy_page")
+PAGE = TOP.parent / "docs/proxy.md"
+# A block of a page behind the number of its psql.
+BLOCK = re.compile(r"<!-- psql (\d) -->\n```\n(.*?)```\n", re.DOTALL)
+TYPED = re.compile(rf"{DATABASE}[=-][*!]?> (.*)")
+
+
+class Place:
+    """Where a terminal connects."""
+
+    def __init__(self, text: str) -> None:
+        self.text = text
+
+    def dsn(self, _: str) -> str:
+        """Returns the connection string."""
+        return self.text
+
+
+@PART.alone
+def the_page_shows_what_psql_shows() -> None:
+    """`ESCROWD_WRITE=1` writes what the terminals show into the page; read the difference before you keep it."""
+    page = PAGE.read_text()
+    with Cluster() as cluster:
+        cluster.run("CREATE ROLE ada LOGIN", "CREATE ROLE escrowd LOGIN", f"CREATE DATABASE {DATABASE} OWNER ada")
+        dsn = cluster.dsn(DATABASE)
+        with psycopg.connect(dsn) as it:
+            it.execute((SQL / "install.sql").read_bytes())
+            it.execute("GRANT escrow_proxy TO escrowd")
+        with Proxy(cluster, "", "--fold-wait", 2000, postgres=dsn.replace("user=clerk", "user=escrowd")) as proxy:
+            wait_until("it is the owner", lambda: "owner of epoch" in proxy.said())
+            terminals: Dict[str, Terminal] = {}
+            shown = BLOCK.sub(lambda block: replayed(block, terminals, proxy, cluster), page)
+            for terminal in terminals.values():
+                terminal.close()
+    assert len(terminals) == 2, "the page has no sessions"
+    if "ESCROWD_WRITE" in os.environ:
+        PAGE.write_text(shown)
+    elif shown != page:
+        raise AssertionError("\n".join(difflib.unified_diff(page.splitlines(), shown.splitlines(), PAGE.name, "psql", lineterm="", n=1)))
+
+
+def replayed(block: "re.Match[str]", terminals: Dict[str, Terminal], proxy: Proxy, cluster: Cluster) -> str:
+    """Returns a block as the terminal of its number shows it."""
+    number, lines = block[1], block[2].splitlines()
+    if number not in terminals:
+        terminals[number] = Terminal(Place(proxy.dsn(dbname=DATABASE, user="ada")))  # type: ignore[arg-type]
+    shown: List[str] = []
+    for line in lines:
+        typed = TYPED.fullmatch(line)
+        if typed:
+            shown += (it.rstrip() for it in terminals[number].type(typed[1]))
+            if "escrow.reservable" in typed[1]:
+                wait_until("the proxy knows the table", lambda: is_known(proxy))
+    text = "\n".join(shown)
+    return f"<!-- psql {number} -->\n```\n{text}\n```\n"
+
+
+def is_known(proxy: Proxy) -> bool:
+    """Returns whether the proxy reserves: PostgreSQL itself refuses a change by nothing as any other."""
+    with proxy.connect(dbname=DATABASE, user="ada") as it:
+        try:
+            it.execute("UPDATE stock SET pieces = pieces + 1 WHERE id = -1 AND pieces >= 0")
+            it.execute("BEGIN")
+            it.execute("UPDATE stock SET pieces = pieces + 1 WHERE id = 1")
+            it.execute("ROLLBACK")
+        except psycopg.errors.FeatureNotSupported:
+            return False
+    return True
+
+
+if __name__ == "__main__":
+    main(PART)

@@ -1,0 +1,395 @@
+"""What a client of escrowd-proxy may rely on: grants, refusals, ends of transactions, rights, settings, and who is served when."""
+from __future__ import annotations
+
+import threading
+import time
+from contextlib import contextmanager
+from decimal import Decimal
+from typing import Any, Iterator, List, Tuple
+
+import psycopg
+from psycopg import errors
+from psycopg.pq import ExecStatus
+
+from clients.servers import wait_until
+from clients.suite import expect, main
+from proxy.test.harness import Proxy, SharedPart
+from proxy.test.sql import refused
+from proxy.test.standin import Cluster
+
+Connection = psycopg.Connection[Any]
+TABLES = (
+    "CREATE TABLE stock (id integer PRIMARY KEY, title text NOT NULL DEFAULT '', pieces integer NOT NULL CONSTRAINT in_stock CHECK (pieces >= 0))",
+    "CREATE TABLE orders (id serial PRIMARY KEY, item integer NOT NULL REFERENCES stock, pieces integer NOT NULL)",
+    "CREATE TABLE money (id bigint PRIMARY KEY, small smallint NOT NULL, amount numeric(8,2) NOT NULL CHECK (amount - fee >= -5), fee numeric(8,2) NOT NULL)",
+)
+FREE = iter(range(1, 10_000))
+
+
+# How many seconds a COMMIT waits for its fold.
+FOLD_WAIT = 2.0
+
+
+@contextmanager
+def served() -> Iterator[Tuple[Cluster, Proxy]]:
+    """Opens a cluster with declared tables, and a proxy that is the owner."""
+    with Cluster() as cluster:
+        cluster.script("install.sql")
+        cluster.run(*TABLES, "SELECT escrow.reservable('stock', 'pieces')", "SELECT escrow.reservable('money', 'small', 'amount', 'fee')")
+        # A busy machine folds within the limit too.
+        with Proxy(cluster, "", "--fold-wait", round(1000 * FOLD_WAIT)) as proxy:
+            yield cluster, proxy
+
+
+PART = SharedPart("proxy_reserves", served)
+case = PART.case
+
+
+def row(cluster: Cluster, pieces: int = 10) -> int:
+    """Inserts a row, and returns its key."""
+    key = next(FREE)
+    cluster.run(f"INSERT INTO stock VALUES ({key}, 'row', {pieces})")
+    return key
+
+
+def take(it: Connection, key: int, pieces: int) -> str:
+    """Takes pieces. Returns the tag."""
+    return str(it.execute("UPDATE stock SET pieces = pieces - %s WHERE id = %s", (pieces, key)).statusmessage)
+
+
+def is_given(it: Connection, key: int, pieces: int) -> bool:
+    """Takes pieces, and returns whether they were given."""
+    try:
+        take(it, key, pieces)
+    except errors.CheckViolation:
+        return False
+    return True
+
+
+def pieces(cluster: Cluster, key: int, table: str = "stock") -> int:
+    """Returns what PostgreSQL has."""
+    with cluster.connect() as it:
+        found = it.execute(f"SELECT pieces FROM {table} WHERE id = {key}".encode()).fetchone()
+    assert found is not None
+    return int(found[0])
+
+
+@case
+def a_grant_counts_at_once(cluster: Cluster, proxy: Proxy) -> None:
+    """Whatever the open transactions do, no CHECK breaks; what is given back can be taken again."""
+    key = row(cluster)
+    with proxy.connect() as one, proxy.connect() as two, proxy.connect() as three:
+        one.execute("BEGIN")
+        expect(take(one, key, 6), "UPDATE 1")
+        with refused(errors.CheckViolation, 'new row for relation "stock" violates check constraint "in_stock"'):
+            take(two, key, 5)
+        expect(take(two, key, 4), "UPDATE 1")
+        with refused(errors.CheckViolation):
+            take(three, key, 1)
+        # A rise that is not committed gives nothing, neither to others nor to its own transaction.
+        three.execute("BEGIN")
+        take(three, key, -3)
+        with refused(errors.CheckViolation):
+            take(two, key, 1)
+        with refused(errors.CheckViolation):
+            take(three, key, 1)
+        three.execute("ROLLBACK")
+        one.execute("ROLLBACK")
+        expect(take(two, key, 6), "UPDATE 1")
+        expect(pieces(cluster, key), 0)
+
+
+@case
+def an_error_is_that_of_postgres(cluster: Cluster, proxy: Proxy) -> None:
+    key = row(cluster)
+    with proxy.connect() as it:
+        try:
+            take(it, key, 11)
+        except errors.CheckViolation as error:
+            told = error.diag
+            expect((told.severity, told.schema_name, told.table_name, told.constraint_name), ("ERROR", "public", "stock", "in_stock"))
+            assert "-1" in str(told.message_detail) and "0" in str(told.message_detail), told.message_detail
+        it.execute("BEGIN")
+        with refused(errors.CheckViolation):
+            take(it, key, 11)
+        with refused(errors.InFailedSqlTransaction):
+            take(it, key, 1)
+        expect(it.execute("COMMIT").statusmessage, "ROLLBACK")
+        expect(take(it, 99_999, 1), "UPDATE 0")
+        for text, kind in (
+            ("UPDATE stock SET pieces = pieces - 'x' WHERE id = 1", errors.InvalidTextRepresentation),
+            ("UPDATE stock SET pieces = piece - 1 WHERE id = 1", errors.UndefinedColumn),
+            ("UPDATE stocks SET pieces = pieces - 1 WHERE id = 1", errors.UndefinedTable),
+            (f"UPDATE stock SET pieces = pieces - 99999999999 WHERE id = {key}", errors.Error),
+            (f"UPDATE stock SET pieces = pieces + 2147483640 WHERE id = {key}", errors.NumericValueOutOfRange),
+            (f"UPDATE stock SET pieces = 3 WHERE id = {key}", errors.FeatureNotSupported),
+            (f"UPDATE stock SET pieces = pieces * 2 WHERE id = {key}", errors.FeatureNotSupported),
+            (f"UPDATE stock SET pieces = pieces - 1 WHERE id > {key - 1} AND id < {key + 1}", errors.FeatureNotSupported),
+            (f"WITH a AS (UPDATE stock SET pieces = pieces - 1 WHERE id = {key} RETURNING 1) SELECT * FROM a", errors.FeatureNotSupported),
+        ):
+            with refused(kind):
+                it.execute(text.encode())
+        expect(take(it, key, 10), "UPDATE 1")
+    expect(pieces(cluster, key), 0)
+
+
+@case
+def ends_of_transactions(cluster: Cluster, proxy: Proxy) -> None:
+    key = row(cluster, 100)
+    left = 100
+    with proxy.connect() as it, proxy.connect() as other:
+        for end, is_kept in (("COMMIT", True), ("ROLLBACK", False), ("END WORK", True), ("ABORT", False), ("COMMIT AND CHAIN", True), ("ROLLBACK AND CHAIN", False),
+                             ("SELECT 1; COMMIT", True), ("COMMIT; SELECT 1 / 0", True), ("ROLLBACK; SELECT 1", False), ("SELECT 1 / 0", False), ("COMMIT PREPARED 'x'", False)):
+            it.execute("BEGIN")
+            take(it, key, 3)
+            try:
+                it.execute(end.encode())
+            except psycopg.Error:
+                pass
+            it.execute("ROLLBACK")
+            left -= 3 * is_kept
+            expect(pieces(cluster, key), left, end)
+            # The server has just that left.
+            other.execute("BEGIN")
+            expect(take(other, key, left), "UPDATE 1", end)
+            other.execute("ROLLBACK")
+            with refused(errors.CheckViolation):
+                take(other, key, left + 1)
+
+
+@case
+def savepoints_give_back(cluster: Cluster, proxy: Proxy) -> None:
+    key = row(cluster, 10)
+    with proxy.connect() as it, proxy.connect() as other:
+        for back in ("ROLLBACK TO a", "ROLLBACK TO SAVEPOINT a", "rollback transaction to a", "SELECT 1; ROLLBACK TO a", "ROLLBACK TO a; RELEASE a; SAVEPOINT a"):
+            it.execute("BEGIN; SAVEPOINT a")
+            take(it, key, -5)
+            take(it, key, 7)
+            it.execute(back.encode())
+            with refused(errors.CheckViolation):
+                take(it, key, 11)
+            it.execute("ROLLBACK TO a")
+            take(it, key, 10)
+            it.execute("ROLLBACK TO a")
+            wait_until(f"{back} gives back to others", lambda: is_given(other, key, 10), 20)
+            take(other, key, -10)
+            take(it, key, 1)
+            it.execute("RELEASE a; COMMIT")
+            take(it, key, -1)
+        it.execute("BEGIN")
+        for _ in range(70):
+            it.execute("SAVEPOINT a")
+        for _ in range(9):
+            take(it, key, 1)
+        it.execute("COMMIT")
+    expect(pieces(cluster, key), 1)
+
+
+@case
+def rights_and_modes_are_those_of_postgres(cluster: Cluster, proxy: Proxy) -> None:
+    key = row(cluster)
+    cluster.run("CREATE ROLE reader LOGIN", "CREATE ROLE buyer LOGIN", "GRANT SELECT ON stock TO reader", "GRANT SELECT, UPDATE (pieces) ON stock TO buyer",
+                "GRANT reader TO buyer")
+    with proxy.connect(user="reader") as it, refused(errors.InsufficientPrivilege):
+        take(it, key, 1)
+    with proxy.connect(user="buyer") as it:
+        expect(take(it, key, 1), "UPDATE 1")
+        it.execute("SET ROLE reader")
+        with refused(errors.InsufficientPrivilege):
+            take(it, key, 1)
+        it.execute("RESET ROLE")
+        expect(take(it, key, 1), "UPDATE 1")
+        it.execute("BEGIN READ ONLY")
+        with refused(errors.ReadOnlySqlTransaction):
+            take(it, key, 1)
+        it.execute("ROLLBACK")
+        it.execute("SET default_transaction_read_only = on")
+        with refused(errors.ReadOnlySqlTransaction):
+            take(it, key, 1)
+        it.execute("RESET default_transaction_read_only")
+        expect(take(it, key, 1), "UPDATE 1")
+    with proxy.connect() as it:
+        it.execute("CREATE SCHEMA other; CREATE TABLE other.stock (LIKE stock); INSERT INTO other.stock SELECT * FROM stock")
+        it.execute("SET search_path = other, public")
+        expect(take(it, key, 1), "UPDATE 1")
+        expect((pieces(cluster, key), pieces(cluster, key, "other.stock")), (7, 6))
+        it.execute("SET search_path = public")
+        expect(take(it, key, 1), "UPDATE 1")
+        # The name means another table. The first UPDATE may find that out.
+        it.execute("CREATE TEMP TABLE stock AS TABLE public.stock")
+        try:
+            take(it, key, 1)
+        except errors.SerializationFailure:
+            expect(take(it, key, 1), "UPDATE 1")
+        expect(pieces(cluster, key), 6)
+        it.execute("DROP TABLE pg_temp.stock; DROP SCHEMA other CASCADE")
+
+
+@case
+def a_session_that_is_reset_goes_on(cluster: Cluster, proxy: Proxy) -> None:
+    """What poolers send between clients."""
+    key = row(cluster, 100)
+    with proxy.connect() as it:
+        it.prepare_threshold = None
+        for text in ("DISCARD ALL", "DISCARD SEQUENCES", "RESET ALL", "DEALLOCATE ALL", "SET SESSION AUTHORIZATION DEFAULT", "SELECT pg_advisory_unlock_all()",
+                     "CLOSE ALL; UNLISTEN *"):
+            take(it, key, 1)
+            it.execute(text.encode())
+            expect(take(it, key, 1), "UPDATE 1", text)
+        expect(pieces(cluster, key), 86)
+
+
+@case
+def what_others_see(cluster: Cluster, proxy: Proxy) -> None:
+    """Own reservations are not seen; a COMMIT is answered once the row shows it; the view is exact."""
+    key = row(cluster)
+    with proxy.connect() as it, proxy.connect() as other, cluster.connect() as straight:
+        for _ in range(50):
+            it.execute("BEGIN")
+            take(it, key, 1)
+            expect(it.execute("SELECT pieces FROM stock WHERE id = %s", (key,)).fetchone(), (10,))
+            it.execute("COMMIT")
+            expect(other.execute("SELECT pieces FROM stock WHERE id = %s", (key,)).fetchone(), (9,))
+            take(other, key, -1)
+            expect(it.execute("SELECT pieces FROM stock WHERE id = %s", (key,)).fetchone(), (10,))
+        # Who holds the row's lock delays the fold, and no COMMIT for longer than the limit.
+        straight.execute("BEGIN; SELECT 1 FROM stock WHERE id = %s FOR UPDATE" % key)
+        begin = time.monotonic()
+        take(it, key, 2)
+        took = time.monotonic() - begin
+        assert FOLD_WAIT / 2 < took < 20, took
+        expect((pieces(cluster, key), pieces(cluster, key, "escrow.now_stock")), (10, 8))
+        it.execute("SET escrow.wait = off")
+        begin = time.monotonic()
+        for _ in range(10):
+            take(it, key, -1)
+        assert time.monotonic() - begin < 10 * FOLD_WAIT, "it waits"
+        straight.execute("ROLLBACK")
+        wait_until("it is folded", lambda: pieces(cluster, key) == 18, 20)
+
+
+@case
+def numbers_of_all_types(cluster: Cluster, proxy: Proxy) -> None:
+    cluster.run("INSERT INTO money VALUES (9007199254740993, 5, 10.25, 0.75)")
+    with proxy.connect() as it:
+        key = 9007199254740993
+        it.execute("UPDATE money SET amount = amount - 3.5, fee = fee + %s, small = small + 1 WHERE id = %s", (Decimal("0.25"), key))
+        it.execute(b"UPDATE money SET amount = amount - '.25'::numeric WHERE id = 9007199254740993")
+        with refused(errors.CheckViolation):
+            it.execute("UPDATE money SET amount = amount - 10.51 WHERE id = %s", (key,))
+        with refused(errors.NumericValueOutOfRange):
+            it.execute("UPDATE money SET small = small + 32767 WHERE id = %s", (key,))
+        with refused(errors.NumericValueOutOfRange):
+            it.execute("UPDATE money SET amount = amount + 999999.99 WHERE id = %s", (key,))
+        expect([str(it) for it in it.execute("SELECT small, amount, fee FROM money").fetchall()[0]], ["6", "6.50", "1.00"])
+        it.execute("UPDATE money SET amount = amount - 0.001 WHERE id = %s", (key,))
+        expect(str(it.execute("SELECT amount FROM money").fetchall()[0][0]), "6.50")
+
+
+@case
+def a_locked_row_can_be_reserved_by_who_locked_it(cluster: Cluster, proxy: Proxy) -> None:
+    for lock in ("SELECT 1 FROM stock WHERE id = {} FOR UPDATE", "UPDATE stock SET title = 'mine' WHERE id = {}", "INSERT INTO orders (item, pieces) VALUES ({}, 1)"):
+        for is_held in (True, False):
+            key = row(cluster)
+            with proxy.connect() as it:
+                if is_held:
+                    take(it, key, 0)
+                it.execute("BEGIN")
+                it.execute(lock.format(key).encode())
+                expect(take(it, key, 2), "UPDATE 1", f"{lock}, {is_held}")
+                expect(take(it, key, 2), "UPDATE 1", f"{lock}, {is_held}")
+                it.execute("COMMIT")
+                wait_until("it is folded", lambda: pieces(cluster, key) == 6, 20)
+
+
+@case
+def own_rows(cluster: Cluster, proxy: Proxy) -> None:
+    """A row is inserted and then changed by one transaction."""
+    key = next(FREE)
+    with proxy.connect() as it, proxy.connect() as other:
+        it.execute("BEGIN")
+        it.execute("INSERT INTO stock VALUES (%s, 'new', 5)", (key,))
+        expect(take(it, key, 2), "UPDATE 1")
+        with refused(errors.CheckViolation):
+            take(it, key, 9)
+        it.execute("ROLLBACK")
+        it.execute("BEGIN")
+        it.execute("INSERT INTO stock VALUES (%s, 'new', 5)", (key,))
+        expect(take(it, key, 2), "UPDATE 1")
+        it.execute("COMMIT")
+        expect(take(other, key, 1), "UPDATE 1")
+        expect(pieces(cluster, key), 2)
+
+
+@case
+def a_row_is_deleted_once_nobody_has_reserved_it(cluster: Cluster, proxy: Proxy) -> None:
+    key = row(cluster)
+    with proxy.connect() as it, proxy.connect() as other:
+        other.execute("BEGIN")
+        take(other, key, 1)
+        with refused(errors.ObjectInUse, "the row of stock is held by escrowd-proxy"):
+            it.execute("DELETE FROM stock WHERE id = %s", (key,))
+        other.execute("ROLLBACK")
+        expect(it.execute("DELETE FROM stock WHERE id = %s", (key,)).statusmessage, "DELETE 1")
+        expect(take(it, key, 1), "UPDATE 0")
+        it.execute("INSERT INTO stock VALUES (%s, 'again', 1)", (key,))
+        with refused(errors.CheckViolation):
+            take(it, key, 2)
+        expect(take(it, key, 1), "UPDATE 1")
+
+
+@case
+def what_is_refused_as_it_stands(cluster: Cluster, proxy: Proxy) -> None:
+    key = row(cluster)
+    with proxy.connect() as it:
+        it.execute("BEGIN")
+        take(it, key, 1)
+        with refused(errors.FeatureNotSupported):
+            it.execute("PREPARE TRANSACTION 'two'")
+        it.execute("ROLLBACK")
+    with cluster.connect() as straight:
+        text = straight.execute("SELECT note_text FROM escrow.declared LIMIT 1").fetchall()[0][0]
+    it = proxy.connect()
+    expect(it.pgconn.prepare(b"mine", text.encode()).status, ExecStatus.FATAL_ERROR)
+    it.close()
+
+
+@case
+def many_at_a_time(cluster: Cluster, proxy: Proxy) -> None:
+    """Sixty connections in blocks on one row; the row ends where it has to."""
+    key = row(cluster, 1000)
+    faults: List[BaseException] = []
+
+    def buy() -> None:
+        try:
+            with proxy.connect() as it:
+                for turn in range(10):
+                    it.execute("BEGIN")
+                    it.execute("INSERT INTO orders (item, pieces) VALUES (%s, 1)", (key,))
+                    take(it, key, 1)
+                    it.execute("COMMIT" if turn % 2 else "ROLLBACK")
+        except BaseException as fault:
+            faults.append(fault)
+
+    threads = [threading.Thread(target=buy) for _ in range(60)]
+    for thread in threads:
+        thread.start()
+    for thread in threads:
+        thread.join()
+    expect(faults, [])
+    expect(pieces(cluster, key), 700)
+
+
+@case
+def a_standby_sends_clients_to_the_owner(cluster: Cluster, proxy: Proxy) -> None:
+    key = row(cluster)
+    with Proxy(cluster) as second:
+        time.sleep(0.5)  # it has to find out that there is an owner
+        for first, other in ((second, proxy), (proxy, second)):
+            with psycopg.connect(f"host={first.folder},{other.folder} port=6000 dbname=bank user=clerk", autocommit=True) as it:
+                expect(take(it, key, 1), "UPDATE 1")
+    expect(pieces(cluster, key), 8)
+
+
+if __name__ == "__main__":
+    main(PART)

@@ -1,0 +1,186 @@
+"""Stands in for escrowd-proxy in tests of the SQL: an owner with its keeper, and clients that it greets and notes for."""
+from __future__ import annotations
+
+import hashlib
+import random
+import re
+from pathlib import Path
+from typing import Any, Dict, List, NamedTuple, Optional, Sequence, Tuple
+
+import psycopg
+
+from clients.servers import Postgres
+
+SQL = Path(__file__).resolve().parents[1] / "sql"
+OWNER = (1702064993, 1)
+
+
+class Cluster(Postgres):
+    """A PostgreSQL that can crash and start again over its files, with schema escrow."""
+
+    def __init__(self, *settings: str) -> None:
+        super().__init__("max_prepared_transactions=5", "fsync=off", "statement_timeout=20s", *settings)
+        self.words: Sequence[object] = ()
+        self.user: Optional[str] = None
+
+    def launch(self, words: Sequence[object], user: Optional[str] = None, env: Optional[Dict[str, str]] = None) -> None:
+        self.words, self.user = words, user
+        super().launch(words, user, env)
+
+    def again(self) -> None:
+        """Starts it again, and waits until it serves."""
+        super().launch(self.words, self.user)
+        self.await_socket(self.socket)
+        while True:
+            try:
+                self.connect().close()
+                return
+            except psycopg.OperationalError:
+                pass
+
+    def connect(self, user: str = "clerk") -> "psycopg.Connection[Any]":
+        """Connects as a role. Statements commit by themselves."""
+        return psycopg.connect(self.dsn().replace("user=clerk", f"user={user}"), autocommit=True)
+
+    def run(self, *statements: str) -> None:
+        """Runs statements, each by itself."""
+        with self.connect() as it:
+            for statement in statements:
+                it.execute(statement.encode())
+
+    def script(self, name: str, change: Optional[Tuple[str, str]] = None) -> None:
+        """Runs a script of the folder sql in one transaction, with a text of it changed into another."""
+        text = (SQL / name).read_text(encoding="utf-8")
+        if change:
+            assert change[0] in text, f"{name} has no {change[0]}"
+            text = text.replace(*change)
+        with self.connect() as it:
+            it.execute(b"BEGIN")
+            it.execute(text.encode())
+            it.execute(b"COMMIT")
+
+
+def placeholders(text: str) -> bytes:
+    """Returns a note's text as psycopg takes it, which sends it as it was."""
+    return re.sub(r"\$\d", "%s", text).encode()
+
+
+class Noted(NamedTuple):
+    """What a note answered."""
+
+    id: int
+    answer: bytes
+
+
+class Owner:
+    """The owner of an epoch. The locks are those of its keeper."""
+
+    def __init__(self, cluster: Cluster) -> None:
+        self.cluster = cluster
+        self.keeper = cluster.connect()
+        self.epoch = random.getrandbits(63)
+        self.number = 0
+        self.inner, self.outer = self.one("SELECT inner_key, outer_key FROM escrow.secret")
+        assert self.one("SELECT pg_try_advisory_lock(%s, %s)", *OWNER)[0], "OWNER is held"
+        assert self.one("SELECT pg_try_advisory_lock(%s)", self.epoch)[0]
+        self.keeper.execute("SELECT escrow.set_epoch(%s)", (self.epoch,))
+
+    @classmethod
+    def of(cls, cluster: Cluster) -> "Owner":
+        """Returns a stand-in for the owner that a proxy is: it notes under the proxy's epoch, and holds no lock."""
+        it = cls.__new__(cls)
+        it.cluster, it.keeper = cluster, cluster.connect()
+        it.epoch = int(it.one("SELECT last_value FROM escrow.epoch")[0])
+        it.number = int(it.one("SELECT last_value FROM escrow.greeted")[0])
+        it.inner, it.outer = it.one("SELECT inner_key, outer_key FROM escrow.secret")
+        return it
+
+    def one(self, query: str, *values: object) -> Any:
+        """Returns the only row of a query on the keeper."""
+        return self.keeper.execute(query.encode(), values).fetchone()
+
+    def mac(self, *words: object) -> bytes:
+        """Returns HMAC-SHA-256, as RFC 2104 combines its two hashes."""
+        message = "|".join(str(it) for it in words).encode()
+        return hashlib.sha256(self.outer + hashlib.sha256(self.inner + message).digest()).digest()
+
+    def next(self) -> int:
+        """Returns a number that was not used in this epoch."""
+        self.number += 1
+        return self.number
+
+    def status(self, id: int) -> str:
+        """Returns what PostgreSQL says of a transaction's id."""
+        return str(self.one("SELECT pg_xact_status(%s::text::xid8)", id)[0])
+
+    def declared(self, relation: str) -> Any:
+        """Returns number and note's text of a table."""
+        return self.one("SELECT number, note_text FROM escrow.declared WHERE relation = %s::regclass", relation)
+
+    def load(self, relation: str, key: object) -> Optional[List[str]]:
+        """Loads a row. Returns its reservable values."""
+        number, _ = self.declared(relation)
+        found = self.one(f"SELECT escrow.load_{number}(%s, %s)", self.epoch, str(key))[0]
+        return None if found is None else list(found)
+
+    def fold(self, relation: str, *keys: object) -> List[str]:
+        """Folds keys on the keeper, as no proxy does. Returns those whose row it could lock."""
+        number, _ = self.declared(relation)
+        return [it for it, in self.keeper.execute(f"SELECT escrow.fold_{number}(%s)".encode(), ([str(it) for it in keys],))]
+
+
+class Client:
+    """A connection of a client, and what the proxy sends on it."""
+
+    def __init__(self, owner: Owner, user: str = "clerk", greets: bool = True) -> None:
+        self.owner = owner
+        self.connection = owner.cluster.connect(user)
+        self.tag = owner.next()
+        if greets:
+            self.greet()
+
+    def greet(self) -> None:
+        """Greets the connection."""
+        number = self.owner.next()
+        proof = self.owner.mac("greet", self.owner.epoch, self.connection.info.backend_pid, number)
+        self.connection.execute("SELECT escrow.greet(%s, %s, %s)", (self.owner.epoch, number, proof))
+
+    def execute(self, query: str) -> "psycopg.Cursor[Any]":
+        """Sends what the client writes."""
+        return self.connection.execute(query.encode())
+
+    def arguments(self, relation: str, key: object, *changes: object) -> List[Any]:
+        """Returns the text of a note and its arguments."""
+        owner = self.owner
+        table, text = owner.declared(relation)
+        number = owner.next()
+        given = [None if it is None else str(it) for it in changes]
+        shown, written = str(key), ",".join(it or "" for it in given)
+        proof = owner.mac("note", table, owner.epoch, self.connection.info.backend_pid, self.tag, number, len(shown.encode()), shown, written)
+        return [text, owner.epoch, self.tag, number, shown, given, proof, relation]
+
+    def send(self, arguments: Sequence[Any]) -> Noted:
+        """Sends a note by the extended protocol, and returns its answer."""
+        row = self.connection.execute(placeholders(arguments[0]), arguments[1:]).fetchone()
+        assert row is not None
+        noted = Noted(*row)
+        assert noted.answer == self.owner.mac("noted", *arguments[1:4], noted.id), "the answer has no MAC"
+        return noted
+
+    def direct(self, relation: str, key: object, *changes: object) -> bool:
+        """Notes changes of an UPDATE that is a transaction by itself. Returns whether they are in the row already."""
+        arguments = self.arguments(relation, key, *changes)
+        text = self.owner.one("SELECT direct_text FROM escrow.declared WHERE relation = %s::regclass", relation)[0]
+        row = self.connection.execute(placeholders(text), arguments[1:]).fetchone()
+        assert row is not None and row[1] == self.owner.mac("noted", *arguments[1:4], row[0]), "the answer has no MAC"
+        assert self.owner.status(row[0]) == "committed"
+        return bool(row[2])
+
+    def fold(self, relation: str, *keys: object) -> None:
+        """Sends an own fold."""
+        text = self.owner.one("SELECT own_text FROM escrow.declared WHERE relation = %s::regclass", relation)[0]
+        self.connection.execute(placeholders(text), ([str(it) for it in keys],))
+
+    def note(self, relation: str, key: object, *changes: object) -> Noted:
+        """Notes changes."""
+        return self.send(self.arguments(relation, key, *changes))

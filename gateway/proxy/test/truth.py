@@ -1,0 +1,635 @@
+#!/usr/bin/env python3
+"""Forty buyers write orders and take their pieces, while proxies, PostgreSQL, backends and connections are killed at random: no sum is ever wrong.
+
+    python3 -m proxy.test.truth [--kills N] [--seconds N] [--seed N] [--only WORD ..] [--kinds KIND ..] [--proxies N] [--each N]
+                            [--straight] [--lazy] [--standby] [--without RULE]
+
+Run it in the folder gateway. Behind each kill orders have to go on. All the time, PostgreSQL is asked for a row whose stock with its journal, in one
+snapshot, is not what it was at the beginning without the orders. Behind each section of kills the buyers end, and then each order whose COMMIT was
+answered is there, none is there that was rolled back, of no order a part is there, the journals are empty, the table has what the orders have left,
+the server gives just that, and no fold was refused. --straight leaves the proxy out, so that the test itself is tested. --lazy turns
+synchronous_commit off; then a crash of PostgreSQL may lose answered COMMITs, and nothing else. --standby adds a synchronous standby, which is promoted
+at the end. --without takes a rule away from schema escrow, so that something has to be wrong.
+"""
+from __future__ import annotations
+
+import argparse
+import os
+import random
+import re
+import signal
+import statistics
+import subprocess
+import sys
+import threading
+import time
+from collections import Counter
+from contextlib import ExitStack, contextmanager
+from dataclasses import dataclass, field
+from pathlib import Path
+from types import TracebackType
+from typing import Any, Callable, Dict, FrozenSet, Iterator, List, Mapping, NamedTuple, Optional, Sequence, Set, Tuple, Type
+
+import psycopg
+from psycopg import errors
+
+from clients.servers import PORT, children, wait_until
+from clients.suite import Part, expect, main
+from proxy.test.buyers import ALONE, KINDS, TABLES, Line
+from proxy.test.harness import TOP, Forwarder, Proxy, Standby
+from proxy.test.standin import Cluster
+
+PART = Part("proxy_truth")
+PROCESSES, EACH = 4, 10
+# The answered orders that have to come behind a kill, and the seconds in which they do.
+GOES_ON, LIMIT = 40, 30.0
+# What the proxy's log may not have.
+ALARMS = re.compile(r"(?im)^.*(panicked|alarm|fold was refused|cannot be folded|the server lacks a row|that no note gives|was not expected).*$")
+
+
+# Rules that are taken away from schema escrow, as a text in it and what takes its place. The test has to find that: `twice` at once, the others
+# if something is killed at the right moment.
+WITHOUT = {
+    "twice": ("coalesce(sum(taken.change_%s), 0)", "coalesce(sum(taken.change_%s), 0) * 2"),
+    "part": ("WHERE j.key = which RETURNING", "WHERE j.ctid = (SELECT min(i.ctid) FROM escrow.journal_%1$s AS i WHERE i.key = which) RETURNING"),
+    "epoch": ("IF note_%1$s.epoch <> (SELECT last_value FROM escrow.epoch) OR NOT escrow.is_live(note_%1$s.epoch) THEN", "IF false THEN"),
+    "wait": ("WHERE l.locktype = 'relation' AND l.granted AND l.mode = 'RowExclusiveLock'", "WHERE false"),
+}
+
+
+@dataclass
+class Said:
+    """What the buyers have said so far."""
+
+    file: Path
+    at: int = 0
+    answered: Set[str] = field(default_factory=set)
+    aborted: Set[str] = field(default_factory=set)
+    unknown: Set[FrozenSet[str]] = field(default_factory=set)
+    alone: "Counter[str]" = field(default_factory=Counter)
+    refused: "Counter[str]" = field(default_factory=Counter)
+    faults: List[str] = field(default_factory=list)
+
+    def read(self) -> None:
+        """Reads what was added."""
+        if not self.file.exists():
+            return
+        with open(self.file, encoding="utf-8") as it:
+            it.seek(self.at)
+            while True:
+                line = it.readline()
+                if not line.endswith("\n"):
+                    return
+                self.at = it.tell()
+                self.hear(*line.split())
+
+    def now(self) -> "Said":
+        """Returns it with what was added."""
+        self.read()
+        return self
+
+    def hear(self, what: str, *words: str) -> None:
+        """Takes a line."""
+        if what == "answered":
+            self.answered.update(words)
+        elif what == "aborted":
+            self.aborted.update(words)
+        elif what == "unknown":
+            self.unknown.add(frozenset(words))
+        elif what == "fault":
+            self.faults.append(" ".join(words))
+        else:
+            (self.alone if what == "alone" else self.refused)[words[0]] += 1
+
+    def count(self) -> int:
+        """Returns how much was answered."""
+        return len(self.answered) + self.alone["answered"]
+
+
+class Found(NamedTuple):
+    """What PostgreSQL has: orders, the stock before them, and the stock."""
+
+    orders: Mapping[str, Line]
+    before: Mapping[int, int]
+    stock: Mapping[int, int]
+
+
+def wrongs(said: Said, found: Found, may_lose: bool = False) -> List[str]:
+    """Returns what is wrong. A crash without synchronous_commit may lose what was answered."""
+    there = set(found.orders)
+    wrong = [f"fault: {it}" for it in said.faults]
+    wrong += [f"an answered order is missing: {it}" for it in sorted(said.answered - there) if not may_lose]
+    wrong += [f"an order is there that was rolled back: {it}" for it in sorted(said.aborted & there)]
+    wrong += [f"a part of an order is there: {sorted(it)}" for it in said.unknown if it & there and it - there and not may_lose]
+    known = said.answered | {it for keys in said.unknown for it in keys}
+    wrong += [f"nobody wrote the order {it}" for it in sorted(there - known)]
+    for item, before in found.before.items():
+        left = before - sum(it.pieces for it in found.orders.values() if it.item == item)
+        if item == ALONE:
+            least = 0 if may_lose else said.alone["answered"]
+            taken, most = before - found.stock[item], said.alone["answered"] + said.alone["unknown"]
+            if not least <= taken <= most:
+                wrong.append(f"{taken} were taken alone, and not {least} to {most}")
+        elif found.stock[item] != left:
+            wrong.append(f"item {item} has {found.stock[item]}, and its orders leave {left}")
+        if found.stock[item] < 0:
+            wrong.append(f"item {item} has {found.stock[item]}")
+    return wrong
+
+
+class Watch(threading.Thread):
+    """Asks all the time whether stock and orders fit, in one snapshot."""
+
+    def __init__(self, cluster: Cluster, table: str) -> None:
+        super().__init__(daemon=True)
+        self.cluster, self.table = cluster, table  # of before a failover
+        self.looks, self.wrong = 0, ""
+        self.is_off = threading.Event()
+
+    def run(self) -> None:
+        query = (
+            f"SELECT n.id, n.pieces, b.pieces - coalesce(sum(o.pieces), 0) FROM {self.table} AS n JOIN base AS b USING (id) LEFT JOIN orders AS o ON o.item = n.id "
+            f"GROUP BY n.id, n.pieces, b.pieces HAVING n.id <> {ALONE} AND n.pieces <> b.pieces - coalesce(sum(o.pieces), 0) OR n.pieces < 0"
+        )
+        while not self.is_off.is_set():
+            try:
+                with self.cluster.connect() as it:
+                    while not self.is_off.wait(0.05):
+                        found = it.execute(query.encode()).fetchall()
+                        self.looks += 1
+                        if found:
+                            self.wrong = f"while it ran, stock and orders differed: {found}"
+                            return
+            except psycopg.OperationalError:
+                time.sleep(0.05)
+
+
+class Scene:
+    """A cluster with the tables, proxies, and forwarders before and behind each of them."""
+
+    def __init__(self, proxies: int, is_lazy: bool = False, has_standby: bool = False, without: str = "") -> None:
+        self.stack = ExitStack()
+        self.is_lazy = is_lazy
+        self.change = WITHOUT.get(without)
+        settings = ("deadlock_timeout=100ms", f"synchronous_commit={'off' if is_lazy else 'on'}", "log_min_messages=fatal", "max_wal_size=4GB")
+        self.cluster = Cluster(*settings)
+        self.standby = Standby(self.cluster) if has_standby else None
+        self.proxies: List[Proxy] = []
+        self.fronts: List[Forwarder] = []
+        self.backs: List[Forwarder] = []
+        self.wanted = proxies
+        self.table = "escrow.now_stock" if proxies else "stock"
+        self.section = 0
+        self.crashes = 0
+
+    def __enter__(self) -> "Scene":
+        try:
+            self.open()
+        except BaseException:
+            self.stack.close()
+            raise
+        return self
+
+    def __exit__(self, kind: Optional[Type[BaseException]], value: Optional[BaseException], trace: Optional[TracebackType]) -> None:
+        self.stack.__exit__(kind, value, trace)
+
+    def open(self) -> None:
+        """Starts all."""
+        self.stack.enter_context(self.cluster)
+        self.cluster.run(*TABLES, "CREATE TABLE base (id integer PRIMARY KEY, pieces integer NOT NULL)")
+        if self.wanted:
+            self.cluster.script("install.sql", self.change)
+            self.cluster.run("SELECT escrow.reservable('stock', 'pieces')")
+        if self.standby:
+            self.stack.enter_context(self.standby)
+        servers = [self.cluster, *([self.standby] if self.standby else [])]
+        for _ in range(self.wanted):
+            backs = [self.forwarder(it.socket) for it in servers]
+            self.backs += backs
+            proxy = self.stack.enter_context(Proxy(self.cluster, postgres=connection_string(backs)))
+            self.proxies.append(proxy)
+            self.fronts.append(self.forwarder(proxy.socket))
+        if not self.wanted:
+            self.fronts = [self.forwarder(it.socket) for it in servers]
+
+    def forwarder(self, target: Path) -> Forwarder:
+        """Starts a forwarder."""
+        return self.stack.enter_context(Forwarder(target, PORT))
+
+    def dsns(self) -> List[str]:
+        """Returns how buyers connect: to each, and then the others."""
+        return [connection_string(self.fronts[at:] + self.fronts[:at]) for at in range(len(self.fronts))]
+
+    def found(self) -> Found:
+        """Returns what PostgreSQL has."""
+        with self.cluster.connect() as it:
+            orders = {key: Line(key, item, pieces) for key, item, pieces in it.execute("SELECT key, item, pieces FROM orders")}
+            before = dict(it.execute("SELECT id, pieces FROM base").fetchall())
+            return Found(orders, before, dict(it.execute("SELECT id, pieces FROM stock").fetchall()))
+
+    def pending(self) -> int:
+        """Returns how many notes wait for a fold."""
+        with self.cluster.connect() as it:
+            numbers = it.execute("SELECT number FROM escrow.declared").fetchall()
+            return sum(it.execute(f"SELECT count(*) FROM escrow.journal_{number}".encode()).fetchall()[0][0] for number, in numbers)
+
+    @contextmanager
+    def buying(self, seed: int, kinds: Sequence[str] = (), is_careless: bool = False) -> Iterator["Said"]:
+        """Starts the buyers over empty orders. At its end they have ended."""
+        self.section += 1
+        self.cluster.run("TRUNCATE receipts, orders, base", "INSERT INTO base SELECT id, pieces FROM stock")
+        said = Said(self.cluster.folder / f"said-{self.section}")
+        more = [*(["--careless"] if is_careless else []), *(["--kinds", *kinds] if kinds else []), "--"]
+        words = [sys.executable, "-B", "-m", "proxy.test.buyers"]
+        buyers = [
+            subprocess.Popen([*words, *more, str(place * EACH), str(EACH), str(seed * 1000 + self.section), str(said.file), *self.dsns()], cwd=TOP)
+            for place in range(PROCESSES)
+        ]
+        try:
+            yield said
+            for it in buyers:
+                it.terminate()
+            for it in buyers:
+                expect(it.wait(60) in (0, -signal.SIGTERM), True, "a process of buyers")
+        finally:
+            for it in buyers:
+                it.kill()
+                it.wait()
+            said.read()
+
+    def examine(self, said: Said) -> List[str]:
+        """Returns what is wrong, once the buyers have ended."""
+        if self.wanted:
+            wait_until("the journals are empty", lambda: self.alarms() or self.pending() == 0, LIMIT)
+        found = self.found()
+        wrong = wrongs(said, found, may_lose=self.is_lazy and self.crashes > 0) + self.alarms()
+        return wrong or self.reserved(found.stock)
+
+    def alarms(self) -> List[str]:
+        """Returns what proxies say that none may say."""
+        return [f"the proxy says: {line[0]}" for it in self.proxies for line in ALARMS.finditer(it.said())]
+
+    def reserved(self, stock: Mapping[int, int]) -> List[str]:
+        """Returns which rows don't give just what they have: all of it, and nothing more."""
+        wrong: List[str] = []
+        with self.connect() as it:
+            for item, pieces in stock.items():
+                for more in (0, 1):
+                    try:
+                        it.execute("BEGIN")
+                        it.execute("UPDATE stock SET pieces = pieces - %s WHERE id = %s", (pieces + more, item))
+                        is_given = True
+                    except errors.CheckViolation:
+                        is_given = False
+                    it.execute("ROLLBACK")
+                    if is_given != (more == 0):
+                        wrong.append(f"item {item} with {pieces} {'gives' if is_given else 'refuses'} {pieces + more}")
+        return wrong
+
+    def connect(self) -> "psycopg.Connection[Any]":
+        """Connects as a buyer, as soon as it can."""
+        found: List["psycopg.Connection[Any]"] = []
+
+        def opens() -> bool:
+            for dsn in self.dsns():
+                try:
+                    it = psycopg.connect(dsn, autocommit=True)
+                    it.execute(f"UPDATE stock SET pieces = pieces - 0 WHERE id = {ALONE}")
+                except psycopg.Error:
+                    continue
+                found.append(it)
+                return True
+            return False
+
+        wait_until("a connection is served", opens, LIMIT)
+        return found[0]
+
+
+def connection_string(forwarders: Sequence[Forwarder]) -> str:
+    """Returns how the database is reached through forwarders: by the first that accepts and writes."""
+    return f"host={','.join(str(it.folder) for it in forwarders)} port={PORT} dbname=bank user=clerk target_session_attrs=read-write"
+
+
+# What is killed, and whether there has to be a proxy.
+KILLS: Dict[str, Tuple[bool, Callable[[Scene, random.Random], None]]] = {}
+
+
+def kill(needs_proxy: bool) -> Callable[[Callable[[Scene, random.Random], None]], Callable[[Scene, random.Random], None]]:
+    """Adds what is killed."""
+
+    def add(act: Callable[[Scene, random.Random], None]) -> Callable[[Scene, random.Random], None]:
+        KILLS[act.__name__] = needs_proxy, act
+        return act
+
+    return add
+
+
+def owner(scene: Scene, draw: random.Random) -> Proxy:
+    """Returns the proxy that has said last that it is the owner, mostly; or any."""
+    if draw.random() < 0.3:
+        return draw.choice(scene.proxies)
+    try:
+        with scene.cluster.connect() as it:
+            number = it.execute("SELECT last_value FROM escrow.epoch").fetchall()[0][0]
+    except psycopg.Error:
+        return draw.choice(scene.proxies)
+    return next((it for it in scene.proxies if f"epoch {number}" in it.said()), scene.proxies[0])
+
+
+@kill(needs_proxy=True)
+def proxy(scene: Scene, draw: random.Random) -> None:
+    it = owner(scene, draw)
+    it.kill()
+    time.sleep(draw.choice((0, draw.uniform(0, 1.5))))
+    it.start()
+
+
+@kill(needs_proxy=True)
+def stopped(scene: Scene, draw: random.Random) -> None:
+    """Longer than an owner may say nothing, and then it goes on with what is in its sockets."""
+    it = owner(scene, draw)
+    it.running().send_signal(signal.SIGSTOP)
+    time.sleep(draw.choice((0.5, 4.5)))
+    it.running().send_signal(signal.SIGCONT)
+
+
+@kill(needs_proxy=True)
+def program(scene: Scene, draw: random.Random) -> None:
+    """What a proxy has started: the server."""
+    for it in children(owner(scene, draw).running().pid):
+        os.kill(it, signal.SIGKILL)
+
+
+@kill(needs_proxy=True)
+def own_backend(scene: Scene, draw: random.Random) -> None:
+    """One of the proxy's own connections: keeper, folder, loader."""
+    terminate(scene, draw, "application_name LIKE 'escrowd-proxy%'", 1)
+
+
+@kill(needs_proxy=True)
+def behind(scene: Scene, draw: random.Random) -> None:
+    """Connections between a proxy and PostgreSQL."""
+    draw.choice(scene.backs).drop(draw.random() < 0.5)
+
+
+@kill(needs_proxy=True)
+def stalled_behind(scene: Scene, draw: random.Random) -> None:
+    stall(draw.choice(scene.backs), draw.choice((0.3, 1.0, 4.5)))
+
+
+@kill(needs_proxy=False)
+def postgres(scene: Scene, draw: random.Random) -> None:
+    """An immediate stop."""
+    scene.crashes += 1
+    scene.cluster.kill()
+    time.sleep(draw.choice((0, draw.uniform(0, 1))))
+    scene.cluster.again()
+
+
+@kill(needs_proxy=False)
+def restart(scene: Scene, draw: random.Random) -> None:
+    """A clean stop, which ends all connections."""
+    scene.cluster.end(signal.SIGINT)
+    scene.cluster.again()
+
+
+@kill(needs_proxy=False)
+def backend(scene: Scene, draw: random.Random) -> None:
+    """kill -9 of a backend, at which PostgreSQL starts anew by itself."""
+    scene.crashes += 1
+    with scene.cluster.connect() as it:
+        found = it.execute("SELECT pid FROM pg_stat_activity WHERE backend_type = 'client backend' AND pid <> pg_backend_pid() "
+                           "ORDER BY wait_event IS NULL DESC, random()").fetchall()
+    os.kill(draw.choice(found[:10])[0], signal.SIGKILL)
+    time.sleep(0.2)
+    wait_until("PostgreSQL is back", lambda: scene.cluster.psql("bank", "SELECT 1") == 0)
+
+
+def failover(scene: Scene, draw: random.Random) -> None:
+    """PostgreSQL is gone, and its standby takes its place."""
+    assert scene.standby
+    scene.cluster.kill()
+    time.sleep(draw.uniform(0, 1))
+    scene.standby.promote()
+    scene.cluster = scene.standby
+
+
+@kill(needs_proxy=False)
+def terminated(scene: Scene, draw: random.Random) -> None:
+    terminate(scene, draw, "application_name NOT LIKE 'escrowd-proxy%'", draw.randint(1, 10))
+
+
+@kill(needs_proxy=False)
+def before(scene: Scene, draw: random.Random) -> None:
+    """Connections of buyers."""
+    draw.choice(scene.fronts).drop(draw.random() < 0.2)
+
+
+@kill(needs_proxy=False)
+def stalled_before(scene: Scene, draw: random.Random) -> None:
+    stall(draw.choice(scene.fronts), draw.choice((0.3, 1.0)))
+
+
+def stall(it: Forwarder, seconds: float) -> None:
+    """Stalls a forwarder."""
+    it.stall()
+    time.sleep(seconds)
+    it.go_on()
+
+
+def terminate(scene: Scene, draw: random.Random, which: str, count: int) -> None:
+    """Ends backends."""
+    with scene.cluster.connect() as it:
+        it.execute(f"SELECT pg_terminate_backend(pid) FROM (SELECT pid FROM pg_stat_activity WHERE backend_type = 'client backend' AND pid <> pg_backend_pid() "
+                   f"AND {which} ORDER BY random() LIMIT {count}) AS p".encode())
+
+
+@dataclass
+class Run:
+    """A run: what it has done so far."""
+
+    scene: Scene
+    seed: int
+    names: Sequence[str]
+    kinds: Sequence[str] = ()
+    kills: "Counter[str]" = field(default_factory=Counter)
+    times: Dict[str, List[float]] = field(default_factory=dict)
+    sums: "Counter[str]" = field(default_factory=Counter)
+    refused: "Counter[str]" = field(default_factory=Counter)
+    looks: int = 0
+
+    def section(self, count: int, fails_over: bool = False) -> None:
+        """Kills some times, and examines."""
+        draw = random.Random(f"{self.seed} {self.scene.section}")
+        watch = Watch(self.scene.cluster, self.scene.table)
+        with self.scene.buying(self.seed, self.kinds) as said:
+            watch.start()
+            self.await_more(said, GOES_ON)
+            for _ in range(count):
+                time.sleep(draw.uniform(0, 0.5))
+                name = draw.choice(self.names)
+                KILLS[name][1](self.scene, draw)
+                self.kills[name] += 1
+                self.times.setdefault(name, []).append(self.await_more(said, GOES_ON))
+                if said.faults or watch.wrong:
+                    break
+            if fails_over:
+                failover(self.scene, draw)
+                self.times["failover"] = [self.await_more(said, GOES_ON)]
+        watch.is_off.set()
+        watch.join()
+        self.looks += watch.looks
+        wrong = self.scene.examine(said) + ([watch.wrong] if watch.wrong else [])
+        there = set(self.scene.found().orders)
+        unknown = {it for keys in said.unknown for it in keys}
+        self.sums += Counter(answered=said.count(), aborted=len(said.aborted), unknown=len(unknown), of_them_committed=len(unknown & there))
+        self.refused += said.refused
+        if wrong:
+            raise AssertionError(f"seed {self.seed}, section {self.scene.section}, kills {dict(self.kills)}:\n  " + "\n  ".join(wrong[:20]))
+
+    def await_more(self, said: Said, count: int) -> float:
+        """Waits until more is answered. Returns the seconds."""
+        begin = time.monotonic()
+        said.read()
+        goal = said.count() + count
+
+        def is_more() -> bool:
+            said.read()
+            return said.count() >= goal or bool(said.faults)
+
+        wait_until(f"orders go on behind {dict(self.kills)}, seed {self.seed}", is_more, LIMIT)
+        return time.monotonic() - begin
+
+    def told(self) -> str:
+        """Returns what was done, in words."""
+        times = "; ".join(f"{name} {statistics.median(it):.1f} (worst {max(it):.1f})" for name, it in self.times.items())
+        return (f"{sum(self.kills.values())} kills: {dict(self.kills)}\n  {dict(self.sums)}; errors {dict(self.refused)}; {self.looks} looks\n"
+                f"  seconds until {GOES_ON} more orders: {times}")
+
+
+def chosen(only: Sequence[str], has_proxy: bool) -> List[str]:
+    """Returns what may be killed."""
+    found = [name for name, (needs_proxy, _) in KILLS.items() if has_proxy or not needs_proxy]
+    return [name for name in found if not only or any(it == name for it in only)]
+
+
+def run(seed: int, kills: int, *, proxies: int = 2, only: Sequence[str] = (), seconds: float = 1e9, is_lazy: bool = False, each: int = 10,
+        has_standby: bool = False, without: str = "", kinds: Sequence[str] = ()) -> str:
+    """Runs so many kills, and at last a failover if there is a standby. Returns what was done."""
+    end = time.monotonic() + seconds
+    with Scene(proxies, is_lazy, has_standby, without) as scene:
+        it = Run(scene, seed, chosen(only, proxies > 0), kinds)
+        while sum(it.kills.values()) < kills and time.monotonic() < end:
+            it.section(min(each, kills - sum(it.kills.values())))
+        if has_standby:
+            it.section(0, fails_over=True)
+        return it.told()
+
+
+def shown(what: str) -> None:
+    """Prints what a run has done."""
+    print(what, file=sys.stderr, flush=True)
+
+
+@PART.alone
+def nothing_is_lost_or_taken_twice() -> None:
+    shown(run(1, 20))
+
+
+@PART.alone
+def one_proxy_goes_on_by_itself() -> None:
+    shown(run(2, 6, proxies=1, only=("proxy", "postgres", "program", "own_backend", "behind")))
+
+
+@PART.alone
+def a_lazy_log_loses_no_sum() -> None:
+    shown(run(3, 6, proxies=1, is_lazy=True, only=("postgres", "backend", "proxy")))
+
+
+@PART.alone
+def a_standby_takes_over() -> None:
+    shown(run(4, 0, has_standby=True))
+
+
+@PART.alone
+def a_rule_that_is_taken_away_is_missed() -> None:
+    try:
+        run(5, 2, proxies=1, without="twice", only=("before",))
+    except AssertionError as error:
+        expect(any(it in str(error) for it in ("stock and orders differed", "its orders leave", "A FOLD WAS REFUSED")), True, str(error)[:500])
+    else:
+        raise AssertionError("it is not missed")
+
+
+@PART.alone
+def the_test_passes_what_is_right() -> None:
+    """PostgreSQL by itself, with its locks."""
+    shown(run(6, 4, proxies=0))
+
+
+@PART.alone
+def the_test_finds_wrongs() -> None:
+    said = Said(Path("/nowhere"))
+    said.hear("answered", "a/0", "a/1")
+    said.hear("unknown", "b/0", "b/1")
+    said.hear("aborted", "c/0")
+    said.hear("alone", "answered")
+    said.hear("alone", "unknown")
+    orders = {it.key: it for it in (Line("a/0", 1, 2), Line("a/1", 3, -1), Line("b/0", 1, 1), Line("b/1", 1, 1))}
+    before, stock = {1: 10, 3: 10, ALONE: 10}, {1: 6, 3: 11, ALONE: 9}
+    expect(wrongs(said, Found(orders, before, stock)), [])
+    expect(wrongs(said, Found(orders, before, {**stock, ALONE: 8})), [])
+    for changed, place, text in (
+        ({key: it for key, it in orders.items() if key != "a/1"}, stock, "an answered order is missing: a/1"),
+        ({key: it for key, it in orders.items() if key != "b/1"}, {**stock, 1: 7}, "a part of an order is there"),
+        ({**orders, "c/0": Line("c/0", 1, 0)}, stock, "an order is there that was rolled back: c/0"),
+        ({**orders, "d/0": Line("d/0", 1, 0)}, stock, "nobody wrote the order d/0"),
+        (orders, {**stock, 1: 7}, "item 1 has 7, and its orders leave 6"),
+        (orders, {**stock, ALONE: 10}, "0 were taken alone, and not 1 to 2"),
+        (orders, {**stock, ALONE: 7}, "3 were taken alone, and not 1 to 2"),
+        (orders, {**stock, 3: -1}, "item 3 has -1"),
+    ):
+        found = wrongs(said, Found(changed, before, place))
+        expect(any(text in it for it in found), True, f"{text}: {found}")
+    said.hear("fault", "one_row", "x")
+    expect(wrongs(said, Found(orders, before, stock)), ["fault: one_row x"])
+
+
+@PART.alone
+def buyers_without_transactions_are_found() -> None:
+    with Scene(0) as scene:
+        watch = Watch(scene.cluster, scene.table)
+        with scene.buying(1, is_careless=True) as said:
+            watch.start()
+            wait_until("it is seen while they run", lambda: watch.wrong, LIMIT)
+            wait_until("some are refused", lambda: said.now().refused["23514"], LIMIT)
+        found = scene.examine(said)
+        expect(any("that was rolled back" in it for it in found), True, str(found[:3]))
+        expect(any("and its orders leave" in it for it in found), True, str(found[:3]))
+
+
+def by_hand() -> None:
+    parser = argparse.ArgumentParser(description=__doc__, formatter_class=argparse.RawDescriptionHelpFormatter)
+    parser.add_argument("--kills", type=int, default=100)
+    parser.add_argument("--seconds", type=float, default=1e9)
+    parser.add_argument("--seed", type=int, default=random.randrange(1_000_000))
+    parser.add_argument("--only", nargs="+", default=[], choices=list(KILLS))
+    parser.add_argument("--kinds", nargs="+", default=[], choices=list(KINDS))
+    parser.add_argument("--proxies", type=int, default=2)
+    parser.add_argument("--each", type=int, default=10)
+    parser.add_argument("--straight", action="store_true")
+    parser.add_argument("--lazy", action="store_true")
+    parser.add_argument("--standby", action="store_true")
+    parser.add_argument("--without", default="", choices=list(WITHOUT))
+    asked = parser.parse_args()
+    print(f"seed {asked.seed}", flush=True)
+    proxies = 0 if asked.straight else asked.proxies
+    print(run(asked.seed, asked.kills, proxies=proxies, only=asked.only, seconds=asked.seconds, is_lazy=asked.lazy, each=asked.each,
+              has_standby=asked.standby, without=asked.without, kinds=asked.kinds))
+
+
+if __name__ == "__main__":
+    if any(it.startswith("-") for it in sys.argv[1:]):
+        by_hand()
+    else:
+        main(PART)
