@@ -1,8 +1,9 @@
 """Checks that each block of a script, of replies, of psql or of code that the pages show is what the gate runs.
 
 Each block of lines of a script and of replies must be in one piece in a file of examples or in a scenario, with the replies that are shown. The gate
-compares those with what the program writes. Each block with a prompt of psql must be in one piece in the sessions that the gateway's tests replay. Each
-block of Rattle on the page on embedding, and each block of Python of the recipes, must be in one piece in the source of an example, which the gate runs.
+compares those with what the program writes. Each block with a prompt of psql must be in one piece in the sessions that the gateway's tests replay, or in
+those of the page on the proxy, which a test types. Each block of Rattle on the page on embedding, and each block of Python of the recipes, must be in one
+piece in the source of an example, which the gate runs.
 """
 import re
 from typing import Iterator, List, NamedTuple, Tuple
@@ -18,6 +19,8 @@ QUOTES = (
 )
 # What terminals of psql show: in front of each line there is the number of the terminal and `| `.
 SESSIONS = "gateway/clients/pages.psql"
+# The page whose blocks with a prompt a test types itself.
+TYPED = "docs/proxy.md"
 PROMPT = re.compile(r"\w+[=-][*!]?> ")
 SAID = re.compile(r"(bank\d*(\.\d+)?|script)> ")
 ASKED = re.compile(r"bank\d*\.\d+: [A-Z]")
@@ -66,7 +69,8 @@ def served() -> List[Part]:
 
 def typed() -> List[str]:
     """What the terminals of psql show, line by line."""
-    return [line[3:] for line in lines_of(SESSIONS)]
+    by_proxy = [line for _, lines in fenced(TYPED) if is_session(lines) for line in lines]
+    return [line[3:] for line in lines_of(SESSIONS)] + by_proxy
 
 
 def is_script(lines: List[str]) -> bool:

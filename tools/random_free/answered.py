@@ -1,4 +1,5 @@
 """What the replies to the sessions of tools/random-free add up to, and whether they do."""
+# mypy: ignore-errors
 import collections
 import re
 
@@ -59,7 +60,7 @@ class Database:
     def __init__(self):
         self.rows = {key: FIRST for key in SHARED}
         self.names = {key: {"new"} for key in (*SHARED, *PASSING)}
-        self.things = {f"row {key}": Thing() for key in PASSING} | {f"table {number}": Thing() for number in SIDES}
+        self.things = {**{f"row {key}": Thing() for key in PASSING}, **{f"table {number}": Thing() for number in SIDES}}
         self.started()
 
     def started(self):
@@ -82,7 +83,8 @@ class Database:
             expect(last == wanted, f"not {wanted}")
         if last.startswith("OK reserved "):
             number = int(last[12:])
-            expect(len(asker.held) < 256 and number not in self.ids and asker.last < number and self.first_id <= number, "the number, or one reservation too many")
+            is_next = number not in self.ids and asker.last < number and self.first_id <= number
+            expect(len(asker.held) < 256 and is_next, "the number, or one reservation too many")
             self.ids.add(number)
             asker.last = number
             asker.held.append(Held(number, key, changes))
@@ -119,7 +121,8 @@ class Database:
     def back(self, asker, last, _, name):
         places = [place for place, (other, _) in enumerate(asker.savepoints) if other == name]
         if not places:
-            return expect(last == "ERR 43 no such savepoint", "there is none")
+            expect(last == "ERR 43 no such savepoint", "there is none")
+            return
         count = asker.savepoints[places[0]][1]
         expect(last == f"OK rolled back to {name} {len(asker.held) - count}", "how many")
         del asker.savepoints[places[0] + 1:], asker.held[count:]
@@ -197,7 +200,8 @@ class Database:
         if key in PASSING:
             self.things[f"row {key}"].said.add(last != NO_ROW)
         if last == NO_ROW:
-            return expect(key in PASSING, "it stands")
+            expect(key in PASSING, "it stands")
+            return
         expect(last == "OK bounds" and len(shown) == 5, "not the bounds")
         for line, (name, (_, low, high)) in zip(shown[2:], CHECKS.items()):
             found = re.fullmatch(rf"CHECK {name} least (-?\d+) greatest (-?\d+) low {low} high {'none' if high is None else high}", line)

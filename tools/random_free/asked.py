@@ -1,4 +1,5 @@
 """What the sessions of tools/random-free ask."""
+# mypy: ignore-errors
 import collections
 import random
 
@@ -24,11 +25,13 @@ REFUSED = [
     ("ROLLBACK TO NEVER", "ERR 43 no such savepoint", "ERR 43 no such savepoint"),
 ]
 # What is no statement: what stands before its fault, and the rest.
-NO_STATEMENTS = [("", "COMIT"), ("COMMIT ", "COMMIT"), ("SHOW TABLE ", "'STOCK'"), ("SELECT * FROM STOCK WHERE ID = ", "1000000000000000"), ("SAVEPOINT ", 31 * "A"), ("UPDATE STOCK SET NAME = ", "? WHERE ID = 1")]
+NO_STATEMENTS = [("", "COMIT"), ("COMMIT ", "COMMIT"), ("SHOW TABLE ", "'STOCK'"), ("SELECT * FROM STOCK WHERE ID = ", "1000000000000000"),
+                 ("SAVEPOINT ", 31 * "A"), ("UPDATE STOCK SET NAME = ", "? WHERE ID = 1")]
 NO_LINES = ["bank9.1: COMMIT", "bank.65: COMMIT", "COMMIT", "bank.1 COMMIT", "@restart bank", "@join bank", "-- " + 4094 * "-"]
 SILENT = ["", " \t", "-- note"]
 # What a session asks, and how often.
-KINDS = {"reserve": 46, "touch": 3, "commit": 14, "rollback": 5, "savepoint": 5, "back": 5, "insert": 4, "delete": 3, "rename": 4, "row": 4, "rows": 0.3, "bounds": 3, "journal": 0.1,
+KINDS = {"reserve": 46, "touch": 3, "commit": 14, "rollback": 5, "savepoint": 5, "back": 5, "insert": 4, "delete": 3, "rename": 4, "row": 4, "rows": 0.3,
+         "bounds": 3, "journal": 0.1,
          "table": 1, "create": 0.5, "drop": 0.5, "totals": 1, "refused": 2, "no_statement": 1, "no_line": 0.4, "silent": 0.4}
 
 
@@ -56,7 +59,10 @@ class Writer:
     def statement(self, place, session):
         draw = self.draw
         kind = draw.choices(list(KINDS), KINDS.values())[0]
-        ask = lambda text, *words, kind=kind: self.line(place, session, text, kind, *words)
+
+        def ask(text, *words, kind=kind):
+            return self.line(place, session, text, kind, *words)
+
         if kind == "reserve":
             return self.reservation(place, session)
         if kind in ("commit", "rollback"):
@@ -95,8 +101,10 @@ class Writer:
         if kind == "rename":
             name = "".join(self.draw.choice("abcdefgh") for _ in range(self.draw.randint(1, 20)))
             return ask(f"UPDATE STOCK SET NAME = '{name}' WHERE ID = {key}", key, name)
-        texts = {"touch": f"UPDATE STOCK SET PIECES = PIECES + 0 WHERE ID = {key}", "insert": f"INSERT INTO STOCK VALUES ({key}, 'new', {FIRST[0]}, {FIRST[1]})",
-                 "delete": f"DELETE FROM STOCK WHERE ID = {key}", "row": f"SELECT * FROM STOCK WHERE ID = {key}", "bounds": f"SHOW BOUNDS STOCK WHERE ID = {key}"}
+        texts = {"touch": f"UPDATE STOCK SET PIECES = PIECES + 0 WHERE ID = {key}",
+                 "insert": f"INSERT INTO STOCK VALUES ({key}, 'new', {FIRST[0]}, {FIRST[1]})",
+                 "delete": f"DELETE FROM STOCK WHERE ID = {key}", "row": f"SELECT * FROM STOCK WHERE ID = {key}",
+                 "bounds": f"SHOW BOUNDS STOCK WHERE ID = {key}"}
         return ask(texts[kind], key, kind="select" if kind == "row" else kind)
 
     def turn(self):

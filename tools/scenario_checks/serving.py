@@ -64,8 +64,8 @@ def difference(expected: bytes, got: bytes) -> str:
 
 def differences(expected: bytes, got: bytes) -> str:
     """All lines that differ."""
-    lines = [it.decode(errors="backslashreplace").split("\n") for it in (expected, got)]
-    return "\n".join(["", *difflib.unified_diff(*lines, "expected", "got", lineterm="")])
+    wanted, found = (it.decode(errors="backslashreplace").split("\n") for it in (expected, got))
+    return "\n".join(["", *difflib.unified_diff(wanted, found, "expected", "got", lineterm="")])
 
 
 def fault_of(job: Job, part: Part, errors: bytes, is_whole: bool) -> Optional[str]:

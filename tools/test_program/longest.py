@@ -96,7 +96,8 @@ STEP = 40_503
 def most_rows() -> List[Case]:
     """A table takes so many rows, here in no order of their keys, and no more until one is deleted. All of them are shown in order."""
     keys = [place * STEP % (MOST_ROWS + 1) for place in range(1, MOST_ROWS + 1)]
-    made = [(f"bank.1: INSERT INTO T VALUES ({key}, {key % 7})\n" + "@join\n" * (place % 32_768 == 0), "bank.1> OK inserted\n") for place, key in enumerate(keys, 1)]
+    made = [(f"bank.1: INSERT INTO T VALUES ({key}, {key % 7})\n" + "@join\n" * (place % 32_768 == 0), "bank.1> OK inserted\n")
+            for place, key in enumerate(keys, 1)]
     shown = [f"bank.1> {key} | {key % 7}\n" for key in range(2, MOST_ROWS + 2)]
     shown[-1] = "bank.1> 65537 | 8\n"
     script, replies = ("".join(it) for it in zip(

@@ -5,7 +5,7 @@ import os
 from typing import List
 
 from process import Case, Input, Output
-from steps import Copy, Folder, Hold, Link, Meanwhile, Mode, Patch, Pipe, Refuse, Rename, Rights, Run, Same, Serve, Stand, Step, Story, Talk, Write
+from steps import Copy, Folder, Hold, Link, Meanwhile, Mode, Patch, Pipe, Refuse, Rename, Rights, Run, Same, Serve, Stand, Story, Talk, Write
 from texts import CLOSED_INPUT, FOREIGN, LOST_LINK, MISSING_FOLDER, MODES, NO_FILE, READ, Reason, unanswered
 
 TOP = os.path.dirname(os.path.dirname(os.path.dirname(os.path.abspath(__file__))))
@@ -85,7 +85,8 @@ def paths() -> Story:
         Refuse("stores/gone.db", JOURNAL),
         Refuse("stores/hot.db", JOURNAL),
         Refuse("stores/log.db", NO_FILE),
-        Stand("stores", ["-.db", "byte.db", "bänk \U0001f4b0.db", "empty.db", "folder.db", "gone.db-journal", "hot.db", "hot.db-journal", "log.db-wal", "made.db",
+        Stand("stores", ["-.db", "byte.db", "bänk \U0001f4b0.db", "empty.db", "folder.db", "gone.db-journal", "hot.db", "hot.db-journal", "log.db-wal",
+                         "made.db",
                          "note.db"]),
         Same("stores/hot.db", "stores/made.db"),
         Hold("stores/note.db", NOTE),
@@ -466,7 +467,8 @@ def stories() -> List[Story]:
     """All stories of one database, or of few."""
     by_mode = [story(mode) for story in (copied_while_open, in_use, unclosed) for mode in MODES]
     by_modes = [two_modes(*modes) for modes in itertools.permutations(MODES, 2)]
-    return [paths(), SEVERAL_DATABASES, STORES_OF_OTHERS, names(), MOVED_WITH_ITS_LOG, MOVED_WHILE_OPEN, KILLED, MIGRATIONS, WITHOUT_RIGHTS, *by_mode, *by_modes,
+    return [paths(), SEVERAL_DATABASES, STORES_OF_OTHERS, names(), MOVED_WITH_ITS_LOG, MOVED_WHILE_OPEN, KILLED, MIGRATIONS, WITHOUT_RIGHTS, *by_mode,
+            *by_modes,
             one_file_at_rest(), closed_streams(), stopped(), unclosed_and_unwritten()]
 
 
