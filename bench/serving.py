@@ -8,6 +8,7 @@ import subprocess
 import sys
 import tempfile
 import time
+from typing import IO, Callable, Counter, List, Optional, Tuple
 
 HERE = os.path.dirname(os.path.abspath(__file__))
 # How often a script runs.
@@ -18,14 +19,14 @@ START = 1_000_000_000
 class Script:
     """A script in a file, with what is expected of its replies. There may be phases of no lines at its end."""
 
-    def __init__(self, *words, empty_phases=0):
+    def __init__(self, *words: object, empty_phases: int = 0) -> None:
         self.words = " ".join(map(str, words))
         self.file = tempfile.TemporaryFile()
         subprocess.run([f"{HERE}/generate", *self.words.split()], stdout=self.file, check=True)
         self.file.write(b"@join\n" * empty_phases)
         self.file.seek(0)
-        self.expected = collections.Counter()
-        updates = collections.Counter()
+        self.expected: Counter[str] = collections.Counter()
+        updates: Counter[str] = collections.Counter()
         self.databases = 0
         for line in self.file:
             place, _, text = line.partition(b": ")
@@ -41,10 +42,10 @@ class Script:
         # What is measured: the reservations and the COMMITs.
         self.statements = self.expected["OK reserved"] + self.expected["OK committed"]
 
-    def check(self, mode, replies):
+    def check(self, mode: str, replies: IO[bytes]) -> None:
         """Ends the program where the replies aren't those that are expected."""
         replies.seek(0)
-        got = collections.Counter()
+        got: Counter[str] = collections.Counter()
         for line in replies:
             text = line.decode().rstrip("\n")
             kind = re.search(r"> (OK reserved|OK committed|ERR|1 \|) ", text)
@@ -54,7 +55,7 @@ class Script:
             sys.exit(f"{self.words}, {mode}: got {dict(got)}, and not {dict(self.expected)}")
 
 
-def serve(program, mode, script, watch=None):
+def serve(program: str, mode: str, script: Script, watch: Optional[Callable[[int], object]] = None) -> Tuple[float, float]:
     """Serves a script once, in the mode `run` or `free`, and answers the seconds that it took: by the clock, and of processor time. What is to
     watch the program while it runs gets its process. The program's end tells that its histories were right."""
     with tempfile.TemporaryFile() as replies:
@@ -72,12 +73,12 @@ def serve(program, mode, script, watch=None):
         return wall, used.ru_utime + used.ru_stime
 
 
-def least(program, mode, script):
+def least(program: str, mode: str, script: Script) -> List[float]:
     """The least that several runs of a script took, by the clock and of processor time."""
     return [min(times) for times in zip(*(serve(program, mode, script) for _ in range(RUNS)))]
 
 
-def costs(program, kind, sessions, count, each):
+def costs(program: str, kind: str, sessions: int, count: int, each: int) -> List[List[float]]:
     """What a statement costs by `run` and by `free`, in seconds by the clock and of processor time: that of a script, less that of one that
     makes the tables alone."""
     script, without = Script(kind, sessions, count, each), Script(kind, sessions, 0)

@@ -43,7 +43,7 @@ class Server:
         """Returns the program's processor time."""
         nanoseconds = 0
         for path in glob.glob(f"/proc/{self.process.pid}/task/*/schedstat"):
-            with open(path) as it:
+            with open(path, encoding="utf-8") as it:
                 nanoseconds += int(it.read().split()[0])
         return nanoseconds / 1e9
 
@@ -52,7 +52,7 @@ class Server:
         store."""
         before = self.spent()
         words = [load, str(self.clients), str(seconds), way, "own" if own else "shared"]
-        done = subprocess.run(words, stdin=self.process.stdout, stdout=self.process.stdin, stderr=subprocess.PIPE, text=True)
+        done = subprocess.run(words, stdin=self.process.stdout, stdout=self.process.stdin, stderr=subprocess.PIPE, text=True, check=False)
         if done.returncode:
             sys.exit(f"{self.program}: {done.stderr}")
         count, wall, client = done.stderr.split()

@@ -3,6 +3,7 @@
 Its rows are locked by the transactions that change them. It listens at a socket in the file system alone. The program's amount is a column, and its
 floor stands in WHERE. The rows that are changed stand on pages of their own, half of which is free for their versions.
 """
+# mypy: ignore-errors
 import glob
 import os
 import pwd
@@ -43,8 +44,8 @@ def lacks():
 class Server:
     """A server in a folder of its own, as long as it is in hand. It refuses to run as root, so that root runs it as `nobody`."""
 
-    def __init__(self, where=None, keeps=IN_MEMORY):
-        self.where, self.keeps = where, keeps
+    def __init__(self, where=None, keeps=None):
+        self.where, self.keeps = where, keeps or IN_MEMORY
 
     def __enter__(self):
         self.folder = tempfile.TemporaryDirectory(dir=self.where)
@@ -58,11 +59,11 @@ class Server:
         subprocess.run(words, cwd=self.folder.name, stdout=subprocess.DEVNULL, check=True, **who)
         options = self.keeps | {"listen_addresses": "", "unix_socket_directories": self.folder.name}
         words = [found("postgres"), "-D", self.data, *(word for name, value in options.items() for word in ("-c", f"{name}={value}"))]
-        with open(f"{self.folder.name}/log", "w") as log:
+        with open(f"{self.folder.name}/log", "w", encoding="utf-8") as log:
             self.process = subprocess.Popen(words, cwd=self.folder.name, stdout=log, stderr=log, **who)
         while not self.is_ready():
             if self.process.poll() is not None:
-                with open(f"{self.folder.name}/log") as log:
+                with open(f"{self.folder.name}/log", encoding="utf-8") as log:
                     raise SystemExit(f"postgres: {log.read()}")
             time.sleep(0.05)
         return self
@@ -76,7 +77,7 @@ class Server:
         return [found("psql"), "-h", self.folder.name, "-U", "bench", "-d", "postgres", "-X", "-q", "-A", "-t", "-v", "ON_ERROR_STOP=1"]
 
     def is_ready(self):
-        return subprocess.run([*self.psql(), "-c", "SELECT 1"], stdout=subprocess.DEVNULL, stderr=subprocess.DEVNULL).returncode == 0
+        return subprocess.run([*self.psql(), "-c", "SELECT 1"], stdout=subprocess.DEVNULL, stderr=subprocess.DEVNULL, check=False).returncode == 0
 
     def ask(self, text):
         return subprocess.run(self.psql(), input=text, capture_output=True, text=True, check=True).stdout.strip()
@@ -86,7 +87,7 @@ class Server:
         ticks = 0
         for stat in glob.glob("/proc/[0-9]*/stat"):
             try:
-                with open(stat) as it:
+                with open(stat, encoding="utf-8") as it:
                     numbers = it.read().rpartition(")")[2].split()
             except (FileNotFoundError, ProcessLookupError):
                 continue

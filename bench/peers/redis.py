@@ -6,6 +6,7 @@ rises that are pending. A session is a list of the numbers that it changes, and 
 so is a COMMIT or a ROLLBACK; redis runs no two at a time. Commands go over a socket in the file system, 200 at a time. The time is the
 processor time of the server alone.
 """
+# mypy: ignore-errors
 import re
 import socket
 import subprocess
@@ -45,8 +46,8 @@ return #held / 2
 class Server:
     """A redis server in a folder of its own, as long as it is in hand."""
 
-    def __init__(self, where=None, keeps=IN_MEMORY):
-        self.where, self.keeps = where, keeps
+    def __init__(self, where=None, keeps=None):
+        self.where, self.keeps = where, keeps or IN_MEMORY
 
     def __enter__(self):
         self.folder = tempfile.TemporaryDirectory(dir=self.where)
