@@ -19,6 +19,8 @@ from proxy.test.standin import Cluster
 
 PROXY = Path(os.environ.get("ESCROWD_PROXY", BUILT / "release/escrowd-proxy"))
 PORT = 6000
+# The proxy starts the server that the other tests have too.
+ENVIRONMENT = {**os.environ, "ESCROWD": str(PROGRAM)}
 TOP = Path(__file__).resolve().parents[2]
 Act = TypeVar("Act", bound=Callable[..., None])
 
@@ -72,7 +74,7 @@ class Proxy(Server):
 
     def start(self) -> None:
         listen = self.address or self.folder
-        self.launch([PROXY, "--listen", listen, "--port", PORT, "--postgres", self.postgres, *self.options], env={**os.environ, "ESCROWD": str(PROGRAM)})
+        self.launch([PROXY, "--listen", listen, "--port", PORT, "--postgres", self.postgres, *self.options], env=ENVIRONMENT)
         if not self.address:
             self.await_socket(self.socket)
 

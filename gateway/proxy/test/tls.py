@@ -20,7 +20,7 @@ from psycopg import errors
 
 from clients.servers import Server, free_port, wait_until
 from clients.suite import main
-from proxy.test.harness import PROXY, SharedPart
+from proxy.test.harness import ENVIRONMENT, PROXY, SharedPart
 from proxy.test.standin import Cluster
 
 HBA = "local all all trust\nhost all all all scram-sha-256\n"
@@ -100,7 +100,7 @@ class Proxy(Server):
         self.words += more
 
     def start(self) -> None:
-        self.launch([PROXY, "--listen", f"localhost:{self.port}", "--postgres", self.target, *self.words])
+        self.launch([PROXY, "--listen", f"localhost:{self.port}", "--postgres", self.target, *self.words], env=ENVIRONMENT)
         wait_until("the proxy listens", lambda: self.running().poll() is not None or self.is_listening())
 
     def is_listening(self) -> bool:
