@@ -75,6 +75,12 @@ def resident(process: int) -> int:
     raise AssertionError(f"process {process} has ended")
 
 
+def heard(fault: BaseException) -> List[str]:
+    """Returns what the servers said that a fault has ended, to which they add."""
+    said: List[str] = fault.__dict__.setdefault("heard", [])
+    return said
+
+
 class Server:
     """A process with a temporary folder, which goes when the server is left."""
 
@@ -96,7 +102,7 @@ class Server:
 
     def __exit__(self, kind: Optional[Type[BaseException]], value: Optional[BaseException], trace: Optional[TracebackType]) -> None:
         if value is not None and self.said():
-            value.args = (f"{value}\n  {type(self).__name__} said: {self.said()[-2000:]}",)
+            heard(value).append(f"{type(self).__name__} said: {self.said()[-2000:]}")
         self.kill()
         shutil.rmtree(self.folder, ignore_errors=True)
 

@@ -9,7 +9,7 @@ import traceback
 from dataclasses import dataclass, field
 from typing import Callable, List, Union
 
-from clients.servers import LOAD, Gateway
+from clients.servers import LOAD, Gateway, heard
 
 # The lines of a traceback that a report shows.
 LINES_OF_FAULT = 20
@@ -93,9 +93,15 @@ class Part:
                 case.run()
             except Skipped as skipped:
                 outcome, why = SKIPPED, str(skipped)
-            except Exception:
-                outcome, why = FAILED, "".join(traceback.format_exc().splitlines(keepends=True)[-LINES_OF_FAULT:])
+            except Exception as fault:
+                outcome, why = FAILED, reason(fault)
             print(Report(self.name, name, outcome, time.monotonic() - begin, why).to_line(), flush=True)
+
+
+def reason(fault: Exception) -> str:
+    """Returns what servers said, then where a fault comes from, and last the fault itself: the sums show the last line."""
+    lines = "".join(traceback.format_exception(type(fault), fault, fault.__traceback__)).rstrip().splitlines()
+    return "\n".join([*(it.rstrip() for it in heard(fault)), *lines[-LINES_OF_FAULT:]])
 
 
 def expect(got: object, wanted: object, what: str = "") -> None:
