@@ -135,11 +135,10 @@ pub async fn fold(hub: Arc<Hub>, target: Arc<Target>, mut tasks: UnboundedReceiv
         "escrowd-proxy folder",
         "-c synchronous_commit=off -c lock_timeout=300",
     );
-    // The numbers of tables whose journals are still to be swept.
-    let mut sweep: Vec<i32> = Vec::new();
+    let mut sweep = Sweep::default();
     let mut pause = AGAIN;
     loop {
-        let task = if sweep.is_empty() {
+        let task = if sweep.tables.is_empty() {
             match tasks.recv().await {
                 Some(task) => Some(task),
                 None => return,
@@ -170,18 +169,8 @@ pub async fn fold(hub: Arc<Hub>, target: Arc<Target>, mut tasks: UnboundedReceiv
                 }
                 hub.report(generation, event);
             }
-            Some(FolderTask::Sweep) => {
-                let catalog = hub.catalog().borrow().clone();
-                let tables = catalog.map_or_else(Vec::new, |it| it.tables().to_vec());
-                sweep = tables.iter().map(|table| table.number).collect();
-            }
-            None => {
-                if let Some(&number) = sweep.last() {
-                    if !sweep_piece(&mut own, number, hub.epoch()).await {
-                        sweep.pop();
-                    }
-                }
-            }
+            Some(FolderTask::Sweep(epoch)) => sweep = Sweep::of(&hub, epoch).await,
+            None => sweep.go_on(&hub, &mut own).await,
         }
     }
 }
@@ -235,27 +224,71 @@ fn fold_text(table: i32) -> String {
     format!("SELECT escrow.fold_{}($1::text[])", table)
 }
 
-/// Folds some of what former owners have left, and removes their marks. Returns whether there may be more.
-async fn sweep_piece(own: &mut Own, table: i32, epoch: i64) -> bool {
-    let text = format!("SELECT escrow.sweep_{table}($1, $2)");
-    match own.query(&text, &[&epoch, &PIECE]).await {
-        Ok(rows) => match rows.first().map_or(0, |row| row.get::<_, i32>(0)) {
-            0 => false,
-            count => {
-                tracing::info!("{count} rows of a former owner are folded (table {table})");
-                true
+/// What the owner of an epoch has still to do about what former owners have left.
+#[derive(Default)]
+struct Sweep {
+    epoch: i64,
+    /// The numbers of the tables whose journals are still to be swept.
+    tables: Vec<i32>,
+}
+
+impl Sweep {
+    /// Begins with all tables, once they are known: a proxy may be the owner before it has read what is declared.
+    async fn of(hub: &Hub, epoch: i64) -> Sweep {
+        let mut catalog = hub.catalog();
+        while catalog.borrow().is_none() && catalog.changed().await.is_ok() {}
+        let known = catalog.borrow().clone().unwrap_or_default();
+        let tables = known.tables().iter().map(|table| table.number).collect();
+        Sweep { epoch, tables }
+    }
+
+    /// Goes on with a piece. What fails for a passing reason is tried again, as long as this proxy is the owner of the epoch.
+    async fn go_on(&mut self, hub: &Hub, own: &mut Own) {
+        let table = match self.tables.last() {
+            Some(&table) if hub.serves(self.epoch) => table,
+            _ => return self.tables.clear(),
+        };
+        match sweep_piece(own, table, self.epoch).await {
+            Swept::Some => {}
+            Swept::All => {
+                self.tables.pop();
             }
-        },
-        Err(Failure::Lost(why)) => {
-            tracing::warn!("a journal is not folded yet (table {}): {}", table, why);
-            sleep(PAUSE).await;
-            true
-        }
-        Err(Failure::Refused(error)) => {
-            tracing::error!("a journal cannot be folded (table {}): {}", table, error);
-            false
+            Swept::Nothing => sleep(PAUSE).await,
         }
     }
+}
+
+/// What a piece of a sweep has done.
+enum Swept {
+    /// There may be more.
+    Some,
+    /// There is no more, or nothing that can be folded.
+    All,
+    /// It failed for a passing reason.
+    Nothing,
+}
+
+/// Folds some of what former owners have left, and removes their marks.
+async fn sweep_piece(own: &mut Own, table: i32, epoch: i64) -> Swept {
+    let text = format!("SELECT escrow.sweep_{table}($1, $2)");
+    let why = match own.query(&text, &[&epoch, &PIECE]).await {
+        Ok(rows) => match rows.first().map_or(0, |row| row.get::<_, i32>(0)) {
+            0 => return Swept::All,
+            count => {
+                tracing::info!("{count} rows of a former owner are folded (table {table})");
+                return Swept::Some;
+            }
+        },
+        Err(Failure::Refused(error)) if is_gone(&error) => return Swept::All,
+        Err(Failure::Refused(error)) if !is_passing(&error) => {
+            tracing::error!("a journal cannot be folded (table {table}): {error}");
+            return Swept::All;
+        }
+        Err(Failure::Refused(error)) => error.to_string(),
+        Err(Failure::Lost(why)) => why,
+    };
+    tracing::warn!("a journal is not folded yet (table {table}): {why}");
+    Swept::Nothing
 }
 
 /// Returns whether an error says nothing of what was to be folded, so that it is tried again: a lock, a deadlock, a

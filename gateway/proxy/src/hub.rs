@@ -80,8 +80,8 @@ pub enum KeeperTask {
 pub enum FolderTask {
     /// Fold these keys.
     Fold(Generation, Vec<Key>),
-    /// Fold whatever journals have.
-    Sweep,
+    /// Fold whatever journals have, for the owner of this epoch.
+    Sweep(i64),
 }
 
 /// What a loader is asked for.
@@ -128,7 +128,7 @@ struct State {
     /// The number of commits when the last fold began.
     commits: u64,
     epoch: i64,
-    /// The last number that a note, a greeting or a tag of the epoch has.
+    /// The last number that a note, a greeting or a tag has.
     number: i64,
 }
 
@@ -298,18 +298,23 @@ impl Hub {
         lock(&self.state).epoch
     }
 
-    /// Returns a number that was not used in this epoch.
+    /// Returns whether this proxy grants as the owner of an epoch, as far as it knows.
+    pub fn serves(&self, epoch: i64) -> bool {
+        let state = lock(&self.state);
+        state.epoch == epoch && state.protocol.ownership() == Ownership::Serving
+    }
+
+    /// Returns a number that is above all before.
     pub fn number(&self) -> i64 {
         let mut state = lock(&self.state);
         state.number += 1;
         state.number
     }
 
-    /// Begins an epoch, whose lock the keeper holds.
+    /// Begins an epoch, which PostgreSQL has. Numbers go on: who still asks for one in the former epoch gets none that
+    /// PostgreSQL has had before (rule 18).
     pub fn begin_epoch(&self, epoch: i64) {
-        let mut state = lock(&self.state);
-        state.epoch = epoch;
-        state.number = 0;
+        lock(&self.state).epoch = epoch;
     }
 
     /// Keeps the secret of schema `escrow`.
@@ -342,9 +347,9 @@ impl Hub {
         self.refresh.notified().await;
     }
 
-    /// Folds whatever journals have.
-    pub fn sweep(&self) {
-        let _ = self.workers.folder.send(FolderTask::Sweep);
+    /// Folds whatever journals have, for the owner of this epoch.
+    pub fn sweep(&self, epoch: i64) {
+        let _ = self.workers.folder.send(FolderTask::Sweep(epoch));
     }
 
     /// Some time has passed.
@@ -539,5 +544,29 @@ impl State {
                 lines.send(&bytes);
             }
         }
+    }
+}
+
+#[cfg(test)]
+mod tests {
+    use super::*;
+
+    #[test]
+    fn numbers_go_on_in_the_next_epoch() {
+        let (keeper, _to_keeper) = unbounded_channel();
+        let (folder, _to_folder) = unbounded_channel();
+        let (loader, _to_loader) = unbounded_channel();
+        let (starter, _to_starter) = unbounded_channel();
+        let workers = Workers {
+            keeper,
+            folder,
+            loader,
+            starter,
+        };
+        let hub = Hub::new(workers, Metrics::new().unwrap());
+        hub.begin_epoch(7);
+        assert_eq!((hub.epoch(), hub.number(), hub.number()), (7, 1, 2));
+        hub.begin_epoch(5);
+        assert_eq!((hub.epoch(), hub.number()), (5, 3));
     }
 }

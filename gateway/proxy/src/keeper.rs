@@ -266,12 +266,12 @@ async fn carry_out(
     match action {
         Action::TakeOwner if open.epoch != 0 => {}
         Action::TakeOwner if open.take_owner().await? => {
-            hub.begin_epoch(open.epoch);
             hub.handle(Event::OwnerTaken);
         }
         Action::TakeOwner => hub.handle(Event::OwnerElsewhere),
         Action::SetEpoch => {
             open.set_epoch().await?;
+            hub.begin_epoch(open.epoch);
             hub.handle(Event::EpochSet);
         }
         Action::EndHolders => {
@@ -287,7 +287,7 @@ async fn carry_out(
             }
             hub.handle(Event::Holders { any });
             if !any {
-                hub.sweep();
+                hub.sweep(open.epoch);
             }
         }
         Action::Ask(connection, ids) => {

@@ -144,6 +144,41 @@ def a_lost_keeper_and_a_restart_are_taken_over(cluster: Cluster) -> None:
 
 
 @part
+def what_a_former_owner_left_is_folded(cluster: Cluster) -> None:
+    """Also if the journal is locked meanwhile, or PostgreSQL starts behind the proxy."""
+    former = stock(cluster)
+    table, _ = former.declared("stock")
+
+    def leave() -> None:
+        """Leaves a change in the journal."""
+        it = Owner(cluster)
+        it.load("stock", 1)
+        Client(it).note("stock", 1, -1)
+        it.keeper.close()
+
+    def is_folded(pieces: int) -> bool:
+        return (value(cluster, "SELECT pieces FROM stock WHERE id = 1"), value(cluster, f"SELECT count(*) FROM escrow.held_{table}")) == (pieces, 0)
+
+    former.keeper.close()
+    wait_until("nobody is the owner", lambda: owner(cluster) is None)
+    leave()
+    with cluster.connect() as it:
+        it.execute(f"BEGIN; LOCK TABLE escrow.journal_{table} IN SHARE MODE")
+        with Proxy(cluster) as proxy:
+            wait_until("it is tried", lambda: "is not folded yet" in proxy.said())
+            it.execute("COMMIT")
+            wait_until("it is folded", lambda: is_folded(9), 20)
+            assert "cannot be folded" not in proxy.said(), proxy.said()
+    wait_until("nobody is the owner", lambda: owner(cluster) is None)
+    leave()
+    cluster.kill()
+    with Proxy(cluster) as proxy:
+        wait_until("it waits", lambda: "cannot be the owner" in proxy.said())
+        cluster.again()
+        wait_until("it is folded too", lambda: is_folded(8), 20)
+
+
+@part
 def a_stranger_with_the_lock_is_ended(cluster: Cluster) -> None:
     prepare(cluster)
     with cluster.connect() as it:
