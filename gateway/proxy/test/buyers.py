@@ -468,7 +468,7 @@ class Buyer(threading.Thread):
         """Returns the connection, and opens it if there is none."""
         while self.connection is None or self.connection.closed:
             try:
-                self.connection = psycopg.connect(self.draw.choice(self.dsns), autocommit=True, connect_timeout=5, prepare_threshold=None)
+                self.connection = psycopg.connect(self.draw.choice(self.dsns), autocommit=True, connect_timeout=30, prepare_threshold=None)
                 for name, statement in PREPARED.items():
                     result = self.connection.pgconn.prepare(name, statement)
                     if result.status != ExecStatus.COMMAND_OK:

@@ -24,7 +24,7 @@ import sys
 import threading
 import time
 from collections import Counter
-from contextlib import ExitStack, contextmanager
+from contextlib import ExitStack, contextmanager, suppress
 from dataclasses import dataclass, field
 from pathlib import Path
 from types import TracebackType
@@ -33,7 +33,7 @@ from typing import Any, Callable, Dict, FrozenSet, Iterator, List, Mapping, Name
 import psycopg
 from psycopg import errors
 
-from clients.servers import PORT, children, wait_until
+from clients.servers import PATIENCE, PORT, children, wait_until
 from clients.suite import Part, expect, main
 from proxy.test.buyers import ALONE, KINDS, TABLES, Line
 from proxy.test.harness import TOP, Forwarder, Proxy, Standby
@@ -41,10 +41,12 @@ from proxy.test.standin import Cluster
 
 PART = Part("proxy_truth")
 PROCESSES, EACH = 4, 10
-# The answered orders that have to come behind a kill, and the seconds in which they do.
-GOES_ON, LIMIT = 40, 30.0
+# The answered orders that have to come behind a kill, and the seconds in which they do: those, or so many times what the start of all took.
+GOES_ON, LIMIT, STARTS = 40, 60.0, 20
+# The seconds behind which a case kills no more.
+SECONDS = 80.0 * PATIENCE
 # What the proxy's log may not have.
-ALARMS = re.compile(r"(?im)^.*(panicked|alarm|fold was refused|cannot be folded|the server lacks a row|that no note gives|was not expected).*$")
+ALARMS = re.compile(r"(?i)panicked|alarm|fold was refused|cannot be folded|the server lacks a row|that no note gives|was not expected")
 
 
 # Rules that are taken away from schema escrow, as a text in it and what takes its place. The test has to find that: `twice` at once, the others
@@ -57,12 +59,31 @@ WITHOUT = {
 }
 
 
+class Lines:
+    """The lines of a file that grows, and that may not be there yet."""
+
+    def __init__(self, path: Path) -> None:
+        self.path, self.at = path, 0
+
+    def new(self) -> Iterator[str]:
+        """Returns what was added since the last call, line by line."""
+        if not self.path.exists():
+            return
+        with open(self.path, encoding="utf-8", errors="replace") as it:
+            it.seek(self.at)
+            while True:
+                line = it.readline()
+                if not line.endswith("\n"):
+                    return
+                self.at = it.tell()
+                yield line
+
+
 @dataclass
 class Said:
     """What the buyers have said so far."""
 
-    file: Path
-    at: int = 0
+    lines: Lines
     answered: Set[str] = field(default_factory=set)
     aborted: Set[str] = field(default_factory=set)
     unknown: Set[FrozenSet[str]] = field(default_factory=set)
@@ -70,22 +91,10 @@ class Said:
     refused: "Counter[str]" = field(default_factory=Counter)
     faults: List[str] = field(default_factory=list)
 
-    def read(self) -> None:
-        """Reads what was added."""
-        if not self.file.exists():
-            return
-        with open(self.file, encoding="utf-8") as it:
-            it.seek(self.at)
-            while True:
-                line = it.readline()
-                if not line.endswith("\n"):
-                    return
-                self.at = it.tell()
-                self.hear(*line.split())
-
     def now(self) -> "Said":
         """Returns it with what was added."""
-        self.read()
+        for line in self.lines.new():
+            self.hear(*line.split())
         return self
 
     def hear(self, what: str, *words: str) -> None:
@@ -162,6 +171,9 @@ class Watch(threading.Thread):
                             return
             except psycopg.OperationalError:
                 time.sleep(0.05)
+            except psycopg.Error as error:
+                self.wrong = f"it cannot be asked whether stock and orders fit: {error}"
+                return
 
 
 class Scene:
@@ -171,7 +183,8 @@ class Scene:
         self.stack = ExitStack()
         self.is_lazy = is_lazy
         self.change = WITHOUT.get(without)
-        settings = ("deadlock_timeout=100ms", f"synchronous_commit={'off' if is_lazy else 'on'}", "log_min_messages=fatal", "max_wal_size=4GB")
+        settings = ("deadlock_timeout=100ms", f"synchronous_commit={'off' if is_lazy else 'on'}", "log_min_messages=fatal", "max_wal_size=4GB",
+                    "max_connections=400")
         self.cluster = Cluster(*settings)
         self.standby = Standby(self.cluster) if has_standby else None
         self.proxies: List[Proxy] = []
@@ -181,6 +194,9 @@ class Scene:
         self.table = "escrow.now_stock" if proxies else "stock"
         self.section = 0
         self.crashes = 0
+        self.limit = LIMIT
+        self.logs: List[Lines] = []
+        self.told: List[str] = []
 
     def __enter__(self) -> "Scene":
         try:
@@ -194,7 +210,8 @@ class Scene:
         self.stack.__exit__(kind, value, trace)
 
     def open(self) -> None:
-        """Starts all."""
+        """Starts all, which tells how slow the machine is."""
+        begin = time.monotonic()
         self.stack.enter_context(self.cluster)
         self.cluster.run(*TABLES, "CREATE TABLE base (id integer PRIMARY KEY, pieces integer NOT NULL)")
         if self.wanted:
@@ -211,6 +228,8 @@ class Scene:
             self.fronts.append(self.forwarder(proxy.socket))
         if not self.wanted:
             self.fronts = [self.forwarder(it.socket) for it in servers]
+        self.logs = [Lines(it.folder / "said") for it in self.proxies]
+        self.limit = max(LIMIT, STARTS * (time.monotonic() - begin))
 
     def forwarder(self, target: Path) -> Forwarder:
         """Starts a forwarder."""
@@ -220,71 +239,111 @@ class Scene:
         """Returns how buyers connect: to each, and then the others."""
         return [connection_string(self.fronts[at:] + self.fronts[:at]) for at in range(len(self.fronts))]
 
+    def wait(self, what: str, is_so: Callable[[], object]) -> None:
+        """Waits until something holds. Fails with what PostgreSQL's connections do if it does not hold in time."""
+        try:
+            wait_until(what, is_so, self.limit)
+        except AssertionError as late:
+            query = ("SELECT count(*) || ' ' || concat_ws(' ', application_name, state, wait_event, left(query, 60)) FROM pg_stat_activity "
+                     "WHERE backend_type = 'client backend' GROUP BY application_name, state, wait_event, left(query, 60) ORDER BY count(*) DESC")
+            try:
+                with self.cluster.connect() as it:
+                    state = ", ".join(text for text, in it.execute(query.encode()))
+            except psycopg.Error as error:
+                state = str(error)
+            raise AssertionError(f"{late}; PostgreSQL: {' '.join(state.split())}") from late
+
+    def ask(self, query: str) -> List[Any]:
+        """Returns the rows of a query of PostgreSQL, as soon as it serves."""
+        found: List[Any] = []
+
+        def is_answered() -> bool:
+            try:
+                with self.cluster.connect() as it:
+                    found.extend(it.execute(query.encode()).fetchall())
+            except psycopg.OperationalError:
+                return False
+            return True
+
+        self.wait(f"PostgreSQL answers {query}", is_answered)
+        return found
+
     def found(self) -> Found:
         """Returns what PostgreSQL has."""
-        with self.cluster.connect() as it:
-            orders = {key: Line(key, item, pieces) for key, item, pieces in it.execute("SELECT key, item, pieces FROM orders")}
-            before = dict(it.execute("SELECT id, pieces FROM base").fetchall())
-            return Found(orders, before, dict(it.execute("SELECT id, pieces FROM stock").fetchall()))
+        orders = {key: Line(key, item, pieces) for key, item, pieces in self.ask("SELECT key, item, pieces FROM orders")}
+        return Found(orders, dict(self.ask("SELECT id, pieces FROM base")), dict(self.ask("SELECT id, pieces FROM stock")))
 
-    def pending(self) -> int:
-        """Returns how many notes wait for a fold."""
-        with self.cluster.connect() as it:
-            numbers = it.execute("SELECT number FROM escrow.declared").fetchall()
-            return sum(it.execute(f"SELECT count(*) FROM escrow.journal_{number}".encode()).fetchall()[0][0] for number, in numbers)
+    def is_folded(self) -> bool:
+        """Returns whether no note waits for a fold."""
+        return not any(self.ask(f"SELECT FROM escrow.journal_{number} LIMIT 1") for number, in self.ask("SELECT number FROM escrow.declared"))
+
+    def is_decided(self) -> bool:
+        """Returns whether the owner knows of no open reservation: PostgreSQL may hear later than the buyers that a connection is lost."""
+        try:
+            with self.connect() as it:
+                return it.execute("SELECT FROM escrow.reservations()").fetchall() == []
+        except psycopg.OperationalError:
+            return False
 
     @contextmanager
     def buying(self, seed: int, kinds: Sequence[str] = (), is_careless: bool = False) -> Iterator["Said"]:
         """Starts the buyers over empty orders. At its end they have ended."""
         self.section += 1
         self.cluster.run("TRUNCATE receipts, orders, base", "INSERT INTO base SELECT id, pieces FROM stock")
-        said = Said(self.cluster.folder / f"said-{self.section}")
+        said = Said(Lines(self.cluster.folder / f"said-{self.section}"))
         more = [*(["--careless"] if is_careless else []), *(["--kinds", *kinds] if kinds else []), "--"]
         words = [sys.executable, "-B", "-m", "proxy.test.buyers"]
         buyers = [
-            subprocess.Popen([*words, *more, str(place * EACH), str(EACH), str(seed * 1000 + self.section), str(said.file), *self.dsns()], cwd=TOP)
+            subprocess.Popen([*words, *more, str(place * EACH), str(EACH), str(seed * 1000 + self.section), str(said.lines.path), *self.dsns()], cwd=TOP)
             for place in range(PROCESSES)
         ]
         try:
             yield said
             for it in buyers:
                 it.terminate()
-            for it in buyers:
-                expect(it.wait(60) in (0, -signal.SIGTERM), True, "a process of buyers")
+            self.wait("the buyers end", lambda: all(it.poll() is not None for it in buyers))
+            expect({it.returncode for it in buyers} - {0, -signal.SIGTERM}, set(), "how processes of buyers end")
         finally:
             for it in buyers:
                 it.kill()
                 it.wait()
-            said.read()
+            said.now()
 
     def examine(self, said: Said) -> List[str]:
         """Returns what is wrong, once the buyers have ended."""
         if self.wanted:
-            wait_until("the journals are empty", lambda: self.alarms() or self.pending() == 0, LIMIT)
+            self.wait("the journals are empty, and nothing is reserved", lambda: self.alarms() or self.is_folded() and self.is_decided())
         found = self.found()
         wrong = wrongs(said, found, may_lose=self.is_lazy and self.crashes > 0) + self.alarms()
         return wrong or self.reserved(found.stock)
 
     def alarms(self) -> List[str]:
-        """Returns what proxies say that none may say."""
-        return [f"the proxy says: {line[0]}" for it in self.proxies for line in ALARMS.finditer(it.said())]
+        """Returns what proxies have said that none may say."""
+        self.told += [f"the proxy says: {line.strip()}" for log in self.logs for line in log.new() if ALARMS.search(line)]
+        return self.told
 
     def reserved(self, stock: Mapping[int, int]) -> List[str]:
         """Returns which rows don't give just what they have: all of it, and nothing more."""
-        wrong: List[str] = []
-        with self.connect() as it:
-            for item, pieces in stock.items():
-                for more in (0, 1):
-                    try:
-                        it.execute("BEGIN")
-                        it.execute("UPDATE stock SET pieces = pieces - %s WHERE id = %s", (pieces + more, item))
-                        is_given = True
-                    except errors.CheckViolation:
-                        is_given = False
-                    it.execute("ROLLBACK")
-                    if is_given != (more == 0):
-                        wrong.append(f"item {item} with {pieces} {'gives' if is_given else 'refuses'} {pieces + more}")
-        return wrong
+        return [f"item {item} with {pieces} {'gives' if more else 'refuses'} {pieces + more}"
+                for item, pieces in stock.items() for more in (0, 1) if self.gives(item, pieces + more) == bool(more)]
+
+    def gives(self, item: int, pieces: int) -> bool:
+        """Returns whether a row gives pieces, which it gets back. Asks again if an answer says nothing of that."""
+        given: List[bool] = []
+
+        def is_answered() -> bool:
+            try:
+                with self.connect() as it, it.transaction(force_rollback=True):
+                    it.execute("UPDATE stock SET pieces = pieces - %s WHERE id = %s", (pieces, item))
+                given.append(True)
+            except errors.CheckViolation:
+                given.append(False)
+            except psycopg.OperationalError:
+                return False
+            return True
+
+        self.wait(f"item {item} is asked for {pieces}", is_answered)
+        return given[0]
 
     def connect(self) -> "psycopg.Connection[Any]":
         """Connects as a buyer, as soon as it can."""
@@ -301,7 +360,7 @@ class Scene:
                 return True
             return False
 
-        wait_until("a connection is served", opens, LIMIT)
+        self.wait("a connection is served", opens)
         return found[0]
 
 
@@ -328,11 +387,7 @@ def owner(scene: Scene, draw: random.Random) -> Proxy:
     """Returns the proxy that has said last that it is the owner, mostly; or any."""
     if draw.random() < 0.3:
         return draw.choice(scene.proxies)
-    try:
-        with scene.cluster.connect() as it:
-            number = it.execute("SELECT last_value FROM escrow.epoch").fetchall()[0][0]
-    except psycopg.Error:
-        return draw.choice(scene.proxies)
+    number, = scene.ask("SELECT last_value FROM escrow.epoch")[0]
     return next((it for it in scene.proxies if f"epoch {number}" in it.said()), scene.proxies[0])
 
 
@@ -357,7 +412,8 @@ def stopped(scene: Scene, draw: random.Random) -> None:
 def program(scene: Scene, draw: random.Random) -> None:
     """What a proxy has started: the server."""
     for it in children(owner(scene, draw).running().pid):
-        os.kill(it, signal.SIGKILL)
+        with suppress(ProcessLookupError):
+            os.kill(it, signal.SIGKILL)
 
 
 @kill(needs_proxy=True)
@@ -397,12 +453,29 @@ def restart(scene: Scene, draw: random.Random) -> None:
 def backend(scene: Scene, draw: random.Random) -> None:
     """kill -9 of a backend, at which PostgreSQL starts anew by itself."""
     scene.crashes += 1
-    with scene.cluster.connect() as it:
-        found = it.execute("SELECT pid FROM pg_stat_activity WHERE backend_type = 'client backend' AND pid <> pg_backend_pid() "
-                           "ORDER BY wait_event IS NULL DESC, random()").fetchall()
-    os.kill(draw.choice(found[:10])[0], signal.SIGKILL)
-    time.sleep(0.2)
-    wait_until("PostgreSQL is back", lambda: scene.cluster.psql("bank", "SELECT 1") == 0)
+
+    def is_killed() -> bool:
+        found = scene.ask("SELECT pid FROM pg_stat_activity WHERE backend_type = 'client backend' AND pid <> pg_backend_pid() "
+                          "ORDER BY wait_event IS NULL DESC, random() LIMIT 10")
+        try:
+            os.kill(draw.choice(found)[0], signal.SIGKILL)
+        except ProcessLookupError:
+            return False  # it has ended meanwhile
+        return True
+
+    with scene.cluster.connect() as witness:
+        scene.wait("a backend is killed", is_killed)
+        scene.wait("PostgreSQL ends all connections", lambda: is_ended(witness))
+    scene.ask("SELECT 1")
+
+
+def is_ended(connection: "psycopg.Connection[Any]") -> bool:
+    """Returns whether PostgreSQL has ended a connection."""
+    try:
+        connection.execute("SELECT 1")
+    except psycopg.OperationalError:
+        return True
+    return False
 
 
 def failover(scene: Scene, draw: random.Random) -> None:
@@ -439,9 +512,8 @@ def stall(it: Forwarder, seconds: float) -> None:
 
 def terminate(scene: Scene, draw: random.Random, which: str, count: int) -> None:
     """Ends backends."""
-    with scene.cluster.connect() as it:
-        it.execute(f"SELECT pg_terminate_backend(pid) FROM (SELECT pid FROM pg_stat_activity WHERE backend_type = 'client backend' AND pid <> pg_backend_pid() "
-                   f"AND {which} ORDER BY random() LIMIT {count}) AS p".encode())
+    scene.ask(f"SELECT pg_terminate_backend(pid) FROM (SELECT pid FROM pg_stat_activity WHERE backend_type = 'client backend' AND pid <> pg_backend_pid() "
+              f"AND {which} ORDER BY random() LIMIT {count}) AS p")
 
 
 @dataclass
@@ -451,6 +523,7 @@ class Run:
     scene: Scene
     seed: int
     names: Sequence[str]
+    end: float
     kinds: Sequence[str] = ()
     kills: "Counter[str]" = field(default_factory=Counter)
     times: Dict[str, List[float]] = field(default_factory=dict)
@@ -464,18 +537,18 @@ class Run:
         watch = Watch(self.scene.cluster, self.scene.table)
         with self.scene.buying(self.seed, self.kinds) as said:
             watch.start()
-            self.await_more(said, GOES_ON)
+            self.await_more(said, watch)
             for _ in range(count):
                 time.sleep(draw.uniform(0, 0.5))
                 name = draw.choice(self.names)
                 KILLS[name][1](self.scene, draw)
                 self.kills[name] += 1
-                self.times.setdefault(name, []).append(self.await_more(said, GOES_ON))
-                if said.faults or watch.wrong:
+                self.times.setdefault(name, []).append(self.await_more(said, watch))
+                if self.is_wrong(said, watch) or time.monotonic() > self.end:
                     break
             if fails_over:
                 failover(self.scene, draw)
-                self.times["failover"] = [self.await_more(said, GOES_ON)]
+                self.times["failover"] = [self.await_more(said, watch)]
         watch.is_off.set()
         watch.join()
         self.looks += watch.looks
@@ -487,17 +560,15 @@ class Run:
         if wrong:
             raise AssertionError(f"seed {self.seed}, section {self.scene.section}, kills {dict(self.kills)}:\n  " + "\n  ".join(wrong[:20]))
 
-    def await_more(self, said: Said, count: int) -> float:
-        """Waits until more is answered. Returns the seconds."""
+    def is_wrong(self, said: Said, watch: Watch) -> bool:
+        """Returns whether something is wrong already."""
+        return bool(said.faults or watch.wrong or self.scene.alarms())
+
+    def await_more(self, said: Said, watch: Watch) -> float:
+        """Waits until more is answered, or something is wrong. Returns the seconds."""
         begin = time.monotonic()
-        said.read()
-        goal = said.count() + count
-
-        def is_more() -> bool:
-            said.read()
-            return said.count() >= goal or bool(said.faults)
-
-        wait_until(f"orders go on behind {dict(self.kills)}, seed {self.seed}", is_more, LIMIT)
+        goal = said.now().count() + GOES_ON
+        self.scene.wait(f"orders go on behind {dict(self.kills)}, seed {self.seed}", lambda: said.now().count() >= goal or self.is_wrong(said, watch))
         return time.monotonic() - begin
 
     def told(self) -> str:
@@ -513,16 +584,16 @@ def chosen(only: Sequence[str], has_proxy: bool) -> List[str]:
     return [name for name in found if not only or any(it == name for it in only)]
 
 
-def run(seed: int, kills: int, *, proxies: int = 2, only: Sequence[str] = (), seconds: float = 1e9, is_lazy: bool = False, each: int = 10,
+def run(seed: int, kills: int, *, proxies: int = 2, only: Sequence[str] = (), seconds: float = SECONDS, is_lazy: bool = False, each: int = 10,
         has_standby: bool = False, without: str = "", kinds: Sequence[str] = ()) -> str:
     """Runs so many kills, and at last a failover if there is a standby. Returns what was done."""
-    end = time.monotonic() + seconds
     with Scene(proxies, is_lazy, has_standby, without) as scene:
-        it = Run(scene, seed, chosen(only, proxies > 0), kinds)
-        while sum(it.kills.values()) < kills and time.monotonic() < end:
+        it = Run(scene, seed, chosen(only, proxies > 0), time.monotonic() + seconds, kinds)
+        while sum(it.kills.values()) < kills and time.monotonic() < it.end:
             it.section(min(each, kills - sum(it.kills.values())))
         if has_standby:
             it.section(0, fails_over=True)
+        expect(it.looks > 0, True, "stock and orders were looked at")
         return it.told()
 
 
@@ -569,7 +640,7 @@ def the_test_passes_what_is_right() -> None:
 
 @PART.alone
 def the_test_finds_wrongs() -> None:
-    said = Said(Path("/nowhere"))
+    said = Said(Lines(Path("/nowhere")))
     said.hear("answered", "a/0", "a/1")
     said.hear("unknown", "b/0", "b/1")
     said.hear("aborted", "c/0")
@@ -601,8 +672,8 @@ def buyers_without_transactions_are_found() -> None:
         watch = Watch(scene.cluster, scene.table)
         with scene.buying(1, is_careless=True) as said:
             watch.start()
-            wait_until("it is seen while they run", lambda: watch.wrong, LIMIT)
-            wait_until("some are refused", lambda: said.now().refused["23514"], LIMIT)
+            scene.wait("it is seen while they run", lambda: watch.wrong)
+            scene.wait("some are refused", lambda: said.now().refused["23514"])
         found = scene.examine(said)
         expect(any("that was rolled back" in it for it in found), True, str(found[:3]))
         expect(any("and its orders leave" in it for it in found), True, str(found[:3]))
