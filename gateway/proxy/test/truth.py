@@ -44,7 +44,7 @@ PROCESSES, EACH = 4, 10
 # The answered orders that have to come behind a kill, and the seconds in which they do: those, or so many times what the start of all took.
 GOES_ON, LIMIT, STARTS = 40, 60.0, 20
 # The seconds behind which a case kills no more.
-SECONDS = 80.0 * PATIENCE
+SECONDS = 60.0 * PATIENCE
 # What the proxy's log may not have.
 ALARMS = re.compile(r"(?i)panicked|alarm|fold was refused|cannot be folded|the server lacks a row|that no note gives|was not expected")
 
@@ -553,6 +553,7 @@ class Run:
         watch.join()
         self.looks += watch.looks
         wrong = self.scene.examine(said) + ([watch.wrong] if watch.wrong else [])
+        print(f"  section {self.scene.section} has ended", flush=True)  # so that the limit of a case is one of a section
         there = set(self.scene.found().orders)
         unknown = {it for keys in said.unknown for it in keys}
         self.sums += Counter(answered=said.count(), aborted=len(said.aborted), unknown=len(unknown), of_them_committed=len(unknown & there))
