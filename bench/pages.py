@@ -5,7 +5,7 @@ import re
 import sys
 import textwrap
 from pathlib import Path
-from typing import List, Sequence
+from typing import List, Sequence, Tuple
 
 PAGE = Path(__file__).resolve().parent / "README.md"
 # The load of the machine before anything was measured.
@@ -35,10 +35,21 @@ def heading(how: str) -> List[str]:
     return [*textwrap.wrap(f"Measured on {datetime.date.today().isoformat()} on {where}; {how}:", 100), ""]
 
 
-def note(mark: str, lines: Sequence[str]) -> None:
-    """Writes lines to the page, between the two comments of a mark."""
+def parted(mark: str) -> Tuple[str, str, str]:
+    """Returns the page up to the text between the two comments of a mark, this text, and the rest."""
     before, begin, rest = PAGE.read_text(encoding="utf-8").partition(f"<!-- {mark} -->\n")
-    _, end, after = rest.partition(f"<!-- /{mark} -->\n")
+    noted, end, after = rest.partition(f"<!-- /{mark} -->\n")
     if not end:
         sys.exit(f"{PAGE} lacks the comments of {mark}")
-    PAGE.write_text(before + begin + "\n".join(lines) + "\n" + end + after, encoding="utf-8")
+    return before + begin, noted, end + after
+
+
+def note(mark: str, lines: Sequence[str]) -> None:
+    """Writes lines to the page, between the two comments of a mark."""
+    before, _, after = parted(mark)
+    PAGE.write_text(before + "\n".join(lines) + "\n" + after, encoding="utf-8")
+
+
+def noted_rows(mark: str) -> List[List[str]]:
+    """Returns the cells of the table that the page has between the two comments of a mark."""
+    return [[cell.strip() for cell in line.strip("|").split("|")] for line in parted(mark)[1].splitlines() if line.startswith("|")]

@@ -1,8 +1,8 @@
-"""Command lines, and standard streams that are closed, full, broken, folders or terminals."""
+"""Command lines, and standard streams that are closed, full, broken, not blocking, folders or terminals."""
 from typing import Iterator, List, NamedTuple, Optional, Sequence
 
 from process import Case, Input, Output, Word
-from texts import BAD_MODE, CLOSED_INPUT, DATABASES, FOLDER_INPUT, MODES, NOT_UTF8, READ, Reason, unanswered, unprinted
+from texts import BAD_MODE, CLOSED_INPUT, DATABASES, FOLDER_INPUT, MODES, NOT_UTF8, READ, UNREADY_INPUT, Reason, unanswered, unprinted
 
 SCRIPT = "bank.1: COMMIT\nbank2.1: COMMIT\nbank3.1: COMMIT\n"
 ONE_OF_THREE = "bank.1> OK committed 0\nscript> ERR 12 line\nscript> ERR 12 line\n"
@@ -189,7 +189,7 @@ def byte_by_byte() -> Iterator[Case]:
 def unread_cases() -> Iterator[Case]:
     """Standard input that can't be read, where standard error takes the text or doesn't. What had come whole is answered before."""
     for mode in MODES:
-        for kind, text in ((Input.FAILING, READ), (Input.CLOSED, CLOSED_INPUT), (Input.FOLDER, FOLDER_INPUT)):
+        for kind, text in ((Input.FAILING, READ), (Input.CLOSED, CLOSED_INPUT), (Input.FOLDER, FOLDER_INPUT), (Input.UNREADY, UNREADY_INPUT)):
             yield Case("unread", (mode,), errors=text, status=1, stdin=kind)
             yield Case("unread, over a full device", (mode,), status=1, stdin=kind, stderr=Output.FULL)
             yield Case("unread, and nowhere to say so", (mode,), status=1, stdin=kind, stderr=Output.CLOSED)
@@ -200,7 +200,8 @@ def unread_cases() -> Iterator[Case]:
 def unwritten_cases() -> Iterator[Case]:
     """Standard output that doesn't take the replies: none of them, or a part. Where there are none it isn't looked at."""
     for mode in MODES:
-        for kind, reason in ((Output.FULL, Reason.FULL), (Output.CLOSED, Reason.CLOSED), (Output.BROKEN, Reason.BROKEN)):
+        for kind, reason in ((Output.FULL, Reason.FULL), (Output.CLOSED, Reason.CLOSED), (Output.BROKEN, Reason.BROKEN),
+                             (Output.UNREADY, Reason.UNREADY)):
             yield Case("unwritten", (mode,), "bank.1: COMMIT", errors=unanswered(reason), status=1, stdout=kind)
             yield Case("unwritten, and nowhere to say so", (mode,), "bank.1: COMMIT", status=1, stdout=kind, stderr=Output.CLOSED)
             yield Case("no replies", (mode,), "-- nothing is answered\n", stdout=kind, reads=True)

@@ -1,8 +1,7 @@
 """Scripts that are written by a rule: as many sessions, reservations and bytes as there may be."""
-import re
 from typing import Iterator, List, Tuple
 
-from process import Case, Input, Output, Program, Stage, compare
+from process import Case, Input
 from texts import TOO_LONG
 
 ACCOUNT = (
@@ -111,27 +110,3 @@ def most_rows() -> List[Case]:
         ("bank.1: INSERT INTO T VALUES (1, 8)\n", "bank.1> ERR 34 table full\n"),
     ))
     return [Case("the most rows", (mode,), script, replies, reads=True) for mode in ("run", "free")]
-
-
-def parts() -> Case:
-    """The last session of the last database is served as many statements in each phase as are then handed out as a part of a history, in 24 phases: none of
-    them finds the transcript full."""
-    asked, served, phases = "bank16.64: COMMIT\n", "bank16.64> OK committed 0\n", 24
-    return Case("24 parts", ("free", "--databases", "16"), (asked * 32_768 + "@join\n") * phases, served * 32_768 * phases, reads=True)
-
-
-def counter(program: Program, folder: str) -> None:
-    """Eight sessions count up one row at the same time, 100 times each: each number is given once, and in the end all are counted."""
-    made = "bank.1: CREATE TABLE COUNTER (ID INTEGER PRIMARY KEY, HITS INTEGER RESERVABLE)\nbank.1: INSERT INTO COUNTER VALUES (1, 0)\n@join\n"
-    asked = "".join(f"bank.{session}: UPDATE COUNTER SET HITS = HITS + 1 WHERE ID = 1\nbank.{session}: COMMIT\n" for _ in range(100) for session in range(1, 9))
-    script = f"{made}{asked}@join\nbank.1: SELECT * FROM COUNTER"
-    with Stage() as stage:
-        stage.give_input(Input.FILE, script.encode())
-        stage.give_output("stdout", Output.KEPT)
-        stage.start(program, ("free",), folder)
-        compare("the status", 0, stage.end())
-        written = stage.text("stdout")
-    numbers = sorted(map(int, re.findall(r"(?m)^bank\.[1-8]> OK reserved (\d+)$", written)))
-    compare("the numbers of the reservations", list(range(1, 801)), numbers)
-    last = "\nbank.1> ID | HITS\nbank.1> 1 | 800\nbank.1> OK rows 1\n"
-    compare("the end", last, written[-len(last) :])

@@ -1,5 +1,6 @@
 """Runs of the program: what its three standard streams are, and what it shows."""
 import array
+import contextlib
 import enum
 import fcntl
 import os
@@ -10,6 +11,7 @@ import termios
 import threading
 import time
 import tty
+from select import PIPE_BUF
 from typing import Any, Callable, Dict, List, Mapping, NamedTuple, Optional, Sequence, Tuple, Union
 
 Word = Union[str, bytes]
@@ -38,6 +40,8 @@ class Input(enum.Enum):
     TERMINAL = enum.auto()
     # A socket that gives one byte to each read.
     BYTES = enum.auto()
+    # A pipe that isn't blocking, and has nothing yet.
+    UNREADY = enum.auto()
     FOLDER = enum.auto()
     CLOSED = enum.auto()
 
@@ -51,6 +55,8 @@ class Output(enum.Enum):
     CLOSED = enum.auto()
     # A pipe that nobody reads.
     BROKEN = enum.auto()
+    # A pipe that isn't blocking, and is full.
+    UNREADY = enum.auto()
     TERMINAL = enum.auto()
     # A device that takes everything, at which nobody looks.
     NOWHERE = enum.auto()
@@ -195,6 +201,10 @@ class Stage:
         elif kind == Input.BYTES:
             reader, self.writer = sockets()
             self.give("stdin", reader)
+        elif kind == Input.UNREADY:
+            reader, writer = os.pipe2(os.O_NONBLOCK)
+            self.own.append(writer)
+            self.give("stdin", reader)
         else:
             makers = {Input.FILE: self.give_file, Input.FAILING: self.give_failing, Input.TERMINAL: self.give_typed}
             makers[kind](script)
@@ -237,8 +247,19 @@ class Stage:
             reader, writer = os.pipe()
             os.close(reader)
             self.give(stream, writer)
+        elif kind == Output.UNREADY:
+            self.give(stream, self.full_pipe())
         else:
             self.keep(stream, kind == Output.TERMINAL)
+
+    def full_pipe(self) -> int:
+        """The end that writes of a pipe that isn't blocking, and is full."""
+        reader, writer = os.pipe2(os.O_NONBLOCK)
+        self.own.append(reader)
+        with contextlib.suppress(BlockingIOError):
+            while True:
+                os.write(writer, bytes(PIPE_BUF))
+        return writer
 
     def keep(self, stream: str, is_terminal: bool) -> None:
         """Keeps what comes of a stream, which is a pipe or a terminal."""

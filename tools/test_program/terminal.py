@@ -53,3 +53,21 @@ def draws_what_fits(program: Program, folder: str) -> None:
     expect_drawn(sent(program, "free", 16, ASKED, folder, {**XTERM, "LINES": "24"}), [head, IDLE, BUSY, *others])
     for variables in CAN_NOT_DRAW:
         compare(f"what was sent with {variables}", "", sent(program, "free", 2, ASKED, folder, variables))
+
+
+# Statements of each of three databases in each of two phases, and the rows of a table that a third phase reads again and again, which takes seconds.
+SERVED, ROWS, READS = 12_000, 4_000, 200
+
+
+def draws_all_that_was_served(program: Program, folder: str) -> None:
+    """Of each database is drawn what it has served in all phases."""
+    phase = "".join(f"{name}.1: COMMIT\n" * SERVED for name in ("bank", "bank2", "bank3")) + "@join\n"
+    rows = "bank2.1: CREATE TABLE T (ID INTEGER PRIMARY KEY, N INTEGER RESERVABLE)\n"
+    rows += "".join(f"bank2.1: INSERT INTO T VALUES ({it}, 0)\n" for it in range(ROWS))
+    shown = sent(program, "free", 3, f"{phase * 2}{rows}@join\n" + "bank2.2: SELECT * FROM T\n" * READS, folder, XTERM)
+    others = [f"{name}: served {2 * SERVED} granted 0 broken 0 commits {2 * SERVED}" for name in ("bank", "bank3")]
+    first = 2 * SERVED + 1 + ROWS
+    drawn = re.findall("".join(line + CLEAR for line in (rf"phase 4: \d+ of {READS} statements", others[0],
+                                                         rf"bank2: served (\d+) granted 0 broken 0 commits {2 * SERVED}", others[1])), shown)
+    expect(len(drawn) == shown.count("phase 4: ") > 0, f"the terminal was sent {shortened(shown)}")
+    expect(all(first <= int(it) <= first + READS for it in drawn), f"bank2 has served {drawn}")

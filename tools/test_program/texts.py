@@ -9,6 +9,7 @@ TOO_LONG = "escrowd: the script can't be read: it is longer than 16777216 bytes\
 NOT_UTF8 = "escrowd: the arguments must be UTF-8\n"
 NO_FILE = "it is not a regular file, or it has several hard links"
 FOREIGN = "it is not a store of escrowd: it holds something else, or it is damaged"
+UNREADY_INPUT = "escrowd: the script can't be read: Resource temporarily unavailable (os error 11)\n"
 CLOSED_INPUT = "escrowd: the script can't be read: standard input is closed or isn't open for reading\n"
 BAD_MODE = "escrowd: the mode must be `run`, `free` or `serve`\n"
 MISSING_FOLDER = "its directory doesn't exist"
@@ -22,6 +23,7 @@ class Reason(enum.Enum):
     FULL = "No space left on device (os error 28)"
     LARGE = "File too large (os error 27)"
     BROKEN = "Broken pipe (os error 32)"
+    UNREADY = "Resource temporarily unavailable (os error 11)"
     CLOSED = "standard output is closed or isn't open for writing"
 
 
