@@ -380,11 +380,20 @@ def many_at_a_time(cluster: Cluster, proxy: Proxy) -> None:
     expect(pieces(cluster, key), 700)
 
 
+def is_served(proxy: Proxy) -> bool:
+    """Returns whether a proxy takes clients."""
+    try:
+        proxy.connect().close()
+    except psycopg.OperationalError:
+        return False
+    return True
+
+
 @case
 def a_standby_sends_clients_to_the_owner(cluster: Cluster, proxy: Proxy) -> None:
     key = row(cluster)
     with Proxy(cluster) as second:
-        time.sleep(0.5)  # it has to find out that there is an owner
+        wait_until("it knows that there is an owner", lambda: not is_served(second))
         for first, other in ((second, proxy), (proxy, second)):
             with psycopg.connect(f"host={first.folder},{other.folder} port=6000 dbname=bank user=clerk", autocommit=True) as it:
                 expect(take(it, key, 1), "UPDATE 1")
