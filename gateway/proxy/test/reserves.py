@@ -380,6 +380,30 @@ def many_at_a_time(cluster: Cluster, proxy: Proxy) -> None:
     expect(pieces(cluster, key), 700)
 
 
+@case
+def refusals_leave_nothing_in_a_session(cluster: Cluster, proxy: Proxy) -> None:
+    """A session lasts long in a pool, and PostgreSQL keeps what is prepared to its end."""
+    key = row(cluster)
+    with proxy.connect() as it:
+
+        def prepared() -> int:
+            found = it.execute("SELECT count(*) FROM pg_prepared_statements WHERE name LIKE 'escrowd-proxy %'").fetchone()
+            assert found is not None
+            return int(found[0])
+
+        def be_refused() -> None:
+            with refused(errors.CheckViolation):
+                take(it, key, 1000)
+            with refused(errors.NotNullViolation):
+                it.execute("UPDATE stock SET pieces = pieces - 1, title = NULL WHERE id = %s", (key,))
+
+        be_refused()
+        before = prepared()
+        for _ in range(20):
+            be_refused()
+        assert prepared() <= before + 2, (before, prepared())
+
+
 def is_served(proxy: Proxy) -> bool:
     """Returns whether a proxy takes clients."""
     try:
