@@ -11,8 +11,8 @@ from typing import Callable, List, Union
 
 from clients.servers import LOAD, Gateway, heard
 
-# The lines of a traceback that a report shows.
-LINES_OF_FAULT = 20
+# The lines of a traceback that a report shows, and the letters of its last line.
+LINES_OF_FAULT, LONGEST_FAULT = 20, 1000
 
 
 class Skipped(Exception):
@@ -99,9 +99,10 @@ class Part:
 
 
 def reason(fault: Exception) -> str:
-    """Returns what servers said, then where a fault comes from, and last the fault itself: the sums show the last line."""
-    lines = "".join(traceback.format_exception(type(fault), fault, fault.__traceback__)).rstrip().splitlines()
-    return "\n".join([*(it.rstrip() for it in heard(fault)), *lines[-LINES_OF_FAULT:]])
+    """Returns what servers said, then where a fault comes from, and last the fault itself in one line, which the sums show."""
+    lines = "".join(traceback.format_exception(type(fault), fault, fault.__traceback__)).rstrip().splitlines()[-LINES_OF_FAULT:]
+    itself = " ".join("".join(traceback.format_exception_only(type(fault), fault)).split())[:LONGEST_FAULT]
+    return "\n".join([*(it.rstrip() for it in heard(fault)), *lines, *([itself] if lines[-1] != itself else [])])
 
 
 def expect(got: object, wanted: object, what: str = "") -> None:

@@ -47,10 +47,13 @@ struct Own {
 }
 
 /// Why nothing came of a query.
+#[derive(Debug, thiserror::Error)]
 enum Failure {
     /// PostgreSQL's error.
+    #[error("{0}")]
     Refused(Error),
     /// There is no connection any more.
+    #[error("{0}")]
     Lost(String),
 }
 
@@ -230,6 +233,8 @@ struct Sweep {
     epoch: i64,
     /// The numbers of the tables whose journals are still to be swept.
     tables: Vec<i32>,
+    /// Whether rows were left out, which somebody has locked.
+    is_left: bool,
 }
 
 impl Sweep {
@@ -238,57 +243,70 @@ impl Sweep {
         let mut catalog = hub.catalog();
         while catalog.borrow().is_none() && catalog.changed().await.is_ok() {}
         let known = catalog.borrow().clone().unwrap_or_default();
-        let tables = known.tables().iter().map(|table| table.number).collect();
-        Sweep { epoch, tables }
+        Sweep {
+            epoch,
+            tables: known.tables().iter().map(|table| table.number).collect(),
+            is_left: false,
+        }
     }
 
     /// Goes on with a piece. What fails for a passing reason is tried again, as long as this proxy is the owner of the epoch.
-    async fn go_on(&mut self, hub: &Hub, own: &mut Own) {
+    async fn go_on(&mut self, hub: &Arc<Hub>, own: &mut Own) {
         let table = match self.tables.last() {
             Some(&table) if hub.serves(self.epoch) => table,
             _ => return self.tables.clear(),
         };
         match sweep_piece(own, table, self.epoch).await {
-            Swept::Some => {}
-            Swept::All => {
-                self.tables.pop();
+            Ok(Swept::Some) => return,
+            Ok(Swept::AllButLocked) => self.is_left = true,
+            Ok(Swept::All) => {}
+            Err(Failure::Refused(error)) if is_gone(&error) => {}
+            Err(Failure::Refused(error)) if !is_passing(&error) => {
+                tracing::error!("a journal cannot be folded (table {table}): {error}");
             }
-            Swept::Nothing => sleep(PAUSE).await,
+            Err(failure) => {
+                tracing::warn!("a journal is not folded yet (table {table}): {failure}");
+                return sleep(PAUSE).await;
+            }
+        }
+        self.tables.pop();
+        if self.tables.is_empty() && self.is_left {
+            let (hub, epoch) = (hub.clone(), self.epoch);
+            tokio::spawn(async move {
+                sleep(REFRESH).await;
+                hub.sweep(epoch);
+            });
         }
     }
 }
 
 /// What a piece of a sweep has done.
 enum Swept {
-    /// There may be more.
+    /// Some, and there may be more.
     Some,
-    /// There is no more, or nothing that can be folded.
+    /// All that nobody has locked.
+    AllButLocked,
+    /// All.
     All,
-    /// It failed for a passing reason.
-    Nothing,
 }
 
 /// Folds some of what former owners have left, and removes their marks.
-async fn sweep_piece(own: &mut Own, table: i32, epoch: i64) -> Swept {
+async fn sweep_piece(own: &mut Own, table: i32, epoch: i64) -> Result<Swept, Failure> {
     let text = format!("SELECT escrow.sweep_{table}($1, $2)");
-    let why = match own.query(&text, &[&epoch, &PIECE]).await {
-        Ok(rows) => match rows.first().map_or(0, |row| row.get::<_, i32>(0)) {
-            0 => return Swept::All,
-            count => {
-                tracing::info!("{count} rows of a former owner are folded (table {table})");
-                return Swept::Some;
-            }
-        },
-        Err(Failure::Refused(error)) if is_gone(&error) => return Swept::All,
-        Err(Failure::Refused(error)) if !is_passing(&error) => {
-            tracing::error!("a journal cannot be folded (table {table}): {error}");
-            return Swept::All;
-        }
-        Err(Failure::Refused(error)) => error.to_string(),
-        Err(Failure::Lost(why)) => why,
-    };
-    tracing::warn!("a journal is not folded yet (table {table}): {why}");
-    Swept::Nothing
+    let rows = own.query(&text, &[&epoch, &PIECE]).await?;
+    let count = rows.first().map_or(0, |row| row.get::<_, i32>(0));
+    if count > 0 {
+        tracing::info!("{count} rows of a former owner are folded (table {table})");
+        return Ok(Swept::Some);
+    }
+    let text = format!("SELECT EXISTS (SELECT FROM escrow.held_{table} WHERE epoch <> $1)");
+    let rows = own.query(&text, &[&epoch]).await?;
+    let is_left = rows.first().map_or(false, |row| row.get::<_, bool>(0));
+    Ok(if is_left {
+        Swept::AllButLocked
+    } else {
+        Swept::All
+    })
 }
 
 /// Returns whether an error says nothing of what was to be folded, so that it is tried again: a lock, a deadlock, a

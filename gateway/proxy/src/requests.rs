@@ -90,6 +90,8 @@ pub struct Requests<'a> {
 pub(crate) struct Session {
     /// The names of its prepared statements, by their texts.
     pub(crate) prepared: HashMap<String, String>,
+    /// The names of those that may be left of requests that have failed. The next request closes them.
+    left: Vec<String>,
     /// How many names were given so far.
     names: u64,
     /// The epoch in which it was greeted.
@@ -432,6 +434,7 @@ impl<'a> Requests<'a> {
         if self.shared.track().is_skipping() {
             return Ok(OwnReply::Unsent);
         }
+        let closed = self.close_left();
         self.own.names += 1;
         let name = format!("{}{}", own::PREFIX, self.own.names);
         let Rest {
@@ -459,7 +462,29 @@ impl<'a> Requests<'a> {
         self.expect(Expect::OwnShut);
         self.expect(Expect::OwnClose);
         self.flush().await?;
-        self.replies.recv().await.ok_or(Error::Ended)
+        let reply = self.replies.recv().await.ok_or(Error::Ended)?;
+        if !matches!(reply, OwnReply::Row(_)) {
+            self.own.left.push(name);
+        }
+        self.end_of_closing(&reply, closed);
+        Ok(reply)
+    }
+
+    /// Sends a Close of each statement that failed requests may have left in the session. Returns their names.
+    fn close_left(&mut self) -> Vec<String> {
+        let left = std::mem::take(&mut self.own.left);
+        for name in &left {
+            own::close_statement(&mut self.out, name);
+            self.expect(Expect::OwnShut);
+        }
+        left
+    }
+
+    /// Keeps the names of statements that are still to be closed: an error came before, and PostgreSQL skipped the request.
+    fn end_of_closing(&mut self, reply: &OwnReply, names: Vec<String>) {
+        if matches!(reply, OwnReply::Skipped) {
+            self.own.left.extend(names);
+        }
     }
 
     /// Sends a request of the proxy's own, and waits for its reply. The other direction waits for [`Requests::go_on`] then.
@@ -477,6 +502,7 @@ impl<'a> Requests<'a> {
             self.own.prepared.clear();
             self.own.greeted = 0;
         }
+        let closed = self.close_left();
         let session = &mut self.own;
         session.names += 1;
         let portal = format!("{}{}", own::PREFIX, session.names);
@@ -514,10 +540,12 @@ impl<'a> Requests<'a> {
         let reply = self.replies.recv().await.ok_or(Error::Ended)?;
         if !matches!(reply, OwnReply::Row(_)) {
             // Its statements may be gone, and its greeting; what a name means may have been wrong.
-            self.own.prepared.clear();
+            let names = self.own.prepared.drain().map(|(_, name)| name);
+            self.own.left.extend(names);
             self.own.greeted = 0;
             self.shared.track().forget_meanings();
         }
+        self.end_of_closing(&reply, closed);
         Ok(reply)
     }
 }

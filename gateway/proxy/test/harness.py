@@ -7,11 +7,13 @@ import shutil
 import signal
 import subprocess
 import sys
+import threading
 from contextlib import contextmanager
 from pathlib import Path
 from typing import Any, Callable, ContextManager, Iterator, List, Optional, Tuple, TypeVar
 
 import psycopg
+from psycopg import errors
 
 from clients.servers import BUILT, PROGRAM, Postgres, Server, postgres_binary, unprivileged, wait_until
 from clients.suite import Alone, Part
@@ -86,6 +88,26 @@ class Proxy(Server):
     def connect(self, **words: str) -> "psycopg.Connection[Any]":
         """Connects through the proxy."""
         return psycopg.connect(self.dsn(**words), autocommit=True)
+
+
+def expect_cancel(connection: "psycopg.Connection[Any]") -> None:
+    """Fails unless a cancel ends a statement of the connection. It is sent until it does: one before the beginning ends nothing."""
+    is_over = threading.Event()
+
+    def cancel() -> None:
+        while not is_over.wait(0.2):
+            connection.cancel()
+
+    thread = threading.Thread(target=cancel)
+    thread.start()
+    try:
+        connection.execute("SELECT pg_sleep(60)")
+        raise AssertionError("it was not cancelled")
+    except errors.QueryCanceled as error:
+        assert "user request" in str(error), error
+    finally:
+        is_over.set()
+        thread.join()
 
 
 class Standby(Cluster):

@@ -7,8 +7,6 @@ import os
 import signal
 import socket
 import subprocess
-import threading
-import time
 from contextlib import contextmanager
 from pathlib import Path
 from typing import Iterator, Tuple
@@ -18,7 +16,7 @@ from psycopg import errors
 
 from clients.servers import children, wait_until
 from clients.suite import main
-from proxy.test.harness import Proxy, SharedPart
+from proxy.test.harness import Proxy, SharedPart, expect_cancel
 from proxy.test.standin import Cluster
 
 
@@ -102,15 +100,7 @@ def pipelines_and_errors_keep_their_order(cluster: Cluster, proxy: Proxy) -> Non
 @part
 def a_cancel_reaches_its_backend(cluster: Cluster, proxy: Proxy) -> None:
     with proxy.connect() as it, proxy.connect() as other:
-        timer = threading.Timer(0.3, it.cancel)
-        timer.start()
-        begin = time.monotonic()
-        try:
-            it.execute("SELECT pg_sleep(15)")
-            raise AssertionError("not cancelled")
-        except errors.QueryCanceled:
-            assert time.monotonic() - begin < 5
-        timer.join()
+        expect_cancel(it)
         assert it.execute("SELECT 1").fetchone() == other.execute("SELECT 1").fetchone() == (1,)
 
 
@@ -149,7 +139,7 @@ def ends_reach_the_other_side(cluster: Cluster, proxy: Proxy) -> None:
     it = proxy.connect(application_name="here")
     it.execute("BEGIN; SELECT 1")
     socket.socket(fileno=os.dup(it.fileno())).shutdown(socket.SHUT_RDWR)
-    wait_until("its backend ends", lambda: backends() == 0, 10)
+    wait_until("its backend ends", lambda: backends() == 0)
     # A backend that is ended: the client gets PostgreSQL's own words.
     it = proxy.connect(application_name="here")
     cluster.run("SELECT pg_terminate_backend(pid) FROM pg_stat_activity WHERE application_name = 'here'")
@@ -163,7 +153,7 @@ def ends_reach_the_other_side(cluster: Cluster, proxy: Proxy) -> None:
         with socket.socket(socket.AF_UNIX) as raw:
             raw.connect(str(proxy.folder / ".s.PGSQL.6000"))
             raw.sendall(sent)
-            raw.settimeout(10)
+            raw.settimeout(60)
             got = b""
             while True:
                 more = raw.recv(100)

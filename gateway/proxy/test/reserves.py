@@ -381,10 +381,43 @@ def many_at_a_time(cluster: Cluster, proxy: Proxy) -> None:
 
 
 @case
+def refusals_leave_nothing_in_a_session(cluster: Cluster, proxy: Proxy) -> None:
+    """A session lasts long in a pool, and PostgreSQL keeps what is prepared to its end."""
+    key = row(cluster)
+    with proxy.connect() as it:
+
+        def prepared() -> int:
+            found = it.execute("SELECT count(*) FROM pg_prepared_statements WHERE name LIKE 'escrowd-proxy %'").fetchone()
+            assert found is not None
+            return int(found[0])
+
+        def be_refused() -> None:
+            with refused(errors.CheckViolation):
+                take(it, key, 1000)
+            with refused(errors.NotNullViolation):
+                it.execute("UPDATE stock SET pieces = pieces - 1, title = NULL WHERE id = %s", (key,))
+
+        be_refused()
+        before = prepared()
+        for _ in range(20):
+            be_refused()
+        assert prepared() <= before + 2, (before, prepared())
+
+
+def is_served(proxy: Proxy) -> bool:
+    """Returns whether a proxy takes clients."""
+    try:
+        proxy.connect().close()
+    except psycopg.OperationalError:
+        return False
+    return True
+
+
+@case
 def a_standby_sends_clients_to_the_owner(cluster: Cluster, proxy: Proxy) -> None:
     key = row(cluster)
     with Proxy(cluster) as second:
-        time.sleep(0.5)  # it has to find out that there is an owner
+        wait_until("it knows that there is an owner", lambda: not is_served(second))
         for first, other in ((second, proxy), (proxy, second)):
             with psycopg.connect(f"host={first.folder},{other.folder} port=6000 dbname=bank user=clerk", autocommit=True) as it:
                 expect(take(it, key, 1), "UPDATE 1")

@@ -25,7 +25,12 @@ from proxy.test.standin import OWNER, Client, Cluster, Owner, placeholders
 def end_owner(cluster: Cluster) -> None:
     """Ends who holds OWNER."""
     cluster.run(f"SELECT pg_terminate_backend(pid) FROM pg_locks WHERE locktype = 'advisory' AND classid = {OWNER[0]} AND objid = {OWNER[1]}")
-    time.sleep(0.1)
+    until_free(cluster)
+
+
+def until_free(cluster: Cluster) -> None:
+    """Waits until nobody holds OWNER."""
+    wait_until("nobody is the owner", lambda: value(cluster, "SELECT process FROM escrow.owner()") is None)
 
 
 PART = SharedPart("proxy_sql", installed, end_owner)
@@ -456,9 +461,7 @@ def a_takeover_finds_who_holds(cluster: Cluster) -> None:
     client.execute("BEGIN")
     client.note("stock", 1, -1)
     owner.keeper.execute("SELECT pg_terminate_backend(%s)", (client.connection.info.backend_pid,))
-    deadline = time.monotonic() + 10
-    while owner.keeper.execute(holders).fetchall():
-        assert time.monotonic() < deadline, "still held"
+    wait_until("nobody holds it", lambda: owner.keeper.execute(holders).fetchall() == [])
 
 
 @part
@@ -479,10 +482,11 @@ def a_proxy_is_no_superuser(cluster: Cluster) -> None:
         same(it.execute("SELECT process, prepared FROM escrow.end_holders()").fetchall(), [(client.connection.info.backend_pid, None)])
         wait_until("nobody holds it", lambda: it.execute("SELECT process FROM escrow.end_holders()").fetchall() == [])
         # An owner is left for a second at least, and ended when it was silent for longer.
+        begin = time.monotonic()
         owner.one("SELECT 1")
-        same(it.execute("SELECT escrow.end_owner(0)").fetchall(), [(0,)])
-        time.sleep(1.2)
-        same(it.execute("SELECT escrow.end_owner(0)").fetchall(), [(1,)])
+        ended = it.execute("SELECT escrow.end_owner(0)").fetchall()
+        assert ended == [(0,)] or time.monotonic() - begin > 1, ended
+        wait_until("it is ended", lambda: ended == [(1,)] or it.execute("SELECT escrow.end_owner(0)").fetchall() == [(1,)])
     bystander.execute("SELECT 1")
     cluster.run("DROP ROLE runner")
 
@@ -702,7 +706,7 @@ def marks_of_former_epochs_go(cluster: Cluster) -> None:
         owner.load("stock", key)
     Client(owner).note("stock", 2, -4)
     owner.keeper.close()
-    time.sleep(0.2)
+    until_free(cluster)
     second = Owner(cluster)
     second.load("stock", 1)
 
@@ -753,7 +757,7 @@ def names_are_no_program(cluster: Cluster) -> None:
                     same(owner.fold(relation, 1), ["1"])
                     same(owner.one(f'SELECT "{column}" FROM {relation}'.replace("%", "%%"))[0], 3)
                     owner.keeper.close()
-                    time.sleep(0.2)
+                    until_free(cluster)
                     it.execute(b"SELECT escrow.ordinary(%s)", (first,))
                 it.execute(f"DROP TABLE {first}".encode())
     same(value(cluster, "SELECT rolsuper FROM pg_roles WHERE rolname = 'mallory'"), False)
@@ -1020,7 +1024,7 @@ def removal_leaves_tables(cluster: Cluster) -> None:
     with refused(errors.ObjectInUse, "an escrowd-proxy is running"):
         cluster.script("uninstall.sql")
     owner.keeper.close()
-    time.sleep(0.2)
+    until_free(cluster)
     cluster.script("uninstall.sql")
     same(dumped(), sorted("3\trow 3\t7" if it == "3\trow 3\t10" else it for it in before))
     same(value(cluster, "SELECT count(*) FROM pg_namespace WHERE nspname LIKE 'escrow%'"), 0)

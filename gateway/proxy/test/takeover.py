@@ -43,7 +43,7 @@ def epoch(cluster: Cluster) -> int:
 def until_owned(cluster: Cluster, before: int = 0) -> float:
     """Waits for another epoch than the one before. Returns the seconds."""
     begin = time.monotonic()
-    wait_until("there is a new owner", lambda: epoch(cluster) not in (0, before), 20)
+    wait_until("there is a new owner", lambda: epoch(cluster) not in (0, before))
     return time.monotonic() - begin
 
 
@@ -67,7 +67,7 @@ def the_second_waits_and_takes_over(cluster: Cluster) -> None:
             wait_until("it is ended", lambda: value(cluster, "SELECT count(*) FROM escrow.holders()") == 0)
             wait_until("it says so", lambda: "owner of epoch" in second.said())
             print(f"  killed: {took:.2f} s")
-            assert took < 10, took
+            assert took < 30, took
             try:
                 noted.send(waiting)
                 raise AssertionError("it goes on")
@@ -93,7 +93,7 @@ def an_orphan_that_is_prepared_holds_it_up(cluster: Cluster) -> None:
             wait_until("it says what it waits for", lambda: "orphan" in second.said())
             assert "owner of epoch" not in second.said()
             cluster.run("COMMIT PREPARED 'orphan'")
-            wait_until("it serves", lambda: "owner of epoch" in second.said(), 20)
+            wait_until("it serves", lambda: "owner of epoch" in second.said())
             same(value(cluster, "SELECT pieces FROM escrow.now_stock WHERE id = 1"), 8)
 
 
@@ -110,7 +110,7 @@ def one_that_is_stopped_is_replaced_and_can_do_nothing(cluster: Cluster) -> None
         stopped.running().send_signal(signal.SIGSTOP)
         took = until_owned(cluster, one)
         print(f"  stopped: {took:.2f} s")
-        assert 2 < took < 15, took
+        assert 2 < took < 30, took
         with refused(errors.SerializationFailure, "not the owner any more"):
             zombie.note("stock", 1, -1)
         stopped.running().send_signal(signal.SIGCONT)
@@ -139,43 +139,51 @@ def a_lost_keeper_and_a_restart_are_taken_over(cluster: Cluster) -> None:
                 cluster.again()
             took = until_owned(cluster, before)
             print(f"  {how}: {took:.2f} s")
-            assert took < 15, took
+            assert took < 30, took
         assert it.running().poll() is None
 
 
 @part
 def what_a_former_owner_left_is_folded(cluster: Cluster) -> None:
-    """Also if the journal is locked meanwhile, or PostgreSQL starts behind the proxy."""
+    """Also if the journal or a row is locked meanwhile, or PostgreSQL starts behind the proxy."""
     former = stock(cluster)
     table, _ = former.declared("stock")
 
     def leave() -> None:
-        """Leaves a change in the journal."""
+        """Leaves changes in the journal."""
+        wait_until("nobody is the owner", lambda: owner(cluster) is None)
         it = Owner(cluster)
-        it.load("stock", 1)
-        Client(it).note("stock", 1, -1)
+        for key in (1, 2):
+            it.load("stock", key)
+            Client(it).note("stock", key, -1)
         it.keeper.close()
 
-    def is_folded(pieces: int) -> bool:
-        return (value(cluster, "SELECT pieces FROM stock WHERE id = 1"), value(cluster, f"SELECT count(*) FROM escrow.held_{table}")) == (pieces, 0)
+    def is_folded(key: int, pieces: int) -> bool:
+        marks = value(cluster, f"SELECT count(*) FROM escrow.held_{table} WHERE key = {key}")
+        return (value(cluster, f"SELECT pieces FROM stock WHERE id = {key}"), marks) == (pieces, 0)
 
     former.keeper.close()
-    wait_until("nobody is the owner", lambda: owner(cluster) is None)
     leave()
     with cluster.connect() as it:
         it.execute(f"BEGIN; LOCK TABLE escrow.journal_{table} IN SHARE MODE")
         with Proxy(cluster) as proxy:
             wait_until("it is tried", lambda: "is not folded yet" in proxy.said())
             it.execute("COMMIT")
-            wait_until("it is folded", lambda: is_folded(9), 20)
+            wait_until("it is folded", lambda: is_folded(1, 9) and is_folded(2, 9))
             assert "cannot be folded" not in proxy.said(), proxy.said()
-    wait_until("nobody is the owner", lambda: owner(cluster) is None)
+        leave()
+        it.execute("BEGIN; SELECT FROM stock WHERE id = 1 FOR UPDATE")
+        with Proxy(cluster) as proxy:
+            wait_until("the other row is folded", lambda: is_folded(2, 8))
+            time.sleep(0.5)  # its sweep is over
+            it.execute("COMMIT")
+            wait_until("the row is folded", lambda: is_folded(1, 8))
     leave()
     cluster.kill()
     with Proxy(cluster) as proxy:
         wait_until("it waits", lambda: "cannot be the owner" in proxy.said())
         cluster.again()
-        wait_until("it is folded too", lambda: is_folded(8), 20)
+        wait_until("they are folded too", lambda: is_folded(1, 7) and is_folded(2, 7))
 
 
 @part

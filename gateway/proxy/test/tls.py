@@ -9,18 +9,16 @@ import socket
 import ssl
 import struct
 import subprocess
-import threading
 from contextlib import contextmanager
 from pathlib import Path
 from tempfile import TemporaryDirectory
 from typing import Iterator, List, Optional, Tuple
 
 import psycopg
-from psycopg import errors
 
 from clients.servers import Server, free_port, wait_until
 from clients.suite import main
-from proxy.test.harness import ENVIRONMENT, PROXY, SharedPart
+from proxy.test.harness import ENVIRONMENT, PROXY, SharedPart, expect_cancel
 from proxy.test.standin import Cluster
 
 HBA = "local all all trust\nhost all all all scram-sha-256\n"
@@ -165,13 +163,7 @@ def clients_without_tls_may_be_refused(cluster: Encrypted) -> None:
         # libpq sends the request to cancel without TLS.
         dsn = f"host=localhost port={proxy.port} dbname=bank user=buyer password=secret sslmode=require"
         with psycopg.connect(dsn) as it:
-            timer = threading.Timer(1, it.cancel)
-            timer.start()
-            try:
-                it.execute(b"SELECT pg_sleep(60)")
-                raise AssertionError("it was not cancelled")
-            except errors.QueryCanceled:
-                pass
+            expect_cancel(it)
 
 
 @part
