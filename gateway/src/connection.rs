@@ -546,7 +546,7 @@ impl Connection {
         let report = Report::error(SqlState::PROTOCOL_VIOLATION, "invalid message format");
         match kind {
             _ if self.skipping && kind != b'S' => {}
-            b'Q' => self.refuse_query(report, ""),
+            b'Q' => self.refuse_query(report),
             // PostgreSQL rolls back, tells of the fault, and is ready.
             b'S' => {
                 self.fail(report, None);

@@ -12,7 +12,7 @@ use crate::statement::parser::next_statement;
 use crate::statement::Parsed;
 use crate::wire::backend;
 
-/// How many bytes of a text are read ahead before the effort of the turn is looked at.
+/// How many bytes of a text are read ahead at a time, but for the end of the last statement.
 const READ_AHEAD: usize = 4 * 1024;
 
 /// A simple query that is being served.
@@ -44,7 +44,7 @@ impl Connection {
     pub(super) fn begin_query(&mut self, text: &[u8]) {
         let text = match std::str::from_utf8(text) {
             Ok(text) => text,
-            Err(_) => return self.refuse_query(not_utf8(text), ""),
+            Err(_) => return self.refuse_query(not_utf8(text)),
         };
         let unknown = match self.settings.statements.find(text) {
             Ok(Known { text, parsed }) => {
@@ -77,21 +77,20 @@ impl Connection {
     }
 
     /// Refuses a simple query before anything of it runs.
-    pub(super) fn refuse_query(&mut self, report: Failure, text: &str) {
-        self.query = Some(Query::new(text));
+    pub(super) fn refuse_query(&mut self, report: Failure) {
+        self.query = Some(Query::new(""));
         self.fail_query(report);
     }
 
-    /// Reads statements of the simple query ahead, for one turn at most. Nothing of it runs before all of it is read, as
-    /// in PostgreSQL: a syntax error in its last statement refuses all.
+    /// Reads the next statements of the simple query ahead, as many as one turn has time for. Nothing of it runs before
+    /// all of it is read, as in PostgreSQL: a syntax error in its last statement refuses all.
     fn read_ahead(&mut self) {
         let query = match &mut self.query {
             Some(query) => query,
             None => return,
         };
-        let start = query.ahead.unwrap_or_default();
-        let mut read = 0;
-        while let (Some(ahead), true) = (&mut query.ahead, read < READ_AHEAD) {
+        let end = query.ahead.unwrap_or_default() + READ_AHEAD;
+        while let Some(ahead) = query.ahead.as_mut().filter(|ahead| **ahead < end) {
             match next_statement(&query.text, ahead) {
                 Err(report) => return self.fail_query(report),
                 Ok(None) if query.at == 0 => {
@@ -106,12 +105,10 @@ impl Connection {
                 }
                 Ok(Some(_)) => self.transaction.several = true,
             }
-            read = query.ahead.unwrap_or(query.text.len()) - start;
         }
         if query.ahead.is_none() && !self.transaction.several {
             query.at = query.text.len();
         }
-        self.add_effort_of_bytes(read);
     }
 
     /// Runs the next statement of the simple query, or ends it.
@@ -121,6 +118,7 @@ impl Connection {
             None => return,
         };
         if query.ahead.is_some() {
+            self.add_effort_of_bytes(READ_AHEAD);
             return self.read_ahead();
         }
         let start = query.at;

@@ -1047,7 +1047,7 @@ fn a_turn_serves_so_many_messages_however_often_the_client_is_written_to() {
 fn a_text_that_comes_again_is_served_as_before() {
     let mut client = Client::connected();
     client.learn(STOCK);
-    let several = "SELECT * FROM stock WHERE price IN ($1, $2)";
+    let several = "SELECT * FROM stock WHERE id IN ($1, $2)";
     for _ in 0..4 {
         let script = [(TAKE, RESERVED), ("COMMIT", COMMITTED)];
         assert_eq!(client.ask(TAKE, &script), ["complete UPDATE 1", "ready I"]);
@@ -1058,7 +1058,7 @@ fn a_text_that_comes_again_is_served_as_before() {
         // What members are compared as follows from the types of each Parse by itself.
         for (types, expected) in [
             ([1_700, 0], "parameters 1700 1700"),
-            ([23, 0], "parameters 23 1700"),
+            ([23, 0], "parameters 23 20"),
         ] {
             client.send(&[parse("", several, &types), describe('S', ""), sync()].concat());
             assert_eq!(client.output()[..2], ["parsed", expected]);
