@@ -17,6 +17,7 @@ from clients.wire import BINARY, TEXT, Connection
 
 PART = Part("catalog_like_postgres")
 CORPUS = Path(__file__).parent / "catalog"
+FAULTS = "faults"
 BEGIN = re.compile(r"-- ==(?: rows differ: (?P<why>.*?))?(?: values: (?P<value>.*))?")
 OURS = (
     "CREATE TABLE stock (id INTEGER PRIMARY KEY, pieces INTEGER RESERVABLE CONSTRAINT in_stock CHECK (pieces >= 0), price NUMBER(8,2), "
@@ -44,7 +45,7 @@ class Asked(NamedTuple):
 
 
 class Answer(NamedTuple):
-    """What a server gave: its columns, or the SQLSTATE and the position of an error, and its rows."""
+    """What a server gave: its columns, or the SQLSTATE of an error and its position if that counts, and its rows."""
 
     columns: List[Tuple[str, int, int]]
     rows: List[Tuple[Optional[bytes], ...]]
@@ -86,8 +87,8 @@ class Side:
         rows: List[Tuple[Optional[bytes], ...]] = []
         for it in self.connection.until_ready():
             if it.kind == "E":
-                fields = it.fields()
-                columns = [(fields["C"], int(fields.get("P", 0)), 0)]
+                place = it.fields().get("P", "0") if asked.client == FAULTS else "0"
+                columns = [(it.fields()["C"], int(place), 0)]
             elif it.kind == "T":
                 columns = [(name, oid, modifier) for name, oid, modifier, _ in it.columns()]
             elif it.kind == "D":

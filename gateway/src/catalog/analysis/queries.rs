@@ -522,7 +522,8 @@ impl Analyser<'_> {
                     Some(place) => match &targets.nodes[place] {
                         Node::Column { slot, .. } if *slot >= scope.aggregate_slot() => {
                             let text = "aggregate functions are not allowed in GROUP BY";
-                            Err(Report::error(SqlState::GROUPING_ERROR, text))
+                            let span = targets.shown[place].span.unwrap_or(expression.span);
+                            Err(Report::error(SqlState::GROUPING_ERROR, text).at(span.start))
                         }
                         node => Ok(node.clone()),
                     },
