@@ -1,7 +1,8 @@
 """The queries of the catalog that clients send, to the gateway and to PostgreSQL over equal tables: columns, types and rows have to be equal.
 
-Each file of the folder `catalog` has what one client sends, as recorded on the wire; `meaning.sql` has what the evaluator knows. A line `-- ==` begins a
-query. Behind it may stand why rows differ on purpose (then columns and types are compared alone), and the value of `$1`.
+Each file of the folder `catalog` has what one client sends, as recorded on the wire; `meaning.sql` has what the evaluator knows, `faults.sql` what it
+refuses, with the position that PostgreSQL shows. A line `-- ==` begins a query. Behind it may stand why rows differ on purpose (then columns and types are
+compared alone), and the value of `$1`.
 """
 from __future__ import annotations
 
@@ -16,6 +17,7 @@ from clients.wire import BINARY, TEXT, Connection
 
 PART = Part("catalog_like_postgres")
 CORPUS = Path(__file__).parent / "catalog"
+FAULTS = "faults"
 BEGIN = re.compile(r"-- ==(?: rows differ: (?P<why>.*?))?(?: values: (?P<value>.*))?")
 OURS = (
     "CREATE TABLE stock (id INTEGER PRIMARY KEY, pieces INTEGER RESERVABLE CONSTRAINT in_stock CHECK (pieces >= 0), price NUMBER(8,2), "
@@ -43,7 +45,7 @@ class Asked(NamedTuple):
 
 
 class Answer(NamedTuple):
-    """What a server gave: its columns, or the SQLSTATE of an error, and its rows."""
+    """What a server gave: its columns, or the SQLSTATE of an error and its position if that counts, and its rows."""
 
     columns: List[Tuple[str, int, int]]
     rows: List[Tuple[Optional[bytes], ...]]
@@ -85,7 +87,8 @@ class Side:
         rows: List[Tuple[Optional[bytes], ...]] = []
         for it in self.connection.until_ready():
             if it.kind == "E":
-                columns = [(it.fields()["C"], 0, 0)]
+                place = it.fields().get("P", "0") if asked.client == FAULTS else "0"
+                columns = [(it.fields()["C"], int(place), 0)]
             elif it.kind == "T":
                 columns = [(name, oid, modifier) for name, oid, modifier, _ in it.columns()]
             elif it.kind == "D":

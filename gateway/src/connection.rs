@@ -25,6 +25,7 @@ use crate::reply::Question;
 use crate::rows::spool::Spill;
 use crate::rows::Definitions;
 use crate::sqlstate::{Failure, Report, Severity, SqlState};
+use crate::statement::known::KnownStatements;
 use crate::statement::Kind;
 use crate::variables::{Limits, Variables};
 use crate::wire::backend::{self, Status};
@@ -52,6 +53,8 @@ pub struct Settings {
     pub sessions: usize,
     /// The definitions of the tables of each database, in the order of [`Settings::databases`].
     pub definitions: Vec<Definitions>,
+    /// The statements that were read lately.
+    pub statements: KnownStatements,
     /// The memory of all connections.
     pub memory: Pool,
     /// The disk for rows of all connections that wait for their clients.
@@ -120,8 +123,11 @@ const MOST_OUTPUT: usize = 64 * 1024;
 /// How many rows and values queries of the catalog look at in a turn, before others have theirs: some milliseconds.
 const MOST_EFFORT: usize = 20_000;
 
+/// What a byte of a message or of a text counts like. So some 4 KB of them are read in a turn.
+const EFFORT_OF_A_BYTE: usize = 5;
+
 /// How many messages or statements are served in a turn, at most. Then others have their turn.
-const STEPS: usize = 32;
+const STEPS: usize = 16;
 
 /// How much input may wait while a statement runs.
 const MOST_INPUT: usize = 64 * 1024;
@@ -169,7 +175,9 @@ pub struct Connection {
     giving: Option<(Target, Rows)>,
     /// Whether there is more to do at once, in the next turn.
     has_turn: bool,
-    /// How much queries of the catalog have looked at in this turn.
+    /// How many messages or statements may still be served in this turn.
+    steps: usize,
+    /// How much was looked at and read in this turn.
     effort: Cell<usize>,
     /// The simple query that is being served.
     query: Option<Query>,
@@ -212,6 +220,7 @@ impl Connection {
             awaited: VecDeque::new(),
             giving: None,
             has_turn: false,
+            steps: STEPS,
             effort: Cell::new(0),
             query: None,
             skipping: false,
@@ -266,9 +275,11 @@ impl Connection {
         self.has_turn
     }
 
-    /// Goes on with what the last turn left.
+    /// Begins its next turn, and goes on with what the last one left.
     pub fn go_on(&mut self, now: Instant) {
         self.now = now;
+        self.steps = STEPS;
+        self.effort.set(0);
         if self.has_turn {
             self.advance();
         }
@@ -410,17 +421,15 @@ impl Connection {
         self.events.drain(..)
     }
 
-    /// Does what can be done without waiting for the program or for the client, as far as one turn goes.
+    /// Does what can be done without waiting for the program or for the client, as far as its turn goes.
     fn advance(&mut self) {
         self.flow();
-        let mut steps = 0..STEPS;
         self.has_turn = false;
-        self.effort.set(0);
         while self.awaited.is_empty() && self.output.len() < MOST_OUTPUT {
             if self.transaction_is_too_long() {
                 self.end_long_transaction();
             }
-            if steps.next().is_none() || self.effort.get() > MOST_EFFORT {
+            if self.steps == 0 || self.effort.get() > MOST_EFFORT {
                 self.has_turn = true;
                 return;
             }
@@ -441,6 +450,7 @@ impl Connection {
             if !goes_on {
                 break;
             }
+            self.steps -= 1;
         }
         let is_busy = self.is_busy() || self.is_closing();
         if self.shutting_down && !is_busy {
@@ -485,6 +495,7 @@ impl Connection {
             }
             Frame::Whole(raw, length) => {
                 let next = input.behind(length);
+                self.add_effort_of_bytes(length);
                 self.serve_message(raw, next);
                 self.input = input.take(length);
                 self.idle_since = self.now;
@@ -535,7 +546,7 @@ impl Connection {
         let report = Report::error(SqlState::PROTOCOL_VIOLATION, "invalid message format");
         match kind {
             _ if self.skipping && kind != b'S' => {}
-            b'Q' => self.refuse_query(report, ""),
+            b'Q' => self.refuse_query(report),
             // PostgreSQL rolls back, tells of the fault, and is ready.
             b'S' => {
                 self.fail(report, None);

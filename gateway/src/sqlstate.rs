@@ -9,146 +9,85 @@ use crate::reply::{Broken, Refusal};
 #[derive(Clone, Copy, Debug, PartialEq, Eq, Hash, PartialOrd, Ord)]
 pub struct SqlState(&'static str);
 
-impl SqlState {
-    /// 00000.
-    pub const SUCCESS: SqlState = SqlState("00000");
-    /// 01000.
-    pub const WARNING: SqlState = SqlState("01000");
-    /// 08P01.
-    pub const PROTOCOL_VIOLATION: SqlState = SqlState("08P01");
-    /// 0A000.
-    pub const FEATURE_NOT_SUPPORTED: SqlState = SqlState("0A000");
-    /// 21000.
-    pub const CARDINALITY_VIOLATION: SqlState = SqlState("21000");
-    /// 22001.
-    pub const TEXT_TOO_LONG: SqlState = SqlState("22001");
-    /// 22003.
-    pub const NUMBER_OUT_OF_RANGE: SqlState = SqlState("22003");
-    /// 22004.
-    pub const NULL_VALUE_NOT_ALLOWED: SqlState = SqlState("22004");
-    /// 22011.
-    pub const SUBSTRING_ERROR: SqlState = SqlState("22011");
-    /// 22012.
-    pub const DIVISION_BY_ZERO: SqlState = SqlState("22012");
-    /// 2201W.
-    pub const INVALID_ROW_COUNT_IN_LIMIT: SqlState = SqlState("2201W");
-    /// 2201X.
-    pub const INVALID_ROW_COUNT_IN_OFFSET: SqlState = SqlState("2201X");
-    /// 2201B.
-    pub const INVALID_REGULAR_EXPRESSION: SqlState = SqlState("2201B");
-    /// 22021.
-    pub const CHARACTER_NOT_IN_REPERTOIRE: SqlState = SqlState("22021");
-    /// 22023.
-    pub const INVALID_PARAMETER_VALUE: SqlState = SqlState("22023");
-    /// 22025.
-    pub const INVALID_ESCAPE_SEQUENCE: SqlState = SqlState("22025");
-    /// 22P02.
-    pub const INVALID_TEXT_REPRESENTATION: SqlState = SqlState("22P02");
-    /// 22P03.
-    pub const INVALID_BINARY_REPRESENTATION: SqlState = SqlState("22P03");
-    /// 23502.
-    pub const NOT_NULL_VIOLATION: SqlState = SqlState("23502");
-    /// 23505.
-    pub const UNIQUE_VIOLATION: SqlState = SqlState("23505");
-    /// 23514.
-    pub const CHECK_VIOLATION: SqlState = SqlState("23514");
-    /// 25001.
-    pub const ACTIVE_TRANSACTION: SqlState = SqlState("25001");
-    /// 25006.
-    pub const READ_ONLY_TRANSACTION: SqlState = SqlState("25006");
-    /// 25P01.
-    pub const NO_ACTIVE_TRANSACTION: SqlState = SqlState("25P01");
-    /// 25P02.
-    pub const FAILED_TRANSACTION: SqlState = SqlState("25P02");
-    /// 25P03.
-    pub const IDLE_IN_TRANSACTION_TIMEOUT: SqlState = SqlState("25P03");
-    /// 25P04.
-    pub const TRANSACTION_TIMEOUT: SqlState = SqlState("25P04");
-    /// 26000.
-    pub const UNDEFINED_PREPARED_STATEMENT: SqlState = SqlState("26000");
-    /// 28000.
-    pub const INVALID_AUTHORIZATION: SqlState = SqlState("28000");
-    /// 34000.
-    pub const UNDEFINED_PORTAL: SqlState = SqlState("34000");
-    /// 3B001.
-    pub const UNDEFINED_SAVEPOINT: SqlState = SqlState("3B001");
-    /// 3D000.
-    pub const UNDEFINED_DATABASE: SqlState = SqlState("3D000");
-    /// 3F000.
-    pub const INVALID_SCHEMA: SqlState = SqlState("3F000");
-    /// 42601.
-    pub const SYNTAX_ERROR: SqlState = SqlState("42601");
-    /// 42602.
-    pub const INVALID_NAME: SqlState = SqlState("42602");
-    /// 42622.
-    pub const NAME_TOO_LONG: SqlState = SqlState("42622");
-    /// 42701.
-    pub const DUPLICATE_COLUMN: SqlState = SqlState("42701");
-    /// 42702.
-    pub const AMBIGUOUS_COLUMN: SqlState = SqlState("42702");
-    /// 42703.
-    pub const UNDEFINED_COLUMN: SqlState = SqlState("42703");
-    /// 42704.
-    pub const UNDEFINED_OBJECT: SqlState = SqlState("42704");
-    /// 42712.
-    pub const DUPLICATE_ALIAS: SqlState = SqlState("42712");
-    /// 42725.
-    pub const AMBIGUOUS_FUNCTION: SqlState = SqlState("42725");
-    /// 42803.
-    pub const GROUPING_ERROR: SqlState = SqlState("42803");
-    /// 42804.
-    pub const DATATYPE_MISMATCH: SqlState = SqlState("42804");
-    /// 42809.
-    pub const WRONG_OBJECT_TYPE: SqlState = SqlState("42809");
-    /// 42846.
-    pub const CANNOT_COERCE: SqlState = SqlState("42846");
-    /// 42883.
-    pub const UNDEFINED_FUNCTION: SqlState = SqlState("42883");
-    /// 42P01.
-    pub const UNDEFINED_TABLE: SqlState = SqlState("42P01");
-    /// 42P02.
-    pub const UNDEFINED_PARAMETER: SqlState = SqlState("42P02");
-    /// 42P03.
-    pub const DUPLICATE_PORTAL: SqlState = SqlState("42P03");
-    /// 42P05.
-    pub const DUPLICATE_PREPARED_STATEMENT: SqlState = SqlState("42P05");
-    /// 42P07.
-    pub const DUPLICATE_TABLE: SqlState = SqlState("42P07");
-    /// 42P10.
-    pub const INVALID_COLUMN_REFERENCE: SqlState = SqlState("42P10");
-    /// 42P16.
-    pub const INVALID_TABLE_DEFINITION: SqlState = SqlState("42P16");
-    /// 42P18.
-    pub const INDETERMINATE_TYPE: SqlState = SqlState("42P18");
-    /// 42P20.
-    pub const WINDOWING_ERROR: SqlState = SqlState("42P20");
-    /// 53100.
-    pub const DISK_FULL: SqlState = SqlState("53100");
-    /// 53200.
-    pub const OUT_OF_MEMORY: SqlState = SqlState("53200");
-    /// 53300.
-    pub const TOO_MANY_CONNECTIONS: SqlState = SqlState("53300");
-    /// 53400.
-    pub const CONFIGURATION_LIMIT_EXCEEDED: SqlState = SqlState("53400");
-    /// 54000.
-    pub const LIMIT_EXCEEDED: SqlState = SqlState("54000");
-    /// 54001.
-    pub const STATEMENT_TOO_COMPLEX: SqlState = SqlState("54001");
-    /// 55000.
-    pub const NOT_IN_PREREQUISITE_STATE: SqlState = SqlState("55000");
-    /// 55006.
-    pub const OBJECT_IN_USE: SqlState = SqlState("55006");
-    /// 55P02.
-    pub const CANNOT_CHANGE_NOW: SqlState = SqlState("55P02");
-    /// 57014.
-    pub const QUERY_CANCELED: SqlState = SqlState("57014");
-    /// 57P01.
-    pub const ADMIN_SHUTDOWN: SqlState = SqlState("57P01");
-    /// 58030.
-    pub const IO_ERROR: SqlState = SqlState("58030");
-    /// XX000.
-    pub const INTERNAL_ERROR: SqlState = SqlState("XX000");
+/// Names SQLSTATEs.
+macro_rules! states {
+    ($($name:ident $code:literal,)*) => {
+        impl SqlState {
+            $(#[doc = $code] pub const $name: SqlState = SqlState($code);)*
+        }
+    };
+}
 
+states! {
+    SUCCESS "00000",
+    WARNING "01000",
+    PROTOCOL_VIOLATION "08P01",
+    FEATURE_NOT_SUPPORTED "0A000",
+    CARDINALITY_VIOLATION "21000",
+    TEXT_TOO_LONG "22001",
+    NUMBER_OUT_OF_RANGE "22003",
+    NULL_VALUE_NOT_ALLOWED "22004",
+    SUBSTRING_ERROR "22011",
+    DIVISION_BY_ZERO "22012",
+    INVALID_ROW_COUNT_IN_LIMIT "2201W",
+    INVALID_ROW_COUNT_IN_OFFSET "2201X",
+    CHARACTER_NOT_IN_REPERTOIRE "22021",
+    INVALID_PARAMETER_VALUE "22023",
+    INVALID_ESCAPE_SEQUENCE "22025",
+    INVALID_TEXT_REPRESENTATION "22P02",
+    INVALID_BINARY_REPRESENTATION "22P03",
+    NOT_NULL_VIOLATION "23502",
+    UNIQUE_VIOLATION "23505",
+    CHECK_VIOLATION "23514",
+    ACTIVE_TRANSACTION "25001",
+    READ_ONLY_TRANSACTION "25006",
+    NO_ACTIVE_TRANSACTION "25P01",
+    FAILED_TRANSACTION "25P02",
+    IDLE_IN_TRANSACTION_TIMEOUT "25P03",
+    TRANSACTION_TIMEOUT "25P04",
+    UNDEFINED_PREPARED_STATEMENT "26000",
+    INVALID_AUTHORIZATION "28000",
+    UNDEFINED_PORTAL "34000",
+    UNDEFINED_SAVEPOINT "3B001",
+    UNDEFINED_DATABASE "3D000",
+    INVALID_SCHEMA "3F000",
+    SYNTAX_ERROR "42601",
+    INVALID_NAME "42602",
+    NAME_TOO_LONG "42622",
+    DUPLICATE_COLUMN "42701",
+    AMBIGUOUS_COLUMN "42702",
+    UNDEFINED_COLUMN "42703",
+    UNDEFINED_OBJECT "42704",
+    DUPLICATE_ALIAS "42712",
+    AMBIGUOUS_FUNCTION "42725",
+    GROUPING_ERROR "42803",
+    DATATYPE_MISMATCH "42804",
+    WRONG_OBJECT_TYPE "42809",
+    UNDEFINED_FUNCTION "42883",
+    UNDEFINED_TABLE "42P01",
+    UNDEFINED_PARAMETER "42P02",
+    DUPLICATE_PORTAL "42P03",
+    DUPLICATE_PREPARED_STATEMENT "42P05",
+    DUPLICATE_TABLE "42P07",
+    INVALID_COLUMN_REFERENCE "42P10",
+    INVALID_TABLE_DEFINITION "42P16",
+    INDETERMINATE_TYPE "42P18",
+    WINDOWING_ERROR "42P20",
+    DISK_FULL "53100",
+    OUT_OF_MEMORY "53200",
+    TOO_MANY_CONNECTIONS "53300",
+    CONFIGURATION_LIMIT_EXCEEDED "53400",
+    LIMIT_EXCEEDED "54000",
+    STATEMENT_TOO_COMPLEX "54001",
+    NOT_IN_PREREQUISITE_STATE "55000",
+    OBJECT_IN_USE "55006",
+    CANNOT_CHANGE_NOW "55P02",
+    ADMIN_SHUTDOWN "57P01",
+    IO_ERROR "58030",
+    INTERNAL_ERROR "XX000",
+}
+
+impl SqlState {
     /// Returns the five characters.
     pub fn code(self) -> &'static str {
         self.0

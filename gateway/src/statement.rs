@@ -2,6 +2,7 @@
 
 pub mod constant;
 pub mod explain;
+pub mod known;
 pub mod line;
 pub mod literal;
 pub mod parameters;
@@ -15,8 +16,6 @@ pub mod words;
 
 #[cfg(test)]
 mod tests;
-
-use std::rc::Rc;
 
 use query::{Name, Query};
 use served::Served;
@@ -240,7 +239,7 @@ impl Statement {
 #[derive(Clone, Debug, PartialEq, Eq)]
 pub struct Parsed {
     /// The statement.
-    pub statement: Rc<Statement>,
+    pub statement: Statement,
     /// What its parameters stand for.
     pub places: Vec<parameters::Place>,
     /// The number of its first parameter, and where that is.

@@ -58,7 +58,7 @@ impl Deletion {
         }
         let mut at = 0;
         let parsed = next_statement(text, &mut at).ok()??;
-        let delete = match &*parsed.statement {
+        let delete = match &parsed.statement {
             gateway::Statement::Served(Served::Delete(delete)) => delete,
             _ => return None,
         };
@@ -107,7 +107,7 @@ fn deallocated(text: &str) -> Option<String> {
         return None;
     }
     let mut at = 0;
-    match &*next_statement(text, &mut at).ok()??.statement {
+    match &next_statement(text, &mut at).ok()??.statement {
         gateway::Statement::Deallocate(Some(name)) => Some(name.text.clone()),
         _ => None,
     }

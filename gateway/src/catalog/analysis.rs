@@ -37,6 +37,8 @@ pub struct Typed {
     pub oid: Oid,
     /// The type's modifier; -1: none.
     pub modifier: i32,
+    /// Where it is written, if it is.
+    pub span: Option<Span>,
 }
 
 impl Typed {
@@ -45,6 +47,7 @@ impl Typed {
             node,
             oid,
             modifier: -1,
+            span: None,
         }
     }
 

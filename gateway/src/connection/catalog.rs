@@ -9,7 +9,7 @@ use crate::activity::{Activity, Clock};
 use crate::catalog::{self, microseconds, Session, SettingRow, World};
 use crate::connection::transaction::Block;
 use crate::connection::work::{Completed, Subject, Tag, Target};
-use crate::connection::Connection;
+use crate::connection::{Connection, EFFORT_OF_A_BYTE};
 use crate::rows::ResultSet;
 use crate::sqlstate::Failure;
 use crate::statement::query::Query;
@@ -81,6 +81,11 @@ impl Connection {
     /// Counts what a query looked at towards the connection's share of the turn.
     fn add_effort(&self, effort: usize) {
         self.effort.set(self.effort.get().saturating_add(effort));
+    }
+
+    /// Counts bytes of messages and texts that were read towards the connection's share of the turn.
+    pub(super) fn add_effort_of_bytes(&self, bytes: usize) {
+        self.add_effort(bytes.saturating_mul(EFFORT_OF_A_BYTE));
     }
 
     /// Finds out the types of a query's parameters, and its columns.

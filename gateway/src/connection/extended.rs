@@ -4,15 +4,15 @@ use std::rc::Rc;
 
 use postgres_protocol::Oid;
 
-use crate::connection::prepared::{Binding, Portal, Progress, Statement};
+use crate::connection::prepared::{Binding, Formats, Portal, Progress, Statement};
 use crate::connection::transaction::Block;
 use crate::connection::work::{failed_block, AfterCommit, AfterDefinition, Subject, Target};
 use crate::connection::Connection;
 use crate::rows::Definition;
 use crate::sqlstate::{Failure, Report, SqlState};
+use crate::statement::known::Content;
 use crate::statement::literal::not_utf8;
 use crate::statement::parameters::{self, Place};
-use crate::statement::parser::next_statement;
 use crate::statement::served::{Served, Verb};
 use crate::statement::{select, Statement as Tree};
 use crate::value::oid;
@@ -58,7 +58,7 @@ impl Connection {
             Err(report) => return self.fail(report, None),
         };
         if !binding.needs_definition() {
-            return self.bind_now(binding, None);
+            return self.bind_now(binding, &bind.values, None);
         }
         let statement = Rc::clone(&binding.statement);
         match statement
@@ -66,21 +66,28 @@ impl Connection {
             .map(|table| (table, self.definitions().get(table)))
         {
             Some((table, None)) => {
-                let then = AfterDefinition::Bind(binding, Rc::clone(&statement));
+                let values = bind.values.iter();
+                let values = values.map(|value| value.map(<[u8]>::to_vec)).collect();
+                let then = AfterDefinition::Bind(binding, values, Rc::clone(&statement));
                 self.ask_definition(table, then);
             }
             known => {
                 let definition = known.and_then(|(_, definition)| definition);
-                self.bind_now(binding, definition.as_deref());
+                self.bind_now(binding, &bind.values, definition.as_deref());
             }
         }
     }
 
     /// Binds, where the table's definition is known if it has to be.
-    pub(super) fn bind_now(&mut self, binding: Binding, definition: Option<&Definition>) {
+    pub(super) fn bind_now(
+        &mut self,
+        binding: Binding,
+        values: &[Option<&[u8]>],
+        definition: Option<&Definition>,
+    ) {
         let name = binding.portal.clone();
         let bound = binding
-            .read(definition)
+            .read(values, definition)
             .and_then(|portal| self.prepared.add_portal(&name, portal));
         match bound {
             Ok(()) => backend::bind_complete(self.output.buffer()),
@@ -117,21 +124,11 @@ impl Connection {
                 ),
             ));
         }
-        let formats = formats(&bind.formats)?;
-        let format = |place: usize| match formats[..] {
-            [] => Format::Text,
-            [format] => format,
-            _ => formats[place],
-        };
-        let values = bind.values.iter().enumerate();
-        let values = values
-            .map(|(place, value)| (format(place), value.map(<[u8]>::to_vec)))
-            .collect();
         Ok(Binding {
             portal: bind.portal.to_owned(),
             statement: Rc::clone(statement),
-            values,
-            formats: self::formats(&bind.result_formats)?.into(),
+            value_formats: formats(&bind.formats)?,
+            formats: formats(&bind.result_formats)?,
         })
     }
 
@@ -208,7 +205,7 @@ impl Connection {
         types: &[Oid],
     ) -> Result<Option<Rc<[Column]>>, Failure> {
         let tree = match &statement.parsed {
-            Some(parsed) => &*parsed.statement,
+            Some(parsed) => &parsed.statement,
             None => return Ok(None),
         };
         let shown = match tree {
@@ -334,37 +331,41 @@ impl Connection {
     }
 }
 
-fn formats(codes: &[i16]) -> Result<Vec<Format>, Failure> {
-    codes
-        .iter()
-        .map(|code| match code {
-            0 => Ok(Format::Text),
-            1 => Ok(Format::Binary),
-            code => Err(Report::error(
-                SqlState::INVALID_PARAMETER_VALUE,
-                format!("unsupported format code: {}", code),
-            )),
-        })
-        .collect()
+fn formats(codes: &[i16]) -> Result<Formats, Failure> {
+    let format = |code: &i16| match code {
+        0 => Ok(Format::Text),
+        1 => Ok(Format::Binary),
+        code => Err(Report::error(
+            SqlState::INVALID_PARAMETER_VALUE,
+            format!("unsupported format code: {}", code),
+        )),
+    };
+    Ok(match codes {
+        [] => Formats::default(),
+        [code] => Formats::All(format(code)?),
+        codes => Formats::Each(codes.iter().map(format).collect::<Result<_, _>>()?),
+    })
 }
 
 impl Connection {
     /// Reads the text of a prepared statement.
     fn prepare(&self, text: &str, types: &[u32]) -> Result<Statement, Failure> {
-        let mut at = 0;
-        let mut parsed = next_statement(text, &mut at)?;
-        if next_statement(text, &mut at)?.is_some() {
-            return Err(Report::error(
-                SqlState::SYNTAX_ERROR,
-                "cannot insert multiple commands into a prepared statement",
-            ));
-        }
+        let (text, mut parsed) = match self.settings.statements.read(text)? {
+            Content::Nothing => (text.into(), None),
+            Content::One(known) => (known.text, Some(known.parsed)),
+            Content::Several => {
+                return Err(Report::error(
+                    SqlState::SYNTAX_ERROR,
+                    "cannot insert multiple commands into a prepared statement",
+                ));
+            }
+        };
         if let Some(query) = parsed.as_ref().and_then(|parsed| parsed.statement.query()) {
             let types = self.describe_query(query, types)?.parameters;
             return Ok(Statement::new(text, parsed, types));
         }
         if let Some(parsed) = &mut parsed {
-            parameters::settle_members(&mut parsed.places, &parsed.statement, types);
+            parameters::settle_members(parsed, types);
         }
         let places = parsed.as_ref().map_or(&[][..], |parsed| &parsed.places);
         let mut types = types.to_vec();

@@ -41,9 +41,9 @@ const OVERHEAD: usize = 512;
 #[derive(Debug)]
 pub struct Statement {
     /// Its text.
-    pub text: String,
+    pub text: Rc<str>,
     /// What it is. None: its text is empty.
-    pub parsed: Option<Parsed>,
+    pub parsed: Option<Rc<Parsed>>,
     /// The types of its parameters, as far as the client tells them.
     pub types: Vec<Oid>,
     /// The columns that the client was told last.
@@ -53,9 +53,9 @@ pub struct Statement {
 
 impl Statement {
     /// Makes a prepared statement of a text that was read.
-    pub fn new(text: &str, parsed: Option<Parsed>, types: Vec<Oid>) -> Statement {
+    pub fn new(text: Rc<str>, parsed: Option<Rc<Parsed>>, types: Vec<Oid>) -> Statement {
         Statement {
-            text: text.to_owned(),
+            text,
             parsed,
             types,
             described: RefCell::default(),
@@ -119,11 +119,15 @@ impl Statement {
     pub fn is_described_by_table(&self) -> bool {
         let has_columns =
             |served: &Served| served.verb() == Verb::Select || !served.returning().is_empty();
-        self.served().map_or(false, has_columns)
-            || (0..self.types.len()).any(|parameter| {
-                let (place, oid) = self.parameter(parameter);
-                parameters::needs_definition(place, oid)
-            })
+        self.served().map_or(false, has_columns) || self.has_open_parameters()
+    }
+
+    /// Returns whether the type of a parameter is that of a column.
+    fn has_open_parameters(&self) -> bool {
+        (0..self.types.len()).any(|parameter| {
+            let (place, oid) = self.parameter(parameter);
+            parameters::needs_definition(place, oid)
+        })
     }
 }
 
@@ -178,42 +182,48 @@ pub enum Progress {
     Done,
 }
 
-/// The formats of a result's columns, as Bind gives them: none for text, one for all columns, or one for each.
+/// The formats of values, as Bind gives them.
 #[derive(Clone, Debug)]
-pub struct Formats(Rc<[Format]>);
+pub enum Formats {
+    /// One for all of them.
+    All(Format),
+    /// One for each.
+    Each(Rc<[Format]>),
+}
 
 impl Default for Formats {
     fn default() -> Formats {
-        Formats(Rc::new([]))
+        Formats::All(Format::Text)
     }
 }
 
 impl Formats {
-    /// Returns the format of the column at this place.
+    /// Returns the format of the value at this place.
     pub fn of(&self, place: usize) -> Format {
-        match self.0[..] {
-            [] => Format::Text,
-            [format] => format,
-            _ => self.0.get(place).copied().unwrap_or(Format::Text),
+        match self {
+            Formats::All(format) => *format,
+            Formats::Each(formats) => formats.get(place).copied().unwrap_or(Format::Text),
+        }
+    }
+
+    /// Returns how many there are, if there is one for each value.
+    fn count(&self) -> Option<usize> {
+        match self {
+            Formats::All(_) => None,
+            Formats::Each(formats) => Some(formats.len()),
         }
     }
 }
 
-impl From<Vec<Format>> for Formats {
-    fn from(formats: Vec<Format>) -> Formats {
-        Formats(formats.into())
-    }
-}
-
-/// What a Bind gives, before its values are read.
+/// What a Bind gives beside its values.
 #[derive(Debug)]
 pub struct Binding {
     /// The portal's name.
     pub portal: String,
     /// The portal's statement.
     pub statement: Rc<Statement>,
-    /// The values of its parameters.
-    pub values: Vec<(Format, Option<Vec<u8>>)>,
+    /// The formats of the values.
+    pub value_formats: Formats,
     /// The formats of its columns.
     pub formats: Formats,
 }
@@ -221,45 +231,37 @@ pub struct Binding {
 impl Binding {
     /// Returns whether its table's definition has to be known before its values can be read.
     pub fn needs_definition(&self) -> bool {
-        (0..self.values.len()).any(|parameter| {
-            let (place, oid) = self.statement.parameter(parameter);
-            parameters::needs_definition(place, oid)
-        })
+        self.statement.has_open_parameters()
     }
 
-    /// Reads its values.
+    /// Makes the portal of the values of its parameters.
     ///
     /// # Errors
     ///
     /// Fails if one is none of its type, or none that the program holds.
-    pub fn read(self, definition: Option<&Definition>) -> Result<Portal, Failure> {
+    pub fn read(
+        self,
+        given: &[Option<&[u8]>],
+        definition: Option<&Definition>,
+    ) -> Result<Portal, Failure> {
         let types = self.statement.parameter_types(definition);
+        let formats = &self.value_formats;
+        let (mut values, mut raw) = (Vec::new(), Vec::new());
         if self.statement.query().is_some() {
-            let arguments = Arguments {
-                values: Vec::new(),
-                types,
-                raw: self.values,
-            };
-            return Ok(Portal::new(
-                self.statement,
-                arguments,
-                self.formats,
-                Progress::Ready,
-            ));
+            let given = given.iter().enumerate();
+            let given = given.map(|(at, value)| (formats.of(at), value.map(<[u8]>::to_vec)));
+            raw = given.collect();
+        } else {
+            values.reserve_exact(given.len());
+            for (at, bytes) in given.iter().enumerate() {
+                let oid = types.get(at).copied().unwrap_or(oid::UNSPECIFIED);
+                values.push(value::parameter(at + 1, oid, formats.of(at), *bytes)?);
+            }
         }
-        let mut values = Vec::with_capacity(self.values.len());
-        for (parameter, (format, bytes)) in self.values.iter().enumerate() {
-            let oid = types.get(parameter).copied().unwrap_or(oid::UNSPECIFIED);
-            let value = value::parameter(parameter + 1, oid, *format, bytes.as_deref())?;
-            values.push(value);
-        }
+        let arguments = Arguments { values, types, raw };
         Ok(Portal::new(
             self.statement,
-            Arguments {
-                values,
-                types,
-                raw: Vec::new(),
-            },
+            arguments,
             self.formats,
             Progress::Ready,
         ))
@@ -303,18 +305,17 @@ impl Portal {
     ///
     /// Fails if it hasn't.
     pub fn check_formats(&self, columns: &[Column]) -> Result<(), Failure> {
-        let count = self.formats.0.len();
-        if count > 1 && count != columns.len() {
-            return Err(Report::error(
+        match self.formats.count() {
+            Some(count) if count != columns.len() => Err(Report::error(
                 SqlState::PROTOCOL_VIOLATION,
                 format!(
                     "bind message has {} result formats but query has {} columns",
                     count,
                     columns.len()
                 ),
-            ));
+            )),
+            _ => Ok(()),
         }
-        Ok(())
     }
 
     /// Checks that a result has the columns that the client was told last.
@@ -331,7 +332,8 @@ impl Portal {
 
     /// Returns about how many bytes it takes.
     fn size(&self) -> usize {
-        OVERHEAD + self.arguments.size() + self.formats.0.len() * mem::size_of::<Format>()
+        let formats = self.formats.count().unwrap_or(0) * mem::size_of::<Format>();
+        OVERHEAD + self.arguments.size() + formats
     }
 }
 

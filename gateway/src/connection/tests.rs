@@ -26,6 +26,7 @@ fn settings() -> Rc<Settings> {
         startup: Duration::from_secs(10),
         sessions: 64,
         definitions: vec![Definitions::default(), Definitions::default()],
+        statements: KnownStatements::default(),
         memory: Pool::new(u64::MAX),
         disk: Pool::new(u64::MAX),
     })
@@ -965,6 +966,113 @@ fn rows_of_an_insert_are_written_one_by_one() {
         client.output(),
         ["ERROR 23505 t=stock n=stock_pkey", "ready I"]
     );
+}
+
+#[test]
+fn what_returning_names_is_looked_for_before_a_row_is_judged() {
+    let mut client = Client::connected();
+    client.learn(STOCK);
+    for (values, returning, expected) in [
+        ("(id) VALUES (1)", "colour", "42703"),
+        ("(id, name) VALUES (1, NULL)", "colour", "42703"),
+        ("(id) VALUES ('x')", "colour", "22P02"),
+        ("(id) VALUES (1, 2)", "colour", "42601"),
+        ("(id) VALUES (1)", "pieces", "23502"),
+        ("VALUES (1, 2, 3, NULL)", "name", "23502"),
+        ("VALUES (1, 2, 3)", "id", "23502"),
+    ] {
+        let text = format!("INSERT INTO stock {} RETURNING {}", values, returning);
+        let told = client.ask(&text, &[]);
+        let expected = format!("ERROR {}", expected);
+        assert!(told[0].starts_with(&expected), "{}: {:?}", text, told);
+        assert_eq!(told[1..], ["ready I"]);
+    }
+}
+
+#[test]
+fn a_long_query_is_read_in_turns_before_any_of_it_runs() {
+    let show = "SHOW server_version;";
+    for (end, is_run) in [("", true), ("COMMT", false), ("SELECT 'x", false)] {
+        let mut client = Client::connected();
+        let text = show.repeat(5_000) + end;
+        client.connection.go_on(client.now);
+        client.connection.receive(&query(&text), client.now);
+        let mut turns = 1;
+        while client.connection.has_turn() && client.connection.output().is_empty() {
+            client.connection.go_on(client.now);
+            turns += 1;
+        }
+        assert!((20..100).contains(&turns), "{} turns", turns);
+        client.go_on();
+        let told = client.output();
+        if is_run {
+            assert_eq!(told.len(), 3 * 5_000 + 1);
+            assert_eq!(told[14_999..], ["complete SHOW", "ready I"]);
+        } else {
+            let place = show.len() * 5_000 + if end == "COMMT" { 1 } else { 8 };
+            assert_eq!(told, [&format!("ERROR 42601 P={}", place), "ready I"]);
+        }
+        // The next one is served as ever.
+        assert_eq!(client.ask("", &[]), ["empty", "ready I"]);
+    }
+}
+
+#[test]
+fn a_turn_serves_so_many_messages_however_often_the_client_is_written_to() {
+    let mut client = Client::connected();
+    client.connection.go_on(client.now);
+    client
+        .connection
+        .receive(&query("").repeat(10 * STEPS), client.now);
+    let mut told = Vec::new();
+    for _ in 0..4 {
+        let written = client.connection.output().to_vec();
+        client.connection.sent(written.len(), client.now);
+        told.extend(written);
+    }
+    assert_eq!(decoded(&told).len(), 2 * STEPS);
+    assert!(client.connection.has_turn());
+    // Long messages count more.
+    client.go_on();
+    assert_eq!(client.output().len(), 20 * STEPS - 2 * STEPS);
+    let long = query(&format!("SHOW server_version -- {}", "x".repeat(2_000)));
+    client.connection.go_on(client.now);
+    client.connection.receive(&long.repeat(STEPS), client.now);
+    let written = client.connection.output().to_vec();
+    let served = decoded(&written).len() / 4;
+    assert!((1..4).contains(&served), "{} were served", served);
+}
+
+#[test]
+fn a_text_that_comes_again_is_served_as_before() {
+    let mut client = Client::connected();
+    client.learn(STOCK);
+    let several = "SELECT * FROM stock WHERE id IN ($1, $2)";
+    for _ in 0..4 {
+        let script = [(TAKE, RESERVED), ("COMMIT", COMMITTED)];
+        assert_eq!(client.ask(TAKE, &script), ["complete UPDATE 1", "ready I"]);
+        assert_eq!(
+            client.ask("UPDATE stock SET pieces = pieces - 1", &[]),
+            ["ERROR 0A000 P=1", "ready I"]
+        );
+        // What members are compared as follows from the types of each Parse by itself.
+        for (types, expected) in [
+            ([1_700, 0], "parameters 1700 1700"),
+            ([23, 0], "parameters 23 20"),
+        ] {
+            client.send(&[parse("", several, &types), describe('S', ""), sync()].concat());
+            assert_eq!(client.output()[..2], ["parsed", expected]);
+        }
+        assert_eq!(
+            client.ask("SHOW server_version $1", &[])[0],
+            "ERROR 42601 P=21"
+        );
+        assert_eq!(client.ask("SELECT $1", &[])[0], "ERROR 42P02 P=8");
+    }
+    let known = &client.connection.settings.statements;
+    assert!([TAKE, several, "SELECT $1"]
+        .iter()
+        .all(|text| known.find(text).is_ok()));
 }
 
 #[test]

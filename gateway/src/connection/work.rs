@@ -106,7 +106,7 @@ pub enum Target {
 #[derive(Clone, Debug)]
 pub enum Subject {
     /// A statement of the simple query.
-    Simple(Rc<Statement>),
+    Simple(Rc<Parsed>),
     /// A prepared statement with its values.
     Prepared(Rc<Prepared>, Rc<Arguments>),
 }
@@ -115,7 +115,7 @@ impl Subject {
     /// Returns the statement. None: its text is empty.
     pub fn statement(&self) -> Option<&Statement> {
         match self {
-            Subject::Simple(statement) => Some(statement),
+            Subject::Simple(parsed) => Some(&parsed.statement),
             Subject::Prepared(prepared, _) => Some(&prepared.parsed.as_ref()?.statement),
         }
     }
@@ -226,8 +226,8 @@ pub enum AfterCommit {
 /// What goes on once a definition is known.
 #[derive(Debug)]
 pub enum AfterDefinition {
-    /// Bind of this statement.
-    Bind(Binding, Rc<Prepared>),
+    /// Bind of this statement, with the values of its parameters.
+    Bind(Binding, Vec<Option<Vec<u8>>>, Rc<Prepared>),
     /// Describe of a prepared statement of this name.
     Describe(String, Rc<Prepared>),
     /// Describe of a portal of this name.
@@ -365,7 +365,8 @@ impl Connection {
         })
     }
 
-    /// Computes what RETURNING shows of a row before that is written: what is wrong with it changes nothing.
+    /// Computes what RETURNING shows of a row before that is written: what is wrong with it changes nothing. What PostgreSQL
+    /// finds before it runs a statement comes first.
     fn prepare_returned(
         &self,
         running: &mut Running,
@@ -378,11 +379,14 @@ impl Connection {
             _ => return Ok(()),
         };
         let known = line::known_values(served, running.row, definition, input)?;
-        let row = select::returned_row(shown, definition, input, |place| known[place].clone())?;
         let rows = match running.returned.take() {
             Some((rows, _)) => rows,
             None => ResultSet::new(select::columns(shown, definition, input.types)?),
         };
+        // What is refused when the row is written comes before what RETURNING can't tell of it.
+        let (row, by) = (running.row, Some(&**definition));
+        line::write(served, row, by, input, &mut Vec::new())?;
+        let row = select::returned_row(shown, definition, input, |place| known[place].clone())?;
         running.returned = Some((rows, row));
         Ok(())
     }
@@ -551,7 +555,7 @@ impl Connection {
                 }
             }
             (
-                AfterDefinition::Bind(_, statement)
+                AfterDefinition::Bind(_, _, statement)
                 | AfterDefinition::Describe(_, statement)
                 | AfterDefinition::DescribePortal(_, statement),
                 Outcome::Refused(refusal),
@@ -560,8 +564,9 @@ impl Connection {
                 self.fail(report, Some(&statement.text));
             }
             (AfterDefinition::Run(running), _) => self.run_by_definition(running),
-            (AfterDefinition::Bind(binding, _), _) => {
-                self.bind_now(binding, definition.as_deref());
+            (AfterDefinition::Bind(binding, values, _), _) => {
+                let values: Vec<_> = values.iter().map(Option::as_deref).collect();
+                self.bind_now(binding, &values, definition.as_deref());
             }
             (AfterDefinition::Describe(name, _), _) => self.describe_now(&name),
             (AfterDefinition::DescribePortal(name, _), _) => self.describe_portal(&name),
@@ -911,10 +916,7 @@ impl Connection {
 
     /// Tells the client that a statement of its simple query failed, with the place in its text.
     pub(super) fn fail_query(&mut self, report: Failure) {
-        let text = self
-            .query
-            .as_mut()
-            .map(|query| std::mem::take(&mut query.text));
+        let text = self.query.as_ref().map(|query| Rc::clone(&query.text));
         self.fail(report, text.as_deref());
     }
 
@@ -955,12 +957,13 @@ impl Connection {
             is_move: false,
         };
         let parsed = Parsed {
-            statement: Rc::new(statement),
+            statement,
             places: Vec::new(),
             parameter: None,
             size: name.len(),
         };
-        let prepared = Rc::new(Prepared::new("", Some(parsed), Vec::new()));
+        let text = "".into();
+        let prepared = Rc::new(Prepared::new(text, Some(Rc::new(parsed)), Vec::new()));
         let portal = Portal::new(
             prepared,
             Arguments::default(),

@@ -10,6 +10,7 @@ use escrowd_pg::budget::Pool;
 use escrowd_pg::connection::Settings;
 use escrowd_pg::limits::SESSIONS;
 use escrowd_pg::rows::spool;
+use escrowd_pg::statement::known::KnownStatements;
 use mio::{Poll, Token};
 use tracing::warn;
 
@@ -77,6 +78,7 @@ impl Engine {
                 startup: STARTUP,
                 sessions: SESSIONS,
                 definitions,
+                statements: KnownStatements::default(),
                 memory: memory::of_connections(),
                 disk: Pool::new(spool::MOST_OF_ALL),
             }),

@@ -3,7 +3,7 @@
 use crate::rows::{ColumnType, DefinedColumn, Definition};
 use crate::sqlstate::{Failure, Report, SqlState};
 use crate::statement::constant::{self, Input, Usage};
-use crate::statement::line::inserted;
+use crate::statement::line::{check_given, inserted};
 use crate::statement::query::{Expression, Name};
 use crate::statement::served::{no_column, unknown_column, Keys, Served, Show, Update};
 use crate::value::{Number, Value};
@@ -21,8 +21,10 @@ pub fn refusal(
         Served::Insert(insert) => {
             let values = insert.rows.get(row).map_or(&[][..], Vec::as_slice);
             inserted(insert, values, definition).and_then(|columns| {
-                let mut assigned = columns.into_iter().zip(values);
-                assigned.try_for_each(|(column, value)| fits(column, value, input, Usage::Assigned))
+                let mut assigned = columns.iter().zip(values);
+                assigned
+                    .try_for_each(|(column, value)| fits(column, value, input, Usage::Assigned))?;
+                check_given(&columns, definition)
             })
         }
         Served::Update(update) => assigned(update, definition, input)

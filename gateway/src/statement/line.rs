@@ -51,14 +51,19 @@ pub fn write(
     out: &mut Vec<u8>,
 ) -> Result<(), Failure> {
     let start = out.len();
-    let written = match append(served, row, definition, input, out) {
-        Ok(()) if out.len() - start > LONGEST_LINE => Err(too_long()),
-        written => written,
-    };
+    let written = append(served, row, definition, input, out);
+    let written = written.and_then(|()| check_length(&out[start..]));
     if written.is_err() {
         out.truncate(start);
     }
     written
+}
+
+fn check_length(line: &[u8]) -> Result<(), Failure> {
+    if line.len() > LONGEST_LINE {
+        return Err(too_long());
+    }
+    Ok(())
 }
 
 fn append(
@@ -121,16 +126,14 @@ pub fn write_select(
         let column = &named.column.text;
         words(out, &["SELECT * FROM ", table, " WHERE ", column, " = "]);
         append_value(out, key).map_err(|report| report.at(place))?;
-        if out.len() - start > LONGEST_LINE {
-            return Err(too_long());
-        }
+        check_length(&out[start..])?;
         out.push(b'\n');
     }
     Ok(keys.len())
 }
 
 /// Returns the values that are known of the row that a statement writes, as a SELECT would show them: one for each column
-/// of its table.
+/// of its table. What is NULL, or not given, is refused when the row is written.
 ///
 /// # Errors
 ///
@@ -149,8 +152,11 @@ pub fn known_values(
             .position(|column| column.name == name);
         if let Some(place) = place {
             let column = &definition.columns[place];
-            let value = constant::value_for(value, input, Some(column), usage)?;
-            known[place] = Some(column.printed(&value));
+            known[place] = match constant::value_for(value, input, Some(column), usage) {
+                Ok(value) => Some(column.printed(&value)),
+                Err(report) if report.state == SqlState::NOT_NULL_VIOLATION => None,
+                Err(report) => return Err(report),
+            };
         }
         Ok(())
     };
@@ -297,25 +303,36 @@ fn append_row(
     );
     let values = insert.rows.get(row).map_or(&[][..], Vec::as_slice);
     let columns = match definition {
-        Some(definition) => Some(inserted(insert, values, definition)?),
-        None => None,
+        Some(definition) => inserted(insert, values, definition)?,
+        None => Vec::new(),
     };
     for (at, value) in values.iter().enumerate() {
         words(out, &[if at > 0 { ", " } else { "" }]);
-        let column = columns
-            .as_ref()
-            .and_then(|columns| columns.get(at).copied());
-        append_for(out, value, input, column, Usage::Assigned)?;
+        append_for(out, value, input, columns.get(at).copied(), Usage::Assigned)?;
     }
     out.push(b')');
-    Ok(())
+    definition.map_or(Ok(()), |definition| check_given(&columns, definition))
+}
+
+/// Checks that the columns to which an INSERT gives values are all of the table's. PostgreSQL finds that one is missing when
+/// it writes the row, behind all else that can be wrong.
+///
+/// # Errors
+///
+/// Fails if one is missing.
+pub fn check_given(given: &[&DefinedColumn], definition: &Definition) -> Result<(), Failure> {
+    let mut columns = definition.columns.iter();
+    match columns.find(|column| !given.iter().any(|given| given.name == column.name)) {
+        Some(column) => Err(no_value(column, definition)),
+        None => Ok(()),
+    }
 }
 
 /// Returns the columns of the values of an INSERT.
 ///
 /// # Errors
 ///
-/// Fails if it gives not just one value to each column.
+/// Fails if it gives not just one value to each column that it lists.
 pub fn inserted<'a>(
     insert: &Insert,
     values: &[Expression],
@@ -345,15 +362,8 @@ pub fn inserted<'a>(
         let place = insert.columns[values.len()].span.start;
         return Err(Report::error(SqlState::SYNTAX_ERROR, text).at(place));
     }
-    let given = &columns[..values.len()];
-    let missing = definition
-        .columns
-        .iter()
-        .find(|column| !given.iter().any(|given| given.name == column.name));
-    match missing {
-        Some(column) => Err(no_value(column, definition)),
-        None => Ok(columns),
-    }
+    columns.truncate(values.len());
+    Ok(columns)
 }
 
 fn no_value(column: &DefinedColumn, definition: &Definition) -> Failure {

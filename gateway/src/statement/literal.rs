@@ -12,20 +12,22 @@ pub const LONGEST_NAME: usize = 63;
 /// bytes.
 pub fn folded(written: &str, is_quoted: bool) -> String {
     let mut name = if is_quoted {
-        written[1..written.len() - 1].replace("\"\"", "\"")
-    } else if written.bytes().any(|byte| byte.is_ascii_uppercase()) {
-        written.to_ascii_lowercase()
+        // Each quote of a name is written twice. What is cut is not read, however long it is.
+        cut(&written[1..written.len() - 1], 2 * LONGEST_NAME + 2).replace("\"\"", "\"")
     } else {
-        written.to_owned()
+        cut(written, LONGEST_NAME).to_ascii_lowercase()
     };
-    if name.len() > LONGEST_NAME {
-        let mut end = LONGEST_NAME;
-        while !name.is_char_boundary(end) {
-            end -= 1;
-        }
-        name.truncate(end);
-    }
+    name.truncate(cut(&name, LONGEST_NAME).len());
     name
+}
+
+/// Returns the first characters of a text, as many as are in so many bytes.
+fn cut(text: &str, most: usize) -> &str {
+    let mut end = text.len().min(most);
+    while !text.is_char_boundary(end) {
+        end -= 1;
+    }
+    &text[..end]
 }
 
 /// Returns the delimiter of a text in dollar quotes with which `text` begins: `$$`, `$tag$`. None: there is none.
@@ -250,6 +252,13 @@ mod tests {
         assert_eq!(folded(&"a".repeat(70), false), "a".repeat(63));
         let long = format!("\"{}\"", "\u{e4}".repeat(40));
         assert_eq!(folded(&long, true), "\u{e4}".repeat(31));
+        for (count, kept) in [(40, 40), (63, 63), (64, 63), (9_000, 63)] {
+            let quotes = format!("\"{}\"", "\"\"".repeat(count));
+            assert_eq!(folded(&quotes, true), "\"".repeat(kept));
+            let mixed = format!("\"\u{e4}{}\u{1f600}\"", "\"\"".repeat(count));
+            let all = format!("\u{e4}{}\u{1f600}", "\"".repeat(count));
+            assert_eq!(folded(&mixed, true), cut(&all, LONGEST_NAME));
+        }
     }
 
     #[test]

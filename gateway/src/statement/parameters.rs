@@ -1,5 +1,7 @@
 //! What the parameters of a statement stand for.
 
+use std::rc::Rc;
+
 use postgres_protocol::Oid;
 
 use crate::rows::Definition;
@@ -10,7 +12,7 @@ use crate::statement::parser::TokenKind;
 use crate::statement::query::{Expression, ExpressionKind};
 use crate::statement::select::{Shown, What};
 use crate::statement::served::{Served, Show, Update};
-use crate::statement::Statement;
+use crate::statement::{Parsed, Statement};
 use crate::value::{array, oid};
 
 /// What a parameter stands for.
@@ -152,8 +154,8 @@ fn note(places: &mut [Place], value: &Expression, place: Place) {
 }
 
 /// Settles what members of `key IN (..)` are compared as: if one is numeric, all are.
-pub fn settle_members(places: &mut [Place], statement: &Statement, types: &[Oid]) {
-    let keys = match statement.served().and_then(Served::keys) {
+pub fn settle_members(parsed: &mut Rc<Parsed>, types: &[Oid]) {
+    let keys = match parsed.statement.served().and_then(Served::keys) {
         Some(keys) if keys.values.len() > 1 => keys,
         _ => return,
     };
@@ -161,10 +163,14 @@ pub fn settle_members(places: &mut [Place], statement: &Statement, types: &[Oid]
     if !keys.values.iter().any(is_numeric) {
         return;
     }
-    for value in &keys.values {
-        if let ExpressionKind::Parameter(number) = value.kind {
-            places[usize::from(number) - 1] = Place::Cast(oid::NUMERIC);
-        }
+    let members = keys.values.iter().filter_map(|value| match value.kind {
+        ExpressionKind::Parameter(number) => Some(usize::from(number) - 1),
+        _ => None,
+    });
+    let members: Vec<usize> = members.collect();
+    let places = &mut Rc::make_mut(parsed).places;
+    for place in members {
+        places[place] = Place::Cast(oid::NUMERIC);
     }
 }
 
@@ -234,7 +240,11 @@ mod tests {
     use crate::statement::parser::next_statement;
 
     fn places_of(text: &str) -> Vec<Place> {
-        next_statement(text, &mut 0).unwrap().unwrap().places
+        next_statement(text, &mut 0)
+            .unwrap()
+            .unwrap()
+            .places
+            .clone()
     }
 
     fn column(name: &str) -> Place {

@@ -14,7 +14,7 @@ use std::rc::Rc;
 use crate::sqlstate::{Failure, Report, SqlState};
 use crate::statement::parameters::{self, Place};
 use crate::statement::query::{Name, QualifiedName, Query, Span, Update};
-use crate::statement::{literal, Parsed, Statement};
+use crate::statement::{literal, Parsed};
 pub use lexer::TokenKind;
 use lexer::{Token, Tokens};
 
@@ -72,7 +72,7 @@ pub fn parse_update(text: &str) -> Result<Option<Update>, Failure> {
 /// # Errors
 ///
 /// Fails at what PostgreSQL's grammar doesn't have, and at what is missing here.
-pub fn next_statement(text: &str, at: &mut usize) -> Result<Option<Parsed>, Failure> {
+pub fn next_statement(text: &str, at: &mut usize) -> Result<Option<Rc<Parsed>>, Failure> {
     let tokens = match lexer::next_statement(text, at) {
         Some(tokens) => tokens,
         None => return Ok(None),
@@ -88,13 +88,13 @@ pub fn next_statement(text: &str, at: &mut usize) -> Result<Option<Parsed>, Fail
         None => Vec::new(),
     };
     let names = places.iter().map(Place::size).sum::<usize>();
-    let size = parser.size + names + size_of::<Parsed>() + size_of::<Statement>();
-    Ok(Some(Parsed {
-        statement: Rc::new(statement),
+    let size = parser.size + names + size_of::<Parsed>();
+    Ok(Some(Rc::new(Parsed {
+        statement,
         places,
         parameter,
         size,
-    }))
+    })))
 }
 
 impl<'a> Parser<'a> {

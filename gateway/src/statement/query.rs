@@ -4,6 +4,8 @@
 //! or a table of the database (then it has to have a form that the program serves).
 
 use std::borrow::Cow;
+use std::fmt;
+use std::ops::Deref;
 use std::slice;
 
 use crate::sqlstate::{Failure, Report, SqlState};
@@ -68,8 +70,40 @@ pub struct TypeName {
     pub span: Span,
 }
 
-/// The name of an operator. Those that the grammar knows by themselves take no memory.
-pub type Operator = Cow<'static, str>;
+/// An operator: signs, or words in capitals.
+#[derive(Clone, Debug, PartialEq, Eq)]
+pub struct Operator {
+    /// Its name. Those that the grammar knows by themselves take no memory.
+    pub name: Cow<'static, str>,
+    /// Where it is written.
+    pub span: Span,
+}
+
+impl Deref for Operator {
+    type Target = str;
+
+    fn deref(&self) -> &str {
+        &self.name
+    }
+}
+
+impl fmt::Display for Operator {
+    fn fmt(&self, formatter: &mut fmt::Formatter<'_>) -> fmt::Result {
+        self.name.fmt(formatter)
+    }
+}
+
+impl PartialEq<str> for Operator {
+    fn eq(&self, name: &str) -> bool {
+        self.name == name
+    }
+}
+
+impl PartialEq<&str> for Operator {
+    fn eq(&self, name: &&str) -> bool {
+        self.name == *name
+    }
+}
 
 /// A value that is computed.
 #[derive(Clone, Debug, PartialEq, Eq)]

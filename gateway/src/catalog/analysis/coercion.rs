@@ -50,9 +50,9 @@ impl Analyser<'_> {
             });
         }
         let node = match typed.node {
-            Node::Constant(value) if typed.is_open_constant() => Node::Constant(
+            Node::Constant(value) if typed.oid == oid::UNKNOWN => Node::Constant(
                 casts::cast(value, oid::UNKNOWN, to, modifier, self.world)
-                    .map_err(|report| placed(report, span))?,
+                    .map_err(|report| placed(report, typed.span.unwrap_or(span)))?,
             ),
             node => {
                 let from = if typed.oid == oid::UNKNOWN {
@@ -77,6 +77,7 @@ impl Analyser<'_> {
             node,
             oid: to,
             modifier,
+            span: typed.span,
         })
     }
 
@@ -96,8 +97,8 @@ impl Analyser<'_> {
         what: &str,
         span: Span,
     ) -> Result<(Vec<Typed>, Oid), Failure> {
-        let to = common_type(values.iter().map(|typed| typed.oid), what)
-            .map_err(|report| placed(report, span))?;
+        let types = values.iter().map(|typed| (typed.oid, typed.span));
+        let to = common_type(types, what).map_err(|report| placed(report, span))?;
         let values: Result<Vec<Typed>, Failure> = values
             .into_iter()
             .map(|typed| self.implicit(typed, to, span))
@@ -127,12 +128,6 @@ impl Analyser<'_> {
             return Ok((array, modifier));
         }
         Ok((found.oid, modifier))
-    }
-}
-
-impl Typed {
-    fn is_open_constant(&self) -> bool {
-        self.oid == oid::UNKNOWN
     }
 }
 
@@ -166,10 +161,18 @@ fn modifier(oid: Oid, numbers: &[i32]) -> Result<i32, Failure> {
     }
 }
 
-/// Returns the type that several values have in common, by PostgreSQL's rules for UNION and CASE.
-pub fn common_type(oids: impl Iterator<Item = Oid>, what: &str) -> Result<Oid, Failure> {
+/// Returns the type that several values have in common, by PostgreSQL's rules for UNION and CASE. Each value is its type
+/// and where it is written.
+///
+/// # Errors
+///
+/// Fails at the first value whose type is of another kind than those before it.
+pub fn common_type(
+    values: impl Iterator<Item = (Oid, Option<Span>)>,
+    what: &str,
+) -> Result<Oid, Failure> {
     let mut common: Option<Oid> = None;
-    for next in oids.filter(|oid| !matches!(*oid, oid::UNKNOWN | oid::UNSPECIFIED)) {
+    for (next, span) in values.filter(|it| !matches!(it.0, oid::UNKNOWN | oid::UNSPECIFIED)) {
         let before = match common {
             None => {
                 common = Some(next);
@@ -188,7 +191,11 @@ pub fn common_type(oids: impl Iterator<Item = Oid>, what: &str) -> Result<Oid, F
                 types::display(before),
                 types::display(next)
             );
-            return Err(Report::error(SqlState::DATATYPE_MISMATCH, text));
+            let report = Report::error(SqlState::DATATYPE_MISMATCH, text);
+            return Err(match span {
+                Some(span) => report.at(span.start),
+                None => report,
+            });
         }
         if !is_preferred && types::is_implicit(before, next) && !types::is_implicit(next, before) {
             common = Some(next);

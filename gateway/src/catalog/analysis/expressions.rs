@@ -24,10 +24,15 @@ impl Analyser<'_> {
         expression: &Expression,
         scope: &Scope<'_>,
     ) -> Result<Typed, Failure> {
-        self.deeper(|analyser| {
+        let span = expression.span;
+        let typed = self.deeper(|analyser| {
             analyser
                 .kind(expression, scope)
-                .map_err(|report| placed(report, expression.span))
+                .map_err(|report| placed(report, span))
+        })?;
+        Ok(Typed {
+            span: typed.span.or(Some(span)),
+            ..typed
         })
     }
 
@@ -75,7 +80,9 @@ impl Analyser<'_> {
             ExpressionKind::Column(column) => self.column(column.names(), scope),
             ExpressionKind::Unary(operator, operand) => self.unary(operator, operand, scope),
             ExpressionKind::Binary(left, operator, right) => {
+                let span = operator.span;
                 self.binary(left, operator, right, span, scope)
+                    .map_err(|report| placed(report, span))
             }
             ExpressionKind::Cast(operand, name) => {
                 let (oid, modifier) = self.type_of(name)?;
@@ -106,7 +113,9 @@ impl Analyser<'_> {
                 self.between([&**operand, &**low, &**high], *is_negated, scope)
             }
             ExpressionKind::Quantified(left, operator, is_all, right) => {
+                let span = operator.span;
                 self.quantified(left, operator, *is_all, right, span, scope)
+                    .map_err(|report| placed(report, span))
             }
             ExpressionKind::Function(call) => self.call(call, span, scope),
             ExpressionKind::Case {
@@ -124,9 +133,8 @@ impl Analyser<'_> {
                 let plan = self.subquery(query, scope)?;
                 let column = only_column(&plan, span)?;
                 Ok(Typed {
-                    node: Node::Scalar(plan),
-                    oid: column.0,
                     modifier: column.1,
+                    ..Typed::new(Node::Scalar(plan), column.0)
                 })
             }
             ExpressionKind::Exists(query) => {
@@ -400,6 +408,7 @@ impl Analyser<'_> {
             }
             (number, oid::UNKNOWN | oid::UNSPECIFIED) if types::is_number(number) => number,
             (oid::UNKNOWN | oid::UNSPECIFIED, number) if types::is_number(number) => number,
+            _ if left.is_open() && right.is_open() => return Err(not_unique(operator)),
             _ => return Err(fails),
         };
         let is_whole = types::is_integer(oid);
@@ -763,6 +772,14 @@ fn no_operator_between(left: Oid, operator: &str, right: Oid) -> Failure {
     let text = format!("operator does not exist: {} {} {}", left, operator, right);
     Report::error(SqlState::UNDEFINED_FUNCTION, text).hint(
         "No operator matches the given name and argument types. You might need to add explicit type casts.",
+    )
+}
+
+/// Makes the report of an operator between two values whose types are open.
+fn not_unique(operator: &str) -> Failure {
+    let text = format!("operator is not unique: unknown {} unknown", operator);
+    Report::error(SqlState::AMBIGUOUS_FUNCTION, text).hint(
+        "Could not choose a best candidate operator. You might need to add explicit type casts.",
     )
 }
 

@@ -112,7 +112,8 @@ impl Analyser<'_> {
                 Some(schema) => format!("relation \"{}.{}\" does not exist", schema, text),
                 None => format!("relation \"{}\" does not exist", text),
             };
-            Report::error(SqlState::UNDEFINED_TABLE, text).at(name.name.span.start)
+            let first = name.schema.as_ref().unwrap_or(&name.name);
+            Report::error(SqlState::UNDEFINED_TABLE, text).at(first.span.start)
         })?;
         if !crate::catalog::relations::is_served(relation) {
             let text = format!("{}.{}", relation.schema, relation.name);

@@ -18,8 +18,8 @@ use crate::catalog::plan::{
 use crate::catalog::types::{self, oid};
 use crate::sqlstate::{Failure, Report, SqlState};
 use crate::statement::query::{
-    self, ColumnName, Expression, ExpressionKind, FunctionCall, Locking, OrderBy, Query, Span,
-    Target,
+    self, ColumnName, Expression, ExpressionKind, FunctionCall, Locking, Name, OrderBy, Query,
+    Span, Target,
 };
 
 /// The most expressions of GROUP BY.
@@ -31,6 +31,8 @@ struct Shown {
     name: String,
     oid: Oid,
     modifier: i32,
+    /// Where it is written, if it is.
+    span: Option<Span>,
 }
 
 /// The rows of a query, before they are sorted.
@@ -60,7 +62,13 @@ impl Analyser<'_> {
         if query.is_recursive {
             return Err(missing("WITH RECURSIVE").at(query.span.start));
         }
+        let first = self.named.len();
         for with in &query.with {
+            let Name { text, span } = &with.alias.name;
+            if self.named[first..].iter().any(|named| named.name == *text) {
+                let text = format!("WITH query name \"{}\" specified more than once", text);
+                return Err(Report::error(SqlState::DUPLICATE_ALIAS, text).at(span.start));
+            }
             let mut plan = self.query(&with.query, outer)?;
             if !plan.is_closed {
                 let text = "WITH that reads columns of a query around it";
@@ -155,6 +163,7 @@ impl Analyser<'_> {
                 name: column.name.clone(),
                 oid: column.oid,
                 modifier: column.modifier,
+                span: None,
             })
             .collect();
         let targets = (0..columns.len())
@@ -215,6 +224,7 @@ impl Analyser<'_> {
         let mut shown = Vec::with_capacity(width);
         let mut nodes: Vec<Vec<Node>> = rows.iter().map(|_| Vec::with_capacity(width)).collect();
         for (place, column) in columns.into_iter().enumerate() {
+            let span = column.first().and_then(|typed| typed.span);
             let (values, oid) = self.common(column, "VALUES", Span::default())?;
             for (row, typed) in nodes.iter_mut().zip(values) {
                 row.push(typed.node);
@@ -223,6 +233,7 @@ impl Analyser<'_> {
                 name: format!("column{}", place + 1),
                 oid,
                 modifier: -1,
+                span,
             });
         }
         Ok(Rows {
@@ -243,11 +254,17 @@ impl Analyser<'_> {
                 "each {} query must have the same number of columns",
                 operation
             );
-            return Err(Report::error(SqlState::SYNTAX_ERROR, text));
+            let report = Report::error(SqlState::SYNTAX_ERROR, text);
+            let first = right.columns.first().and_then(|column| column.span);
+            return Err(match first {
+                Some(span) => report.at(span.start),
+                None => report,
+            });
         }
         for place in 0..left.columns.len() {
             let (before, behind) = (&left.columns[place], &right.columns[place]);
-            let oid = common_type([before.oid, behind.oid].into_iter(), operation)?;
+            let types = [before, behind].map(|column| (column.oid, column.span));
+            let oid = common_type(types.into_iter(), operation)?;
             let modifier = if before.modifier == behind.modifier && before.oid == behind.oid {
                 before.modifier
             } else {
@@ -277,9 +294,10 @@ impl Analyser<'_> {
 
     /// Gives a column of rows another type.
     fn convert(&mut self, rows: &mut Rows, place: usize, to: Oid) -> Result<(), Failure> {
-        let from = rows.columns[place].oid;
-        rows.columns[place].oid = to;
-        self.convert_body(&mut rows.body, place, from, to)
+        let column = &mut rows.columns[place];
+        let from = std::mem::replace(&mut column.oid, to);
+        let span = column.span.unwrap_or_default();
+        self.convert_body(&mut rows.body, place, from, to, span)
     }
 
     fn convert_body(
@@ -288,6 +306,7 @@ impl Analyser<'_> {
         place: usize,
         from: Oid,
         to: Oid,
+        span: Span,
     ) -> Result<(), Failure> {
         if from == to {
             return Ok(());
@@ -295,17 +314,15 @@ impl Analyser<'_> {
         let mut convert = |node: &mut Node| {
             let before =
                 std::mem::replace(node, Node::Constant(crate::catalog::value::Value::Null));
-            *node = self
-                .cast(Typed::new(before, from), to, -1, Span::default())?
-                .node;
+            *node = self.cast(Typed::new(before, from), to, -1, span)?.node;
             Ok(())
         };
         match body {
             Body::Select(select) => convert(&mut select.targets[place]),
             Body::Values(rows) => rows.iter_mut().try_for_each(|row| convert(&mut row[place])),
             Body::Set { left, right, .. } => {
-                self.convert_body(left, place, from, to)?;
-                self.convert_body(right, place, from, to)
+                self.convert_body(left, place, from, to, span)?;
+                self.convert_body(right, place, from, to, span)
             }
         }
     }
@@ -328,7 +345,7 @@ impl Analyser<'_> {
         {
             return Err(missing("a comparison with a sorted query of another type"));
         }
-        self.convert_body(&mut plan.body, place, from, to)
+        self.convert_body(&mut plan.body, place, from, to, span)
     }
 
     /// Gives each column whose type is open that of texts.
@@ -403,7 +420,9 @@ impl Analyser<'_> {
         let order = self.order(order, &mut targets, visible, &scope)?;
         if matches!(distinct, Distinct::All) && targets.nodes.len() > visible {
             let text = "for SELECT DISTINCT, ORDER BY expressions must appear in select list";
-            return Err(Report::error(SqlState::INVALID_COLUMN_REFERENCE, text));
+            let report = Report::error(SqlState::INVALID_COLUMN_REFERENCE, text);
+            let span = targets.shown[visible].span.unwrap_or_default();
+            return Err(placed(report, span));
         }
         scope.clause.set(Clause::Having);
         let having = match &select.having {
@@ -503,7 +522,8 @@ impl Analyser<'_> {
                     Some(place) => match &targets.nodes[place] {
                         Node::Column { slot, .. } if *slot >= scope.aggregate_slot() => {
                             let text = "aggregate functions are not allowed in GROUP BY";
-                            Err(Report::error(SqlState::GROUPING_ERROR, text))
+                            let span = targets.shown[place].span.unwrap_or(expression.span);
+                            Err(Report::error(SqlState::GROUPING_ERROR, text).at(span.start))
                         }
                         node => Ok(node.clone()),
                     },
@@ -597,6 +617,7 @@ impl Targets {
             name,
             oid: typed.oid,
             modifier: typed.modifier,
+            span: typed.span,
         });
         self.written.push(written);
     }

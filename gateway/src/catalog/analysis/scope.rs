@@ -150,6 +150,7 @@ impl<'o> Scope<'o> {
             },
             oid: column.oid,
             modifier: column.modifier,
+            span: None,
         }
     }
 

@@ -3,7 +3,7 @@
 use super::*;
 use crate::activity::{Activity, Clock, State};
 use crate::connection::work::{Completed, Subject, Target};
-use crate::statement::Statement;
+use crate::statement::parser::next_statement;
 use std::time::SystemTime;
 
 impl Client {
@@ -131,7 +131,8 @@ fn a_connection_is_active_up_to_its_sync() {
 fn the_engine_tells_what_all_connections_do() {
     let mut client = Client::connected();
     client.connection.query = None;
-    let subject = Subject::Simple(Rc::new(Statement::ShowAll));
+    let parsed = next_statement("SHOW ALL", &mut 0).unwrap().unwrap();
+    let subject = Subject::Simple(parsed);
     client
         .connection
         .ask_activities(Target::Simple, subject, |it, all| {

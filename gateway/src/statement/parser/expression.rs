@@ -9,7 +9,7 @@ use crate::statement::parser::lexer::Token;
 use crate::statement::parser::{keywords, Parser, TokenKind};
 use crate::statement::query::{
     ColumnName, Expression, ExpressionKind, FunctionCall, IsWhat, Name, Operator, QualifiedName,
-    Query, TypeName, Window,
+    Query, Span, TypeName, Window,
 };
 
 /// About what an expression takes beside itself: the name of its operator, and what the memory needs to know of it.
@@ -55,8 +55,11 @@ impl Binding {
     }
 }
 
+/// The name of an operator.
+type OperatorName = Cow<'static, str>;
+
 /// Returns the name of an operator that is written with signs, and how tightly it binds. None: no operands are around it.
-fn operator_of(written: &str) -> (Operator, Option<Binding>) {
+fn operator_of(written: &str) -> (OperatorName, Option<Binding>) {
     let (name, binding) = match written {
         "=" => ("=", Binding::Comparison),
         "<" => ("<", Binding::Comparison),
@@ -87,7 +90,7 @@ pub(super) enum Parenthesized {
 /// An operator between two expressions.
 enum Infix {
     /// It is written with signs, or as AND, OR, LIKE.
-    Binary(Operator),
+    Binary(OperatorName),
     /// OPERATOR()
     Named,
     /// IS and what follows.
@@ -145,28 +148,34 @@ impl<'a> Parser<'a> {
         if !is_prefix {
             return self.primary();
         }
-        let start = token.span().start;
+        let span = token.span();
         if self.keyword("NOT") {
-            let operand = self.expression_bound(Binding::Not)?;
-            let kind = ExpressionKind::Unary("NOT".into(), Box::new(operand));
-            return Ok(self.expression_of(kind, start));
+            return self.unary("NOT".into(), Binding::Not, span);
         }
-        let (operator, binding) = match self.operator().map(operator_of) {
+        let (name, binding) = match self.operator().map(operator_of) {
             Some((sign, Some(Binding::Sum))) => (sign, Binding::Sign),
             Some((operator, Some(Binding::Operator))) => (operator, Binding::Sum),
             Some(_) => return Err(self.fault()),
             None if self.at_keyword("OPERATOR") && self.at_symbol(1, b'(') => {
-                let operator = self.named_operator()?;
-                let operand = self.expression_bound(Binding::Sum)?;
-                let kind = ExpressionKind::Unary(operator, Box::new(operand));
-                return Ok(self.expression_of(kind, start));
+                let name = self.named_operator()?;
+                return self.unary(name, Binding::Sum, span);
             }
             None => return self.primary(),
         };
         self.at += 1;
-        let operand = self.expression_bound(binding)?;
-        let kind = ExpressionKind::Unary(operator, Box::new(operand));
-        Ok(self.expression_of(kind, start))
+        self.unary(name, binding, span)
+    }
+
+    /// Reads the operand of an operator in front.
+    fn unary(
+        &mut self,
+        name: OperatorName,
+        binding: Binding,
+        span: Span,
+    ) -> Result<Expression, Failure> {
+        let operand = Box::new(self.expression_bound(binding)?);
+        let kind = ExpressionKind::Unary(Operator { name, span }, operand);
+        Ok(self.expression_of(kind, span.start))
     }
 
     /// Returns whether an operator may be here.
@@ -224,9 +233,10 @@ impl<'a> Parser<'a> {
             if last == Some(binding) {
                 return Err(self.fault());
             }
+            let span = self.peek().map_or_else(Span::default, Token::span);
             self.at += tokens;
             let is_closed;
-            (left, is_closed) = self.infix_applied(left, infix, binding)?;
+            (left, is_closed) = self.infix_applied(left, infix, binding, span)?;
             let is_single = matches!(
                 binding,
                 Binding::Is | Binding::Comparison | Binding::Membership
@@ -245,15 +255,17 @@ impl<'a> Parser<'a> {
         left: Expression,
         infix: Infix,
         binding: Binding,
+        span: Span,
     ) -> Result<(Expression, bool), Failure> {
         let start = left.span.start;
         let left = Box::new(left);
         let kind = match infix {
             Infix::Binary(_) | Infix::Named => {
-                let operator = match infix {
-                    Infix::Binary(operator) => operator,
+                let name = match infix {
+                    Infix::Binary(name) => name,
                     _ => self.named_operator()?,
                 };
+                let operator = Operator { name, span };
                 if let Some(word) = self.keyword_of(&["ANY", "SOME", "ALL"]) {
                     let right = Box::new(self.in_parentheses()?);
                     let kind = ExpressionKind::Quantified(left, operator, word == "ALL", right);
@@ -266,7 +278,7 @@ impl<'a> Parser<'a> {
                 ExpressionKind::Binary(left, operator, Box::new(right))
             }
             Infix::Is => {
-                let kind = self.is_what(left)?;
+                let kind = self.is_what(left, span)?;
                 let is_closed = matches!(kind, ExpressionKind::Is(..));
                 return Ok((self.expression_of(kind, start), is_closed));
             }
@@ -300,17 +312,17 @@ impl<'a> Parser<'a> {
         Ok((self.expression_of(kind, start), false))
     }
 
-    fn is_what(&mut self, left: Box<Expression>) -> Result<ExpressionKind, Failure> {
+    fn is_what(&mut self, left: Box<Expression>, span: Span) -> Result<ExpressionKind, Failure> {
         let not = self.keyword("NOT");
         if self.keywords(&["DISTINCT", "FROM"]) {
-            let operator = if not {
-                "IS NOT DISTINCT FROM"
+            let name = if not {
+                "IS NOT DISTINCT FROM".into()
             } else {
-                "IS DISTINCT FROM"
+                "IS DISTINCT FROM".into()
             };
-            let right = self.expression_bound(Binding::Comparison)?;
-            let right = Box::new(right);
-            return Ok(ExpressionKind::Binary(left, operator.into(), right));
+            let right = Box::new(self.expression_bound(Binding::Comparison)?);
+            let operator = Operator { name, span };
+            return Ok(ExpressionKind::Binary(left, operator, right));
         }
         let what = match self.keyword_of(&["NULL", "TRUE", "FALSE", "UNKNOWN"]) {
             Some("NULL") => IsWhat::Null,
@@ -348,7 +360,7 @@ impl<'a> Parser<'a> {
     }
 
     /// Reads `OPERATOR(schema.operator)`.
-    fn named_operator(&mut self) -> Result<Operator, Failure> {
+    fn named_operator(&mut self) -> Result<OperatorName, Failure> {
         let start = self.start();
         self.at += 2;
         if self.operator().is_none() {

@@ -164,12 +164,12 @@ fn comment_end(text: &str, start: usize) -> Result<usize, Failure> {
     let mut depth = 0_usize;
     let mut at = start;
     while at < bytes.len() {
-        match &bytes[at..bytes.len().min(at + 2)] {
-            b"/*" => {
+        match (bytes[at], bytes.get(at + 1)) {
+            (b'/', Some(b'*')) => {
                 depth += 1;
                 at += 2;
             }
-            b"*/" => {
+            (b'*', Some(b'/')) => {
                 depth -= 1;
                 at += 2;
                 if depth == 0 {
