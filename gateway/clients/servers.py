@@ -142,6 +142,10 @@ class Server:
             self.process.wait()
 
 
+# The transactions of a database that may have a session at a time.
+TRANSACTIONS = 60
+
+
 class Gateway(Server):
     """escrowd-pg in front of a program for each database. A relative path of a store is one in the gateway's folder."""
 

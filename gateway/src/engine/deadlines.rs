@@ -46,10 +46,9 @@ impl Engine {
     fn write_metrics(&mut self) {
         let mut states: Vec<_> = self.programs.iter().map(State::of).collect();
         for (_, client) in self.clients.iter() {
-            if let Some(session) = client.session {
+            if let (Some(database), true) = (client.database, client.is_connected) {
                 let connection = &client.connection;
-                states[session.database]
-                    .add(connection.transaction_since(), connection.reservations());
+                states[database].add(connection.transaction_since(), connection.reservations());
             }
         }
         if let Some(metrics) = &mut self.metrics {
