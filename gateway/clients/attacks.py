@@ -22,7 +22,7 @@ from pathlib import Path
 from typing import Callable, Dict, FrozenSet, Iterator, List, Optional, Sequence, Tuple
 
 from clients import honest, wire
-from clients.servers import PATIENCE, TRANSACTIONS, Gateway, resident, wait_until
+from clients.servers import PATIENCE, TRANSACTIONS, Gateway, holds, resident, wait_until
 from clients.suite import Part, expect, main
 from clients.wire import Connection
 
@@ -508,15 +508,6 @@ def finish(process: "subprocess.Popen[bytes]") -> str:
 
 
 # Memory
-
-
-def holds(process: int) -> int:
-    """Returns the bytes of memory that a process holds now."""
-    for line in Path(f"/proc/{process}/status").read_text().splitlines():
-        if line.startswith("VmRSS:"):
-            return 1024 * int(line.split()[1])
-    raise AssertionError(f"process {process} has ended")
-
 
 # The memory in MB that an attack may take while it lasts, beside what the gateway had: a connection has 256 KB on its way, and 64 MB of statements and
 # portals. What is left behind it has to be little.

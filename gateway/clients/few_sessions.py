@@ -1,10 +1,11 @@
-"""Many connections on few sessions: who has one and when, who waits, and what comes back behind each end.
+"""Many connections on few sessions: who has one and when, who waits, what comes back behind each end, and what an idle connection keeps.
 
     python3 -m clients.few_sessions --walk SECONDS [SEED]     random transactions for so long, and a line for each round of them
 """
 from __future__ import annotations
 
 import random
+import resource
 import selectors
 import sys
 import time
@@ -13,7 +14,7 @@ from typing import Callable, Dict, List, Tuple
 
 from clients import wire
 from clients.limits import AT_ONCE, STOCK, TAKE, last_words, with_stock
-from clients.servers import END, TRANSACTIONS, Gateway, wait_until
+from clients.servers import END, TRANSACTIONS, Gateway, holds, wait_until
 from clients.suite import Part, expect, load, main
 from clients.wire import Connection
 
@@ -380,6 +381,43 @@ def random_transactions_lose_no_session_and_no_piece(gateway: Gateway) -> None:
     walk, wanted = Walk(gateway, 84), load(TRIED)
     walk.run(lambda: walk.ended >= wanted)
     expect_all_free(gateway)
+
+
+# Memory
+
+# How many connections rest, the bytes that each of them may take beside what it has prepared, and the seconds behind which one has given its buffers back.
+RESTING, MOST_OF_ONE, RESTED = 300, 2_048, 2.2
+
+
+def working(gateway: Gateway) -> List[Connection]:
+    """Opens connections, and lets each do what most do."""
+    found = []
+    for _ in range(RESTING):
+        it = Connection(gateway.socket, options="-c application_name=till")
+        it.send(*(wire.query(text) for text in ("BEGIN", TAKE.format(1), "SELECT * FROM stock", "COMMIT", TAKE.format(1))))
+        expect([it.until_ready()[-1].shown() for _ in range(5)], ["ready T"] * 3 + ["ready I"] * 2)
+        found.append(it)
+    return found
+
+
+@PART.alone
+def a_connection_that_rests_keeps_little() -> None:
+    """What the gateway grows by for more of them, when as many have worked before and have given back what they don't need."""
+    resource.setrlimit(resource.RLIMIT_NOFILE, (4 * RESTING, resource.getrlimit(resource.RLIMIT_NOFILE)[1]))
+    with Gateway({"bank": None}) as gateway:
+        watch, process = with_stock(gateway, 1_000_000), gateway.running().pid
+        found = working(gateway)
+        time.sleep(RESTED)
+        before = holds(process)
+        found += working(gateway)
+        grown = (holds(process) - before) / RESTING
+        expect(grown <= MOST_OF_ONE, True, f"{grown:.0f} bytes for a connection")
+        # They go on as if they had not rested.
+        time.sleep(RESTED)
+        for it in found[::10]:
+            expect(it.extended(wire.run(TAKE.format(1)))[-2:], ["complete UPDATE 1", "ready I"])
+        expect(watch.rows("SELECT * FROM stock"), [("1", str(1_000_000 - 2 * len(found) - len(found[::10])))])
+        gateway.expect_clean_end()
 
 
 def by_hand() -> None:

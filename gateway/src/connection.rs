@@ -185,7 +185,7 @@ pub struct Connection {
     /// What the replies of the program answer, in order. Nothing else is done for the client before they came.
     awaited: VecDeque<Awaited>,
     /// The result that the client is getting, and what asked for it.
-    giving: Option<(Target, Rows)>,
+    giving: Option<Box<(Target, Rows)>>,
     /// Whether there is more to do at once, in the next turn.
     has_turn: bool,
     /// How much queries of the catalog have looked at in this turn.
@@ -204,7 +204,8 @@ pub struct Connection {
     totals: Totals,
     variables: Variables,
     prepared: Prepared,
-    spill: Spill,
+    /// Where rows wait, since there was a result.
+    spill: Option<Spill>,
     definitions: Definitions,
     database: String,
     user: String,
@@ -220,7 +221,7 @@ impl Connection {
         let limit = now.checked_add(settings.startup);
         Connection {
             prepared: Prepared::new(&settings.memory),
-            spill: Spill::new(&settings.memory, &settings.disk),
+            spill: None,
             waiting: settings.memory.charge(),
             settings,
             process_id,
@@ -296,6 +297,23 @@ impl Connection {
         if self.has_turn {
             self.advance();
         }
+    }
+
+    /// Gives back the memory that it kept for what comes next, if it has been idle for so long. Returns whether it has not.
+    pub fn trim(&mut self, time: Duration, now: Instant) -> bool {
+        let is_idle = !self.is_busy() && self.input.len() == 0 && self.output.len() == 0;
+        if !is_idle || now.saturating_duration_since(self.idle_since) < time {
+            return true;
+        }
+        self.input.trim();
+        self.waiting.set(self.input.memory());
+        self.output.trim();
+        self.requests.trim();
+        self.awaited = VecDeque::new();
+        self.events.shrink_to_fit();
+        self.prepared.trim();
+        self.spill = self.spill.take().filter(|spill| !spill.is_unused());
+        false
     }
 
     /// Returns the definitions of the tables of its database.

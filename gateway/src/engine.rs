@@ -43,6 +43,10 @@ const ACCEPTED: usize = 64;
 /// back, and each takes the time of a statement.
 const REPLACED: usize = 4;
 
+/// How long a client is idle until it gives back the memory that is kept for what comes next. In between an allocation
+/// for each statement is spared.
+const REST: Duration = Duration::from_secs(1);
+
 /// How many bytes of a client are read in a turn at most. Then others have their turn.
 const READ: usize = 16 * 1024;
 
@@ -99,6 +103,8 @@ pub struct Engine {
     failure: Option<Failure>,
     /// No client's deadline is earlier. It may be one that has been put off since.
     alarm: Option<Instant>,
+    /// When idle clients give back memory. None: all have.
+    rest: Option<Instant>,
     process_id: i32,
     buffer: Box<[u8]>,
     now: Instant,
@@ -402,6 +408,7 @@ impl Engine {
             enqueue(&mut self.queue, client, place);
         }
         wake(&mut self.alarm, client.connection.deadline());
+        self.rest.get_or_insert(self.now + REST);
     }
 
     /// Accepts clients that arrived. Returns whether there may be more.

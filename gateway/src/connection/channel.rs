@@ -35,6 +35,13 @@ impl Input {
         self.bytes.capacity()
     }
 
+    /// Gives the kept memory back, if there are no bytes.
+    pub fn trim(&mut self) {
+        if self.len() == 0 {
+            *self = Input::default();
+        }
+    }
+
     /// Returns the bytes that aren't served.
     pub fn rest(&self) -> &[u8] {
         &self.bytes[self.at..]
@@ -115,6 +122,11 @@ impl Output {
     /// Forgets what isn't sent.
     pub fn clear(&mut self) {
         self.bytes.clear();
+    }
+
+    /// Gives the kept memory back, if all is sent.
+    pub fn trim(&mut self) {
+        self.bytes.trim();
     }
 }
 
@@ -263,6 +275,13 @@ impl Requests {
     /// Returns how many lines were taken and have no reply.
     pub fn unanswered(&self) -> usize {
         self.unanswered
+    }
+
+    /// Gives the kept memory back, if all is taken and answered.
+    pub fn trim(&mut self) {
+        if self.waiting.is_empty() && self.unanswered == 0 {
+            *self = Requests::default();
+        }
     }
 
     /// Forgets what nobody has taken.

@@ -87,6 +87,7 @@ impl Engine {
             phase: Phase::Opening,
             failure: None,
             alarm: None,
+            rest: None,
             process_id: 0,
             buffer: vec![0; BUFFER].into_boxed_slice(),
             now,

@@ -259,3 +259,37 @@ fn show_statistics_counts_what_the_connection_asked() {
         ]
     );
 }
+
+#[test]
+fn a_connection_that_rests_gives_its_memory_back() {
+    let rest = Duration::from_secs(1);
+    let mut client = Client::connected();
+    client.learn(STOCK);
+    let select = [("SELECT * FROM stock", ROWS)];
+    client.ask("SELECT * FROM stock", &select);
+    client.ask(TAKE, &[(TAKE, RESERVED), ("COMMIT", COMMITTED)]);
+    assert!(client.connection.trim(rest, client.now), "it may go on");
+    client.now += rest;
+    assert!(!client.connection.trim(rest, client.now));
+    let connection = &client.connection;
+    assert_eq!(connection.input.memory(), 0);
+    assert_eq!(connection.awaited.capacity(), 0);
+    assert_eq!(connection.events.capacity(), 0);
+    assert!(connection.spill.is_none());
+    // The rest of a connection is this, its names and its settings.
+    let size = std::mem::size_of::<Connection>();
+    assert!(size <= 1_024, "{}", size);
+    // Rows that wait stay.
+    client.ask("BEGIN", &[]);
+    client.ask("DECLARE c CURSOR FOR SELECT * FROM stock", &select);
+    client.now += rest;
+    assert!(!client.connection.trim(rest, client.now));
+    let out = client.ask("FETCH 1 FROM c", &[]);
+    assert_eq!(out[1], "row 1|5|9.50|tea");
+    // While it waits for a reply, it keeps what it has.
+    client.send(&query("SELECT * FROM stock"));
+    client.now += rest;
+    assert!(client.connection.trim(rest, client.now));
+    client.serve(&select);
+    assert_eq!(client.output().last().unwrap(), "ready T");
+}
