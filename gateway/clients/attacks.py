@@ -22,7 +22,7 @@ from pathlib import Path
 from typing import Callable, Dict, FrozenSet, Iterator, List, Optional, Sequence, Tuple
 
 from clients import honest, wire
-from clients.servers import PATIENCE, Gateway, resident, wait_until
+from clients.servers import PATIENCE, TRANSACTIONS, Gateway, holds, resident, wait_until
 from clients.suite import Part, expect, main
 from clients.wire import Connection
 
@@ -230,7 +230,7 @@ def closed(connections: Sequence[Connection]) -> None:
         it.close()
 
 
-# The connections of an attack by many: all that a database has, or those that honest clients leave.
+# The connections of an attack by many, and of one by more.
 CROWD, ALL = 20, 60
 NOTE_COLUMNS = "abcdefghijklmno"
 NOTES = "CREATE TABLE notes (id INTEGER PRIMARY KEY, n INTEGER RESERVABLE, " + ", ".join(f"{it} VARCHAR2(255)" for it in NOTE_COLUMNS) + ")"
@@ -478,6 +478,19 @@ def comers_and_goers(path: Path, end: float) -> None:
             it.send(wire.query("BEGIN; UPDATE hot SET pieces = pieces - 1 WHERE id = 39"), wire.query("SELECT * FROM hot"))
 
 
+@attack
+def holders_of_all_sessions(path: Path, end: float) -> None:
+    """Clients who hold as much as may be held at a time, and as many who wait to hold more and are refused."""
+    connections = with_connections(path, 2 * TRANSACTIONS)
+    for _ in until(end):
+        for it in connections:
+            it.send(wire.query("BEGIN"), wire.query("UPDATE hot SET pieces = pieces - 1 WHERE id = 38"), wire.query("ROLLBACK"))
+        for it in connections:
+            for _ in range(3):
+                it.until_ready()
+    closed(connections)
+
+
 def begin(name: str, path: Path, seconds: float, crowd: int = CROWD) -> "subprocess.Popen[bytes]":
     """Starts an attack in a process of its own."""
     words = [sys.executable, "-B", "-m", "clients.attacks", "--run", name, str(path), str(seconds), str(crowd)]
@@ -495,15 +508,6 @@ def finish(process: "subprocess.Popen[bytes]") -> str:
 
 
 # Memory
-
-
-def holds(process: int) -> int:
-    """Returns the bytes of memory that a process holds now."""
-    for line in Path(f"/proc/{process}/status").read_text().splitlines():
-        if line.startswith("VmRSS:"):
-            return 1024 * int(line.split()[1])
-    raise AssertionError(f"process {process} has ended")
-
 
 # The memory in MB that an attack may take while it lasts, beside what the gateway had: a connection has 256 KB on its way, and 64 MB of statements and
 # portals. What is left behind it has to be little.
@@ -679,11 +683,8 @@ def a_rollback_that_is_refused_for_a_client_that_has_gone() -> None:
         with Connection(gateway.socket) as holder:
             holder.do("BEGIN", TAKE.format(7))
         others: List[Connection] = []
-        for _ in range(62):
-            it = Connection(gateway.socket, ready=False)
-            it.send(wire.startup())
-            if it.until_ready_or_end()[-1].kind != "Z":
-                break
+        for _ in range(10):
+            it = Connection(gateway.socket)
             it.do("BEGIN", "UPDATE stock SET pieces = pieces - 1 WHERE id = 5", "COMMIT")
             others.append(it)
         wait_until("nothing is reserved", lambda: watch.rows("SHOW JOURNAL") == [], 20)

@@ -10,7 +10,7 @@ import time
 from pathlib import Path
 from typing import Callable, Dict, List
 
-from clients import wire
+from clients.few_sessions import expect_all_free
 from clients.servers import END, IN_A_STORE, Gateway, stored, wait_until
 from clients.suite import Part, expect, load, main
 from clients.wire import Connection
@@ -20,7 +20,6 @@ PART = Part("kills")
 HERE = Path(__file__).resolve().parents[1]
 PROCESSES, EACH = 4, 10
 WRITERS = PROCESSES * EACH
-SESSIONS = 64
 # How many transactions are acknowledged before something is killed, and how often that is tried.
 BEFORE, KILLS = 100, 4
 
@@ -139,27 +138,14 @@ def of_clients() -> None:
             victim.kill()
         writers.await_some(load(BEFORE))
         with Connection(gateway.socket) as it:
-            wait_until("the sessions of the killed are free", lambda: all_free(gateway, SESSIONS - EACH - 1))
+            wait_until("the killed have left", lambda: it.rows("SELECT count(*) FROM pg_stat_activity") == [(str(EACH + 1),)])
             writers.processes[3].send_signal(signal.SIGKILL)
             writers.await_end()
             wait_until("nothing is reserved", lambda: it.rows("SHOW JOURNAL") == [])
             expect_rows([" | ".join(row) for row in it.rows("SELECT * FROM stock")], writers.acknowledged())
+        expect_all_free(gateway, "UPDATE stock SET pieces = pieces + 1 WHERE id = 2")
         gateway.expect_clean_end()
         expect_rows(stored_rows(gateway), writers.acknowledged())
-
-
-def all_free(gateway: Gateway, count: int) -> bool:
-    """Returns whether so many connections more are served."""
-    others: List[Connection] = []
-    for _ in range(count):
-        it = Connection(gateway.socket, ready=False)
-        others.append(it)
-        it.send(wire.startup())
-    served = all(it.until_ready_or_end()[-1].kind == "Z" for it in others)
-    for it in others:
-        it.close()
-    time.sleep(0.05)
-    return served
 
 
 if __name__ == "__main__":

@@ -1,4 +1,4 @@
-"""Bounds and ends: holds with a limit, readers that do not read, the 65th connection, the socket, statuses, and what an operator sees."""
+"""Bounds and ends: holds with a limit, readers that do not read, a connection too many, the socket, statuses, and what an operator sees."""
 from __future__ import annotations
 
 import os
@@ -14,12 +14,11 @@ from pathlib import Path
 from typing import Dict, List, Tuple
 
 from clients import wire
-from clients.servers import END, GATEWAY, IN_A_STORE, PORT, PROGRAM, Gateway, resident, stored, wait_until
+from clients.servers import END, GATEWAY, IN_A_STORE, PORT, PROGRAM, TRANSACTIONS, Gateway, resident, stored, wait_until
 from clients.suite import Part, expect, load, main
 from clients.wire import Connection, Ended
 
 PART = Part("limits")
-SESSIONS = 64
 # The seconds within which what needs no waiting is answered, also by a busy machine.
 AT_ONCE = 8.0
 STOCK = "CREATE TABLE stock (id INTEGER PRIMARY KEY, pieces INTEGER RESERVABLE CONSTRAINT in_stock CHECK (pieces >= 0))"
@@ -114,45 +113,52 @@ def a_limit_for_all() -> None:
         gateway.expect_clean_end()
 
 
-@PART.served
-def the_connection_that_is_too_many(gateway: Gateway) -> None:
-    """The 65th is refused at once, and the next one is served as soon as one has ended."""
-    open_ones = [Connection(gateway.socket) for _ in range(SESSIONS)]
-    for _ in range(3):
-        begin = time.monotonic()
-        late = Connection(gateway.socket, ready=False)
-        late.send(wire.startup())
-        expect([it.shown() for it in late.until_end()][-1], "FATAL 53300")
-        expect(time.monotonic() - begin < AT_ONCE, True, "at once")
-    open_ones[0].do(STOCK, "INSERT INTO stock VALUES (1, 64)")
-    for it in open_ones:
-        it.do("BEGIN", TAKE.format(1))
-    open_ones[7].send(wire.terminate())
-    expect(open_ones[7].until_end(), [])
+@PART.alone
+def the_connection_that_is_too_many() -> None:
+    """It is refused at once, and the next one is served as soon as one has ended. Those of another database don't count."""
+    most = 70
+    with Gateway({"bank": None, "shop": None}, "--connections", str(most)) as gateway:
+        open_ones = [Connection(gateway.socket) for _ in range(most)]
+        others = [Connection(gateway.socket, database="shop") for _ in range(most)]
+        for _ in range(3):
+            begin = time.monotonic()
+            late = Connection(gateway.socket, ready=False)
+            late.send(wire.startup())
+            found = late.until_end()
+            expect(found[-1].shown(), "FATAL 53300")
+            expect((f"at most {most} connections" in found[-1].fields()["D"], "--connections" in found[-1].fields()["H"]), (True, True))
+            expect(time.monotonic() - begin < AT_ONCE, True, "at once")
+        open_ones[7].send(wire.terminate())
+        expect(open_ones.pop(7).until_end(), [])
 
-    def next_one() -> bool:
-        it = Connection(gateway.socket, ready=False)
-        it.send(wire.startup())
-        served = it.until_ready_or_end()[-1].kind == "Z"
-        it.close()
-        return served
+        def next_one() -> bool:
+            it = Connection(gateway.socket, ready=False)
+            it.send(wire.startup())
+            served = it.until_ready_or_end()[-1].kind == "Z"
+            it.close()
+            return served
 
-    wait_until("a session is free", next_one)
-    for place, it in enumerate(open_ones):
-        if place != 7:
-            it.do("COMMIT")
-    expect(open_ones[0].rows("SELECT * FROM stock"), [("1", "1")])
+        wait_until("one more is served", next_one)
+        for it in [*open_ones, *others]:
+            it.do("SELECT 1")
+        gateway.expect_clean_end()
 
 
 @PART.alone
 def databases_have_sessions_of_their_own() -> None:
     with Gateway({"bank": None, "shop": None}) as gateway:
-        banks = [Connection(gateway.socket) for _ in range(SESSIONS)]
-        shops = [Connection(gateway.socket, database="shop") for _ in range(SESSIONS)]
-        banks[0].do(STOCK, "INSERT INTO stock VALUES (1, 5)")
+        banks = [Connection(gateway.socket) for _ in range(TRANSACTIONS)]
+        shops = [Connection(gateway.socket, database="shop") for _ in range(TRANSACTIONS)]
+        banks[0].do(STOCK, "INSERT INTO stock VALUES (1, 500)")
         expect(shops[0].ask("SELECT * FROM stock"), ["ERROR 42P01", "ready I"])
-        shops[5].do(STOCK, "INSERT INTO stock VALUES (1, 7)")
-        expect((banks[63].rows("SELECT * FROM stock"), shops[63].rows("SELECT * FROM stock")), ([("1", "5")], [("1", "7")]))
+        shops[5].do(STOCK, "INSERT INTO stock VALUES (1, 700)")
+        for it in [*banks, *shops]:
+            it.do("BEGIN", TAKE.format(1))
+        expect((banks[-1].rows("SELECT * FROM stock"), shops[-1].rows("SELECT * FROM stock")), ([("1", "500")], [("1", "700")]))
+        for it in [*banks, *shops]:
+            it.do("COMMIT")
+        left = [[("1", str(pieces - TRANSACTIONS))] for pieces in (500, 700)]
+        expect([banks[0].rows("SELECT * FROM stock"), shops[0].rows("SELECT * FROM stock")], left)
         expect(len(gateway.programs()), 2)
         gateway.expect_clean_end()
 

@@ -20,7 +20,8 @@ from clients.suite import Part, expect, main
 from clients.wire import Connection
 
 PART = Part("operation")
-SESSIONS = 64
+# The connections of a gateway that refuses the next one.
+FEW = 8
 # Signals that end a process which does not take them, and that mean nothing to the gateway.
 MEANINGLESS = [signal.SIGUSR1, signal.SIGUSR2, signal.SIGALRM, signal.SIGVTALRM, signal.SIGPROF, signal.SIGIO, signal.SIGXFSZ, signal.SIGRTMIN + 1,
                signal.SIGRTMAX]
@@ -137,7 +138,7 @@ def signals_that_come_again() -> None:
     """At once they count as one. Later the second one ends the wait for clients, and the third the wait for programs."""
     with Operated(program=DEAF) as gateway:
         waiting = Connection(gateway.socket)
-        waiting.send(wire.query("SHOW STATISTICS"))
+        waiting.send(wire.query("SHOW JOURNAL"))
         expect_served(gateway)  # so it has read the statement too
         program, begin = gateway.programs()[0], time.monotonic()
         for _ in range(3):
@@ -286,9 +287,9 @@ def who_holds_what(gateway: Gateway) -> None:
     held = [row[1] for row in watch.rows("SHOW JOURNAL")]
     expect(len(held), 2)
     shown = watch.rows("SELECT session, usename, application_name, state, reservations, xact_start IS NULL FROM pg_stat_activity ORDER BY pid")
-    expect(shown[0][2:], ("", "active", "0", "t"))
+    expect((shown[0][0], shown[0][2:]), ("NULL", ("", "active", "0", "t")))
     expect(shown[1:], [(held[0], "clerk", "till", "idle in transaction", "2", "f"),
-                       (str(int(held[0]) + 1), "clerk", "other", "idle in transaction (aborted)", "0", "f")])
+                       ("NULL", "clerk", "other", "idle in transaction (aborted)", "0", "f")])
     end = "SELECT pg_terminate_backend(pid) FROM pg_stat_activity WHERE application_name = 'till'"
     expect(watch.rows(end), [("t",)])
     expect(last_words(till), ("57P01", "terminating connection due to administrator command"))
@@ -314,10 +315,10 @@ def a_limit_of_the_sizes_of_files() -> None:
 @PART.alone
 def lines_of_the_journal() -> None:
     """Each line has a priority: connections that of debug, what needs a look that of a warning."""
-    gateway = Operated(IN_A_STORE, "--log-level", "debug", "--idle-in-transaction-timeout", "1", "--transaction-timeout", "2")
+    gateway = Operated(IN_A_STORE, "--log-level", "debug", "--idle-in-transaction-timeout", "1", "--transaction-timeout", "2", "--connections", str(FEW))
     gateway.as_journal()
     with gateway:
-        open_ones = [Connection(gateway.socket) for _ in range(SESSIONS)]
+        open_ones = [Connection(gateway.socket) for _ in range(FEW)]
         late = Connection(gateway.socket, ready=False)
         late.send(wire.startup())
         expect([it.shown() for it in late.until_end()][-1], "FATAL 53300")
@@ -336,7 +337,7 @@ def lines_of_the_journal() -> None:
     expect([line for line in said if not re.match("<[3467]>[^ ]", line)], [])
     told = {state: [line[:3] for line in said if f"got {state}" in line] for state in ("53300", "25P03", "25P04")}
     expect(told, {state: ["<4>"] for state in told})
-    expect([line[:3] for line in said if "has session" in line], ["<7>"] * SESSIONS)
+    expect([line[:3] for line in said if line.endswith("begins")], ["<7>"] * FEW)
     expect([line[:3] for line in said if "serving bank" in line or "SIGTERM: stopping" in line], ["<6>"] * 2)
 
 

@@ -9,12 +9,12 @@ import time
 from typing import List
 
 from clients import wire
+from clients.few_sessions import expect_all_free
 from clients.servers import Gateway, wait_until
 from clients.suite import Part, expect, load, main
 from clients.wire import Connection, message
 
 PART = Part("raw_bytes")
-SESSIONS = 64
 TABLE = "CREATE TABLE t (id INTEGER PRIMARY KEY, n INTEGER RESERVABLE CHECK (n >= 0), name VARCHAR2(20))"
 ROW = ("1", "5", "one")
 MOST = 1_048_576  # the bytes of a message
@@ -29,26 +29,11 @@ def prepared(gateway: Gateway) -> Connection:
 
 
 def unharmed(gateway: Gateway, watch: Connection) -> None:
-    """Expects that the gateway serves, that the row is as it was, that nothing is reserved, and that all sessions are free but that of `watch`."""
+    """Expects that the gateway serves, that the row is as it was, that nothing is reserved, and that all sessions are free."""
     expect(gateway.running().poll(), None, "the gateway ended")
     expect(watch.rows("SELECT * FROM t"), [ROW])
     wait_until("nothing is reserved", lambda: watch.rows("SHOW JOURNAL") == [])
-    others: List[Connection] = []
-
-    def all_free() -> bool:
-        while others:
-            others.pop().close()
-        for _ in range(SESSIONS - 1):
-            it = Connection(gateway.socket, ready=False)
-            others.append(it)
-            it.send(wire.startup())
-            if it.until_ready_or_end()[-1].kind != "Z":
-                return False
-        return True
-
-    wait_until(f"{SESSIONS - 1} connections are served", all_free)
-    for it in others:
-        it.close()
+    expect_all_free(gateway, "UPDATE t SET n = n + 1 WHERE id = 1")
 
 
 def expect_end(connection: Connection, code: str) -> None:

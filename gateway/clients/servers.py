@@ -69,8 +69,18 @@ def children(process: int) -> List[int]:
 
 def resident(process: int) -> int:
     """Returns the bytes of memory that a process holds at its largest so far."""
+    return memory(process, "VmHWM:")
+
+
+def holds(process: int) -> int:
+    """Returns the bytes of memory that a process holds now."""
+    return memory(process, "VmRSS:")
+
+
+def memory(process: int, name: str) -> int:
+    """Returns an amount of memory that the system tells of a process."""
     for line in Path(f"/proc/{process}/status").read_text().splitlines():
-        if line.startswith("VmHWM:"):
+        if line.startswith(name):
             return 1024 * int(line.split()[1])
     raise AssertionError(f"process {process} has ended")
 
@@ -146,6 +156,10 @@ class Server:
         if self.process is not None and self.process.poll() is None:
             self.process.send_signal(number)
             self.process.wait()
+
+
+# The transactions of a database that may have a session at a time.
+TRANSACTIONS = 60
 
 
 class Gateway(Server):

@@ -27,7 +27,7 @@ impl State {
     }
 }
 
-/// A connection that has a session, and what it does.
+/// A connection that is served, and what it does.
 #[derive(Clone, Debug, PartialEq, Eq)]
 pub struct Activity {
     /// What BackendKeyData told its client. No two connections have the same at a time.
@@ -38,8 +38,8 @@ pub struct Activity {
     pub user: String,
     /// The setting `application_name`.
     pub application_name: String,
-    /// Its session in that database, 1 to 64: the number that SHOW JOURNAL shows.
-    pub session: u8,
+    /// The session that its transaction has in that database: the number that SHOW JOURNAL shows.
+    pub session: Option<u16>,
     /// When the client connected.
     pub since: SystemTime,
     /// When its transaction began. None: it is outside of a block and holds nothing.

@@ -8,29 +8,26 @@ use mio::event::Event;
 use mio::net::UnixStream;
 use mio::{Interest, Registry, Token};
 
-use crate::program::Number;
+use crate::program::{ClientId, Number, Ticket};
 
 /// How often a turn writes to a client at most. Then others have their turn.
 const WRITES: usize = 4;
 
-/// A session of a database that a client has.
-#[derive(Clone, Copy, Debug, PartialEq, Eq)]
-pub struct Session {
-    /// The place of the database.
-    pub database: usize,
-    /// The number of the session there.
-    pub number: Number,
-}
-
 /// A client.
 pub struct Client {
     socket: UnixStream,
+    /// Which one it is.
+    pub id: ClientId,
     /// What it said and what it gets.
     pub connection: Connection,
     /// The place of the database that it named, as soon as it has.
     pub database: Option<usize>,
-    /// Its session, if it has one.
-    pub session: Option<Session>,
+    /// Whether it is one of the connections of that database.
+    pub is_connected: bool,
+    /// The session of that database that it has.
+    pub session: Option<Number>,
+    /// Its place in the line of those who wait for a session.
+    pub ticket: Option<Ticket>,
     /// Whether it waits for its turn already.
     pub is_queued: bool,
     is_readable: bool,
@@ -46,12 +43,15 @@ pub struct Client {
 
 impl Client {
     /// Returns a client that has just connected. Its socket is registered to be read.
-    pub fn new(socket: UnixStream, connection: Connection) -> Client {
+    pub fn new(socket: UnixStream, id: ClientId, connection: Connection) -> Client {
         Client {
             socket,
+            id,
             connection,
             database: None,
+            is_connected: false,
             session: None,
+            ticket: None,
             is_queued: false,
             is_readable: false,
             is_closed: false,

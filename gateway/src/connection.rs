@@ -9,6 +9,7 @@ mod prepared;
 mod results;
 mod simple;
 mod startup;
+mod totals;
 mod transaction;
 mod work;
 
@@ -35,8 +36,9 @@ use prepared::Prepared;
 use results::Rows;
 use simple::Query;
 use startup::Startup;
+use totals::Totals;
 use transaction::{Block, Transaction};
-use work::{Awaited, Target};
+use work::{not_understood, Awaited, Target};
 
 /// What every connection of a gateway shares.
 #[derive(Clone, Debug)]
@@ -50,7 +52,9 @@ pub struct Settings {
     /// How long a client may take for its startup.
     pub startup: Duration,
     /// The most connections of a database, for the text of the refusal.
-    pub sessions: usize,
+    pub connections: usize,
+    /// The most transactions of a database that have a session, for the text of the refusal.
+    pub transactions: usize,
     /// The definitions of the tables of each database, in the order of [`Settings::databases`].
     pub definitions: Vec<Definitions>,
     /// The statements that were read lately.
@@ -64,17 +68,19 @@ pub struct Settings {
 /// What a connection asks the engine for.
 #[derive(Debug, PartialEq, Eq)]
 pub enum Request<'a> {
-    /// A session of the database at this place of [`Settings::databases`].
+    /// A place among the connections of the database at this place of [`Settings::databases`].
     Open {
         /// The place, from 0.
         database: usize,
     },
-    /// A statement of its session. It gets one reply.
+    /// A statement. It gets one reply.
     Statement {
         /// The line, without prefix and without line feed.
         line: &'a [u8],
         /// What it asks for.
         question: Question,
+        /// The session that it needs. None: it leaves nothing open, and is served in the session that all share.
+        need: Option<Need>,
     },
     /// What all connections do. [`Connection::activities`] takes the answer, before anything else comes.
     Activities,
@@ -86,12 +92,22 @@ pub enum Request<'a> {
     },
 }
 
+/// What a statement needs a session of its own for. It keeps it as long as the program holds something there, or has not
+/// answered all that was asked there.
+#[derive(Clone, Copy, Debug, PartialEq, Eq)]
+pub enum Need {
+    /// A transaction, from its first reservation or savepoint to its end, for which the client may take its time.
+    Transaction,
+    /// A statement whose COMMIT is asked with it.
+    Statement,
+}
+
 /// The answer to [`Request::Open`].
 #[derive(Clone, Copy, Debug, PartialEq, Eq)]
 pub enum Opened {
-    /// The connection has a session.
-    Session,
-    /// All sessions of the database are taken.
+    /// The client is let in.
+    Accepted,
+    /// The database has as many connections as it may have.
     TooMany,
 }
 
@@ -138,6 +154,9 @@ const SYNC: Raw<'_> = Raw {
     body: &[],
 };
 
+/// How long a statement waits for a session.
+pub const MOST_WAIT: Duration = Duration::from_secs(1);
+
 /// How long a client may take for its last words.
 const LINGER: Duration = Duration::from_secs(5);
 
@@ -146,7 +165,7 @@ const LINGER: Duration = Duration::from_secs(5);
 enum Phase {
     /// The startup packet hasn't come.
     Startup(Startup),
-    /// The engine looks for a session.
+    /// The engine looks whether one more may connect.
     Opening,
     /// Statements are served.
     Serving,
@@ -172,7 +191,7 @@ pub struct Connection {
     /// What the replies of the program answer, in order. Nothing else is done for the client before they came.
     awaited: VecDeque<Awaited>,
     /// The result that the client is getting, and what asked for it.
-    giving: Option<(Target, Rows)>,
+    giving: Option<Box<(Target, Rows)>>,
     /// Whether there is more to do at once, in the next turn.
     has_turn: bool,
     /// How many messages or statements may still be served in this turn.
@@ -187,10 +206,14 @@ pub struct Connection {
     resting: bool,
     /// Since when it waits for the client.
     idle_since: Instant,
+    /// When its statement has waited for a session for too long. None: it doesn't wait for one.
+    session_limit: Option<Instant>,
     transaction: Transaction,
+    totals: Totals,
     variables: Variables,
     prepared: Prepared,
-    spill: Spill,
+    /// Where rows wait, since there was a result.
+    spill: Option<Spill>,
     definitions: Definitions,
     database: String,
     user: String,
@@ -206,7 +229,7 @@ impl Connection {
         let limit = now.checked_add(settings.startup);
         Connection {
             prepared: Prepared::new(&settings.memory),
-            spill: Spill::new(&settings.memory, &settings.disk),
+            spill: None,
             waiting: settings.memory.charge(),
             settings,
             process_id,
@@ -226,7 +249,9 @@ impl Connection {
             skipping: false,
             resting: true,
             idle_since: now,
+            session_limit: None,
             transaction: Transaction::default(),
+            totals: Totals::default(),
             variables,
             definitions: Definitions::default(),
             database: String::new(),
@@ -285,14 +310,53 @@ impl Connection {
         }
     }
 
+    /// Gives back the memory that it kept for what comes next, if it has been idle for so long. Returns whether it has not.
+    pub fn trim(&mut self, time: Duration, now: Instant) -> bool {
+        let is_idle = !self.is_busy() && self.input.len() == 0 && self.output.len() == 0;
+        if !is_idle || now.saturating_duration_since(self.idle_since) < time {
+            return true;
+        }
+        self.input.trim();
+        self.waiting.set(self.input.memory());
+        self.output.trim();
+        self.requests.trim();
+        self.awaited = VecDeque::new();
+        self.events.shrink_to_fit();
+        self.prepared.trim();
+        self.spill = self.spill.take().filter(|spill| !spill.is_unused());
+        false
+    }
+
     /// Returns the definitions of the tables of its database.
     pub fn definitions(&self) -> &Definitions {
         &self.definitions
     }
 
-    /// Returns the next thing that it asks for. The engine takes all there are, in order.
+    /// Returns the next thing that it asks for. The engine takes all there are, in order. Before it takes a statement for
+    /// which [`Connection::need`] returns something, the connection has a session.
     pub fn next_request(&mut self) -> Option<Request<'_>> {
         self.requests.next()
+    }
+
+    /// Returns what the next statement needs a session of its own for. None: there is no statement, or it needs none.
+    pub fn need(&self) -> Option<Need> {
+        self.requests.need()
+    }
+
+    /// Returns whether its next statement waits for a session.
+    pub fn is_waiting(&self) -> bool {
+        self.session_limit.is_some()
+    }
+
+    /// Is told that there is no session for its next statement. It is refused if that goes on for [`MOST_WAIT`].
+    pub fn wait(&mut self, now: Instant) {
+        self.now = now;
+        self.session_limit = now.checked_add(MOST_WAIT);
+    }
+
+    /// Is told that there is a session for the statement that waits.
+    pub fn wait_ended(&mut self) {
+        self.session_limit = None;
     }
 
     /// Takes the answer to [`Request::Open`].
@@ -300,14 +364,16 @@ impl Connection {
         self.now = now;
         if let Phase::Opening = self.phase {
             match outcome {
-                Opened::Session => self.serve(),
+                Opened::Accepted => self.serve(),
                 Opened::TooMany => {
                     let text = "sorry, too many clients already";
                     let report = Report::fatal(SqlState::TOO_MANY_CONNECTIONS, text);
-                    self.die(report.detail(format!(
+                    let detail = format!(
                         "A database serves at most {} connections.",
-                        self.settings.sessions
-                    )));
+                        self.settings.connections
+                    );
+                    let hint = "The gateway's option --connections raises that.";
+                    self.die(report.detail(detail).hint(hint));
                 }
             }
         }
@@ -357,7 +423,11 @@ impl Connection {
             Phase::Startup(_) | Phase::Closing => self.limit,
             Phase::Opening => None,
             Phase::Serving => {
-                let limits = [self.idle_limit(), self.transaction_limit()];
+                let limits = [
+                    self.idle_limit(),
+                    self.transaction_limit(),
+                    self.session_limit,
+                ];
                 limits.iter().copied().flatten().min()
             }
         }
@@ -374,6 +444,7 @@ impl Connection {
             Phase::Closing => self.output.clear(),
             Phase::Opening => {}
             Phase::Serving if self.transaction_is_too_long() => self.end_long_transaction(),
+            Phase::Serving if self.session_limit.is_some() => self.refuse_session(),
             Phase::Serving => self.die(Report::fatal(
                 SqlState::IDLE_IN_TRANSACTION_TIMEOUT,
                 "terminating connection due to idle-in-transaction timeout",
@@ -581,9 +652,10 @@ impl Connection {
             .checked_add(self.variables.limits().idle_in_transaction?)
     }
 
-    /// Returns when a transaction lasts too long, if one is open and nothing runs: what runs is answered first.
+    /// Returns when a transaction lasts too long, if one is open and nothing runs: what runs is answered first. A
+    /// statement that waits for a session does not run.
     fn transaction_limit(&self) -> Option<Instant> {
-        if !self.awaited.is_empty() {
+        if !self.awaited.is_empty() && self.session_limit.is_none() {
             return None;
         }
         let since = self.transaction.since()?;
@@ -602,6 +674,22 @@ impl Connection {
             SqlState::TRANSACTION_TIMEOUT,
             "terminating connection due to transaction timeout",
         ));
+    }
+
+    /// Refuses the statement that has waited for a session for too long. Nothing of it was asked.
+    fn refuse_session(&mut self) {
+        self.session_limit = None;
+        self.requests.drop_untaken();
+        let awaited = self.awaited.pop_front();
+        self.awaited.clear();
+        let report = no_session(self.settings.transactions);
+        match awaited {
+            Some(Awaited::Statement(running)) => self.fail_statement(running, report),
+            Some(Awaited::Savepoint { .. }) => self.fail(report, None),
+            // Whoever commits or rolls back has a session.
+            _ => self.die(not_understood()),
+        }
+        self.advance();
     }
 
     /// Tells the client of a failure, and gives up what it is doing. `text` is the text that the place is of.
@@ -663,7 +751,20 @@ impl Connection {
             self.awaited.clear();
             self.giving = None;
             self.query = None;
+            self.session_limit = None;
             self.requests.drop_untaken();
         }
     }
+}
+
+/// Makes the report of a statement that got no session.
+fn no_session(most: usize) -> Failure {
+    let text = "too many transactions hold reservations or savepoints";
+    Report::error(SqlState::TOO_MANY_CONNECTIONS, text)
+        .detail(format!(
+            "At most {} transactions of a database do so at a time. The statement waited for {} s.",
+            most,
+            MOST_WAIT.as_secs()
+        ))
+        .hint("Repeat the transaction, or end others sooner: --transaction-timeout limits how long they last.")
 }

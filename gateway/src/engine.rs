@@ -12,7 +12,6 @@ mod phases;
 mod signals;
 mod start;
 
-use std::collections::VecDeque;
 use std::io::ErrorKind;
 use std::rc::Rc;
 use std::time::{Duration, Instant};
@@ -23,10 +22,10 @@ use mio::{Events, Interest, Poll, Token};
 use signal_hook_mio::v0_8::Signals;
 use tracing::{debug, error, info};
 
-use crate::client::{Client, Session};
+use crate::client::Client;
 use crate::failure::Failure;
 use crate::metrics::Metrics;
-use crate::program::{self, Holder, Output, Program};
+use crate::program::{self, Number, Output, Program};
 use clients::Clients;
 use door::Door;
 use signals::HangUp;
@@ -34,8 +33,8 @@ use signals::HangUp;
 /// How many events one turn takes at most.
 const EVENTS: usize = 1024;
 
-/// How many clients may be without a session.
-const WITHOUT_SESSION: usize = 256;
+/// How many clients may be there that no database has let in yet.
+const NOT_LET_IN: usize = 256;
 
 /// How many clients are accepted in a turn at most. Then others have their turn.
 const ACCEPTED: usize = 64;
@@ -43,6 +42,10 @@ const ACCEPTED: usize = 64;
 /// How many of these may take the place of others that do not begin. More would come for as long as the others come
 /// back, and each takes the time of a statement.
 const REPLACED: usize = 4;
+
+/// How long a client is idle until it gives back the memory that is kept for what comes next. In between an allocation
+/// for each statement is spared.
+const REST: Duration = Duration::from_secs(1);
 
 /// How many bytes of a client are read in a turn at most. Then others have their turn.
 const READ: usize = 16 * 1024;
@@ -90,8 +93,6 @@ pub struct Engine {
     /// None: no client is accepted any more.
     door: Option<Door>,
     programs: Vec<Program>,
-    /// For each program, the clients that wait until a session is free.
-    waiting: Vec<VecDeque<usize>>,
     clients: Clients,
     /// The places of the clients that have something to do in this turn.
     queue: Vec<usize>,
@@ -102,6 +103,8 @@ pub struct Engine {
     failure: Option<Failure>,
     /// No client's deadline is earlier. It may be one that has been put off since.
     alarm: Option<Instant>,
+    /// When idle clients give back memory. None: all have.
+    rest: Option<Instant>,
     process_id: i32,
     buffer: Box<[u8]>,
     now: Instant,
@@ -224,38 +227,74 @@ impl Engine {
                 if let (Some(metrics), true) = (&self.metrics, line.is_last) {
                     metrics.answered(database, self.now.duration_since(line.since));
                 }
-                if let Some(client) = self.clients.get_mut(line.place) {
-                    client.connection.replied(line.text, line.is_last, self.now);
-                    enqueue(&mut self.queue, client, line.place);
-                }
-            }
-            Some(Output::Freed) => {
-                while let Some(place) = self.waiting[database].pop_front() {
-                    if !self.give_session(place, database) {
-                        self.waiting[database].push_front(place);
-                        break;
+                let is_freed = line.is_freed;
+                if let Some(client) = self.clients.find(line.client) {
+                    if is_freed {
+                        client.session = None;
                     }
+                    client.connection.replied(line.text, line.is_last, self.now);
+                    enqueue(&mut self.queue, client, line.client.place);
+                }
+                if is_freed {
+                    self.hand_on_sessions(database);
                 }
             }
+            Some(Output::Freed) => self.hand_on_sessions(database),
         }
         Ok(true)
     }
 
-    /// Gives a free session to the client at `place`. Returns whether there was one.
-    fn give_session(&mut self, place: usize, database: usize) -> bool {
-        let client = match self.clients.get_mut(place) {
-            Some(client) => client,
-            None => return true,
-        };
-        match self.programs[database].take_session(Holder::Client(place)) {
-            None => false,
-            Some(number) => {
-                client.session = Some(Session { database, number });
-                client.connection.opened(Opened::Session, self.now);
-                activity::log_session(client);
-                enqueue(&mut self.queue, client, place);
-                true
+    /// Gives the free sessions of a database to those who wait for one.
+    fn hand_on_sessions(&mut self, database: usize) {
+        let program = &mut self.programs[database];
+        while let Some((id, session)) = program.next_in_line() {
+            match self.clients.find(id) {
+                Some(client) if client.connection.is_waiting() => {
+                    client.session = Some(session);
+                    client.ticket = None;
+                    client.connection.wait_ended();
+                    enqueue(&mut self.queue, client, id.place);
+                }
+                // It waits no more.
+                other => {
+                    if let Some(client) = other {
+                        client.ticket = None;
+                    }
+                    program.give_back(session);
+                }
             }
+        }
+    }
+
+    /// Returns the session for the next statement of the client at `place`. None: the client has to wait for one, and is in
+    /// line.
+    fn session(&mut self, place: usize) -> Option<Number> {
+        let client = self.clients.get_mut(place)?;
+        let program = match client.database {
+            Some(database) => &mut self.programs[database],
+            None => return Some(Number::SHARED),
+        };
+        if client.connection.is_waiting() {
+            return None;
+        }
+        if let Some(ticket) = client.ticket.take() {
+            // What it waited for was refused.
+            program.quit_line(ticket);
+        }
+        match (client.connection.need(), client.session) {
+            (None, _) => Some(Number::SHARED),
+            (Some(_), Some(session)) => Some(session),
+            (Some(need), None) => match program.take_session(client.id, need) {
+                Ok(session) => {
+                    client.session = Some(session);
+                    Some(session)
+                }
+                Err(ticket) => {
+                    client.ticket = Some(ticket);
+                    client.connection.wait(self.now);
+                    None
+                }
+            },
         }
     }
 
@@ -270,20 +309,28 @@ impl Engine {
         self.forward(place);
     }
 
-    /// Takes what the client at `place` asks for. Its session ends if that is all.
+    /// Takes what the client at `place` asks for. It leaves its database if that is all.
     fn forward(&mut self, place: usize) {
         while let Some(client) = self.clients.get_mut(place) {
             if client.is_over() {
-                self.leave_session(place);
+                self.leave_database(place);
                 return;
             }
+            let session = match self.session(place) {
+                Some(session) => session,
+                None => return,
+            };
+            let client = match self.clients.get_mut(place) {
+                Some(client) => client,
+                None => return,
+            };
             match client.connection.next_request() {
                 None => return,
-                Some(Request::Open { database }) => self.open_session(place, database),
-                Some(Request::Statement { line, question }) => {
-                    if let Some(session) = client.session {
-                        let program = &mut self.programs[session.database];
-                        program.ask(session.number, question, line, self.now);
+                Some(Request::Open { database }) => self.connect(place, database),
+                Some(Request::Statement { line, question, .. }) => {
+                    if let Some(database) = client.database {
+                        let program = &mut self.programs[database];
+                        program.ask(client.id, session, question, line, self.now);
                     }
                 }
                 Some(Request::Activities) => self.tell_activities(place),
@@ -292,31 +339,37 @@ impl Engine {
         }
     }
 
-    /// Gives the client at `place` a session, or lets it wait for one that becomes free by itself, or refuses it.
-    fn open_session(&mut self, place: usize, database: usize) {
+    /// Lets the client at `place` in, if its database has room for one more.
+    fn connect(&mut self, place: usize, database: usize) {
         if let Some(client) = self.clients.get_mut(place) {
             client.database = Some(database);
-        }
-        if self.give_session(place, database) {
-            return;
-        }
-        if self.programs[database].leaving() > self.waiting[database].len() {
-            self.waiting[database].push_back(place);
-        } else if let Some(client) = self.clients.get_mut(place) {
-            client.connection.opened(Opened::TooMany, self.now);
+            client.is_connected = self.programs[database].connect(self.settings.connections);
+            let outcome = match client.is_connected {
+                true => Opened::Accepted,
+                false => Opened::TooMany,
+            };
+            client.connection.opened(outcome, self.now);
+            activity::log_begin(client);
         }
     }
 
     /// Gives back what the client at `place` has of its database.
-    fn leave_session(&mut self, place: usize) {
+    fn leave_database(&mut self, place: usize) {
         let client = match self.clients.get_mut(place) {
             Some(client) => client,
             None => return,
         };
-        match (client.session.take(), client.database) {
-            (Some(session), _) => self.programs[session.database].leave(session.number, self.now),
-            (None, Some(database)) => self.waiting[database].retain(|&other| other != place),
-            (None, None) => {}
+        let database = match client.database {
+            Some(database) if std::mem::take(&mut client.is_connected) => database,
+            _ => return,
+        };
+        let program = &mut self.programs[database];
+        program.disconnect();
+        if let Some(ticket) = client.ticket.take() {
+            program.quit_line(ticket);
+        }
+        if program.leave(client.id, client.session.take(), self.now) {
+            self.hand_on_sessions(database);
         }
     }
 
@@ -355,20 +408,21 @@ impl Engine {
             enqueue(&mut self.queue, client, place);
         }
         wake(&mut self.alarm, client.connection.deadline());
+        self.rest.get_or_insert(self.now + REST);
     }
 
     /// Accepts clients that arrived. Returns whether there may be more.
     ///
-    /// Where too many have no session, the one that has taken longest for its startup makes room.
+    /// Where too many are not let in yet, the one that has taken longest for its startup makes room.
     fn accept(&mut self) -> bool {
         let first_client = self.first_client();
         let door = match &mut self.door {
             Some(door) if self.phase == Phase::Serving => door,
             _ => return false,
         };
-        let sessions: usize = self.programs.iter().map(Program::clients).sum();
+        let connected: usize = self.programs.iter().map(Program::clients).sum();
         for count in 0..ACCEPTED {
-            let is_full = self.clients.len() >= sessions + WITHOUT_SESSION;
+            let is_full = self.clients.len() >= connected + NOT_LET_IN;
             if is_full && count >= REPLACED {
                 return true;
             }
@@ -384,8 +438,8 @@ impl Engine {
                 debug!("a client that does not begin is dropped, since there are too many");
                 self.clients.remove(oldest);
             }
-            let place = self.clients.next_place();
-            let token = Token(first_client + place);
+            let id = self.clients.next_id();
+            let token = Token(first_client + id.place);
             let registry = self.poll.registry();
             if registry
                 .register(&mut socket, token, Interest::READABLE)
@@ -396,7 +450,7 @@ impl Engine {
             }
             self.process_id = self.clients.next_process_id(self.process_id);
             let connection = Connection::new(Rc::clone(&self.settings), self.process_id, self.now);
-            let client = Client::new(socket, connection);
+            let client = Client::new(socket, id, connection);
             wake(&mut self.alarm, client.connection.deadline());
             self.clients.insert(client);
         }

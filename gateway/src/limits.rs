@@ -4,7 +4,7 @@
 //! another version than its own.
 
 /// The sessions of a database. Their numbers are 1 to this one.
-pub const SESSIONS: usize = 64;
+pub const SESSIONS: u16 = 64;
 
 /// The bytes of a line, without its end and with its prefix.
 pub const LINE: usize = 4_096;

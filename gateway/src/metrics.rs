@@ -46,6 +46,8 @@ struct DatabaseMetrics {
     committed: IntCounter,
     rolled_back: IntCounter,
     connections: IntGauge,
+    sessions: IntGauge,
+    waiting: IntGauge,
     reservations: IntGauge,
     oldest: Gauge,
     seconds: LocalHistogram,
@@ -71,11 +73,24 @@ impl StoreMetrics {
     }
 }
 
+/// How many there may be of a database.
+#[derive(Clone, Copy, Debug)]
+pub struct Most {
+    /// Connections.
+    pub connections: usize,
+    /// Transactions that have a session.
+    pub transactions: usize,
+}
+
 /// What is true of a database at the moment.
 #[derive(Clone, Copy, Debug, Default, PartialEq)]
 pub struct State {
-    /// How many clients have a session.
+    /// How many clients are connected.
     pub connections: usize,
+    /// How many sessions are taken.
+    pub sessions: usize,
+    /// How many clients wait for one.
+    pub waiting: usize,
     /// How many reservations their transactions hold.
     pub reservations: u32,
     /// When the oldest open transaction began.
@@ -85,8 +100,11 @@ pub struct State {
 impl State {
     /// Returns the state of a program's database, without its transactions.
     pub fn of(program: &Program) -> State {
+        let (sessions, waiting) = program.taken_sessions();
         State {
             connections: program.clients(),
+            sessions,
+            waiting,
             ..State::default()
         }
     }
@@ -99,14 +117,14 @@ impl State {
 }
 
 impl Metrics {
-    /// Returns metrics of these databases, each of which serves so many sessions. They are written to `path`.
+    /// Returns metrics of these databases, each of which has so much. They are written to `path`.
     ///
     /// # Errors
     ///
     /// Fails if the path, or that beside it which is written first, has another kind of file than a regular one.
     pub fn new(
         databases: &[Database],
-        sessions: usize,
+        most: Most,
         path: &Path,
         now: Instant,
     ) -> Result<Metrics, Failure> {
@@ -119,7 +137,7 @@ impl Metrics {
         let families = Families::register(&registry).map_err(failed)?;
         let version = env!("CARGO_PKG_VERSION");
         families.build.with_label_values(&[version]).set(1);
-        let of = |database| families.of(database, sessions);
+        let of = |database| families.of(database, most);
         Ok(Metrics {
             databases: databases.iter().map(of).collect(),
             registry,
@@ -191,6 +209,8 @@ impl DatabaseMetrics {
             store.measure();
         }
         self.connections.set(state.connections as i64);
+        self.sessions.set(state.sessions as i64);
+        self.waiting.set(state.waiting as i64);
         self.reservations.set(state.reservations.into());
         let age = state
             .oldest
@@ -207,6 +227,9 @@ struct Families {
     transactions: IntCounterVec,
     connections: IntGaugeVec,
     most_connections: IntGaugeVec,
+    sessions: IntGaugeVec,
+    most_sessions: IntGaugeVec,
+    waiting: IntGaugeVec,
     reservations: IntGaugeVec,
     oldest: GaugeVec,
     seconds: HistogramVec,
@@ -253,12 +276,27 @@ impl Families {
             )?,
             connections: gauges(
                 "escrowd_pg_connections",
-                "Clients that have a session.",
+                "Clients that are connected.",
                 &["database"],
             )?,
             most_connections: gauges(
                 "escrowd_pg_connections_max",
-                "Clients that can have a session at a time.",
+                "Clients that can be connected at a time.",
+                &["database"],
+            )?,
+            sessions: gauges(
+                "escrowd_pg_sessions",
+                "Sessions that transactions and single statements have.",
+                &["database"],
+            )?,
+            most_sessions: gauges(
+                "escrowd_pg_sessions_max",
+                "Transactions that can have a session at a time.",
+                &["database"],
+            )?,
+            waiting: gauges(
+                "escrowd_pg_sessions_waiting",
+                "Clients that wait for a session.",
                 &["database"],
             )?,
             reservations: gauges(
@@ -285,10 +323,15 @@ impl Families {
         })
     }
 
-    fn of(&self, database: &Database, sessions: usize) -> DatabaseMetrics {
+    fn of(&self, database: &Database, most: Most) -> DatabaseMetrics {
         let name = database.name.as_str();
-        let most = self.most_connections.with_label_values(&[name]);
-        most.set(sessions as i64);
+        let bounds = [
+            (&self.most_connections, most.connections),
+            (&self.most_sessions, most.transactions),
+        ];
+        for (family, most) in bounds {
+            family.with_label_values(&[name]).set(most as i64);
+        }
         let statements = Kind::ALL.iter();
         DatabaseMetrics {
             statements: statements
@@ -298,6 +341,8 @@ impl Families {
             committed: self.transactions.with_label_values(&[name, "committed"]),
             rolled_back: self.transactions.with_label_values(&[name, "rolled_back"]),
             connections: self.connections.with_label_values(&[name]),
+            sessions: self.sessions.with_label_values(&[name]),
+            waiting: self.waiting.with_label_values(&[name]),
             reservations: self.reservations.with_label_values(&[name]),
             oldest: self.oldest.with_label_values(&[name]),
             seconds: self.seconds.with_label_values(&[name]).local(),
@@ -342,7 +387,11 @@ mod tests {
         fs::write(&store, [0; 4096]).unwrap();
         let start = Instant::now();
         let databases = [database("shop", Some(store)), database("other", None)];
-        let mut metrics = Metrics::new(&databases, 64, &path, start).unwrap();
+        let most = Most {
+            connections: 500,
+            transactions: 60,
+        };
+        let mut metrics = Metrics::new(&databases, most, &path, start).unwrap();
         metrics.count(Some(0), Event::Statement(Kind::ALL[0]));
         metrics.count(Some(0), Event::Committed);
         metrics.count(Some(0), Event::Committed);
@@ -350,6 +399,8 @@ mod tests {
         metrics.answered(0, Duration::from_micros(30));
         let mut state = State {
             connections: 3,
+            sessions: 2,
+            waiting: 1,
             ..State::default()
         };
         for (since, reservations) in [
@@ -372,7 +423,11 @@ mod tests {
             r#"escrowd_pg_transactions_total{database="shop",outcome="committed"} 2"#,
             r#"escrowd_pg_transactions_total{database="other",outcome="rolled_back"} 1"#,
             r#"escrowd_pg_connections{database="shop"} 3"#,
-            r#"escrowd_pg_connections_max{database="other"} 64"#,
+            r#"escrowd_pg_connections_max{database="other"} 500"#,
+            r#"escrowd_pg_sessions{database="shop"} 2"#,
+            r#"escrowd_pg_sessions{database="other"} 0"#,
+            r#"escrowd_pg_sessions_max{database="shop"} 60"#,
+            r#"escrowd_pg_sessions_waiting{database="shop"} 1"#,
             r#"escrowd_pg_reservations{database="shop"} 7"#,
             r#"escrowd_pg_oldest_transaction_seconds{database="shop"} 5"#,
             r#"escrowd_pg_oldest_transaction_seconds{database="other"} 0"#,

@@ -19,10 +19,12 @@ use mio::unix::pipe::{Receiver, Sender};
 use mio::{Interest, Registry, Token};
 use tracing::{debug, info, warn};
 
+use escrowd_pg::connection::Need;
+use escrowd_pg::limits::SESSIONS;
 use escrowd_pg::reply::{self, Done, Outcome, Question};
 use escrowd_pg::rows::Definitions;
 
-pub use sessions::{Holder, Number};
+pub use sessions::{most_transactions, ClientId, Number, Ticket};
 pub use version::check_version;
 
 use crate::allocator;
@@ -31,7 +33,7 @@ use crate::failure::Failure;
 use candidates::candidates;
 use long::{is_of_whole_table, LongSelects};
 use replies::{Replies, Wrong};
-use sessions::{Asked, Sessions};
+use sessions::{Asked, Asker, Sessions};
 use statements::Statements;
 
 /// The tokens of a program: one for each of its pipes.
@@ -82,7 +84,7 @@ pub enum Output<'a> {
         /// Its last line, if that is a refusal.
         refusal: Option<String>,
     },
-    /// The reply behind which a session is free.
+    /// The reply behind which a session is free that its client left.
     Freed,
     /// A line that concerns nobody.
     Passed,
@@ -90,14 +92,16 @@ pub enum Output<'a> {
 
 /// A line of a reply to a client.
 pub struct Line<'a> {
-    /// The client's place.
-    pub place: usize,
+    /// The client.
+    pub client: ClientId,
     /// When it asked.
     pub since: Instant,
     /// The line, without prefix and without line feed.
     pub text: &'a [u8],
     /// Whether it is the last one of the reply.
     pub is_last: bool,
+    /// Whether the client has no session any more, since nothing of it is open or unanswered.
+    pub is_freed: bool,
 }
 
 /// A session whose ROLLBACK was refused.
@@ -126,9 +130,11 @@ pub struct Program {
     /// Sessions that clients left, and that can't be rolled back yet.
     refused: Vec<Refused>,
     definitions: Definitions,
+    /// How many clients are connected to its database.
+    clients: usize,
     started: Instant,
-    /// The session in which the gateway asks by itself, until it has all answers.
-    own: Option<Number>,
+    /// How many questions of the gateway's own have no answer.
+    own: usize,
     /// Whether it was asked for the definitions of its tables.
     is_listed: bool,
     is_open: bool,
@@ -169,14 +175,15 @@ impl Program {
             output: Source::new(pipes.output),
             errors: Source::new(pipes.errors),
             error_lines: ErrorLines::default(),
-            statements: Statements::new(),
-            replies: Replies::new(),
-            sessions: Sessions::new(),
+            statements: Statements::new(SESSIONS),
+            replies: Replies::new(SESSIONS),
+            sessions: Sessions::new(SESSIONS),
             long: LongSelects::default(),
             refused: Vec::new(),
             definitions: Definitions::default(),
+            clients: 0,
             started: now,
-            own: None,
+            own: 0,
             is_listed: false,
             is_open: false,
             is_told_to_end: false,
@@ -186,7 +193,6 @@ impl Program {
             ending_since: None,
         };
         // The program writes nothing until it is asked, and reads nothing until its store is open.
-        program.own = program.sessions.take(Holder::Gateway);
         program.ask_itself(Question::Statistics, OPENING, now);
         Ok(program)
     }
@@ -235,19 +241,50 @@ impl Program {
         self.is_open
     }
 
-    /// Gives a session to `holder`, if one is free.
-    pub fn take_session(&mut self, holder: Holder) -> Option<Number> {
-        self.sessions.take(holder)
+    /// Lets a client in, if fewer than `most` are connected. Returns whether it did.
+    pub fn connect(&mut self, most: usize) -> bool {
+        let has_room = self.clients < most;
+        self.clients += usize::from(has_room);
+        has_room
     }
 
-    /// Returns how many sessions have a client.
+    /// Notes that a client that was let in is gone.
+    pub fn disconnect(&mut self) {
+        self.clients -= 1;
+    }
+
+    /// Returns how many clients are connected to its database.
     pub fn clients(&self) -> usize {
-        self.sessions.held()
+        self.clients
     }
 
-    /// Returns how many sessions become free without anybody's doing.
-    pub fn leaving(&self) -> usize {
-        self.sessions.leaving()
+    /// Gives a session to a client, if one is free for what it needs and nobody is in line before it.
+    ///
+    /// # Errors
+    ///
+    /// Fails with its place in the line if it has to wait.
+    pub fn take_session(&mut self, client: ClientId, need: Need) -> Result<Number, Ticket> {
+        self.sessions.take(client, need)
+    }
+
+    /// Gives a session to whoever waits for one and came first, if there is one for it.
+    pub fn next_in_line(&mut self) -> Option<(ClientId, Number)> {
+        self.sessions.next_in_line()
+    }
+
+    /// Takes back a session in which nothing was asked.
+    pub fn give_back(&mut self, session: Number) {
+        self.sessions.free(session);
+    }
+
+    /// Takes somebody out of the line of those who wait for a session.
+    pub fn quit_line(&mut self, ticket: Ticket) {
+        self.sessions.quit_line(ticket);
+    }
+
+    /// Returns how many sessions are taken, and how many clients wait for one.
+    pub fn taken_sessions(&self) -> (usize, usize) {
+        (self.sessions.taken(), self.sessions.waiting())
     }
 
     /// Returns the definitions of its tables.
@@ -255,27 +292,49 @@ impl Program {
         &self.definitions
     }
 
-    /// Queues a statement of a session, behind all that the session asked before.
-    pub fn ask(&mut self, session: Number, question: Question, statement: &[u8], now: Instant) {
-        if self.long.admit(session, question, statement, now) {
-            self.send(session, question, statement, now);
+    /// Queues a statement of a client in a session, behind all that it asked before.
+    pub fn ask(
+        &mut self,
+        client: ClientId,
+        session: Number,
+        question: Question,
+        statement: &[u8],
+        now: Instant,
+    ) {
+        self.ask_as(Asker::Client(client), session, question, statement, now);
+    }
+
+    fn ask_as(
+        &mut self,
+        asker: Asker,
+        session: Number,
+        question: Question,
+        statement: &[u8],
+        now: Instant,
+    ) {
+        let asked = Asked {
+            asker,
+            session,
+            question,
+            since: now,
+            is_of_whole_table: is_of_whole_table(question, statement),
+        };
+        // It counts even while it waits, so nobody else gets the session before it is answered.
+        self.sessions.expect(session);
+        if self.long.admit(asked, statement) {
+            self.send(asked, statement);
         }
     }
 
-    fn send(&mut self, session: Number, question: Question, statement: &[u8], since: Instant) {
-        self.sessions.ask(Asked {
-            session,
-            question,
-            since,
-            is_of_whole_table: is_of_whole_table(question, statement),
-        });
-        self.statements.push(session, statement);
+    fn send(&mut self, asked: Asked, statement: &[u8]) {
+        self.sessions.ask(asked);
+        self.statements.push(asked.session, statement);
     }
 
     /// Queues the statements that waited, as far as it is their turn.
     fn ask_waiting(&mut self, now: Instant) {
         while let Some(it) = self.long.next(now) {
-            self.send(it.session, it.question, &it.statement, it.since);
+            self.send(it.asked, &it.statement);
         }
     }
 
@@ -286,19 +345,29 @@ impl Program {
 
     /// Queues a statement of the gateway's own.
     fn ask_itself(&mut self, question: Question, statement: &[u8], now: Instant) {
-        if let Some(session) = self.own {
-            self.ask(session, question, statement, now);
+        self.own += 1;
+        self.ask_as(Asker::Gateway, Number::SHARED, question, statement, now);
+    }
+
+    /// Notes that a client left. If it has a session, what that holds is rolled back, and it is free then. Returns
+    /// whether the session is free at once, since nothing was asked in it.
+    pub fn leave(&mut self, client: ClientId, session: Option<Number>, now: Instant) -> bool {
+        for session in self.long.leave(Asker::Client(client)) {
+            self.sessions.forget(session);
+        }
+        match session {
+            Some(session) if self.sessions.leave(session) => true,
+            Some(session) => {
+                self.roll_back(session, now);
+                false
+            }
+            None => false,
         }
     }
 
-    /// Notes that the holder of a session left. What the session holds is rolled back; it is free when all of its
-    /// statements are answered.
-    pub fn leave(&mut self, session: Number, now: Instant) {
-        self.long.leave(session);
-        if self.sessions.is_used(session) {
-            self.ask(session, Question::Order, ROLLBACK, now);
-        }
-        self.sessions.leave(session);
+    /// Asks for the end of what a client left in a session.
+    fn roll_back(&mut self, session: Number, now: Instant) {
+        self.ask_as(Asker::Leaver, session, Question::Order, ROLLBACK, now);
     }
 
     /// Asks again for what was refused, if it is time for that.
@@ -321,7 +390,7 @@ impl Program {
             }
         }
         for session in due {
-            self.ask(session, Question::Order, ROLLBACK, now);
+            self.roll_back(session, now);
         }
         Ok(())
     }
@@ -389,23 +458,21 @@ impl Program {
         };
         self.definitions.note(asked.question, text);
         let is_last = asked.question.is_last_line(text);
-        if is_last {
-            self.sessions.answered();
-            if asked.is_of_whole_table {
-                let others_wait = self.sessions.next().is_some();
-                self.long.answered(rows_told(text), others_wait, now);
-            }
+        let is_freed = is_last && self.sessions.answered(text);
+        if is_last && asked.is_of_whole_table {
+            let others_wait = self.sessions.next().is_some();
+            self.long.answered(rows_told(text), others_wait, now);
         }
-        let is_answered = self.sessions.unanswered(asked.session) == 0;
-        Ok(Some(match self.sessions.holder(asked.session) {
-            Holder::Client(place) => Output::Line(Line {
-                place,
+        Ok(Some(match asked.asker {
+            Asker::Client(client) => Output::Line(Line {
+                client,
                 since: asked.since,
                 text,
                 is_last,
+                is_freed,
             }),
-            // The last statement of a session that its client left is a ROLLBACK.
-            Holder::Leaving if is_last && is_answered => {
+            // It is the last statement of a session that its client left.
+            Asker::Leaver => {
                 let place = self
                     .refused
                     .iter()
@@ -426,13 +493,16 @@ impl Program {
                 }
                 Output::Passed
             }
-            Holder::Gateway if is_last => Output::Own {
-                refusal: match reply::outcome(&String::from_utf8_lossy(text)) {
-                    Some(Outcome::Done(_)) => None,
-                    _ => Some(String::from_utf8_lossy(text).into_owned()),
-                },
-            },
-            _ => Output::Passed,
+            Asker::Gateway if is_last => {
+                self.own -= 1;
+                Output::Own {
+                    refusal: match reply::outcome(&String::from_utf8_lossy(text)) {
+                        Some(Outcome::Done(_)) => None,
+                        _ => Some(String::from_utf8_lossy(text).into_owned()),
+                    },
+                }
+            }
+            Asker::Gateway => Output::Passed,
         }))
     }
 
@@ -460,12 +530,8 @@ impl Program {
                 );
             }
         }
-        if let Some(session) = self.own {
-            if self.sessions.unanswered(session) == 0 {
-                self.own = None;
-                self.sessions.leave(session);
-                self.opened(now);
-            }
+        if self.own == 0 {
+            self.opened(now);
         }
         Ok(())
     }

@@ -84,6 +84,13 @@ impl Queue {
         self.last.shrink_to(self.piece);
     }
 
+    /// Gives the kept memory back, if the queue is empty.
+    pub fn trim(&mut self) {
+        if self.is_empty() {
+            self.last = Vec::new();
+        }
+    }
+
     /// Returns how many bytes of memory it takes.
     #[cfg(test)]
     fn memory(&self) -> usize {
@@ -121,6 +128,12 @@ mod tests {
         queue.room(9_000).extend_from_slice(&[7; 9_000]);
         queue.take(usize::MAX);
         assert!(queue.is_empty() && queue.memory() <= PIECE);
+        queue.room(9).push(7);
+        queue.trim();
+        assert_eq!(queue.front(), [7]);
+        queue.take(1);
+        queue.trim();
+        assert_eq!(queue.memory(), 0);
     }
 
     proptest! {

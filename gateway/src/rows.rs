@@ -8,4 +8,6 @@ pub mod spool;
 
 pub use definition::{Check, ColumnType, DefinedColumn, Definition};
 pub use definitions::Definitions;
-pub use result::{append_count, constants, shown_columns, LineFault, Reader, ResultSet, Row};
+pub use result::{
+    append_count, constants, shown_columns, statistics, LineFault, Reader, ResultSet, Row,
+};

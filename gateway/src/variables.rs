@@ -1,6 +1,5 @@
 //! The settings of a session: SET, RESET and SHOW.
 
-use std::collections::BTreeMap;
 use std::rc::Rc;
 use std::time::Duration;
 
@@ -199,8 +198,45 @@ impl Key {
     }
 }
 
-/// Values that differ from their defaults.
-type Values = BTreeMap<Key, String>;
+/// Values that differ from their defaults, in the order of their settings. They are few, and every connection has some:
+/// a map would take three times as much memory.
+#[derive(Clone, Debug, Default, PartialEq, Eq)]
+struct Values(Vec<(Key, String)>);
+
+impl Values {
+    fn place(&self, key: &Key) -> Result<usize, usize> {
+        self.0.binary_search_by(|(other, _)| other.cmp(key))
+    }
+
+    fn get(&self, key: &Key) -> Option<&String> {
+        self.place(key).ok().map(|place| &self.0[place].1)
+    }
+
+    fn contains_key(&self, key: &Key) -> bool {
+        self.place(key).is_ok()
+    }
+
+    fn insert(&mut self, key: Key, value: String) {
+        match self.place(&key) {
+            Ok(place) => self.0[place].1 = value,
+            Err(place) => self.0.insert(place, (key, value)),
+        }
+    }
+
+    fn remove(&mut self, key: &Key) {
+        if let Ok(place) = self.place(key) {
+            self.0.remove(place);
+        }
+    }
+
+    fn keys(&self) -> impl Iterator<Item = &Key> {
+        self.0.iter().map(|(key, _)| key)
+    }
+
+    fn is_empty(&self) -> bool {
+        self.0.is_empty()
+    }
+}
 
 /// The most settings of a client's own.
 const MOST_CUSTOM: usize = 64;
@@ -414,7 +450,7 @@ pub fn no_isolation() -> Failure {
 impl Variables {
     /// Begins a session of this user. Without SET `limits` say how long its transactions may last.
     pub fn new(version: &str, user: &str, limits: Limits) -> Variables {
-        let mut values = Values::new();
+        let mut values = Values::default();
         let mut put = |name: &str, value: String| {
             if let Some(place) = place(name) {
                 values.insert(Key::Known(place), value);
@@ -434,7 +470,7 @@ impl Variables {
         let mut variables = Variables {
             initial: Rc::clone(&values),
             session: values,
-            local: Rc::new(Values::new()),
+            local: Rc::default(),
             limits: Limits::default(),
             reads_only: false,
         };
@@ -567,7 +603,7 @@ impl Variables {
                 put(&mut self.session, key, Some(String::new()));
             }
         }
-        self.local = Rc::new(Values::new());
+        self.local = Rc::default();
         self.changed();
     }
 
@@ -712,7 +748,7 @@ impl Variables {
 
     /// Forgets what was set for the transaction alone.
     pub fn end_transaction(&mut self) {
-        self.local = Rc::new(Values::new());
+        self.local = Rc::default();
         self.changed();
     }
 

@@ -55,7 +55,7 @@ impl Relation {
 const FIRST_VIEW: usize = 12_000;
 
 /// The columns that pg_stat_activity has here beside PostgreSQL's: the session's number, and its reservations.
-const OWN_COLUMNS: [&str; 2] = ["session:21:-1:0", "reservations:23:-1:0"];
+const OWN_COLUMNS: [&str; 2] = ["session:23:-1:0", "reservations:23:-1:0"];
 
 /// The words that can't be names without quotes.
 const RESERVED: &str = "all analyse analyze and any array as asc asymmetric authorization between bigint binary bit \

@@ -41,8 +41,8 @@ impl Connection {
         self.variables.value("application_name")
     }
 
-    /// Returns what it does, if it serves its client. `session` is the number of its session.
-    pub fn activity(&self, session: u8, clock: &Clock) -> Option<Activity> {
+    /// Returns what it does, if it serves its client. `session` is the number of the session that it has.
+    pub fn activity(&self, session: Option<u16>, clock: &Clock) -> Option<Activity> {
         if !matches!(self.phase, Phase::Serving) {
             return None;
         }

@@ -2,7 +2,7 @@
 
 use std::collections::VecDeque;
 
-use crate::connection::Request;
+use crate::connection::{Need, Request};
 use crate::queue::Queue;
 use crate::reply::Question;
 use crate::wire::frontend::{self, Frame, Raw};
@@ -33,6 +33,13 @@ impl Input {
     /// Returns how many bytes of memory it takes.
     pub fn memory(&self) -> usize {
         self.bytes.capacity()
+    }
+
+    /// Gives the kept memory back, if there are no bytes.
+    pub fn trim(&mut self) {
+        if self.len() == 0 {
+            *self = Input::default();
+        }
     }
 
     /// Returns the bytes that aren't served.
@@ -116,9 +123,25 @@ impl Output {
     pub fn clear(&mut self) {
         self.bytes.clear();
     }
+
+    /// Gives the kept memory back, if all is sent.
+    pub fn trim(&mut self) {
+        self.bytes.trim();
+    }
 }
 
-/// What is asked of the engine: perhaps a session or what all connections do, then lines for the program.
+/// A line for the program.
+#[derive(Debug)]
+struct Line {
+    /// The session of its own that it needs.
+    need: Option<Need>,
+    /// What it asks for.
+    question: Question,
+    /// Its length with its line feed.
+    length: usize,
+}
+
+/// What is asked of the engine: perhaps a place or what all connections do, then lines for the program.
 #[derive(Debug, Default)]
 pub struct Requests {
     open: Option<usize>,
@@ -128,14 +151,14 @@ pub struct Requests {
     terminate: Vec<i32>,
     /// The lines, each with its line feed.
     lines: Vec<u8>,
-    /// What each of them asks for, and its length with its line feed.
-    questions: VecDeque<(Question, usize)>,
+    /// What each of them is.
+    waiting: VecDeque<Line>,
     at: usize,
     unanswered: usize,
 }
 
 impl Requests {
-    /// Asks for a session of the database at this place.
+    /// Asks for a place among the connections of the database at this place.
     pub fn open(&mut self, database: usize) {
         self.open = Some(database);
     }
@@ -153,28 +176,32 @@ impl Requests {
     /// Asks the program by a line that `write` appends. Nothing is asked if it fails.
     pub fn line<E>(
         &mut self,
+        need: Option<Need>,
         question: Question,
         write: impl FnOnce(&mut Vec<u8>) -> Result<(), E>,
     ) -> Result<(), E> {
         let start = self.lines.len();
         let written = write(&mut self.lines);
         match written {
-            Ok(()) => self.end_line(question, start),
+            Ok(()) => self.end_line(need, question, start),
             Err(_) => self.lines.truncate(start),
         }
         written
     }
 
     /// Ends the line that begins at this byte.
-    fn end_line(&mut self, question: Question, start: usize) {
+    fn end_line(&mut self, need: Option<Need>, question: Question, start: usize) {
         debug_assert!(!self.lines[start..].contains(&b'\n'));
         self.lines.push(b'\n');
-        self.questions
-            .push_back((question, self.lines.len() - start));
+        self.waiting.push_back(Line {
+            need,
+            question,
+            length: self.lines.len() - start,
+        });
     }
 
-    /// Asks the program by lines that `write` appends, each with its line feed, and whose number it returns. Nothing is
-    /// asked if it fails.
+    /// Asks the program by lines that `write` appends, each with its line feed, and whose number it returns. They need no
+    /// session of their own. Nothing is asked if it fails.
     pub fn lines<E>(
         &mut self,
         question: Question,
@@ -184,8 +211,11 @@ impl Requests {
         match write(&mut self.lines) {
             Ok(count) => {
                 let lines = self.lines[start..].split_inclusive(|&byte| byte == b'\n');
-                let lengths = lines.map(|line| (question, line.len()));
-                self.questions.extend(lengths);
+                self.waiting.extend(lines.map(|line| Line {
+                    need: None,
+                    question,
+                    length: line.len(),
+                }));
                 Ok(count)
             }
             Err(fault) => {
@@ -196,12 +226,17 @@ impl Requests {
     }
 
     /// Asks the program by this line.
-    pub fn push(&mut self, question: Question, words: &[&str]) {
+    pub fn push(&mut self, need: Option<Need>, question: Question, words: &[&str]) {
         let start = self.lines.len();
         for word in words {
             self.lines.extend_from_slice(word.as_bytes());
         }
-        self.end_line(question, start);
+        self.end_line(need, question, start);
+    }
+
+    /// Returns what session the next line needs of its own. None: there is no line, or any session will do.
+    pub fn need(&self) -> Option<Need> {
+        self.waiting.front().and_then(|line| line.need)
     }
 
     /// Returns the next request.
@@ -215,19 +250,20 @@ impl Requests {
         if let Some(process_id) = self.terminate.pop() {
             return Some(Request::Terminate { process_id });
         }
-        let (question, length) = match self.questions.pop_front() {
-            Some(asked) => asked,
+        let line = match self.waiting.pop_front() {
+            Some(line) => line,
             None => {
                 self.drop_untaken();
                 return None;
             }
         };
         let start = self.at;
-        self.at = start + length;
+        self.at = start + line.length;
         self.unanswered += 1;
         Some(Request::Statement {
             line: &self.lines[start..self.at - 1],
-            question,
+            question: line.question,
+            need: line.need,
         })
     }
 
@@ -241,12 +277,19 @@ impl Requests {
         self.unanswered
     }
 
+    /// Gives the kept memory back, if all is taken and answered.
+    pub fn trim(&mut self) {
+        if self.waiting.is_empty() && self.unanswered == 0 {
+            *self = Requests::default();
+        }
+    }
+
     /// Forgets what nobody has taken.
     pub fn drop_untaken(&mut self) {
         self.open = None;
         self.activities = false;
         self.terminate.clear();
-        self.questions.clear();
+        self.waiting.clear();
         self.at = 0;
         self.lines.clear();
         self.lines.shrink_to(KEPT);

@@ -462,6 +462,12 @@ impl Prepared {
         self.portals.remove(name).is_some()
     }
 
+    /// Gives back the memory of the lists that isn't needed.
+    pub fn trim(&mut self) {
+        self.statements.shrink_to_fit();
+        self.portals.shrink_to_fit();
+    }
+
     /// Removes all portals, because the transaction ends.
     pub fn drop_portals(&mut self) {
         self.portals.clear();

@@ -213,7 +213,10 @@ impl Connection {
                 (portal.formats.clone(), asked(*limit))
             }
         };
-        Ok(Rows::new(shape, formats, tag, asked, &self.spill))
+        let settings = &self.settings;
+        let new = || Spill::new(&settings.memory, &settings.disk);
+        let spill = self.spill.get_or_insert_with(new);
+        Ok(Rows::new(shape, formats, tag, asked, spill))
     }
 
     /// Gives the client a result that the gateway made by itself.
@@ -251,7 +254,7 @@ impl Connection {
                 self.complete(&by, Tag::Plain("DECLARE CURSOR"));
             }
             target => {
-                self.giving = Some((target, rows));
+                self.giving = Some(Box::new((target, rows)));
                 self.give_rows();
             }
         }
@@ -260,17 +263,18 @@ impl Connection {
 
     /// Gives the client rows of the result that it is getting, as far as it takes its output.
     pub(super) fn give_rows(&mut self) {
-        let (target, mut rows) = match self.giving.take() {
+        let mut giving = match self.giving.take() {
             Some(giving) => giving,
             None => return,
         };
-        if let Err(report) = rows.flow(&mut self.output) {
+        if let Err(report) = giving.1.flow(&mut self.output) {
             return self.fail(report, None);
         }
-        if !rows.is_given() {
-            self.giving = Some((target, rows));
+        if !giving.1.is_given() {
+            self.giving = Some(giving);
             return;
         }
+        let (target, rows) = *giving;
         rows.tell_end(self.output.buffer());
         let portal = match target {
             Target::Execute { portal, .. } => portal,
@@ -329,7 +333,7 @@ impl Connection {
         }
         rows.tag = Tag::Rows(FETCH);
         rows.ask(most);
-        self.giving = Some((target, *rows));
+        self.giving = Some(Box::new((target, *rows)));
         self.give_rows();
         Ok(())
     }
@@ -361,7 +365,7 @@ impl Connection {
         match rows {
             Ok(rows) => {
                 let portal = name.to_owned();
-                self.giving = Some((Target::Execute { portal, limit }, *rows));
+                self.giving = Some(Box::new((Target::Execute { portal, limit }, *rows)));
                 self.give_rows();
             }
             Err(report) => self.fail(report, None),

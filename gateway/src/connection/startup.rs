@@ -92,7 +92,7 @@ impl Connection {
         self.die(Report::fatal(SqlState::FEATURE_NOT_SUPPORTED, text));
     }
 
-    /// Takes the names of a StartupMessage, and asks for a session.
+    /// Takes the names of a StartupMessage, and asks whether one more may connect.
     fn begin_session(&mut self, minor: u16, parameters: &[u8]) -> Result<(), Failure> {
         let names = names(parameters)?;
         if minor > 0 || !names.unknown.is_empty() {

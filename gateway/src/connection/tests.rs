@@ -2,6 +2,7 @@
 
 mod activity;
 mod catalog;
+mod sessions;
 
 use super::*;
 use proptest::prelude::*;
@@ -24,7 +25,8 @@ fn settings() -> Rc<Settings> {
         version: "15.0 (escrowd 1.1)".to_owned(),
         limits: Limits::default(),
         startup: Duration::from_secs(10),
-        sessions: 64,
+        connections: 64,
+        transactions: 60,
         definitions: vec![Definitions::default(), Definitions::default()],
         statements: KnownStatements::default(),
         memory: Pool::new(u64::MAX),
@@ -223,7 +225,7 @@ impl Client {
             client.connection.next_request(),
             Some(Request::Open { database: 1 })
         );
-        client.connection.opened(Opened::Session, client.now);
+        client.connection.opened(Opened::Accepted, client.now);
         client.output();
         client
     }
@@ -273,7 +275,7 @@ impl Client {
     fn take(&mut self) {
         while let Some(request) = self.connection.next_request() {
             match request {
-                Request::Statement { line, question } => {
+                Request::Statement { line, question, .. } => {
                     let line = String::from_utf8(line.to_vec()).unwrap();
                     self.asked.push_back((line, question));
                 }
@@ -354,7 +356,7 @@ fn a_client_is_told_what_the_server_is() {
         Some(Request::Open { database: 1 })
     );
     assert_eq!(client.connection.next_request(), None);
-    client.connection.opened(Opened::Session, client.now);
+    client.connection.opened(Opened::Accepted, client.now);
     let told = client.output();
     assert_eq!(told[0], "authenticated");
     assert_eq!(&told[told.len() - 2..], ["key", "ready I"]);
@@ -438,7 +440,7 @@ fn a_newer_minor_version_is_negotiated() {
 }
 
 #[test]
-fn the_sixty_fifth_connection_is_refused() {
+fn a_connection_that_is_too_many_is_refused() {
     let mut client = Client::new();
     client.send(&startup_packet(196_608, &["user", "bank"]));
     assert_eq!(

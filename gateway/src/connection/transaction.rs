@@ -4,7 +4,6 @@ use std::time::Instant;
 
 use crate::connection::work::Awaited;
 use crate::connection::{Connection, Event};
-use crate::reply::Question;
 use crate::variables::Snapshot;
 
 /// What ReadyForQuery tells.
@@ -169,7 +168,7 @@ impl Connection {
 
     /// Rolls back by a line whose reply tells the client nothing. Nothing more is asked before that is done.
     fn undo(&mut self, words: &[&str]) {
-        self.ask(Question::Order, words, Awaited::Undo);
+        self.ask_in_transaction(words, Awaited::Undo);
     }
 
     /// Adds a savepoint, which the program has under its place's name.

@@ -9,13 +9,13 @@ use crate::connection::prepared::{
 };
 use crate::connection::results::Rows;
 use crate::connection::transaction::{savepoint_name, Block};
-use crate::connection::{Connection, Event};
+use crate::connection::{Connection, Event, Need};
 use crate::reply::{self, Done, Outcome, Question, Refusal};
 use crate::rows::{Definition, Reader, ResultSet};
 use crate::sqlstate::{self, Failure, Refused, Report, SqlState};
 use crate::statement::constant::Input;
 use crate::statement::query::Name;
-use crate::statement::served::{Insert, Served, Verb};
+use crate::statement::served::{Insert, Served, Show, Verb};
 use crate::statement::{explain, line, select, Cursor, Parsed, Statement, Step};
 use crate::wire::backend;
 
@@ -282,11 +282,19 @@ impl Connection {
         if let Err(report) = self.may_run(served) {
             return self.finish(target, &subject, Err(report));
         }
-        if let Served::Define(define) = served {
-            if define.line.is_empty() {
+        match served {
+            Served::Define(define) if define.line.is_empty() => {
                 self.tell(&define.notices);
                 return self.complete(&target, Tag::Plain(verb.words()));
             }
+            Served::Show(Show::Statistics) => {
+                let completed = Completed {
+                    tag: Tag::Plain(verb.words()),
+                    rows: Some(self.totals.shown()),
+                };
+                return self.finish(target, &subject, Ok(completed));
+            }
+            _ => {}
         }
         self.run_by_definition(Box::new(Running {
             verb,
@@ -360,7 +368,12 @@ impl Connection {
         }
         self.prepare_returned(running, served, input)?;
         let (row, definition) = (running.row, definition.as_deref());
-        self.requests.line(question, |out| {
+        let need = match running.verb {
+            Verb::Reserve if self.commits_at_once(running) => Some(Need::Statement),
+            Verb::Reserve => Some(Need::Transaction),
+            _ => None,
+        };
+        self.requests.line(need, question, |out| {
             line::write(served, row, definition, input, out)
         })
     }
@@ -391,24 +404,38 @@ impl Connection {
         Ok(())
     }
 
-    /// Awaits the reply to a statement's line, with its COMMIT behind it if it is a transaction by itself.
-    fn await_statement(&mut self, running: Box<Running>) {
+    /// Returns whether a statement is a transaction by itself, whose COMMIT is asked with it.
+    fn commits_at_once(&self, running: &Running) -> bool {
         let is_alone = self.transaction.block == Block::None && !self.transaction.dirty;
         // A portal with rows stays until Sync.
-        let commits = running.verb == Verb::Reserve
-            && running.commits
-            && is_alone
-            && running.returned.is_none();
+        running.verb == Verb::Reserve && running.commits && is_alone && running.returned.is_none()
+    }
+
+    /// Awaits the reply to a statement's line, with its COMMIT behind it if it is a transaction by itself.
+    fn await_statement(&mut self, running: Box<Running>) {
+        let commits = self.commits_at_once(&running);
         self.awaited.push_back(Awaited::Statement(running));
         if commits {
-            self.ask(Question::Order, &["COMMIT"], Awaited::OwnCommit(None));
+            let need = Some(Need::Statement);
+            self.ask(need, Question::Order, &["COMMIT"], Awaited::OwnCommit(None));
         }
     }
 
     /// Asks the program by a line, and awaits its reply.
-    pub(super) fn ask(&mut self, question: Question, words: &[&str], awaited: Awaited) {
-        self.requests.push(question, words);
+    pub(super) fn ask(
+        &mut self,
+        need: Option<Need>,
+        question: Question,
+        words: &[&str],
+        awaited: Awaited,
+    ) {
+        self.requests.push(need, question, words);
         self.awaited.push_back(awaited);
+    }
+
+    /// Asks the program by a line of the transaction, and awaits its reply.
+    pub(super) fn ask_in_transaction(&mut self, words: &[&str], awaited: Awaited) {
+        self.ask(Some(Need::Transaction), Question::Order, words, awaited);
     }
 
     /// Refuses what would commit by itself inside a transaction, and writes of a transaction that only reads.
@@ -505,6 +532,7 @@ impl Connection {
             (Some(awaited), Some(outcome)) => (awaited, outcome),
             _ => return self.die(not_understood()),
         };
+        self.totals.count(outcome);
         match awaited {
             Awaited::Statement(running) => self.statement_replied(running, outcome),
             Awaited::OwnCommit(Some((running, result))) => {
@@ -530,7 +558,7 @@ impl Connection {
             table: table.to_owned(),
             then,
         };
-        self.ask(Question::Table, &["SHOW TABLE ", table], awaited);
+        self.ask(None, Question::Table, &["SHOW TABLE ", table], awaited);
     }
 
     fn definition_replied(&mut self, table: &str, then: AfterDefinition, outcome: Outcome<'_>) {
@@ -639,7 +667,7 @@ impl Connection {
     }
 
     /// Tells the client that a statement was refused, and how many rows of it were written before.
-    fn fail_statement(&mut self, running: Box<Running>, mut report: Failure) {
+    pub(super) fn fail_statement(&mut self, running: Box<Running>, mut report: Failure) {
         if running.row > 0 {
             let before = match running.row {
                 1 => "The row before it was inserted, and stays.".to_owned(),
@@ -670,13 +698,13 @@ impl Connection {
         outcome: Outcome<'_>,
     ) {
         let committed = commit_outcome(outcome);
-        let is_open = committed.is_err();
+        let is_committed = committed.is_ok();
         // The COMMIT behind a refusal commits nothing.
         let result = result.and_then(|completed| committed.map(|()| completed));
         match &result {
             Ok(_) => self.end_transaction(true),
-            // A COMMIT that fails leaves the transaction open: it is rolled back.
-            Err(_) => self.transaction.dirty = is_open,
+            // A COMMIT that fails leaves open what was reserved: it is rolled back.
+            Err(_) => self.transaction.dirty &= !is_committed,
         }
         self.finish_statement(running, result);
     }
@@ -772,8 +800,10 @@ impl Connection {
             Done::Rows(lines) | Done::Reservations(lines) => {
                 return self.rows_done(running, Some(lines));
             }
-            Done::Table | Done::Bounds | Done::Statistics => return self.rows_done(running, None),
-            Done::Committed | Done::RolledBack | Done::Savepoint => return Err(not_understood()),
+            Done::Table | Done::Bounds => return self.rows_done(running, None),
+            Done::Committed | Done::RolledBack | Done::Savepoint | Done::Statistics => {
+                return Err(not_understood());
+            }
         };
         self.events.push(Event::Committed);
         if let Some(Served::Define(define)) = running.subject.served() {
@@ -990,7 +1020,7 @@ impl Connection {
 
     /// Commits what is reserved, because a query or a pipeline ends.
     pub(super) fn commit(&mut self, after: AfterCommit) {
-        self.ask(Question::Order, &["COMMIT"], Awaited::Commit(after));
+        self.ask_in_transaction(&["COMMIT"], Awaited::Commit(after));
     }
 
     fn commit_block(&mut self, chain: bool, target: Target, subject: &Subject) {
@@ -1013,7 +1043,7 @@ impl Connection {
         }
         if self.transaction.dirty {
             let awaited = Awaited::Rollback { target, chain };
-            return self.ask(Question::Order, &["ROLLBACK"], awaited);
+            return self.ask_in_transaction(&["ROLLBACK"], awaited);
         }
         self.end_block(false, chain);
         self.finish(target, subject, Ok(Completed::plain("ROLLBACK")));
@@ -1040,7 +1070,7 @@ impl Connection {
         }
         let name = name.to_owned();
         let words = ["SAVEPOINT ", &savepoint_name(self.savepoints())];
-        self.ask(Question::Order, &words, Awaited::Savepoint { target, name });
+        self.ask_in_transaction(&words, Awaited::Savepoint { target, name });
     }
 
     fn roll_back_to(&mut self, name: &str, target: Target, subject: &Subject) {
@@ -1053,7 +1083,7 @@ impl Connection {
             Some(place) => {
                 let words = ["ROLLBACK TO ", &savepoint_name(place)];
                 let awaited = Awaited::RollbackTo { target, place };
-                self.ask(Question::Order, &words, awaited);
+                self.ask_in_transaction(&words, awaited);
             }
         }
     }

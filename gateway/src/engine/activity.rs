@@ -9,6 +9,7 @@ use tracing::{debug, info, warn};
 
 use super::{enqueue, Engine};
 use crate::client::Client;
+use crate::program::Number;
 
 /// Returns what an operator should know of an error that a client got, if it is one that needs a look.
 fn warning(state: SqlState) -> Option<&'static str> {
@@ -18,7 +19,9 @@ fn warning(state: SqlState) -> Option<&'static str> {
         }
         SqlState::TRANSACTION_TIMEOUT => Some("its transaction lasted too long"),
         SqlState::OUT_OF_MEMORY => Some("there is no memory for a statement"),
-        SqlState::TOO_MANY_CONNECTIONS => Some("all sessions of the database are taken"),
+        SqlState::TOO_MANY_CONNECTIONS => {
+            Some("all connections or all sessions of the database are taken")
+        }
         SqlState::IO_ERROR => Some("the store cannot be read or written"),
         SqlState::INTERNAL_ERROR => Some("a reply of the program was not understood"),
         _ => None,
@@ -48,15 +51,14 @@ pub(super) fn log_refusal(client: &Client, state: SqlState) {
     }
 }
 
-/// Logs that a client has a session.
-pub(super) fn log_session(client: &Client) {
-    if let Some(session) = client.session {
+/// Logs that a client is let in, if it is.
+pub(super) fn log_begin(client: &Client) {
+    if client.is_connected {
         debug!(
-            "{}: connection {} of user {:?} has session {}",
+            "{}: connection {} of user {:?} begins",
             client.connection.database(),
             client.connection.process_id(),
             client.connection.user(),
-            session.number.to_u8(),
         );
     }
 }
@@ -79,7 +81,7 @@ impl Engine {
             .clients
             .iter()
             .filter_map(|(_, client)| {
-                let session = client.session?.number.to_u8();
+                let session = client.session.map(Number::to_u16);
                 client.connection.activity(session, &clock)
             })
             .collect();

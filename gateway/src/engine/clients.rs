@@ -1,25 +1,33 @@
 //! A table of clients by place.
 
 use crate::client::Client;
+use crate::program::ClientId;
 
 /// Clients. A place is used again when its client is gone.
 #[derive(Default)]
 pub struct Clients {
-    places: Vec<Option<Client>>,
+    places: Vec<Option<Box<Client>>>,
     free: Vec<usize>,
+    /// How many there have been.
+    count: u64,
 }
 
 impl Clients {
-    /// Returns the place that the next client gets.
-    pub fn next_place(&self) -> usize {
-        self.free.last().copied().unwrap_or(self.places.len())
+    /// Returns which one the next client is.
+    pub fn next_id(&self) -> ClientId {
+        ClientId {
+            place: self.free.last().copied().unwrap_or(self.places.len()),
+            serial: self.count,
+        }
     }
 
-    /// Puts a client at the next place.
+    /// Puts the next client at its place.
     pub fn insert(&mut self, client: Client) {
+        self.count += 1;
+        let client = Some(Box::new(client));
         match self.free.pop() {
-            Some(place) => self.places[place] = Some(client),
-            None => self.places.push(Some(client)),
+            Some(place) => self.places[place] = client,
+            None => self.places.push(client),
         }
     }
 
@@ -32,7 +40,12 @@ impl Clients {
 
     /// Returns the client at `place`, if there is one.
     pub fn get_mut(&mut self, place: usize) -> Option<&mut Client> {
-        self.places.get_mut(place)?.as_mut()
+        self.places.get_mut(place)?.as_deref_mut()
+    }
+
+    /// Returns a client, if it is still there.
+    pub fn find(&mut self, id: ClientId) -> Option<&mut Client> {
+        self.get_mut(id.place).filter(|client| client.id == id)
     }
 
     /// Returns the first process id behind `last` that no client has.
@@ -64,13 +77,13 @@ impl Clients {
     /// Returns all clients with their places.
     pub fn iter(&self) -> impl Iterator<Item = (usize, &Client)> {
         let clients = self.places.iter().enumerate();
-        clients.filter_map(|(place, client)| Some((place, client.as_ref()?)))
+        clients.filter_map(|(place, client)| Some((place, client.as_deref()?)))
     }
 
     /// Returns all clients with their places, to change them.
     pub fn iter_mut(&mut self) -> impl Iterator<Item = (usize, &mut Client)> {
         let clients = self.places.iter_mut().enumerate();
-        clients.filter_map(|(place, client)| Some((place, client.as_mut()?)))
+        clients.filter_map(|(place, client)| Some((place, client.as_deref_mut()?)))
     }
 }
 

@@ -3,7 +3,7 @@
 use std::time::{Duration, Instant};
 
 use super::door::Door;
-use super::{enqueue, wake, Engine, Phase};
+use super::{enqueue, wake, Engine, Phase, REST};
 use crate::metrics::{Metrics, State};
 use crate::program::Program;
 
@@ -21,6 +21,13 @@ impl Engine {
                     deadline => wake(&mut self.alarm, deadline),
                 }
             }
+        }
+        if matches!(self.rest, Some(rest) if rest <= self.now) {
+            let mut is_due = false;
+            for (_, client) in self.clients.iter_mut() {
+                is_due |= client.connection.trim(REST, self.now);
+            }
+            self.rest = is_due.then_some(self.now + REST);
         }
         let failed = self
             .programs
@@ -46,10 +53,9 @@ impl Engine {
     fn write_metrics(&mut self) {
         let mut states: Vec<_> = self.programs.iter().map(State::of).collect();
         for (_, client) in self.clients.iter() {
-            if let Some(session) = client.session {
+            if let (Some(database), true) = (client.database, client.is_connected) {
                 let connection = &client.connection;
-                states[session.database]
-                    .add(connection.transaction_since(), connection.reservations());
+                states[database].add(connection.transaction_since(), connection.reservations());
             }
         }
         if let Some(metrics) = &mut self.metrics {
@@ -75,7 +81,7 @@ impl Engine {
         });
         let rollbacks = self.programs.iter().map(Program::rollback_deadline);
         let selects = self.programs.iter().map(Program::long_deadline);
-        let deadlines = [self.alarm, phase, door, metrics];
+        let deadlines = [self.alarm, self.rest, phase, door, metrics];
         let next = deadlines
             .iter()
             .copied()

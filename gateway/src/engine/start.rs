@@ -1,6 +1,5 @@
 //! How the gateway is put together.
 
-use std::collections::VecDeque;
 use std::env;
 use std::path::PathBuf;
 use std::rc::Rc;
@@ -20,8 +19,8 @@ use super::{memory, signals};
 use super::{Engine, Phase, PROGRAMS};
 use crate::args::Args;
 use crate::failure::Failure;
-use crate::metrics::Metrics;
-use crate::program::{self, check_version, Program};
+use crate::metrics::{Metrics, Most};
+use crate::program::{self, check_version, most_transactions, Program};
 
 /// How many bytes one read takes at most: what a pipe holds.
 const BUFFER: usize = 64 * 1024;
@@ -38,9 +37,13 @@ impl Engine {
         let now = Instant::now();
         let poll = Poll::new().map_err(Failure::system("epoll"))?;
         let (signals, hang_up) = signals::watch(&poll).map_err(Failure::system("signals"))?;
+        let most = Most {
+            connections: args.connections.into(),
+            transactions: most_transactions(SESSIONS),
+        };
         let metrics = args.metrics.as_ref();
         let metrics = metrics
-            .map(|path| Metrics::new(&args.databases, SESSIONS, path, now))
+            .map(|path| Metrics::new(&args.databases, most, path, now))
             .transpose()?;
         let door = Door::make(&args.listen, args.port, args.mode)?;
         let path = program(args)?;
@@ -67,7 +70,6 @@ impl Engine {
             hang_up,
             stopped: None,
             door: Some(door),
-            waiting: programs.iter().map(|_| VecDeque::new()).collect(),
             programs,
             clients: Clients::default(),
             queue: Vec::new(),
@@ -76,7 +78,8 @@ impl Engine {
                 version: format!("{POSTGRESQL} (escrowd {})", env!("CARGO_PKG_VERSION")),
                 limits: args.limits(),
                 startup: STARTUP,
-                sessions: SESSIONS,
+                connections: most.connections,
+                transactions: most.transactions,
                 definitions,
                 statements: KnownStatements::default(),
                 memory: memory::of_connections(),
@@ -86,6 +89,7 @@ impl Engine {
             phase: Phase::Opening,
             failure: None,
             alarm: None,
+            rest: None,
             process_id: 0,
             buffer: vec![0; BUFFER].into_boxed_slice(),
             now,

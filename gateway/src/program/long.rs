@@ -4,17 +4,15 @@
 //! statements. So no more than one of these is on its way at a time, and behind it the others get as much time as it
 //! took, if one of them had to wait for it.
 //!
-//! Each statement of a session passes [`LongSelects::admit`]. If the session has a statement that waits, the new one
-//! waits behind it, so the statements of a session reach the program in the order in which they were asked.
+//! Each statement passes [`LongSelects::admit`]. If its asker has a statement that waits, the new one waits behind it,
+//! whatever their sessions are. So the statements of a client reach the program in the order in which they were asked.
 
-use std::collections::{HashMap, VecDeque};
-use std::mem;
+use std::collections::{HashMap, HashSet, VecDeque};
 use std::time::{Duration, Instant};
 
-use escrowd_pg::limits::SESSIONS;
 use escrowd_pg::reply::Question;
 
-use super::sessions::Number;
+use super::sessions::{Asked, Asker, Number};
 
 /// A result of more rows than this is long: these take the program about a millisecond.
 const LONG: u64 = 250;
@@ -31,14 +29,14 @@ pub struct LongSelects {
     /// Whether the results of statements were long when they were asked last.
     known: HashMap<Vec<u8>, bool>,
     /// Those that the program was asked, in order.
-    asked: VecDeque<Asked>,
+    sent: VecDeque<Sent>,
     /// The statements that may not be asked yet, in the order in which they came.
     waiting: VecDeque<Waiting>,
     /// Until when others have the program for themselves.
     pause: Option<Instant>,
 }
 
-struct Asked {
+struct Sent {
     statement: Vec<u8>,
     since: Instant,
     /// Whether no other one may be asked before it is answered.
@@ -48,14 +46,10 @@ struct Asked {
 /// A statement that waits until it may be asked.
 #[derive(Debug, PartialEq, Eq)]
 pub struct Waiting {
-    /// Its session.
-    pub session: Number,
-    /// What it asks for.
-    pub question: Question,
+    /// Who asked it, in which session, and since when it waits.
+    pub asked: Asked,
     /// Itself.
     pub statement: Vec<u8>,
-    /// Since when it waits.
-    pub since: Instant,
 }
 
 /// Returns whether a statement reads a whole table.
@@ -65,53 +59,45 @@ pub fn is_of_whole_table(question: Question, statement: &[u8]) -> bool {
 }
 
 impl LongSelects {
-    /// Returns whether a statement of a session may be asked now. If not, it waits, and [`LongSelects::next`] returns
-    /// it when it may be asked.
-    pub fn admit(
-        &mut self,
-        session: Number,
-        question: Question,
-        statement: &[u8],
-        now: Instant,
-    ) -> bool {
-        let is_of_whole_table = is_of_whole_table(question, statement);
-        let takes_turns = is_of_whole_table && self.is_perhaps_long(statement);
+    /// Returns whether a statement may be sent now, at the time when it is asked. If not, it waits, and
+    /// [`LongSelects::next`] returns it when it may be sent.
+    pub fn admit(&mut self, asked: Asked, statement: &[u8]) -> bool {
+        let takes_turns = self.takes_turns(asked, statement);
         let is_behind = self.waiting.iter().any(|it| {
-            it.session == session || takes_turns && self.takes_turns(it.question, &it.statement)
+            it.asked.asker == asked.asker
+                || takes_turns && self.takes_turns(it.asked, &it.statement)
         });
-        if is_behind || takes_turns && self.is_shut(now) {
+        if is_behind || takes_turns && self.is_shut(asked.since) {
             self.waiting.push_back(Waiting {
-                session,
-                question,
+                asked,
                 statement: statement.to_vec(),
-                since: now,
             });
             return false;
         }
-        if is_of_whole_table {
-            self.ask(statement, now);
+        if asked.is_of_whole_table {
+            self.send(statement, asked.since);
         }
         true
     }
 
-    /// Takes the next statement that waited and may be asked now.
+    /// Takes the next statement that waited and may be sent now.
     pub fn next(&mut self, now: Instant) -> Option<Waiting> {
         let is_shut = self.is_shut(now);
-        let mut has_earlier = [false; SESSIONS];
+        let mut askers = HashSet::new();
         let place = self.waiting.iter().position(|it| {
-            let is_behind = mem::replace(&mut has_earlier[it.session.place()], true);
-            !(is_behind || is_shut && self.takes_turns(it.question, &it.statement))
+            let is_first = askers.insert(it.asked.asker);
+            is_first && !(is_shut && self.takes_turns(it.asked, &it.statement))
         })?;
         let found = self.waiting.remove(place)?;
-        if is_of_whole_table(found.question, &found.statement) {
-            self.ask(&found.statement, now);
+        if found.asked.is_of_whole_table {
+            self.send(&found.statement, now);
         }
         Some(found)
     }
 
-    /// Notes that the program is asked a SELECT of a whole table.
-    fn ask(&mut self, statement: &[u8], now: Instant) {
-        self.asked.push_back(Asked {
+    /// Notes that the program is sent a SELECT of a whole table.
+    fn send(&mut self, statement: &[u8], now: Instant) {
+        self.sent.push_back(Sent {
             statement: statement.to_vec(),
             since: now,
             is_alone: self.is_perhaps_long(statement),
@@ -121,18 +107,18 @@ impl LongSelects {
     /// Notes that the oldest SELECT of a whole table that was asked is answered, with so many rows if it wasn't
     /// refused. `others_wait`: for other statements.
     pub fn answered(&mut self, rows: Option<u64>, others_wait: bool, now: Instant) {
-        let (asked, rows) = match (self.asked.pop_front(), rows) {
-            (Some(asked), Some(rows)) => (asked, rows),
+        let (sent, rows) = match (self.sent.pop_front(), rows) {
+            (Some(sent), Some(rows)) => (sent, rows),
             _ => return,
         };
         let is_long = rows > LONG;
         if is_long && others_wait {
-            self.pause = Some(now + now.duration_since(asked.since).min(MOST_PAUSE));
+            self.pause = Some(now + now.duration_since(sent.since).min(MOST_PAUSE));
         }
         if self.known.len() == MOST_KNOWN {
             self.known.clear();
         }
-        self.known.insert(asked.statement, is_long);
+        self.known.insert(sent.statement, is_long);
     }
 
     /// Returns when the next one may be asked, if one waits for that time alone.
@@ -141,14 +127,17 @@ impl LongSelects {
             .filter(|_| !self.waiting.is_empty() && !self.is_busy())
     }
 
-    /// Forgets what a session waits for, since its client left.
-    pub fn leave(&mut self, session: Number) {
-        self.waiting.retain(|waiting| waiting.session != session);
+    /// Forgets what an asker waits for, since it left. Returns the sessions of these statements.
+    pub fn leave(&mut self, asker: Asker) -> Vec<Number> {
+        let of_asker = self.waiting.iter().filter(|it| it.asked.asker == asker);
+        let sessions = of_asker.map(|it| it.asked.session).collect();
+        self.waiting.retain(|it| it.asked.asker != asker);
+        sessions
     }
 
-    /// Returns whether a statement may be asked only when no other such statement is on its way.
-    fn takes_turns(&self, question: Question, statement: &[u8]) -> bool {
-        is_of_whole_table(question, statement) && self.is_perhaps_long(statement)
+    /// Returns whether a statement may be sent only when no other such statement is on its way.
+    fn takes_turns(&self, asked: Asked, statement: &[u8]) -> bool {
+        asked.is_of_whole_table && self.is_perhaps_long(statement)
     }
 
     /// Returns whether a result is long, or may be.
@@ -162,49 +151,56 @@ impl LongSelects {
     }
 
     fn is_busy(&self) -> bool {
-        self.asked.iter().any(|asked| asked.is_alone)
+        self.sent.iter().any(|sent| sent.is_alone)
     }
 }
 
 #[cfg(test)]
 mod tests {
-    use super::super::sessions::{Holder, Sessions};
+    use super::super::sessions::ClientId;
     use super::*;
 
     const BIG: &[u8] = b"SELECT * FROM BIG";
     const SMALL: &[u8] = b"SELECT * FROM SMALL";
 
-    /// Sessions of one database, and the SELECTs that take turns.
+    /// Clients of one database, and the SELECTs that take turns.
     struct Turns {
         long: LongSelects,
-        numbers: Vec<Number>,
         now: Instant,
     }
 
+    fn client(place: usize) -> Asker {
+        let serial = 7 + place as u64;
+        Asker::Client(ClientId { place, serial })
+    }
+
     impl Turns {
-        fn of(sessions: usize) -> Turns {
-            let mut all = Sessions::new();
+        fn new() -> Turns {
             Turns {
                 long: LongSelects::default(),
-                numbers: (0..sessions)
-                    .map(|client| all.take(Holder::Client(client)).unwrap())
-                    .collect(),
                 now: Instant::now(),
             }
         }
 
-        /// Asks a SELECT in the session at this place. Returns whether the program gets it now.
-        fn select(&mut self, session: usize, statement: &[u8]) -> bool {
-            let session = self.numbers[session];
-            self.long
-                .admit(session, Question::Rows, statement, self.now)
+        fn admit(&mut self, place: usize, question: Question, statement: &[u8]) -> bool {
+            let asked = Asked {
+                asker: client(place),
+                session: Number::SHARED,
+                question,
+                since: self.now,
+                is_of_whole_table: is_of_whole_table(question, statement),
+            };
+            self.long.admit(asked, statement)
+        }
+
+        /// Asks a SELECT of the client at this place. Returns whether the program gets it now.
+        fn select(&mut self, place: usize, statement: &[u8]) -> bool {
+            self.admit(place, Question::Rows, statement)
         }
 
         /// Asks another statement.
-        fn order(&mut self, session: usize, statement: &[u8]) -> bool {
-            let session = self.numbers[session];
-            self.long
-                .admit(session, Question::Order, statement, self.now)
+        fn order(&mut self, place: usize, statement: &[u8]) -> bool {
+            self.admit(place, Question::Order, statement)
         }
 
         /// Answers the oldest SELECT of a whole table with so many rows.
@@ -212,10 +208,13 @@ mod tests {
             self.long.answered(rows, others_wait, self.now);
         }
 
-        /// Returns what the program gets now of what waited: places of sessions, and statements.
+        /// Returns what the program gets now of what waited: places of clients, and statements.
         fn asked_now(&mut self) -> Vec<(usize, Vec<u8>)> {
             std::iter::from_fn(|| self.long.next(self.now))
-                .map(|it| (it.session.place(), it.statement))
+                .map(|it| match it.asked.asker {
+                    Asker::Client(client) => (client.place, it.statement),
+                    asker => panic!("{asker:?}"),
+                })
                 .collect()
         }
     }
@@ -232,7 +231,7 @@ mod tests {
 
     #[test]
     fn long_ones_are_asked_one_by_one_and_others_have_as_much_time() {
-        let mut turns = Turns::of(3);
+        let mut turns = Turns::new();
         let second = Duration::from_secs(1);
         assert!(turns.select(0, BIG));
         assert!(!turns.select(1, BIG));
@@ -246,14 +245,15 @@ mod tests {
         turns.now = begin + second;
         assert_eq!(turns.asked_now(), [(1, BIG.to_vec())]);
         // A client that left waits no more.
-        turns.long.leave(turns.numbers[2]);
+        assert_eq!(turns.long.leave(client(2)), [Number::SHARED]);
+        assert!(turns.long.leave(client(2)).is_empty());
         turns.answer(Some(LONG + 1), false);
         assert!(turns.asked_now().is_empty());
     }
 
     #[test]
     fn there_is_no_pause_if_nobody_waits() {
-        let mut turns = Turns::of(1);
+        let mut turns = Turns::new();
         assert!(turns.select(0, BIG));
         turns.now += Duration::from_secs(1);
         turns.answer(Some(LONG + 1), false);
@@ -262,7 +262,7 @@ mod tests {
 
     #[test]
     fn short_ones_never_wait() {
-        let mut turns = Turns::of(4);
+        let mut turns = Turns::new();
         assert!(turns.select(0, SMALL));
         turns.answer(Some(LONG), true);
         assert!(turns.select(1, BIG));
@@ -276,25 +276,25 @@ mod tests {
     }
 
     #[test]
-    fn what_a_session_asks_stays_behind_its_select_that_waits() {
-        let mut turns = Turns::of(3);
+    fn what_a_client_asks_stays_behind_its_select_that_waits() {
+        let mut turns = Turns::new();
         assert!(turns.select(0, SMALL));
         turns.answer(Some(1), false);
         assert!(turns.select(0, BIG));
-        // Two sessions wait, each with lines behind. A third one, that has nothing waiting, passes them.
+        // Two clients wait, each with lines behind. A third one, that has nothing waiting, passes them.
         assert!(!turns.select(1, BIG));
         assert!(!turns.order(1, b"COMMIT"));
         assert!(!turns.select(2, BIG));
         assert!(
             !turns.select(1, SMALL),
-            "it is short, and behind its session's"
+            "it is short, and behind its client's"
         );
         assert!(!turns.order(2, b"ROLLBACK"));
         assert!(!turns.select(1, BIG), "a second long one");
         assert!(!turns.order(1, b"BEGIN"));
         assert!(turns.order(0, b"COMMIT") && turns.select(0, SMALL));
         assert!(turns.asked_now().is_empty());
-        // Each turn lets one long SELECT pass, and what its session asked behind it up to the next one.
+        // Each turn lets one long SELECT pass, and what its client asked behind it up to the next one.
         turns.answer(Some(LONG + 1), false);
         turns.answer(Some(1), false);
         assert_eq!(
@@ -316,6 +316,6 @@ mod tests {
             turns.asked_now(),
             [(1, BIG.to_vec()), (1, b"BEGIN".to_vec())]
         );
-        assert!(turns.order(1, b"COMMIT"), "nothing of its session waits");
+        assert!(turns.order(1, b"COMMIT"), "nothing of its client waits");
     }
 }

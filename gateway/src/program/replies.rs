@@ -1,7 +1,5 @@
 //! The lines of a program's output.
 
-use escrowd_pg::limits::SESSIONS;
-
 use super::sessions::Number;
 
 /// No line of a program is nearly as long: one with 30 texts has some 16 KB.
@@ -31,9 +29,9 @@ pub struct Replies {
 }
 
 impl Replies {
-    /// Returns an empty buffer.
-    pub fn new() -> Replies {
-        let prefixes = (1..=SESSIONS).map(|number| format!("bank.{number}> ").into_bytes());
+    /// Returns an empty buffer for replies to so many sessions.
+    pub fn new(sessions: u16) -> Replies {
+        let prefixes = (1..=sessions).map(|number| format!("bank.{number}> ").into_bytes());
         Replies {
             prefixes: prefixes.collect(),
             output: Vec::new(),
@@ -105,13 +103,11 @@ fn wrong(output: &[u8], expected: &str) -> Wrong {
 
 #[cfg(test)]
 mod tests {
-    use super::super::sessions::{Holder, Sessions};
     use super::*;
 
     fn numbers() -> (Number, Number) {
-        let mut sessions = Sessions::new();
-        let mut take = || sessions.take(Holder::Gateway).unwrap();
-        (take(), take())
+        let mut numbers = Number::first(2);
+        (numbers.next().unwrap(), numbers.next().unwrap())
     }
 
     const OUTPUT: &[u8] = b"bank.1> OK reserved 1\nbank.2> ID | OK\nbank.2> OK rows 0\n\
@@ -121,7 +117,7 @@ mod tests {
     fn lines_are_cut_wherever_the_output_is() {
         let (one, two) = numbers();
         for piece in 1..=OUTPUT.len() {
-            let mut replies = Replies::new();
+            let mut replies = Replies::new(2);
             let mut taken: Vec<Vec<u8>> = Vec::new();
             let due = [one, two, two, one];
             for piece in OUTPUT.chunks(piece) {
@@ -147,7 +143,7 @@ mod tests {
     #[test]
     fn the_prefix_is_compared() {
         let (one, two) = numbers();
-        let mut replies = Replies::new();
+        let mut replies = Replies::new(2);
         replies.push(b"bank.1> OK reserved 1\nbank.11> OK committed 1\n");
         assert!(replies.take(one).unwrap().is_some());
         let wrong = replies.take(one).unwrap_err();
@@ -159,7 +155,7 @@ mod tests {
     #[test]
     fn other_output_is_an_error() {
         let (one, _) = numbers();
-        let mut replies = Replies::new();
+        let mut replies = Replies::new(2);
         replies.push(b"script> ERR 12 line\n");
         assert_eq!(
             replies.check_unasked().unwrap_err().line,
@@ -167,7 +163,7 @@ mod tests {
         );
         assert!(replies.take(one).is_err());
 
-        let mut replies = Replies::new();
+        let mut replies = Replies::new(2);
         replies.push(&vec![b'x'; LINE_LIMIT]);
         assert_eq!(replies.take(one), Ok(None));
         replies.push(b"xx");
@@ -177,7 +173,7 @@ mod tests {
     #[test]
     fn memory_does_not_grow_with_a_reply() {
         let (one, _) = numbers();
-        let mut replies = Replies::new();
+        let mut replies = Replies::new(2);
         let output = b"bank.1> A | B\n".repeat(400_000);
         // Each piece ends within a line.
         for piece in output.chunks(64 * 1024 - 1) {

@@ -2,7 +2,6 @@
 
 use std::io::{self, ErrorKind, Write};
 
-use escrowd_pg::limits::SESSIONS;
 use escrowd_pg::queue::Queue;
 
 use super::sessions::Number;
@@ -21,9 +20,9 @@ pub struct Statements {
 }
 
 impl Statements {
-    /// Returns an empty queue.
-    pub fn new() -> Statements {
-        let prefixes = (1..=SESSIONS).map(|number| format!("bank.{number}: ").into_bytes());
+    /// Returns an empty queue for statements of so many sessions.
+    pub fn new(sessions: u16) -> Statements {
+        let prefixes = (1..=sessions).map(|number| format!("bank.{number}: ").into_bytes());
         Statements {
             prefixes: prefixes.collect(),
             lines: Queue::new(ATOMIC),
@@ -63,8 +62,9 @@ impl Statements {
 
 #[cfg(test)]
 mod tests {
-    use super::super::sessions::{Holder, Sessions};
     use super::*;
+
+    const SESSIONS: u16 = 64;
 
     /// A pipe that takes each write whole, or refuses it.
     struct Pipe {
@@ -87,17 +87,14 @@ mod tests {
         }
     }
 
-    fn numbers(count: usize) -> Vec<Number> {
-        let mut sessions = Sessions::new();
-        (0..count)
-            .map(|_| sessions.take(Holder::Gateway).unwrap())
-            .collect()
+    fn numbers() -> Vec<Number> {
+        Number::first(SESSIONS).collect()
     }
 
     #[test]
     fn statements_of_all_sessions_go_in_one_write() {
-        let numbers = numbers(SESSIONS);
-        let mut statements = Statements::new();
+        let numbers = numbers();
+        let mut statements = Statements::new(SESSIONS);
         assert!(statements.is_empty());
         statements.push(numbers[0], b"COMMIT");
         statements.push(numbers[63], b"SHOW STATISTICS");
@@ -115,12 +112,12 @@ mod tests {
 
     #[test]
     fn each_write_has_whole_lines_that_the_kernel_does_not_part() {
-        let numbers = numbers(SESSIONS);
-        let mut statements = Statements::new();
+        let numbers = numbers();
+        let mut statements = Statements::new(SESSIONS);
         let longest = vec![b'x'; ATOMIC - b"bank.64: \n".len()];
         let mut all = Vec::new();
         for round in 0..300 {
-            let number = numbers[round % SESSIONS];
+            let number = numbers[round % numbers.len()];
             let text = &longest[..if round % 7 == 0 { longest.len() } else { round }];
             statements.push(number, text);
             all.extend_from_slice(format!("bank.{}: ", number.place() + 1).as_bytes());
@@ -152,8 +149,8 @@ mod tests {
                 Ok(())
             }
         }
-        let mut statements = Statements::new();
-        statements.push(numbers(1)[0], b"COMMIT");
+        let mut statements = Statements::new(SESSIONS);
+        statements.push(Number::SHARED, b"COMMIT");
         let error = statements.write(&mut Broken).unwrap_err();
         assert_eq!(error.kind(), ErrorKind::BrokenPipe);
     }

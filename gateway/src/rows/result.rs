@@ -305,9 +305,8 @@ impl Reader {
             Question::Rows => self.read_row(line),
             Question::Table => self.read_table(line),
             Question::Bounds => self.read_bounds(line),
-            Question::Statistics => self.read_statistics(line),
             Question::Journal => return self.read_journal(line, take).ok_or(LineFault::Unknown),
-            Question::Order => None,
+            Question::Order | Question::Statistics => None,
         }
         .ok_or(LineFault::Unknown)?;
         take(&self.row());
@@ -423,18 +422,6 @@ impl Reader {
         }
         Some(())
     }
-
-    /// Reads the line of SHOW STATISTICS: one row, with a column for each total.
-    fn read_statistics(&mut self, line: &str) -> Option<()> {
-        let mut words = line.split(' ');
-        for name in TOTALS {
-            if words.next()? != name {
-                return None;
-            }
-            self.cells.push(Some(words.next()?));
-        }
-        words.next().is_none().then_some(())
-    }
 }
 
 /// A row that was read.
@@ -497,6 +484,15 @@ const TOTALS: [&str; 8] = [
     "writes",
     "queries",
 ];
+
+/// Makes the result of SHOW STATISTICS: how many statements were served, and the other totals in their order.
+pub fn statistics(served: u64, others: [u64; 7]) -> ResultSet {
+    let totals: Vec<String> = [served].iter().chain(&others).map(u64::to_string).collect();
+    let row: Vec<Option<&str>> = totals.iter().map(|total| Some(total.as_str())).collect();
+    let mut result = ResultSet::new(shown_columns(Question::Statistics));
+    result.push_row(&row);
+    result
+}
 
 /// Returns the columns of a SHOW of the program's. Other questions have none.
 pub fn shown_columns(question: Question) -> Rc<[Column]> {
@@ -641,12 +637,7 @@ mod tests {
     }
 
     #[test]
-    fn reads_statistics_and_a_definition() {
-        let line = "served 3 granted 1 broken 0 refused 0 commits 0 rollbacks 0 writes 1 queries 0";
-        let mut reader = Reader::of_show(Question::Statistics);
-        assert_eq!(reader.shape().columns[7].name, "queries");
-        let told = all(&mut reader, line).unwrap();
-        assert_eq!(told, [["3", "1", "0", "0", "0", "0", "1", "0"]]);
+    fn reads_a_definition() {
         let printed = "CREATE TABLE T (A NUMBER(15) RESERVABLE)";
         let told = all(&mut Reader::of_show(Question::Table), printed).unwrap();
         assert_eq!(told, [["t", printed]]);

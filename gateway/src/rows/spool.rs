@@ -96,6 +96,11 @@ impl Spill {
             })),
         }
     }
+
+    /// Returns whether no result has rows in it.
+    pub fn is_unused(&self) -> bool {
+        Rc::strong_count(&self.overflow) == 1
+    }
 }
 
 impl Overflow {

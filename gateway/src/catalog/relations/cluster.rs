@@ -110,7 +110,12 @@ fn fill_activities(rows: &mut Rows, world: &World, session: &dyn Session) -> Res
             ("state_change", time(activity.state_since)),
             ("state", activity.state.words().into()),
             ("backend_type", "client backend".into()),
-            ("session", i64::from(activity.session).into()),
+            (
+                "session",
+                activity
+                    .session
+                    .map_or(Value::Null, |session| i64::from(session).into()),
+            ),
             ("reservations", (activity.reservations as i64).into()),
         ]);
     }

@@ -13,7 +13,9 @@ impl Client {
             self.now,
             SystemTime::UNIX_EPOCH + Duration::from_secs(1_000),
         );
-        self.connection.activity(3, &clock).expect("it is served")
+        self.connection
+            .activity(Some(3), &clock)
+            .expect("it is served")
     }
 
     /// Returns its state and the number of its reservations.
@@ -27,7 +29,7 @@ impl Client {
 fn a_connection_tells_who_it_is_and_since_when() {
     let mut client = Client::new();
     let clock = Clock::new(client.now, SystemTime::now());
-    assert_eq!(client.connection.activity(3, &clock), None);
+    assert_eq!(client.connection.activity(Some(3), &clock), None);
     let names = [
         "user",
         "ada",
@@ -37,9 +39,9 @@ fn a_connection_tells_who_it_is_and_since_when() {
         "till",
     ];
     client.send(&startup_packet(196_608, &names));
-    assert_eq!(client.connection.activity(3, &clock), None);
+    assert_eq!(client.connection.activity(Some(3), &clock), None);
     client.connection.next_request();
-    client.connection.opened(Opened::Session, client.now);
+    client.connection.opened(Opened::Accepted, client.now);
     client.output();
     let begun = SystemTime::UNIX_EPOCH + Duration::from_secs(1_000);
     let idle = Activity {
@@ -47,7 +49,7 @@ fn a_connection_tells_who_it_is_and_since_when() {
         database: "shop".to_owned(),
         user: "ada".to_owned(),
         application_name: "till".to_owned(),
-        session: 3,
+        session: Some(3),
         since: begun,
         transaction_since: None,
         state_since: begun,
@@ -67,7 +69,7 @@ fn a_connection_tells_who_it_is_and_since_when() {
     };
     assert_eq!(client.activity(), in_block);
     client.send(b"?\0\0\0\x04");
-    assert_eq!(client.connection.activity(3, &clock), None);
+    assert_eq!(client.connection.activity(Some(3), &clock), None);
 }
 
 #[test]

@@ -164,7 +164,7 @@ fn sessions_are_shown_and_ended() {
         database: "shop".to_owned(),
         user: "ada".to_owned(),
         application_name: "till".to_owned(),
-        session: 3,
+        session: Some(3),
         since: SystemTime::UNIX_EPOCH + Duration::from_secs(1_000_000_000),
         transaction_since: None,
         state_since: SystemTime::UNIX_EPOCH + Duration::from_secs(1_000_000_001),
