@@ -143,7 +143,7 @@ const MOST_EFFORT: usize = 20_000;
 const EFFORT_OF_A_BYTE: usize = 5;
 
 /// How many messages or statements are served in a turn, at most. Then others have their turn.
-const STEPS: usize = 16;
+const STEPS: usize = 8;
 
 /// How much input may wait while a statement runs.
 const MOST_INPUT: usize = 64 * 1024;
@@ -617,7 +617,7 @@ impl Connection {
         let report = Report::error(SqlState::PROTOCOL_VIOLATION, "invalid message format");
         match kind {
             _ if self.skipping && kind != b'S' => {}
-            b'Q' => self.refuse_query(report),
+            b'Q' => self.refuse_query(report, ""),
             // PostgreSQL rolls back, tells of the fault, and is ready.
             b'S' => {
                 self.fail(report, None);

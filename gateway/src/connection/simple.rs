@@ -28,23 +28,12 @@ pub struct Query {
     statement: Option<Rc<Parsed>>,
 }
 
-impl Query {
-    fn new(text: &str) -> Query {
-        Query {
-            text: text.into(),
-            ahead: Some(0),
-            at: 0,
-            statement: None,
-        }
-    }
-}
-
 impl Connection {
     /// Begins a simple query.
     pub(super) fn begin_query(&mut self, text: &[u8]) {
         let text = match std::str::from_utf8(text) {
             Ok(text) => text,
-            Err(_) => return self.refuse_query(not_utf8(text)),
+            Err(_) => return self.refuse_query(not_utf8(text), ""),
         };
         let unknown = match self.settings.statements.find(text) {
             Ok(Known { text, parsed }) => {
@@ -58,7 +47,22 @@ impl Connection {
             }
             Err(unknown) => unknown,
         };
-        self.query = Some(Query::new(text));
+        let mut at = 0;
+        match next_statement(text, &mut at) {
+            Err(report) => return self.refuse_query(report, text),
+            Ok(None) => {
+                backend::empty_query(self.output.buffer());
+                return self.ready();
+            }
+            Ok(first) => {
+                self.query = Some(Query {
+                    text: text.into(),
+                    ahead: Some(at),
+                    at,
+                    statement: first,
+                });
+            }
+        }
         self.read_ahead();
         match &self.query {
             Some(Query {
@@ -77,9 +81,14 @@ impl Connection {
     }
 
     /// Refuses a simple query before anything of it runs.
-    pub(super) fn refuse_query(&mut self, report: Failure) {
-        self.query = Some(Query::new(""));
-        self.fail_query(report);
+    pub(super) fn refuse_query(&mut self, report: Failure, text: &str) {
+        self.query = Some(Query {
+            text: "".into(),
+            ahead: None,
+            at: 0,
+            statement: None,
+        });
+        self.fail(report, Some(text));
     }
 
     /// Reads the next statements of the simple query ahead, as many as one turn has time for. Nothing of it runs before
@@ -93,17 +102,8 @@ impl Connection {
         while let Some(ahead) = query.ahead.as_mut().filter(|ahead| **ahead < end) {
             match next_statement(&query.text, ahead) {
                 Err(report) => return self.fail_query(report),
-                Ok(None) if query.at == 0 => {
-                    self.query = None;
-                    backend::empty_query(self.output.buffer());
-                    return self.ready();
-                }
-                Ok(None) => query.ahead = None,
-                Ok(Some(parsed)) if query.at == 0 => {
-                    query.at = *ahead;
-                    query.statement = Some(parsed);
-                }
                 Ok(Some(_)) => self.transaction.several = true,
+                Ok(None) => query.ahead = None,
             }
         }
         if query.ahead.is_none() && !self.transaction.several {
