@@ -3,23 +3,28 @@
 //! A fold skips rows that somebody else has locked. A load waits for a lock for a short time (rule 21).
 
 use std::collections::HashMap;
+use std::future::Future;
 use std::sync::Arc;
 use std::time::{Duration, Instant};
 
 use tokio::sync::mpsc::error::TryRecvError;
 use tokio::sync::mpsc::UnboundedReceiver;
+use tokio::sync::watch;
 use tokio::time::{sleep, timeout};
 use tokio_postgres::error::SqlState;
-use tokio_postgres::{Client, Error, Statement};
+use tokio_postgres::{Error, Statement};
 
 use crate::catalog::Catalog;
 use crate::hub::{FolderTask, Generation, Hub, Left, LoaderTask};
 use crate::protocol::Event;
-use crate::target::Target;
+use crate::target::{Session, Target};
 use crate::update::Key;
 
-/// How long a new connection may take, and a pause behind one that failed.
-const PATIENCE: Duration = Duration::from_secs(3);
+/// How long PostgreSQL may take to answer: many rows with slow triggers take long, and on a connection that the network has
+/// forgotten it never does.
+const PATIENCE: Duration = Duration::from_secs(600);
+
+/// A pause behind what failed.
 const PAUSE: Duration = Duration::from_millis(100);
 
 /// How soon rows that were locked are tried again, and how soon at the latest if they stay locked.
@@ -39,11 +44,13 @@ const ISOLATION: &str = "-c default_transaction_isolation=read\\ committed -c id
 
 /// A connection of the proxy's own, which is opened when it is needed, with its prepared statements.
 struct Own {
+    hub: Arc<Hub>,
     target: Arc<Target>,
     name: &'static str,
     options: String,
-    client: Option<Client>,
+    session: Option<Session>,
     prepared: HashMap<String, Statement>,
+    generations: watch::Receiver<Generation>,
 }
 
 /// Why nothing came of a query.
@@ -57,33 +64,41 @@ enum Failure {
     Lost(String),
 }
 
+impl From<Error> for Failure {
+    fn from(error: Error) -> Failure {
+        match error.as_db_error() {
+            Some(_) => Failure::Refused(error),
+            None => Failure::Lost(error.to_string()),
+        }
+    }
+}
+
 impl Own {
-    fn new(target: Arc<Target>, name: &'static str, options: &str) -> Own {
+    fn new(hub: &Arc<Hub>, target: Arc<Target>, name: &'static str, options: &str) -> Own {
         Own {
+            hub: hub.clone(),
             target,
             name,
             options: format!("{} {}", ISOLATION, options),
-            client: None,
+            session: None,
             prepared: HashMap::new(),
+            generations: hub.generations(),
         }
     }
 
-    async fn client(&mut self) -> Result<&Client, Failure> {
-        if self.client.as_ref().map_or(true, Client::is_closed) {
-            self.client = None;
-            self.prepared.clear();
-            let login = self.target.login(self.name, &self.options);
-            let ((client, connection), _) = match timeout(PATIENCE, login).await {
-                Ok(Ok(connected)) => connected,
-                Ok(Err(error)) => return Err(Failure::Lost(error.to_string())),
-                Err(_) => return Err(Failure::Lost("PostgreSQL does not answer".to_owned())),
-            };
-            tokio::spawn(connection);
-            self.client = Some(client);
-        }
-        self.client
-            .as_ref()
-            .ok_or_else(|| Failure::Lost("no connection".to_owned()))
+    /// Returns the connection, and opens it if there is none: first to where the keeper is.
+    async fn session(&mut self) -> Result<&Session, Failure> {
+        let session = match self.session.take().filter(|session| !session.is_closed()) {
+            Some(session) => session,
+            None => {
+                self.prepared.clear();
+                let first = self.hub.address();
+                let login = self.target.login(first.as_ref(), self.name, &self.options);
+                let (own, _) = login.await.map_err(|it| Failure::Lost(it.to_string()))?;
+                Session::from(own)
+            }
+        };
+        Ok(self.session.insert(session))
     }
 
     /// Runs a query that is prepared once.
@@ -92,18 +107,9 @@ impl Own {
         text: &str,
         values: &[&(dyn tokio_postgres::types::ToSql + Sync)],
     ) -> Result<Vec<tokio_postgres::Row>, Failure> {
-        let result = self.try_query(text, values).await;
-        match result {
-            Err(Failure::Refused(error)) if error.as_db_error().is_none() => {
-                self.client = None;
-                Err(Failure::Lost(error.to_string()))
-            }
-            Err(Failure::Lost(why)) => {
-                self.client = None;
-                Err(Failure::Lost(why))
-            }
-            result => result,
-        }
+        let begun = self.begin();
+        let result = in_time(begun, self.try_query(text, values)).await;
+        self.end(result)
     }
 
     async fn try_query(
@@ -111,29 +117,68 @@ impl Own {
         text: &str,
         values: &[&(dyn tokio_postgres::types::ToSql + Sync)],
     ) -> Result<Vec<tokio_postgres::Row>, Failure> {
-        self.client().await?;
-        let statement = match (self.prepared.get(text), &self.client) {
-            (Some(statement), _) => statement.clone(),
-            (None, Some(client)) => {
-                let statement = client.prepare(text).await.map_err(Failure::Refused)?;
-                self.prepared.insert(text.to_owned(), statement.clone());
-                statement
-            }
-            (None, None) => return Err(Failure::Lost("no connection".to_owned())),
+        let known = match self.session.as_ref().map(|session| session.is_closed()) {
+            Some(false) => self.prepared.get(text).cloned(),
+            _ => None,
         };
-        match &self.client {
-            Some(client) => client
-                .query(&statement, values)
-                .await
-                .map_err(Failure::Refused),
-            None => Err(Failure::Lost("no connection".to_owned())),
+        let session = self.session().await?;
+        let statement = match known {
+            Some(statement) => statement,
+            None => session.prepare(text).await?,
+        };
+        let rows = session.query(&statement, values).await?;
+        self.prepared.insert(text.to_owned(), statement);
+        Ok(rows)
+    }
+
+    /// Reads what is declared.
+    async fn read(&mut self) -> Result<Catalog, Failure> {
+        let begun = self.begin();
+        let result = in_time(begun, async {
+            let session = self.session().await?;
+            Ok(Catalog::read(session).await?)
+        });
+        let result = result.await;
+        self.end(result)
+    }
+
+    /// Leaves the connection if the proxy has begun anew since it was used last: its server may be one that is gone without
+    /// a word.
+    fn begin(&mut self) -> watch::Receiver<Generation> {
+        if self.generations.has_changed().unwrap_or(false) {
+            self.generations.borrow_and_update();
+            self.session = None;
         }
+        self.generations.clone()
+    }
+
+    /// Leaves a connection that is lost.
+    fn end<T>(&mut self, result: Result<T, Failure>) -> Result<T, Failure> {
+        if let Err(Failure::Lost(_)) = &result {
+            self.session = None;
+        }
+        result
+    }
+}
+
+/// Waits for an answer of PostgreSQL: not longer than it may take, and not when the proxy begins anew.
+async fn in_time<T>(
+    mut generations: watch::Receiver<Generation>,
+    asked: impl Future<Output = Result<T, Failure>>,
+) -> Result<T, Failure> {
+    tokio::select! {
+        answered = timeout(PATIENCE, asked) => match answered {
+            Ok(answered) => answered,
+            Err(_) => Err(Failure::Lost("PostgreSQL does not answer".to_owned())),
+        },
+        _ = generations.changed() => Err(Failure::Lost("the proxy begins anew".to_owned())),
     }
 }
 
 /// Folds, one fold after another.
 pub async fn fold(hub: Arc<Hub>, target: Arc<Target>, mut tasks: UnboundedReceiver<FolderTask>) {
     let mut own = Own::new(
+        &hub,
         target,
         "escrowd-proxy folder",
         "-c synchronous_commit=off -c lock_timeout=300",
@@ -337,7 +382,7 @@ pub async fn load(
     target: Arc<Target>,
     tasks: Arc<tokio::sync::Mutex<UnboundedReceiver<LoaderTask>>>,
 ) {
-    let mut own = Own::new(target, "escrowd-proxy loader", "-c lock_timeout=50");
+    let mut own = Own::new(&hub, target, "escrowd-proxy loader", "-c lock_timeout=50");
     loop {
         let task = tasks.lock().await.recv().await;
         let (generation, key) = match task {
@@ -393,14 +438,15 @@ async fn leave(own: &mut Own, key: &Key) {
 
 /// Looks what is declared, each second and when it is asked to.
 pub async fn watch(hub: Arc<Hub>, target: Arc<Target>) {
-    let mut own = Own::new(target, "escrowd-proxy watcher", "-c lock_timeout=1000");
+    let mut own = Own::new(
+        &hub,
+        target,
+        "escrowd-proxy watcher",
+        "-c lock_timeout=1000",
+    );
     let mut is_installed = true;
     loop {
-        let read = match own.client().await {
-            Ok(client) => Catalog::read(client).await.map_err(Failure::Refused),
-            Err(failure) => Err(failure),
-        };
-        match read {
+        match own.read().await {
             Ok(catalog) => {
                 is_installed = true;
                 hub.set_catalog(catalog);
@@ -414,7 +460,7 @@ pub async fn watch(hub: Arc<Hub>, target: Arc<Target>) {
             }
             Err(Failure::Refused(error)) => {
                 tracing::warn!("what is declared cannot be read: {}", error);
-                own.client = None;
+                own.session = None;
             }
             Err(Failure::Lost(why)) => tracing::debug!("what is declared cannot be read: {}", why),
         }

@@ -137,6 +137,7 @@ pub struct Hub {
     state: Mutex<State>,
     workers: Workers,
     catalog: watch::Sender<Option<Arc<Catalog>>>,
+    generations: watch::Sender<Generation>,
     refresh: Notify,
     metrics: Metrics,
     secret: Mutex<Option<Secret>>,
@@ -170,6 +171,7 @@ impl Hub {
             }),
             workers,
             catalog: watch::channel(None).0,
+            generations: watch::channel(1).0,
             refresh: Notify::new(),
             metrics,
             secret: Mutex::new(None),
@@ -327,6 +329,11 @@ impl Hub {
         lock(&self.secret).clone()
     }
 
+    /// Returns the generation of the server that is there, which changes whenever the proxy begins anew.
+    pub fn generations(&self) -> watch::Receiver<Generation> {
+        self.generations.subscribe()
+    }
+
     /// Returns what is declared, as it was read last.
     pub fn catalog(&self) -> watch::Receiver<Option<Arc<Catalog>>> {
         self.catalog.subscribe()
@@ -457,6 +464,7 @@ impl Hub {
                 state.refusals.clear();
                 state.since.clear();
                 let _ = self.workers.starter.send(state.generation);
+                self.generations.send_replace(state.generation);
             }
             Action::Load(key) => {
                 let task = LoaderTask::Load(state.generation, key);

@@ -86,7 +86,7 @@ pub async fn run(act: Act, how: &Script) -> Result<(), Error> {
         None => write!(output, "BEGIN;\n\n{}\nCOMMIT;\n", act.script())?,
         Some(conninfo) => {
             let target = Target::of(conninfo)?;
-            let login = target.login("escrowd-proxy install", SETTINGS);
+            let login = target.login(None, "escrowd-proxy install", SETTINGS);
             let (own, _) = timeout(PATIENCE, login)
                 .await
                 .map_err(|_| Error::Silent)??;

@@ -8,13 +8,12 @@ use std::time::Duration;
 use rand::Rng;
 use tokio::sync::mpsc::UnboundedReceiver;
 use tokio::time::{interval, timeout, MissedTickBehavior};
-use tokio_postgres::Client;
 
 use crate::hub::{Hub, KeeperTask};
 use crate::install::{self, WrongVersion};
 use crate::note::Secret;
 use crate::protocol::{Action, Event, Id, Verdict};
-use crate::target::{Address, LoginError, Target};
+use crate::target::{Address, LoginError, Session, Target};
 use crate::update::{Change, Key};
 
 /// How often what was not done is tried again. The owner says something as often.
@@ -73,7 +72,7 @@ impl Holders {
 
 /// An open connection.
 pub struct Keeper {
-    client: Client,
+    client: Session,
     epoch: i64,
 }
 
@@ -84,12 +83,8 @@ impl Keeper {
             "-c default_transaction_isolation=read\\ committed -c statement_timeout=0 -c lock_timeout=0",
             " -c idle_session_timeout=0"
         );
-        let login = target.login("escrowd-proxy keeper", options);
-        let ((client, connection), address) = match timeout(PATIENCE, login).await {
-            Ok(opened) => opened?,
-            Err(_) => return Err(Error::Silent),
-        };
-        tokio::spawn(connection);
+        let (own, address) = target.login(None, "escrowd-proxy keeper", options).await?;
+        let client = Session::from(own);
         install::check(in_time(install::version(&client)).await?)?;
         let query = "SELECT inner_key, outer_key FROM escrow.secret";
         let row = in_time(client.query_one(query, &[])).await?;

@@ -1,6 +1,7 @@
 //! The PostgreSQL behind the proxy.
 
 use std::io;
+use std::ops::Deref;
 use std::os::unix::ffi::OsStringExt;
 use std::path::PathBuf;
 use std::sync::atomic::{AtomicBool, Ordering};
@@ -8,6 +9,7 @@ use std::sync::Arc;
 use std::time::Duration;
 
 use tokio::net::{TcpStream, UnixStream};
+use tokio::task::JoinHandle;
 use tokio::time::timeout;
 use tokio_postgres::config::{Host, SslMode, TargetSessionAttrs};
 use tokio_postgres::tls::NoTlsStream;
@@ -17,7 +19,8 @@ use crate::conninfo::Conninfo;
 use crate::stream::Stream;
 use crate::tls::{BadFile, Connector};
 
-/// How long a host may take to accept a connection, if the connection string has no `connect_timeout`.
+/// How long a host may take to accept a connection, and to let the proxy in, if the connection string has no
+/// `connect_timeout`.
 const PATIENCE: Duration = Duration::from_secs(5);
 
 /// Where one server listens.
@@ -66,8 +69,40 @@ pub enum LoginError {
     ReadOnly,
 }
 
-/// A connection of the proxy's own. The second half has to be polled, for instance by a task of its own.
+/// A connection of the proxy's own. The second half has to be polled, for instance by a [`Session`].
 pub type Own = (Client, Connection<Stream, NoTlsStream>);
+
+/// A connection of the proxy's own with the task that serves it. It is closed when it is dropped, also if PostgreSQL is
+/// silent and the task would wait for an answer.
+#[derive(Debug)]
+pub struct Session {
+    client: Client,
+    task: JoinHandle<()>,
+}
+
+impl From<Own> for Session {
+    fn from((client, connection): Own) -> Session {
+        let task = tokio::spawn(async {
+            // Whoever asks gets its error.
+            let _ = connection.await;
+        });
+        Session { client, task }
+    }
+}
+
+impl Deref for Session {
+    type Target = Client;
+
+    fn deref(&self) -> &Client {
+        &self.client
+    }
+}
+
+impl Drop for Session {
+    fn drop(&mut self) {
+        self.task.abort();
+    }
+}
 
 impl Target {
     /// Returns the servers of a connection string.
@@ -141,7 +176,6 @@ impl Target {
     ///
     /// Fails if the server does not accept in time, or TLS cannot be had as it is asked for.
     pub async fn connect_to(&self, address: &Address) -> io::Result<Stream> {
-        let patience = self.config.get_connect_timeout().copied();
         let connecting = async {
             match address {
                 Address::Tcp(name, port) => {
@@ -151,24 +185,39 @@ impl Target {
                 Address::Unix(path) => Ok(Stream::Unix(UnixStream::connect(path).await?)),
             }
         };
-        match timeout(patience.unwrap_or(PATIENCE), connecting).await {
+        match timeout(self.patience(), connecting).await {
             Ok(connected) => connected,
             Err(_) => Err(io::ErrorKind::TimedOut.into()),
         }
     }
 
-    /// Opens a connection of the proxy's own at the first server that lets it in and, with
-    /// `target_session_attrs=read-write`, takes writes. `name` and `options` are its `application_name` and `options`.
+    /// Returns how long each server may take.
+    fn patience(&self) -> Duration {
+        let chosen = self.config.get_connect_timeout();
+        chosen.copied().unwrap_or(PATIENCE)
+    }
+
+    /// Opens a connection of the proxy's own at the first server that lets it in within the time of a host and, with
+    /// `target_session_attrs=read-write`, takes writes. It begins with `first`, if that is given. `name` and `options` are
+    /// its `application_name` and `options`.
     ///
     /// # Errors
     ///
     /// Fails with the error of the last server if none does.
-    pub async fn login(&self, name: &str, options: &str) -> Result<(Own, &Address), LoginError> {
+    pub async fn login(
+        &self,
+        first: Option<&Address>,
+        name: &str,
+        options: &str,
+    ) -> Result<(Own, &Address), LoginError> {
         let mut last = LoginError::Unreachable(io::ErrorKind::NotFound.into());
-        for address in &self.addresses {
-            match self.login_at(address, name, options).await {
-                Ok(own) => return Ok((own, address)),
-                Err(error) => last = error,
+        let is_first = |address: &&Address| Some(*address) == first;
+        let (firsts, others): (Vec<_>, Vec<_>) = self.addresses.iter().partition(is_first);
+        for address in firsts.into_iter().chain(others) {
+            match timeout(self.patience(), self.login_at(address, name, options)).await {
+                Ok(Ok(own)) => return Ok((own, address)),
+                Ok(Err(error)) => last = error,
+                Err(_) => last = LoginError::Unreachable(io::ErrorKind::TimedOut.into()),
             }
         }
         Err(last)

@@ -8,9 +8,9 @@ from typing import Any, Optional
 
 from psycopg import errors
 
-from clients.servers import wait_until
+from clients.servers import PORT, wait_until
 from clients.suite import main
-from proxy.test.harness import Proxy, SharedPart, installed
+from proxy.test.harness import Forwarder, Proxy, SharedPart, installed
 from proxy.test.sql import refused, same, stock, value
 from proxy.test.standin import Client, Cluster, Owner
 
@@ -141,6 +141,27 @@ def a_lost_keeper_and_a_restart_are_taken_over(cluster: Cluster) -> None:
             print(f"  {how}: {took:.2f} s")
             assert took < 30, took
         assert it.running().poll() is None
+
+
+@part
+def a_server_that_is_silent_is_left(cluster: Cluster) -> None:
+    """As behind a machine or a network that has failed, nobody hears of an end: the next host is asked."""
+    prepare(cluster)
+    with Forwarder(cluster.socket, PORT) as first, Forwarder(cluster.socket, PORT) as second:
+        hosts = f"host={first.folder},{second.folder} port={PORT} dbname=bank user=clerk connect_timeout=2"
+        with Proxy(cluster, postgres=hosts) as proxy:
+            until_owned(cluster)
+            one = epoch(cluster)
+
+            def take() -> None:
+                with proxy.connect() as it:
+                    it.execute("UPDATE stock SET pieces = pieces - 1 WHERE id = 1")
+
+            take()
+            first.stall()
+            until_owned(cluster, one)
+            take()
+            wait_until("it is folded", lambda: value(cluster, "SELECT pieces FROM stock WHERE id = 1") == 8)
 
 
 @part
