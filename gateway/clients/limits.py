@@ -117,7 +117,7 @@ def a_limit_for_all() -> None:
 def the_connection_that_is_too_many() -> None:
     """It is refused at once, and the next one is served as soon as one has ended. Those of another database don't count."""
     most = 70
-    with Gateway({"bank": None, "shop": None}, "--connections", str(most)) as gateway:
+    with Gateway({"bank": None, "shop": None}, ("--connections", str(most))) as gateway:
         open_ones = [Connection(gateway.socket) for _ in range(most)]
         others = [Connection(gateway.socket, database="shop") for _ in range(most)]
         for _ in range(3):
