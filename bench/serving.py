@@ -8,7 +8,7 @@ import subprocess
 import sys
 import tempfile
 import time
-from typing import IO, Callable, Counter, List, Optional, Tuple
+from typing import IO, Callable, Counter, List, Optional, Protocol, Tuple
 
 HERE = os.path.dirname(os.path.abspath(__file__))
 # How often a script runs.
@@ -16,12 +16,23 @@ RUNS = 3
 START = 1_000_000_000
 
 
+class Served(Protocol):
+    """A script in a file: what it is called, its databases, and what checks its replies."""
+
+    words: str
+    databases: int
+    file: IO[bytes]
+
+    def check(self, mode: str, replies: IO[bytes]) -> None:
+        """Ends the program where the replies aren't those that are expected."""
+
+
 class Script:
     """A script in a file, with what is expected of its replies. There may be phases of no lines at its end."""
 
     def __init__(self, *words: object, empty_phases: int = 0) -> None:
         self.words = " ".join(map(str, words))
-        self.file = tempfile.TemporaryFile()
+        self.file: IO[bytes] = tempfile.TemporaryFile()
         subprocess.run([f"{HERE}/generate", *self.words.split()], stdout=self.file, check=True)
         self.file.write(b"@join\n" * empty_phases)
         self.file.seek(0)
@@ -55,7 +66,7 @@ class Script:
             sys.exit(f"{self.words}, {mode}: got {dict(got)}, and not {dict(self.expected)}")
 
 
-def serve(program: str, mode: str, script: Script, watch: Optional[Callable[[int], object]] = None) -> Tuple[float, float]:
+def serve(program: str, mode: str, script: Served, watch: Optional[Callable[[int], object]] = None) -> Tuple[float, float]:
     """Serves a script once, in the mode `run` or `free`, and answers the seconds that it took: by the clock, and of processor time. What is to
     watch the program while it runs gets its process. The program's end tells that its histories were right."""
     with tempfile.TemporaryFile() as replies:

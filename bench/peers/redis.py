@@ -6,13 +6,13 @@ rises that are pending. A session is a list of the numbers that it changes, and 
 so is a COMMIT or a ROLLBACK; redis runs no two at a time. Commands go over a socket in the file system, 200 at a time. The time is the
 processor time of the server alone.
 """
-# mypy: ignore-errors
 import re
 import socket
 import subprocess
 import sys
 import tempfile
 import time
+from typing import Iterable, List, Optional, Sequence, Tuple
 
 sys.dont_write_bytecode = True
 from runs import Run
@@ -46,10 +46,10 @@ return #held / 2
 class Server:
     """A redis server in a folder of its own, as long as it is in hand."""
 
-    def __init__(self, where=None, keeps=None):
+    def __init__(self, where: Optional[str] = None, keeps: Optional[Sequence[str]] = None) -> None:
         self.where, self.keeps = where, keeps or IN_MEMORY
 
-    def __enter__(self):
+    def __enter__(self) -> "Server":
         self.folder = tempfile.TemporaryDirectory(dir=self.where)
         path = f"{self.folder.name}/socket"
         options = ["--port", "0", "--unixsocket", path, "--save", "", *self.keeps, "--dir", self.folder.name]
@@ -60,13 +60,13 @@ class Server:
         self.reserve, self.end = (self.ask(["SCRIPT", "LOAD", text])[1].decode() for text in (RESERVE, END))
         return self
 
-    def __exit__(self, *_):
+    def __exit__(self, *_: object) -> None:
         self.socket.close()
         self.process.terminate()
         self.process.wait()
         self.folder.cleanup()
 
-    def send(self, commands, replies):
+    def send(self, commands: Sequence[bytes], replies: int) -> List[bytes]:
         """Sends commands that are answered by one line each, and answers the lines."""
         self.socket.sendall(b"".join(commands))
         got = b""
@@ -74,19 +74,19 @@ class Server:
             got += self.socket.recv(1 << 16)
         return got.split(b"\r\n")[:-1]
 
-    def ask(self, words):
+    def ask(self, words: Sequence[str]) -> List[bytes]:
         """Sends a command that is answered by a text, and answers its lines behind the length."""
         self.socket.sendall(command(words))
         got = b""
-        while not re.match(rb"\$(\d+)\r\n", got) or len(got) < got.index(b"\r\n") + 4 + int(re.match(rb"\$(\d+)", got)[1]):
+        while not is_whole(got):
             got += self.socket.recv(1 << 16)
         return got.split(b"\r\n")
 
-    def spent(self):
+    def spent(self) -> float:
         """The server's processor time."""
         return sum(float(line.split(b":")[1]) for line in self.ask(["INFO", "cpu"]) if re.match(rb"used_cpu_(user|sys):", line))
 
-    def transactions(self, load, own, clients, limit, way, is_plain=False):
+    def transactions(self, load: str, own: bool, clients: int, limit: int, way: int, is_plain: bool = False) -> Run:
         """Has clients make transactions by clients.c, each so many or for so long, and looks at the amounts behind it. A plain one is a DECR."""
         self.send([command(["FLUSHALL"])], 1)
         fields = f"amount {START} falls 0 rises 0 floor 0 ceiling 900000000000000".split()
@@ -103,7 +103,7 @@ class Server:
             sys.exit(f"redis: {taken} taken, and not {count}")
         return run
 
-    def taken(self, key, is_plain):
+    def taken(self, key: str, is_plain: bool) -> int:
         """How much a number lacks, of which nothing may be pending."""
         if is_plain:
             return START - int(self.ask(["GET", key])[1])
@@ -112,9 +112,12 @@ class Server:
             sys.exit(f"redis: {falls} of {key} are pending")
         return START - amount
 
-    def command(self, line):
+    def command(self, line: str) -> List[bytes]:
         """The commands of a script's line."""
-        session, text = re.match(r"bank\.(\d+): (.*)", line).groups()
+        found = re.match(r"bank\.(\d+): (.*)", line)
+        if not found:
+            sys.exit(f"redis: no line of one database: {line}")
+        session, text = found.groups()
         kind = text.split(" ", 1)[0]
         if kind == "INSERT":
             key, *amounts = re.findall(r"\b\d+\b", text)
@@ -129,23 +132,30 @@ class Server:
             return [command(["EVALSHA", self.end, "1", f"s:{session}", kind])]
         return []
 
-    def serve(self, lines):
+    def serve(self, lines: Iterable[str]) -> Tuple[float, List[str]]:
         """The server's processor time for a script, and the replies to its lines."""
         lines = list(lines)
         commands = [(one, line) for line in lines for one in self.command(line)]
         self.send([command(["FLUSHALL"])], 1)
-        begin, replies = self.spent(), []
+        begin = self.spent()
+        replies: List[Tuple[bytes, str]] = []
         for at in range(0, len(commands), 200):
             part = commands[at : at + 200]
             replies += zip(self.send([one for one, _ in part], len(part)), (line for _, line in part))
         return self.spent() - begin, [reply(line, got.decode()) for got, line in replies]
 
 
-def command(words):
+def is_whole(got: bytes) -> bool:
+    """Whether an answer has its length and as many bytes behind it."""
+    found = re.match(rb"\$(\d+)\r\n", got)
+    return found is not None and len(got) >= found.end() + int(found[1]) + 2
+
+
+def command(words: Sequence[str]) -> bytes:
     return "".join([f"*{len(words)}\r\n", *(f"${len(word)}\r\n{word}\r\n" for word in words)]).encode()
 
 
-def reply(line, got):
+def reply(line: str, got: str) -> str:
     """What a command's answer says of the line that it was made of."""
     session, text = line.split(": ", 1)
     if got.startswith("-"):
@@ -155,7 +165,7 @@ def reply(line, got):
     return f"{session}> OK"
 
 
-def main():
+def main() -> None:
     with Server() as server:
         took, replies = server.serve(sys.stdin.read().splitlines())
     print("\n".join(replies))

@@ -18,6 +18,7 @@ import subprocess
 import sys
 import time
 from dataclasses import dataclass
+from functools import partial
 from pathlib import Path
 from typing import Callable, Dict, FrozenSet, Iterator, List, Optional, Sequence, Tuple
 
@@ -230,8 +231,16 @@ def closed(connections: Sequence[Connection]) -> None:
         it.close()
 
 
-# The connections of an attack by many, and of one by more.
-CROWD, ALL = 20, 60
+# The connections of an attack by more.
+ALL = 60
+
+
+class Crowd:
+    """How many connections honest clients leave to an attack by many."""
+
+    clients = 20
+
+
 NOTE_COLUMNS = "abcdefghijklmno"
 NOTES = "CREATE TABLE notes (id INTEGER PRIMARY KEY, n INTEGER RESERVABLE, " + ", ".join(f"{it} VARCHAR2(255)" for it in NOTE_COLUMNS) + ")"
 
@@ -251,7 +260,7 @@ def prepare_notes(path: Path) -> None:
 def pipelines_of_long_updates(path: Path, end: float) -> None:
     """Clients who send statements of 4 KB without waiting, so that a server's pipe is always full."""
     prepare_notes(path)
-    connections = with_connections(path, CROWD)
+    connections = with_connections(path, Crowd.clients)
     flood(connections, note(15) * 8, end)
     closed(connections)
 
@@ -260,7 +269,7 @@ def pipelines_of_long_updates(path: Path, end: float) -> None:
 def long_statements_in_turn(path: Path, end: float) -> None:
     """Clients who wait for each reply, with lines of 2 KB, so many that the pipe is never empty."""
     prepare_notes(path)
-    connections = with_connections(path, CROWD)
+    connections = with_connections(path, Crowd.clients)
     request = note(8)
     for _ in until(end):
         for it in connections:
@@ -290,7 +299,7 @@ def readers_that_are_never_level(path: Path, end: float) -> None:
 @attack
 def results_that_nobody_reads(path: Path, end: float) -> None:
     """Clients who ask for the large table, and read nothing."""
-    connections = with_connections(path, CROWD)
+    connections = with_connections(path, Crowd.clients)
     for it in connections:
         it.send(wire.query("SELECT * FROM big"))
     time.sleep(max(0.0, end - time.monotonic()))
@@ -491,7 +500,7 @@ def holders_of_all_sessions(path: Path, end: float) -> None:
     closed(connections)
 
 
-def begin(name: str, path: Path, seconds: float, crowd: int = CROWD) -> "subprocess.Popen[bytes]":
+def begin(name: str, path: Path, seconds: float, crowd: int = Crowd.clients) -> "subprocess.Popen[bytes]":
     """Starts an attack in a process of its own."""
     words = [sys.executable, "-B", "-m", "clients.attacks", "--run", name, str(path), str(seconds), str(crowd)]
     return subprocess.Popen(words, cwd=HERE.parent, stderr=subprocess.PIPE)
@@ -533,7 +542,7 @@ def attacked(gateway: Gateway, name: str, seconds: float) -> Tuple[float, float,
     """Runs an attack. Returns the MB that the gateway took at most and those that it kept behind it, and what the attacker met."""
     process = gateway.running().pid
     before = holds(process)
-    Path(f"/proc/{process}/clear_refs").write_text("5")  # the largest so far counts from now on
+    Path(f"/proc/{process}/clear_refs").write_text("5", encoding="utf-8")  # the largest so far counts from now on
     said = finish(begin(name, gateway.socket, seconds, ALL))
     if gateway.running().poll() is not None:
         raise AssertionError(f"{name}: the gateway ended with status {gateway.running().poll()}: {gateway.said()[-300:]}")
@@ -591,7 +600,7 @@ def want_of_memory_ends_a_connection() -> None:
         honest.prepare(gateway.socket)
         fill_big(gateway.socket, 2000, 200)
         process = gateway.running().pid
-        pages = int(Path(f"/proc/{process}/statm").read_text().split()[0])
+        pages = int(Path(f"/proc/{process}/statm").read_text(encoding="utf-8").split()[0])
         room = pages * resource.getpagesize() + 48 * MB
         resource.prlimit(process, resource.RLIMIT_AS, (room, room))
         for name in (
@@ -674,6 +683,11 @@ class Refusing(Gateway):
 TAKE = "UPDATE stock SET pieces = pieces - {} WHERE id = 1"
 
 
+def holds_nothing(watch: Connection) -> bool:
+    """Returns whether nobody has reserved anything."""
+    return watch.rows("SHOW JOURNAL") == []
+
+
 @PART.alone
 def a_rollback_that_is_refused_for_a_client_that_has_gone() -> None:
     """What a client reserved before it vanished is never committed by the next client of its session."""
@@ -723,7 +737,7 @@ def a_rollback_that_is_refused_behind_an_error() -> None:
             except (wire.Ended, AssertionError, OSError):
                 wanted = "100"  # the client was told
             it.close()
-            wait_until("nothing is reserved", lambda: watch.rows("SHOW JOURNAL") == [], 20)
+            wait_until("nothing is reserved", partial(holds_nothing, watch), 20)
             expect(watch.rows("SELECT * FROM stock")[0][1], wanted, f"{count} refused")
             watch.close()
             gateway.expect_clean_end()
@@ -872,7 +886,7 @@ def print_soak(minutes: float) -> int:
         each = 60 * minutes / len(ATTACKS)
         for name in ATTACKS:
             before = holds(process) / MB
-            Path(f"/proc/{process}/clear_refs").write_text("5")
+            Path(f"/proc/{process}/clear_refs").write_text("5", encoding="utf-8")
             clients = honest.apart(gateway.socket, 40, each - 3.0)
             said = finish(begin(name, gateway.socket, each - 4.0))
             times = honest.result(clients)
@@ -897,8 +911,7 @@ def by_hand() -> int:
     parser.add_argument("attacks", nargs="*", metavar="ATTACK")
     asked = parser.parse_args()
     if asked.run:
-        global CROWD
-        CROWD = int(asked.run[3])
+        Crowd.clients = int(asked.run[3])
         ATTACKS[asked.run[0]](Path(asked.run[1]), time.monotonic() + float(asked.run[2]))
         return 0
     if asked.soak:

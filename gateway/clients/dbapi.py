@@ -7,6 +7,7 @@ import signal
 from concurrent.futures import ThreadPoolExecutor
 from contextlib import closing
 from decimal import Decimal
+from functools import partial
 from types import FrameType
 from typing import Any, Callable, List, Optional, Tuple
 
@@ -98,7 +99,7 @@ def values_that_are_refused(driver: Driver, gateway: Gateway) -> None:
                 cursor.execute("INSERT INTO things VALUES (%s, %s, %s, %s, %s)", (1, price, 1, 1, name))
 
         for character in ("\n", "\r", "\t", "\x01", "\x1f", "\x7f"):
-            refused(driver, "CharacterNotInRepertoire", lambda: insert(1, f"a{character}b"))
+            refused(driver, "CharacterNotInRepertoire", partial(insert, 1, f"a{character}b"))
         refused(driver, "NotNullViolation", lambda: insert(1, None))
         for price, name in ((Decimal("0.005"), "x"), (Decimal("99999999999999.99"), "x"), (1, "x" * 256), (1, ""), ("x", "x"), (1, 5)):
             try:
@@ -205,7 +206,7 @@ def after_fork(driver: Driver, gateway: Gateway) -> None:
                 own = opened(driver, gateway)
                 status = int(any(rows(own, "SELECT * FROM stock WHERE id = %s", (key,)) != [(key, key * 7)] for _ in range(load(300))))
             finally:
-                os._exit(status)  # so that the parent's connection isn't closed here
+                os._exit(status)  # pylint: disable=protected-access  # so that the parent's connection isn't closed here
         processes.append(process)
     for _ in range(load(300)):
         expect(rows(watch, "SELECT * FROM stock WHERE id = 5"), [(5, 35)])

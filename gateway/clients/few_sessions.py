@@ -435,4 +435,7 @@ def by_hand() -> None:
 
 
 if __name__ == "__main__":
-    by_hand() if sys.argv[1:2] == ["--walk"] else main(PART)
+    if sys.argv[1:2] == ["--walk"]:
+        by_hand()
+    else:
+        main(PART)

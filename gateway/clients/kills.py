@@ -6,7 +6,7 @@ import os
 import signal
 import subprocess
 import sys
-import time
+from functools import partial
 from pathlib import Path
 from typing import Callable, Dict, List
 
@@ -83,7 +83,7 @@ def expect_after_kills(kill: Callable[[Gateway], None]) -> None:
             program = gateway.programs()[0]
             kill(gateway)
             writers.await_end()
-            wait_until("the program has ended", lambda: not Path(f"/proc/{program}").exists())
+            wait_until("the program has ended", partial(has_ended, program))
             for writer, count in writers.acknowledged().items():
                 total[writer] += count
             rows = stored_rows(gateway)
@@ -98,6 +98,11 @@ def expect_after_kills(kill: Callable[[Gateway], None]) -> None:
                 expect(it.rows("SHOW JOURNAL"), [])
                 expect([" | ".join(row) for row in it.rows("SELECT * FROM stock")], rows)
         gateway.expect_clean_end()
+
+
+def has_ended(process: int) -> bool:
+    """Returns whether a process has ended."""
+    return not Path(f"/proc/{process}").exists()
 
 
 @PART.alone

@@ -54,7 +54,7 @@ def compare(gateway: Gateway, sessions: List[Tuple[str, Session]]) -> None:
                 differences += [f"== {title}", *list(difflib.unified_diff(found[0], found[1], "PostgreSQL", "gateway", lineterm="", n=2))[2:]]
     if differences:
         if "ESCROWD_SHOW" in os.environ:
-            Path(os.environ["ESCROWD_SHOW"]).write_text("\n".join(differences))
+            Path(os.environ["ESCROWD_SHOW"]).write_text("\n".join(differences), encoding="utf-8")
         raise AssertionError("\n".join(differences[:60]))
 
 
@@ -76,7 +76,7 @@ def a_session_by_psql(gateway: Gateway) -> None:
         for dsn, table in ((postgres.dsn(), THEIRS), (gateway.dsn(), OURS)):
             given = "\n".join([f"{table};", *(f"{it};" for it in ROWS), (HERE / "session.sql").read_text()])
             words = ["psql", "-X", "-a", "-v", "VERBOSITY=sqlstate", "-d", dsn]
-            done = subprocess.run(words, input=given, stdout=subprocess.PIPE, stderr=subprocess.STDOUT, text=True, timeout=END)
+            done = subprocess.run(words, input=given, stdout=subprocess.PIPE, stderr=subprocess.STDOUT, text=True, timeout=END, check=False)
             printed.append(done.stdout.splitlines()[1:])
         expect(len(printed[0]) > 100, True)
         if printed[0] != printed[1]:

@@ -106,7 +106,7 @@ def a_holder_that_goes_on_is_kept(gateway: Gateway) -> None:
 
 @PART.alone
 def a_limit_for_all() -> None:
-    with Gateway({"bank": None}, "--idle-in-transaction-timeout", "1") as gateway:
+    with Gateway({"bank": None}, ("--idle-in-transaction-timeout", "1")) as gateway:
         watch = with_stock(gateway, 5)
         expect_hold_ends(watch, Connection(gateway.socket), 0.98)
         watch.close()
@@ -117,7 +117,7 @@ def a_limit_for_all() -> None:
 def the_connection_that_is_too_many() -> None:
     """It is refused at once, and the next one is served as soon as one has ended. Those of another database don't count."""
     most = 70
-    with Gateway({"bank": None, "shop": None}, "--connections", str(most)) as gateway:
+    with Gateway({"bank": None, "shop": None}, ("--connections", str(most))) as gateway:
         open_ones = [Connection(gateway.socket) for _ in range(most)]
         others = [Connection(gateway.socket, database="shop") for _ in range(most)]
         for _ in range(3):
@@ -282,7 +282,7 @@ def who_may_connect(gateway: Gateway) -> None:
     if os.geteuid() == 0:
         os.chmod(gateway.folder, 0o755)
         expect(connects_as("nobody", gateway), "PermissionError")
-    with Gateway({"bank": None}, "--mode", "0666") as other:
+    with Gateway({"bank": None}, ("--mode", "0666")) as other:
         expect(stat.S_IMODE(os.stat(other.socket).st_mode), 0o666)
         if os.geteuid() == 0:
             os.chmod(other.folder, 0o755)
@@ -294,14 +294,15 @@ def connects_as(user: str, gateway: Gateway) -> str:
     """Returns what a process of a user meets that connects."""
     script = ("import socket, sys\nit = socket.socket(socket.AF_UNIX)\n"
               "try:\n    it.connect(sys.argv[1])\n    print('served')\nexcept OSError as error:\n    print(type(error).__name__)\n")
-    done = subprocess.run(["/usr/bin/python3", "-c", script, str(gateway.socket)], user=pwd.getpwnam(user).pw_uid, cwd="/", capture_output=True, text=True)
+    words = ["/usr/bin/python3", "-c", script, str(gateway.socket)]
+    done = subprocess.run(words, user=pwd.getpwnam(user).pw_uid, cwd="/", capture_output=True, text=True, check=False)
     return done.stdout.strip()
 
 
 @PART.served
 def a_socket_that_is_answered(gateway: Gateway) -> None:
     """A second gateway does not take it. One that a killed gateway left is taken."""
-    second = subprocess.run(gateway.words(), capture_output=True, text=True, timeout=END)
+    second = subprocess.run(gateway.words(), capture_output=True, text=True, timeout=END, check=False)
     expect(second.returncode, 4, second.stderr)
     with Connection(gateway.socket) as it:
         it.do("COMMIT")
@@ -326,10 +327,11 @@ def commands_that_cannot_be_used() -> None:
             (["--database", "bank", *by_program, "--listen", str(folder / "nothing")], 2),
         ]
         for more, status in cases:
-            done = subprocess.run([*words, *more], capture_output=True, text=True, timeout=END, env={**os.environ, "ESCROWD": ""})
+            done = subprocess.run([*words, *more], capture_output=True, text=True, timeout=END, env={**os.environ, "ESCROWD": ""}, check=False)
             expect(done.returncode, status, f"{more}: {done.stderr}")
             expect(bool(done.stderr), True, "a reason on standard error")
-        missing = subprocess.run([str(GATEWAY), "--listen", str(folder / "nothing"), "--database", "bank", *by_program], capture_output=True, timeout=END)
+        nowhere = [str(GATEWAY), "--listen", str(folder / "nothing"), "--database", "bank", *by_program]
+        missing = subprocess.run(nowhere, capture_output=True, timeout=END, check=False)
         expect(missing.returncode, 4)
         expect(sorted(it.name for it in folder.iterdir()), [".s.PGSQL.5432", "said", "text"])
         gateway.expect_clean_end()
@@ -352,7 +354,7 @@ esac
 """)
         unproved.chmod(0o755)
         words = [str(copy), "--listen", str(beside), "--database", "bank"]
-        found = subprocess.run(words, capture_output=True, text=True, timeout=END, env={**os.environ, "ESCROWD": ""})
+        found = subprocess.run(words, capture_output=True, text=True, timeout=END, env={**os.environ, "ESCROWD": ""}, check=False)
         expect(found.returncode, 3, found.stderr)
         expect(f"{unproved} is not proved: --program or ESCROWD has to name it" in found.stderr, True, found.stderr)
         named: List[Tuple[List[str], str]] = [(["--program", str(unproved)], ""), ([], str(unproved))]
@@ -388,31 +390,36 @@ def an_end_while_statements_run() -> None:
     """Whatever was answered as committed stands in the store; no connection is answered twice or half."""
     for _ in range(3):
         with Gateway(IN_A_STORE) as gateway:
-            with_stock(gateway, 100_000).close()
-            acknowledged, strange = [0] * 20, []
+            end_while_buyers_buy(gateway)
 
-            def buy(place: int) -> None:
-                connection = Connection(gateway.socket)
-                try:
-                    while True:
-                        connection.send(wire.query(TAKE.format(1)))
-                        found = [it.shown() for it in connection.until_ready()]
-                        strange.extend([] if found == ["complete UPDATE 1", "ready I"] else found)
-                        acknowledged[place] += 1
-                except (Ended, BrokenPipeError):
-                    pass
 
-            buyers = [threading.Thread(target=buy, args=(place,)) for place in range(20)]
-            for it in buyers:
-                it.start()
-            wait_until("each has bought", lambda: all(it >= 5 for it in acknowledged))
-            expect(gateway.end(), 0, gateway.said())
-            for it in buyers:
-                it.join()
-            left = int(stored(gateway.store, "SELECT * FROM stock")[1].split(" | ")[1])
-            expect(strange, [])
-            # An orderly end answers what runs, so what was done and what was told are equal.
-            expect(left, 100_000 - sum(acknowledged))
+def end_while_buyers_buy(gateway: Gateway) -> None:
+    """Ends a gateway while 20 connections buy, and compares what they were told with the store."""
+    with_stock(gateway, 100_000).close()
+    acknowledged, strange = [0] * 20, []
+
+    def buy(place: int) -> None:
+        connection = Connection(gateway.socket)
+        try:
+            while True:
+                connection.send(wire.query(TAKE.format(1)))
+                found = [it.shown() for it in connection.until_ready()]
+                strange.extend([] if found == ["complete UPDATE 1", "ready I"] else found)
+                acknowledged[place] += 1
+        except (Ended, BrokenPipeError):
+            pass
+
+    buyers = [threading.Thread(target=buy, args=(place,)) for place in range(20)]
+    for it in buyers:
+        it.start()
+    wait_until("each has bought", lambda: all(it >= 5 for it in acknowledged))
+    expect(gateway.end(), 0, gateway.said())
+    for it in buyers:
+        it.join()
+    left = int(stored(gateway.store, "SELECT * FROM stock")[1].split(" | ")[1])
+    expect(strange, [])
+    # An orderly end answers what runs, so what was done and what was told are equal.
+    expect(left, 100_000 - sum(acknowledged))
 
 
 @PART.alone
@@ -431,6 +438,14 @@ def the_program_ends() -> None:
         expect(gateway.socket.exists(), False)
 
 
+def has_ended(process: int) -> bool:
+    """Whether a process has ended, or is a zombie."""
+    try:
+        return "Z" in Path(f"/proc/{process}/stat").read_text(encoding="utf-8").split(")")[1]
+    except FileNotFoundError:
+        return True
+
+
 @PART.alone
 def the_gateway_is_killed() -> None:
     """The program's input ends, so it closes its store and ends by itself."""
@@ -440,7 +455,7 @@ def the_gateway_is_killed() -> None:
         program = gateway.programs()[0]
         gateway.kill()
         expect(it.until_end(), [])
-        wait_until("the program has ended", lambda: not Path(f"/proc/{program}").exists() or "Z" in Path(f"/proc/{program}/stat").read_text().split(")")[1])
+        wait_until("the program has ended", lambda: has_ended(program))
         expect((gateway.folder / "bank.db-wal").exists(), False)
         expect(stored(gateway.store, "SELECT * FROM stock")[1:], ["1 | 9", "OK rows 1"])
 
@@ -448,7 +463,7 @@ def the_gateway_is_killed() -> None:
 @PART.alone
 def what_an_operator_sees() -> None:
     """The metrics tell what was done, in the format of the textfile collector; standard error tells of each store."""
-    with Gateway({"bank": Path("bank.db"), "shop": None}, "--metrics", "{folder}/escrowd.prom") as gateway:
+    with Gateway({"bank": Path("bank.db"), "shop": None}, ("--metrics", "{folder}/escrowd.prom")) as gateway:
         metrics = gateway.folder / "escrowd.prom"
         it = with_stock(gateway, 5)
         it.do("BEGIN", TAKE.format(1), "COMMIT", "BEGIN", TAKE.format(1), "ROLLBACK", "BEGIN", TAKE.format(1))

@@ -10,6 +10,7 @@ import signal
 import subprocess
 import termios
 import time
+from functools import partial
 from pathlib import Path
 from typing import Callable, Dict, List, Mapping, Optional, Sequence
 
@@ -50,9 +51,9 @@ MUTE = VERSION + "exec cat > /dev/null\n"
 class Operated(Gateway):
     """A gateway that is started in another way: with a program in place of escrowd's, in an environment, or by other words."""
 
-    def __init__(self, databases: Mapping[str, Optional[Path]] = IN_MEMORY, *options: str, program: str = "", front: Sequence[str] = (),
+    def __init__(self, databases: Mapping[str, Optional[Path]] = IN_MEMORY, options: Sequence[str] = (), program: str = "", front: Sequence[str] = (),
                  before: Optional[Callable[[], None]] = None) -> None:
-        super().__init__(databases, *options)
+        super().__init__(databases, options)
         self.program, self.front, self.before = program, list(front), before
         self.env: Dict[str, str] = {}
 
@@ -68,6 +69,8 @@ class Operated(Gateway):
     def begin(self) -> None:
         """Starts the process, and does not wait for it."""
         with open(self.folder / "said", "ab") as said:
+            # No thread of a case runs yet.
+            # pylint: disable-next=subprocess-popen-preexec-fn
             self.process = subprocess.Popen(self.words(), stdin=subprocess.DEVNULL, stdout=said, stderr=said, env={**os.environ, **self.env},
                                             start_new_session=True, preexec_fn=self.before)
 
@@ -81,6 +84,16 @@ class Operated(Gateway):
         said.touch()
         found = said.stat()
         self.env["JOURNAL_STREAM"] = f"{found.st_dev}:{found.st_ino}"
+
+
+def has_said(gateway: Gateway, text: str) -> bool:
+    """Returns whether a gateway has said something."""
+    return text in gateway.said()
+
+
+def is_silent(path: Path) -> bool:
+    """Returns whether nobody accepts connections at a socket."""
+    return not is_answered(path)
 
 
 def expect_served(gateway: Gateway) -> None:
@@ -97,7 +110,8 @@ def signals_that_mean_nothing() -> None:
             gateway.running().send_signal(number)
             if number in OF_ALL:
                 os.kill(gateway.programs()[0], number)
-            wait_until(f"signal {number} is told", lambda: f"{name_of(number)} changes nothing" in gateway.said())
+            told = f"{name_of(number)} changes nothing"
+            wait_until(f"signal {number} is told", partial(has_said, gateway, told))
             expect_served(gateway)
         gateway.expect_clean_end()
 
@@ -214,7 +228,7 @@ def a_store_that_is_open_elsewhere() -> None:
 @PART.alone
 def a_stop_while_a_store_is_open_elsewhere() -> None:
     """It ends the wait for that store in order, and closes the other one."""
-    with Operated({"bank": Path("bank.db"), "shop": Path("shop.db")}, "--log-level", "debug") as gateway:
+    with Operated({"bank": Path("bank.db"), "shop": Path("shop.db")}, ("--log-level", "debug")) as gateway:
         with_stock(gateway, 9).close()
         gateway.expect_clean_end()
         holder = subprocess.Popen([PROGRAM, "serve", "--store", gateway.store], stdin=subprocess.PIPE, stdout=subprocess.PIPE)
@@ -246,10 +260,10 @@ def folders_of_a_killed_start() -> None:
         for _ in range(3):
             gateway.begin()
             nameless = gateway.folder / f".{gateway.running().pid}.0/s"
-            wait_until("its socket has no name yet", lambda: is_answered(nameless))
+            wait_until("its socket has no name yet", partial(is_answered, nameless))
             gateway.kill()
             # A process that it was starting may have the socket for a moment.
-            wait_until("nobody answers there", lambda: not is_answered(nameless))
+            wait_until("nobody answers there", partial(is_silent, nameless))
             expect(len(private()), 1)
         gateway.program = ""
         gateway.start()
@@ -272,7 +286,10 @@ def metrics_in_the_way() -> None:
                 gateway.begin()
                 expect(gateway.running().wait(END), 2, gateway.said())
                 expect(f"{place} is not a regular file" in gateway.said(), True, gateway.said())
-                place.rmdir() if place.is_dir() else place.unlink()
+                if place.is_dir():
+                    place.rmdir()
+                else:
+                    place.unlink()
         expect(target.read_text(), "text")
 
 
@@ -315,7 +332,8 @@ def a_limit_of_the_sizes_of_files() -> None:
 @PART.alone
 def lines_of_the_journal() -> None:
     """Each line has a priority: connections that of debug, what needs a look that of a warning."""
-    gateway = Operated(IN_A_STORE, "--log-level", "debug", "--idle-in-transaction-timeout", "1", "--transaction-timeout", "2", "--connections", str(FEW))
+    gateway = Operated(
+        IN_A_STORE, ("--log-level", "debug", "--idle-in-transaction-timeout", "1", "--transaction-timeout", "2", "--connections", str(FEW)))
     gateway.as_journal()
     with gateway:
         open_ones = [Connection(gateway.socket) for _ in range(FEW)]

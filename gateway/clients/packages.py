@@ -56,7 +56,7 @@ def is_here(package: str) -> bool:
     """Returns whether a package is installed, or something in its place."""
     if package in SHOWS:
         return any(glob.glob(pattern) for pattern in SHOWS[package])
-    done = subprocess.run(["dpkg-query", "-W", "-f", "${Status}", package], capture_output=True, text=True)
+    done = subprocess.run(["dpkg-query", "-W", "-f", "${Status}", package], capture_output=True, text=True, check=False)
     return done.stdout.endswith(" installed")
 
 
@@ -68,7 +68,7 @@ def run(words: Sequence[str], tries: int = 1, folder: Optional[Path] = None) -> 
             time.sleep(PAUSE)
         try:
             done = subprocess.run(words, stdin=subprocess.DEVNULL, stdout=subprocess.PIPE, stderr=subprocess.STDOUT, text=True, env=env,
-                                  cwd=folder, timeout=LIMIT)
+                                  cwd=folder, timeout=LIMIT, check=False)
             status, said = str(done.returncode), done.stdout
         except (subprocess.TimeoutExpired, OSError) as error:
             status, said = "none", str(error)

@@ -15,6 +15,7 @@ import tempfile
 import threading
 import time
 from pathlib import Path
+from types import MappingProxyType
 from types import TracebackType
 from typing import Callable, Dict, List, Mapping, Optional, Sequence, Type, TypeVar
 
@@ -29,7 +30,7 @@ LOAD = float(os.environ.get("ESCROWD_LOAD", "1"))
 PATIENCE = 1 if LOAD >= 1 else 5
 # The seconds that a server may take to start and to end.
 START = END = 60.0 * PATIENCE
-IN_MEMORY: Mapping[str, Optional[Path]] = {"bank": None}
+IN_MEMORY: Mapping[str, Optional[Path]] = MappingProxyType({"bank": None})
 IN_A_STORE: Mapping[str, Optional[Path]] = {"bank": Path("bank.db")}
 
 Self = TypeVar("Self", bound="Server")
@@ -59,7 +60,7 @@ def children(process: int) -> List[int]:
     found: List[int] = []
     for path in glob.glob("/proc/[0-9]*/stat"):
         try:
-            parent = Path(path).read_text().rsplit(")", 1)[1].split()[1]
+            parent = Path(path).read_text(encoding="utf-8").rsplit(")", 1)[1].split()[1]
         except (FileNotFoundError, ProcessLookupError):
             continue  # it has ended since
         if int(parent) == process:
@@ -79,7 +80,7 @@ def holds(process: int) -> int:
 
 def memory(process: int, name: str) -> int:
     """Returns an amount of memory that the system tells of a process."""
-    for line in Path(f"/proc/{process}/status").read_text().splitlines():
+    for line in Path(f"/proc/{process}/status").read_text(encoding="utf-8").splitlines():
         if line.startswith(name):
             return 1024 * int(line.split()[1])
     raise AssertionError(f"process {process} has ended")
@@ -165,7 +166,7 @@ TRANSACTIONS = 60
 class Gateway(Server):
     """escrowd-pg in front of a program for each database. A relative path of a store is one in the gateway's folder."""
 
-    def __init__(self, databases: Mapping[str, Optional[Path]] = IN_MEMORY, *options: str) -> None:
+    def __init__(self, databases: Mapping[str, Optional[Path]] = IN_MEMORY, options: Sequence[str] = ()) -> None:
         super().__init__()
         self.databases = {name: self.folder / path if path else None for name, path in databases.items()}
         self.options = [it.format(folder=self.folder) for it in options]
@@ -211,7 +212,7 @@ class Gateway(Server):
 def stored(path: Path, *statements: str) -> List[str]:
     """Returns what the program itself answers over a store that nobody else has open, without prefixes."""
     script = "".join(f"bank.1: {it}\n" for it in statements)
-    done = subprocess.run([PROGRAM, "run", "--store", path], input=script, capture_output=True, text=True, timeout=END)
+    done = subprocess.run([PROGRAM, "run", "--store", path], input=script, capture_output=True, text=True, timeout=END, check=False)
     if done.returncode != 0:
         raise AssertionError(f"the store does not open: status {done.returncode}: {done.stderr}")
     return [line.split("> ", 1)[1] for line in done.stdout.splitlines()]
@@ -263,7 +264,7 @@ class Postgres(Server):
     def psql(self, database: str, *statements: str) -> int:
         """Runs statements, and returns the status of psql."""
         words = ["psql", "-XAqtd", self.dsn(database), "-v", "ON_ERROR_STOP=1"] + [word for it in statements for word in ("-c", it)]
-        return subprocess.run(words, stdout=subprocess.DEVNULL, stderr=subprocess.DEVNULL).returncode
+        return subprocess.run(words, stdout=subprocess.DEVNULL, stderr=subprocess.DEVNULL, check=False).returncode
 
     def dsn(self, database: str = "bank") -> str:
         """Returns a connection string for libpq."""

@@ -93,7 +93,7 @@ class Part:
                 case.run()
             except Skipped as skipped:
                 outcome, why = SKIPPED, str(skipped)
-            except Exception as fault:
+            except Exception as fault:  # pylint: disable=broad-exception-caught  # whatever a case raises is its outcome
                 outcome, why = FAILED, reason(fault)
             print(Report(self.name, name, outcome, time.monotonic() - begin, why).to_line(), flush=True)
 

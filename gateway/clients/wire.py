@@ -59,7 +59,8 @@ class Message(NamedTuple):
         if self.kind == "T":
             return "columns " + ", ".join(f"{name}:{oid}:{modifier}:{shape}" for name, oid, modifier, shape in self.columns())
         if self.kind == "t":
-            return f"parameters {list(struct.unpack_from('!%di' % struct.unpack_from('!h', self.body)[0], self.body, 2))}"
+            count = struct.unpack_from("!h", self.body)[0]
+            return f"parameters {list(struct.unpack_from(f'!{count}i', self.body, 2))}"
         if self.kind == "D":
             return "row " + "|".join("NULL" if it is None else it.decode("latin-1") for it in self.values())
         if self.kind == "C":

@@ -21,7 +21,8 @@ OURS = [
     "CREATE TABLE orders (k VARCHAR2(10) PRIMARY KEY, n INTEGER RESERVABLE CONSTRAINT most CHECK (n <= 100))",
 ]
 THEIRS = [
-    "CREATE TABLE stock (id bigint PRIMARY KEY, pieces bigint NOT NULL CONSTRAINT in_stock CHECK (pieces >= 0), price numeric(8,2) NOT NULL, name varchar(20) NOT NULL)",
+    "CREATE TABLE stock (id bigint PRIMARY KEY, pieces bigint NOT NULL CONSTRAINT in_stock CHECK (pieces >= 0), price numeric(8,2) NOT NULL,"
+    " name varchar(20) NOT NULL)",
     "CREATE TABLE orders (k varchar(10) PRIMARY KEY, n bigint NOT NULL CONSTRAINT most CHECK (n <= 100))",
 ]
 COMMANDS = [
@@ -66,7 +67,7 @@ def psql(dsn: str, *commands: str) -> List[str]:
     words = ["psql", "-X", "-d", dsn, *(word for it in commands for word in ("-c", it))]
     return subprocess.run(
         words, stdout=subprocess.PIPE, stderr=subprocess.STDOUT, text=True, timeout=END, env={**os.environ, "PAGER": "cat", "LC_ALL": "C.UTF-8"}
-    ).stdout.splitlines()
+    , check=False).stdout.splitlines()
 
 
 def expect_equal(theirs: Sequence[str], ours: Sequence[str]) -> None:

@@ -31,6 +31,7 @@ def is_refused_with_a_reason(gateway: Gateway) -> None:
                 stderr=subprocess.STDOUT,
                 text=True,
                 timeout=END,
+                check=False,
             )
             expect((done.returncode, "0A000" in done.stdout), (1, True), done.stdout)
             for word in ("REPEATABLE READ", "READ COMMITTED"):

@@ -288,7 +288,8 @@ class Pair:
                 if not answer.acted and excused(Aspect.BEHIND, it):
                     return Difference(it, "")
                 only = [readable(set(one) - set(other)) for one, other in ((rows, rows_of_theirs), (rows_of_theirs, rows))]
-                wrong = f"rows behind it: gateway ({answer.text or answer.tags}) {only[0]}, PostgreSQL ({answer_of_theirs.text or answer_of_theirs.tags}) {only[1]}"
+                said = [it.text or it.tags for it in (answer, answer_of_theirs)]
+                wrong = f"rows behind it: gateway ({said[0]}) {only[0]}, PostgreSQL ({said[1]}) {only[1]}"
             if wrong:
                 return Difference(it, wrong, tuple(statements[:at]))
         return None

@@ -21,7 +21,7 @@ STOCK = "CREATE TABLE stock (id INTEGER PRIMARY KEY, pieces INTEGER RESERVABLE C
 def psql(gateway: Gateway, *words: str, given: str = "", database: str = "bank") -> Tuple[int, str]:
     """Runs psql, and returns its status and what it prints, errors among it."""
     done = subprocess.run(["psql", "-X", "-d", gateway.dsn(database), *words], input=given, stdout=subprocess.PIPE, stderr=subprocess.STDOUT,
-                          text=True, timeout=SECONDS, env={**os.environ, "PGCLIENTENCODING": "UTF8", "LC_ALL": "C.UTF-8"})
+                          text=True, timeout=SECONDS, env={**os.environ, "PGCLIENTENCODING": "UTF8", "LC_ALL": "C.UTF-8"}, check=False)
     return done.returncode, done.stdout
 
 
@@ -109,7 +109,7 @@ def forms_of_output(gateway: Gateway) -> None:
 def repeats_until_interrupted(gateway: Gateway) -> None:
     lines(gateway, STOCK, "INSERT INTO stock VALUES (1, 5)")
     seen = gateway.folder / "seen"
-    with open(seen, "w") as output:
+    with open(seen, "w", encoding="utf-8") as output:
         watch = subprocess.Popen(["psql", "-XAt", "-d", gateway.dsn()], stdin=subprocess.PIPE, stdout=output, stderr=subprocess.STDOUT, text=True)
         assert watch.stdin
         watch.stdin.write("SELECT * FROM stock \\watch 0.02\n")
@@ -128,7 +128,7 @@ def pg_dump_is_refused(gateway: Gateway) -> None:
     """It asks for REPEATABLE READ before it reads the catalog, for a schema alone too."""
     lines(gateway, STOCK)
     for words in (["pg_dump"], ["pg_dump", "-s"], ["pg_dump", "-a", "-t", "stock"]):
-        done = subprocess.run([*words, "-d", gateway.dsn()], capture_output=True, text=True, timeout=SECONDS)
+        done = subprocess.run([*words, "-d", gateway.dsn()], capture_output=True, text=True, timeout=SECONDS, check=False)
         expect((done.returncode, done.stdout), (1, ""), " ".join(words))
         expect("an isolation level above READ COMMITTED is not supported" in done.stderr, True, done.stderr)
 

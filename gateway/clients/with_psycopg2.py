@@ -3,6 +3,7 @@ from __future__ import annotations
 
 import time
 from concurrent.futures import ThreadPoolExecutor
+from functools import partial
 from typing import List
 
 import psycopg2
@@ -146,7 +147,7 @@ def what_is_not_there(gateway: Gateway) -> None:
     connection = dbapi.opened(psycopg2, gateway, dbapi.STOCK)
     names: List[str] = []
     for statement in ("COPY stock TO STDOUT", "LISTEN news", "SELECT * FROM pg_operator", "PREPARE TRANSACTION 'a'", "LOCK TABLE stock", "VACUUM"):
-        error = dbapi.refused(psycopg2, "FeatureNotSupported", lambda: dbapi.run(connection, statement))
+        error = dbapi.refused(psycopg2, "FeatureNotSupported", partial(dbapi.run, connection, statement))
         names += [statement] if not error.diag.message_hint else []
     expect(names, [], "refused without a hint")
     connection.close()

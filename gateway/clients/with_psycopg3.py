@@ -6,6 +6,7 @@ import threading
 import time
 from concurrent.futures import ThreadPoolExecutor
 from decimal import Decimal
+from functools import partial
 from typing import Any
 
 import psycopg
@@ -233,7 +234,7 @@ def cancel(gateway: Gateway) -> None:
 def what_is_not_there(gateway: Gateway) -> None:
     connection = dbapi.opened(psycopg, gateway, dbapi.STOCK)
     for statement in ("LISTEN news", "SELECT * FROM pg_operator", "LOCK TABLE stock"):
-        error = dbapi.refused(psycopg, "FeatureNotSupported", lambda: dbapi.run(connection, statement))
+        error = dbapi.refused(psycopg, "FeatureNotSupported", partial(dbapi.run, connection, statement))
         expect(bool(error.diag.message_hint), True, statement)
 
     def copy() -> None:

@@ -42,8 +42,8 @@ def inserts_selects_and_transactions(gateway: Gateway) -> None:
     else:
         raise AssertionError("no IntegrityError")
     with made.connect() as connection:
-        row = connection.execute(text("SELECT * FROM stock WHERE id = :id"), {"id": 1}).one()
-        expect(dict(row._mapping), {"id": 1, "pieces": 3, "price": Decimal("9.50"), "name": "Bob's \\ tea"})
+        row = connection.execute(text("SELECT * FROM stock WHERE id = :id"), {"id": 1}).mappings().one()
+        expect(dict(row), {"id": 1, "pieces": 3, "price": Decimal("9.50"), "name": "Bob's \\ tea"})
         expect([tuple(it)[:2] for it in connection.execute(text("SELECT * FROM stock"))], [(1, 3), (2, 2), (3, 3)])
     made.dispose()
 

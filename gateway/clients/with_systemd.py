@@ -9,6 +9,7 @@ import json
 import os
 import shutil
 import subprocess
+from functools import partial
 from pathlib import Path
 from typing import Dict, List
 
@@ -84,7 +85,7 @@ class Manager(Server):
         (self.folder / "default").write_text(default.replace('OPTIONS=""', f'OPTIONS="{OPTIONS}"'))
         (self.folder / "journald.conf").write_text(JOURNALD_CONF)
         for file, line in (("passwd", f"{USER}:x:{ID}:{ID}::/var/lib/{USER}:/usr/sbin/nologin\n"), ("group", f"{USER}:x:{ID}:\n")):
-            (self.folder / file).write_text(Path("/etc", file).read_text() + line)
+            (self.folder / file).write_text(Path("/etc", file).read_text(encoding="utf-8") + line)
         words = ["unshare", "--mount", "--pid", "--fork", "--kill-child", "--mount-proc", "sh", "-c", SETUP, "sh", self.folder, self.folder.name]
         self.launch(words, env=ENVIRONMENT)
         wait_until("the manager runs, or cannot", lambda: self.running().poll() is not None or self.is_up())
@@ -104,13 +105,13 @@ class Manager(Server):
     def is_removed(self) -> bool:
         """Removes the control group, if no process is in it. Returns whether it is gone."""
         words = ["unshare", "--mount", "sh", "-c", REMOVE, "sh", self.folder.name]
-        return subprocess.run(words, stdout=subprocess.DEVNULL, stderr=subprocess.DEVNULL).returncode == 0
+        return subprocess.run(words, stdout=subprocess.DEVNULL, stderr=subprocess.DEVNULL, check=False).returncode == 0
 
     def inside(self, *words: str) -> "subprocess.CompletedProcess[str]":
         """Runs a command where the manager is."""
         init = children(self.running().pid)[0]
         return subprocess.run(["nsenter", "--target", str(init), "--mount", "--pid", *words], capture_output=True, text=True, timeout=END,
-                              env=ENVIRONMENT)
+                              env=ENVIRONMENT, check=False)
 
     def systemctl(self, *words: str) -> "subprocess.CompletedProcess[str]":
         return self.inside("systemctl", "--user", *words)
@@ -144,12 +145,17 @@ class Manager(Server):
         group = self.path("/sys/fs/cgroup") / self.shown("ControlGroup")["ControlGroup"].lstrip("/")
         found = []
         for process in (group / "cgroup.procs").read_text().split():
-            status = Path(f"/proc/{process}/status").read_text().splitlines()
+            status = Path(f"/proc/{process}/status").read_text(encoding="utf-8").splitlines()
             found.append([line for line in status if line.startswith(("NoNewPrivs:", "Seccomp:"))])
         return found
 
     def restarts(self) -> int:
         return int(self.shown("NRestarts")["NRestarts"])
+
+
+def has_restarted(manager: Manager, restarts: int) -> bool:
+    """Returns whether the service was started again so often, and serves."""
+    return manager.restarts() == restarts and is_answered(manager.socket)
 
 
 def expect_pieces(manager: Manager, pieces: int) -> None:
@@ -185,7 +191,7 @@ def a_service_that_is_killed() -> None:
             it.do(STOCK, "INSERT INTO stock VALUES (1, 9)", TAKE.format(2))
         for restarts, name in ((1, "escrowd-pg"), (2, "escrowd")):
             manager.inside("sh", "-c", f"kill -KILL $(pgrep -x {name})")
-            wait_until(f"a start behind the end of {name}", lambda: manager.restarts() == restarts and is_answered(manager.socket))
+            wait_until(f"a start behind the end of {name}", partial(has_restarted, manager, restarts))
             expect_pieces(manager, 7)
         manager.do("stop")
         expect([it.name for it in manager.path("/var/lib/escrowd").iterdir()], ["shop.db"])

@@ -1,24 +1,34 @@
 """What the replies to the sessions of tools/random-free add up to, and whether they do."""
-# mypy: ignore-errors
 import collections
 import re
+from typing import Callable, Dict, Iterable, List, NamedTuple, Optional, Sequence, Set, Tuple
 
 from stock import CHECKS, COLUMNS, FIRST, NO_ROW, NO_TABLE, OPEN, PASSING, SESSIONS, SHARED, SIDES, TABLE
 
 TOTALS = ["served", "granted", "broken", "refused", "commits", "rollbacks", "writes", "queries"]
 # Which total a reply counts in beside `served`, by its first words; 11 counts nowhere, as SHOW STATISTICS.
-COUNTED = {"OK reserved": "granted", "ERR 41": "broken", "OK committed": "commits", "OK rolled": "rollbacks", "OK inserted": "writes", "OK deleted": "writes",
-           "OK updated": "writes", "OK rows": "queries", "OK table": "queries", "OK bounds": "queries", "OK reservations": "queries", "OK created": None,
-           "OK dropped": None, "OK savepoint": None}
-# An open reservation.
-Held = collections.namedtuple("Held", "id key changes")
+COUNTED: Dict[str, Optional[str]] = {
+    "OK reserved": "granted", "ERR 41": "broken", "OK committed": "commits", "OK rolled": "rollbacks", "OK inserted": "writes", "OK deleted": "writes",
+    "OK updated": "writes", "OK rows": "queries", "OK table": "queries", "OK bounds": "queries", "OK reservations": "queries", "OK created": None,
+    "OK dropped": None, "OK savepoint": None}
+# The amounts of a row, and what is added to each of them, if it is.
+Row = Tuple[int, int]
+Changes = Tuple[Optional[int], Optional[int]]
+
+
+class Held(NamedTuple):
+    """An open reservation."""
+
+    id: int
+    key: int
+    changes: Changes
 
 
 class Wrong(Exception):
     """What is wrong with a reply."""
 
 
-def expect(holds, what):
+def expect(holds: object, what: str) -> None:
     if not holds:
         raise Wrong(what)
 
@@ -26,14 +36,16 @@ def expect(holds, what):
 class Session:
     """What the replies to a session say that it has open, and their totals."""
 
-    def __init__(self):
-        self.held, self.savepoints, self.last = [], [], 0
+    def __init__(self) -> None:
+        self.held: List[Held] = []
+        self.savepoints: List[Tuple[str, int]] = []
+        self.last = 0
         self.totals = dict.fromkeys(TOTALS, 0)
 
-    def is_open(self):
+    def is_open(self) -> bool:
         return bool(self.held or self.savepoints)
 
-    def count(self, reply):
+    def count(self, reply: str) -> None:
         total = COUNTED.get(" ".join(reply.split(" ")[:2]), "refused")
         self.totals["served"] += 1
         if total:
@@ -43,10 +55,11 @@ class Session:
 class Thing:
     """A row or a table that comes and goes: whether it stood before the phase, how often it came and went in it, and what replies said of it."""
 
-    def __init__(self):
-        self.stands, self.came, self.went, self.said = False, 0, 0, set()
+    def __init__(self) -> None:
+        self.stands, self.came, self.went = False, 0, 0
+        self.said: Set[bool] = set()
 
-    def end_phase(self, what):
+    def end_phase(self, what: str) -> None:
         expect(True not in self.said or self.stands or self.came, f"{what} was there, and never came")
         expect(False not in self.said or not self.stands or self.went, f"{what} wasn't there, and never went")
         count = self.stands + self.came - self.went
@@ -57,27 +70,31 @@ class Thing:
 class Database:
     """What the replies of a database say that it holds. Each method takes the reply to a statement in, or says what is wrong with it."""
 
-    def __init__(self):
-        self.rows = {key: FIRST for key in SHARED}
+    def __init__(self) -> None:
+        self.rows: Dict[int, Row] = {key: FIRST for key in SHARED}
         self.names = {key: {"new"} for key in (*SHARED, *PASSING)}
         self.things = {**{f"row {key}": Thing() for key in PASSING}, **{f"table {number}": Thing() for number in SIDES}}
         self.started()
 
-    def started(self):
+    def started(self) -> None:
         """It was opened: nothing is open."""
         self.sessions = {session: Session() for session in SESSIONS}
-        self.ids, self.first_id = set(), 1
-        self.renamed, self.touched, self.blocked, self.is_alone = {}, set(), set(), False
+        self.ids: Set[int] = set()
+        self.first_id, self.is_alone = 1, False
+        # The names that rows were given in the phase, by whom: `None` is who inserted it.
+        self.renamed: Dict[int, Dict[Optional[Session], str]] = {}
+        self.touched: Set[int] = set()
+        self.blocked: Set[int] = set()
 
-    def all_held(self):
+    def all_held(self) -> List[Tuple[Held, int]]:
         return [(held, session) for session, asker in self.sessions.items() for held in asker.held]
 
-    def row(self, key):
+    def row(self, key: int) -> Row:
         return self.rows.get(key, FIRST)
 
     # What may be open, and how it ends.
 
-    def reserve(self, asker, last, _, key, changes):
+    def reserve(self, asker: Session, last: str, shown: List[str], key: int, changes: Changes) -> None:
         if self.is_alone and key in SHARED and len(asker.held) < 256:
             wanted = violation(self.row(key), self.changes_of(key), changes) or f"OK reserved {len(self.ids) + 1}"
             expect(last == wanted, f"not {wanted}")
@@ -92,33 +109,34 @@ class Database:
         elif last.startswith("ERR 41 "):
             _, _, name, side, worst, _, limit = last.split(" ")
             low, high = CHECKS[name][1:]
-            is_broken = int(worst) < low if side == "low" else int(worst) > high
-            expect(key in SHARED and is_broken and int(limit) == (low if side == "low" else high), "no such limit")
+            wanted_limit = low if side == "low" else high
+            expect(key in SHARED and wanted_limit is not None and int(limit) == wanted_limit, "no such limit")
+            expect(int(worst) < int(limit) if side == "low" else int(worst) > int(limit), "it breaks nothing")
         else:
             expect(last == "ERR 42 too many reservations" and len(asker.held) == 256, "refused")
 
-    def touch(self, asker, last, shown, key):
+    def touch(self, asker: Session, last: str, shown: List[str], key: int) -> None:
         """A reservation of a passing row, which changes nothing."""
         self.things[f"row {key}"].said.add(last != NO_ROW)
         if last != NO_ROW:
             self.reserve(asker, last, shown, key, (0, None))
 
-    def commit(self, asker, last, _):
+    def commit(self, asker: Session, last: str, _: List[str]) -> None:
         expect(last == f"OK committed {len(asker.held)}", "how many")
         for held in asker.held:
             if held.key in SHARED:
                 self.rows[held.key] = moved(self.rows[held.key], held.changes)
         asker.held, asker.savepoints = [], []
 
-    def rollback(self, asker, last, _):
+    def rollback(self, asker: Session, last: str, _: List[str]) -> None:
         expect(last == f"OK rolled back {len(asker.held)}", "how many")
         asker.held, asker.savepoints = [], []
 
-    def savepoint(self, asker, last, _, name):
+    def savepoint(self, asker: Session, last: str, _: List[str], name: str) -> None:
         expect(last == f"OK savepoint {name}", "refused")
         asker.savepoints = [(other, count) for other, count in asker.savepoints if other != name] + [(name, len(asker.held))]
 
-    def back(self, asker, last, _, name):
+    def back(self, asker: Session, last: str, _: List[str], name: str) -> None:
         places = [place for place, (other, _) in enumerate(asker.savepoints) if other == name]
         if not places:
             expect(last == "ERR 43 no such savepoint", "there is none")
@@ -129,7 +147,7 @@ class Database:
 
     # What acts at once.
 
-    def change(self, asker, last, what, done, not_done, is_there):
+    def change(self, asker: Session, last: str, what: str, done: str, not_done: str, is_there: bool) -> None:
         """A thing comes or goes, or is refused, by whether it is there; or the session has something open, and only then."""
         expect(asker.is_open() == (last == OPEN), "open, or not")
         if last != OPEN:
@@ -138,12 +156,12 @@ class Database:
             self.things[what].came += last == done and not is_there
             self.things[what].went += last == done and is_there
 
-    def insert(self, asker, last, _, key):
+    def insert(self, asker: Session, last: str, _: List[str], key: int) -> None:
         self.change(asker, last, f"row {key}", "OK inserted", "ERR 30 row exists", False)
         if last == "OK inserted":
             self.renamed.setdefault(key, {})[None] = "new"
 
-    def delete(self, asker, last, _, key):
+    def delete(self, asker: Session, last: str, _: List[str], key: int) -> None:
         if last == "ERR 32 row reserved":
             expect(not asker.is_open(), "open, or not")
             self.things[f"row {key}"].said.add(True)
@@ -151,13 +169,13 @@ class Database:
         else:
             self.change(asker, last, f"row {key}", "OK deleted", NO_ROW, True)
 
-    def create(self, asker, last, _, number):
+    def create(self, asker: Session, last: str, _: List[str], number: int) -> None:
         self.change(asker, last, f"table {number}", f"OK created SIDE_{number}", "ERR 20 table exists", False)
 
-    def drop(self, asker, last, _, number):
+    def drop(self, asker: Session, last: str, _: List[str], number: int) -> None:
         self.change(asker, last, f"table {number}", f"OK dropped SIDE_{number}", NO_TABLE, True)
 
-    def rename(self, asker, last, _, key, name):
+    def rename(self, asker: Session, last: str, _: List[str], key: int, name: str) -> None:
         expect(asker.is_open() == (last == OPEN), "open, or not")
         if last != OPEN:
             expect(last == "OK updated" or key in PASSING and last == NO_ROW, "refused")
@@ -168,13 +186,13 @@ class Database:
 
     # What shows.
 
-    def table(self, asker, last, shown):
+    def table(self, asker: Session, last: str, shown: List[str]) -> None:
         expect(shown == [TABLE] and last == "OK table", "another table")
 
-    def rows_of(self, last, shown):
+    def rows_of(self, last: str, shown: List[str]) -> Dict[int, Tuple[str, Row]]:
         """The rows that are shown. They meet the checks."""
         expect(shown[:1] == [COLUMNS] and last == f"OK rows {len(shown) - 1}", "not the columns and the rows")
-        found = {}
+        found: Dict[int, Tuple[str, Row]] = {}
         for line in shown[1:]:
             key, name, pieces, held = line.split(" | ")
             row = int(pieces), int(held)
@@ -184,19 +202,19 @@ class Database:
         expect(list(found) == sorted(found) and len(found) == len(shown) - 1, "the keys")
         return found
 
-    def select(self, _, last, shown, key):
+    def select(self, _: Session, last: str, shown: List[str], key: int) -> None:
         found = self.rows_of(last, shown)
         expect(set(found) <= {key} and (key in found or key in PASSING), "another key")
         if key in PASSING:
             self.things[f"row {key}"].said.add(key in found)
 
-    def select_all(self, _, last, shown):
+    def select_all(self, _: Session, last: str, shown: List[str]) -> None:
         found = self.rows_of(last, shown)
         expect(set(SHARED) <= set(found) <= set(self.names), "other keys")
         for key in PASSING:
             self.things[f"row {key}"].said.add(key in found)
 
-    def bounds(self, _, last, shown, key):
+    def bounds(self, asker: Session, last: str, shown: List[str], key: int) -> None:
         if key in PASSING:
             self.things[f"row {key}"].said.add(last != NO_ROW)
         if last == NO_ROW:
@@ -207,7 +225,7 @@ class Database:
             found = re.fullmatch(rf"CHECK {name} least (-?\d+) greatest (-?\d+) low {low} high {'none' if high is None else high}", line)
             expect(found and low <= int(found[1]) <= int(found[2]) and (high is None or int(found[2]) <= high), "a check may break")
 
-    def journal(self, asker, last, shown):
+    def journal(self, asker: Session, last: str, shown: List[str]) -> None:
         expect(last == f"OK reservations {len(shown)}", "how many")
         ids = [int(line.split(" ")[0]) for line in shown]
         expect(ids == sorted(set(ids)), "the order")
@@ -215,18 +233,18 @@ class Database:
         mine = [line for line in shown if line.split(" ")[2] == str(own)]
         expect(mine == [entry(held, own) for held in asker.held], "what the session holds")
 
-    def totals(self, asker, last, shown):
+    def totals(self, asker: Session, last: str, shown: List[str]) -> None:
         expect(shown == [" ".join(f"{name} {count}" for name, count in asker.totals.items())] and last == "OK statistics", f"the totals are {asker.totals}")
 
-    def refused(self, asker, last, shown, closed, opened):
+    def refused(self, asker: Session, last: str, shown: List[str], closed: str, opened: str) -> None:
         expect(not shown and last == (opened if asker.is_open() else closed), "another refusal")
 
-    def no_statement(self, _, last, shown, column):
+    def no_statement(self, _: Session, last: str, shown: List[str], column: int) -> None:
         expect(not shown and last == f"ERR 11 syntax column {column}", "another column")
 
     # What one session shows while no other one asks: all of it is known.
 
-    def all_rows(self, asker, last, shown):
+    def all_rows(self, asker: Session, last: str, shown: List[str]) -> None:
         self.select_all(asker, last, shown)
         found = self.rows_of(last, shown)
         for key, (name, row) in found.items():
@@ -234,19 +252,19 @@ class Database:
             expect(name in self.names[key], f"the name of row {key}, of {self.names[key]}")
             self.names[key] = {name}
 
-    def all_bounds(self, _, last, shown, key):
+    def all_bounds(self, _: Session, last: str, shown: List[str], key: int) -> None:
         expect(last == "OK bounds" and shown == bounds_of(self.row(key), self.changes_of(key)), f"not {bounds_of(self.row(key), self.changes_of(key))}")
 
-    def all_journal(self, _, last, shown):
+    def all_journal(self, _: Session, last: str, shown: List[str]) -> None:
         wanted = [entry(held, session) for held, session in sorted(self.all_held())]
         expect(shown == wanted and last == f"OK reservations {len(wanted)}", f"not {wanted}")
 
-    def changes_of(self, key):
+    def changes_of(self, key: int) -> List[Changes]:
         return [held.changes for held, _ in self.all_held() if held.key == key]
 
-    def end_phase(self, is_alone):
+    def end_phase(self, is_alone: bool) -> None:
         """The phase was served: looks at what holds behind it. In the next one a single session asks, or several do."""
-        held = collections.defaultdict(list)
+        held: Dict[int, List[Held]] = collections.defaultdict(list)
         for one, _ in sorted(self.all_held()):
             held[one.key].append(one)
         for key, ones in held.items():
@@ -267,23 +285,23 @@ class Database:
         self.first_id = len(self.ids) + 1
 
 
-def moved(row, changes):
-    return tuple(value + (change or 0) for value, change in zip(row, changes))
+def moved(row: Row, changes: Changes) -> Row:
+    return row[0] + (changes[0] or 0), row[1] + (changes[1] or 0)
 
 
-def entry(held, session):
+def entry(held: Held, session: int) -> str:
     """The line of a reservation in the journal."""
     changes = [f"{name} {change:+d}" for name, change in zip(("PIECES", "HELD"), held.changes) if change is not None]
     return " ".join([str(held.id), "session", str(session), "STOCK", str(held.key), *changes])
 
 
-def span(form, row, all_changes):
+def span(form: Callable[[int, int], int], row: Row, all_changes: Iterable[Changes]) -> Tuple[int, int]:
     """The least and the greatest that a form may come to, whichever of the open reservations of a row are committed."""
     adds = [form(*moved((0, 0), changes)) for changes in all_changes]
     return form(*row) + sum(min(add, 0) for add in adds), form(*row) + sum(max(add, 0) for add in adds)
 
 
-def violation(row, all_changes, changes):
+def violation(row: Row, all_changes: Sequence[Changes], changes: Changes) -> Optional[str]:
     """The refusal of a new reservation of a row with these open ones, if there is one: the first check that could break, the low side first."""
     for name, (form, low, high) in CHECKS.items():
         least, greatest = (limit + form(*moved((0, 0), changes)) for limit in span(form, row, all_changes))
@@ -294,12 +312,12 @@ def violation(row, all_changes, changes):
     return None
 
 
-def bounds_of(row, all_changes):
+def bounds_of(row: Row, all_changes: Sequence[Changes]) -> List[str]:
     """The lines of SHOW BOUNDS of a row with these open reservations, behind which stands `OK bounds`."""
     lines = []
-    for place, name in enumerate(("PIECES", "HELD")):
-        inf, sup = span(lambda *values, place=place: values[place], row, all_changes)
-        lines.append(f"{name} value {row[place]} inf {inf} sup {sup}")
+    for name, value, form in (("PIECES", row[0], lambda pieces, held: pieces), ("HELD", row[1], lambda pieces, held: held)):
+        inf, sup = span(form, row, all_changes)
+        lines.append(f"{name} value {value} inf {inf} sup {sup}")
     for name, (form, low, high) in CHECKS.items():
         least, greatest = span(form, row, all_changes)
         lines.append(f"CHECK {name} least {least} greatest {greatest} low {low} high {'none' if high is None else high}")

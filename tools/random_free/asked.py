@@ -1,7 +1,6 @@
 """What the sessions of tools/random-free ask."""
-# mypy: ignore-errors
-import collections
 import random
+from typing import Callable, List, NamedTuple, Optional, Tuple
 
 from stock import FIRST, NAMES, NO_ROW, NO_TABLE, OPEN, PASSING, SESSIONS, SHARED, SIDE, SIDES, TABLE
 
@@ -35,33 +34,46 @@ KINDS = {"reserve": 46, "touch": 3, "commit": 14, "rollback": 5, "savepoint": 5,
          "table": 1, "create": 0.5, "drop": 0.5, "totals": 1, "refused": 2, "no_statement": 1, "no_line": 0.4, "silent": 0.4}
 
 
-# A line of a script, and what it asks: of which database, which session, what, and with which words.
-Line = collections.namedtuple("Line", "text place session kind words")
-JOIN = Line("@join", None, None, "join", ())
+
+
+class Line(NamedTuple):
+    """A line of a script, and what it asks: of which database, which session, what, and with which words. Of no database it is what ends a phase, or asks
+    nothing."""
+
+    text: str
+    kind: str
+    place: int = -1
+    session: int = 0
+    words: Tuple[object, ...] = ()
+
+
+JOIN = Line("@join", "join")
 # Behind it a single session of each database asks.
-ALONE = Line("@join", None, None, "alone", ())
+ALONE = Line("@join", "alone")
 
 
 class Writer:
     """Draws the statements of phases."""
 
-    def __init__(self, seed):
+    def __init__(self, seed: int) -> None:
         self.draw = random.Random(seed)
         # How many entries the history of each database has since it was put aside, and in the whole script; and the most in one.
-        self.entries, self.all_entries, self.most = [], [], 0
+        self.entries: List[int] = []
+        self.all_entries: List[int] = []
+        self.most = 0
 
-    def line(self, place, session, text, kind, *words):
+    def line(self, place: int, session: int, text: str, kind: str, *words: object) -> Line:
         is_entry = kind not in ("totals", "no_statement")
         self.entries[place] += is_entry
         self.all_entries[place] += is_entry
-        return Line(f"{NAMES[place]}.{session}: {text}", place, session, kind, words)
+        return Line(f"{NAMES[place]}.{session}: {text}", kind, place, session, words)
 
-    def statement(self, place, session):
+    def statement(self, place: int, session: int) -> Line:
         draw = self.draw
-        kind = draw.choices(list(KINDS), KINDS.values())[0]
+        kind = draw.choices(list(KINDS), list(KINDS.values()))[0]
 
-        def ask(text, *words, kind=kind):
-            return self.line(place, session, text, kind, *words)
+        def ask(text: str, *words: object, of_kind: Optional[str] = None) -> Line:
+            return self.line(place, session, text, of_kind or kind, *words)
 
         if kind == "reserve":
             return self.reservation(place, session)
@@ -77,16 +89,16 @@ class Writer:
             front, rest = draw.choice(NO_STATEMENTS)
             return ask(front + rest, len(front) + 2)
         if kind in ("no_line", "silent"):
-            return Line(draw.choice(NO_LINES if kind == "no_line" else SILENT), None, None, kind, ())
+            return Line(draw.choice(NO_LINES if kind == "no_line" else SILENT), kind)
         if kind in ("create", "drop"):
             number = draw.choice(SIDES)
             return ask(SIDE.format(number) if kind == "create" else f"DROP TABLE SIDE_{number}", number)
         if kind in ("rows", "journal", "table", "totals"):
             text = {"rows": "SELECT * FROM STOCK", "journal": "SHOW JOURNAL", "table": "SHOW TABLE STOCK", "totals": "SHOW STATISTICS"}[kind]
-            return ask(text, kind="select_all" if kind == "rows" else kind)
+            return ask(text, of_kind="select_all" if kind == "rows" else kind)
         return self.of_row(ask, kind)
 
-    def reservation(self, place, session):
+    def reservation(self, place: int, session: int) -> Line:
         draw = self.draw
         pieces, held = draw.choice([(True, False), (False, True), (True, True)])
         changes = (draw.randint(-60, 60) if pieces else None, draw.randint(-30, 30) if held else None)
@@ -95,7 +107,7 @@ class Writer:
         key = draw.choice(SHARED)
         return self.line(place, session, f"UPDATE STOCK SET {', '.join(texts)} WHERE ID = {key}", "reserve", key, changes)
 
-    def of_row(self, ask, kind):
+    def of_row(self, ask: Callable[..., Line], kind: str) -> Line:
         """What names a row that comes and goes, or one of all rows."""
         key = self.draw.choice(PASSING if kind in ("touch", "insert", "delete") else [*SHARED, *PASSING])
         if kind == "rename":
@@ -105,9 +117,9 @@ class Writer:
                  "insert": f"INSERT INTO STOCK VALUES ({key}, 'new', {FIRST[0]}, {FIRST[1]})",
                  "delete": f"DELETE FROM STOCK WHERE ID = {key}", "row": f"SELECT * FROM STOCK WHERE ID = {key}",
                  "bounds": f"SHOW BOUNDS STOCK WHERE ID = {key}"}
-        return ask(texts[kind], key, kind="select" if kind == "row" else kind)
+        return ask(texts[kind], key, of_kind="select" if kind == "row" else kind)
 
-    def turn(self):
+    def turn(self) -> List[Line]:
         """The lines of a phase: all sessions of one database, one of each, or any of all, and what each asks, in any order of theirs."""
         draw = self.draw
         every, which = [(place, session) for place in range(len(NAMES)) for session in SESSIONS], draw.random()
@@ -122,22 +134,22 @@ class Writer:
         is_alone = 0.25 <= which < 0.45
         return is_alone * [ALONE] + [self.statement(*asker) for asker in order] + [JOIN]
 
-    def ends(self, place):
+    def ends(self, place: int) -> List[Line]:
         """All sessions of a database end what they have open, so that its history is put aside."""
         lines = [self.line(place, session, kind.upper(), kind) for session in SESSIONS for kind in [self.draw.choice(["commit", "rollback"])]]
         self.entries[place] = 0
         return lines + [JOIN]
 
-    def set_up(self):
-        lines = []
+    def set_up(self) -> List[Line]:
+        lines: List[Line] = []
         for place in range(len(NAMES)):
             lines.append(self.line(place, 1, TABLE, "refused", "OK created STOCK", OPEN))
             lines += [self.line(place, 1, f"INSERT INTO STOCK VALUES ({key}, 'new', {FIRST[0]}, {FIRST[1]})", "refused", "OK inserted", OPEN) for key in SHARED]
         return lines + [JOIN]
 
-    def look(self):
+    def look(self) -> List[Line]:
         """One session of each database shows all."""
-        lines = []
+        lines: List[Line] = []
         for place in range(len(NAMES)):
             session = self.draw.choice(SESSIONS)
             lines.append(self.line(place, session, "SELECT * FROM STOCK", "all_rows"))
@@ -145,10 +157,10 @@ class Writer:
             lines.append(self.line(place, session, "SHOW JOURNAL", "all_journal"))
         return lines + [JOIN]
 
-    def all_totals(self):
+    def all_totals(self) -> List[Line]:
         return [line for place in range(len(NAMES)) for line in [self.line(place, session, "SHOW STATISTICS", "totals") for session in SESSIONS] + [JOIN]]
 
-    def script(self, is_first, statements):
+    def script(self, is_first: bool, statements: int) -> Tuple[List[Line], int]:
         """The lines of a script, with so many random statements or fewer, as they have room; and how many there are."""
         self.entries, self.all_entries = [0] * len(NAMES), [0] * len(NAMES)
         lines = (self.set_up() if is_first else []) + self.look()

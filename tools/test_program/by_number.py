@@ -3,9 +3,9 @@ import re
 from typing import List, NamedTuple, Tuple
 
 from lines import COMMITTED, ONE
-from longest import ACCOUNT, MOST_BYTES, most_rows
+from longest import ACCOUNT, MOST_BYTES
 from process import Case, Input, Output, Program, Stage, compare
-from steps import Folder, Patch, Run, Serve, Stand, Story
+from steps import Folder, Patch, Serve, Stand, Story
 from stores import MIGRATED, NAMES
 from texts import MODES
 
@@ -19,7 +19,7 @@ class Numbers(NamedTuple):
 
 
 IN_THE_GATE = Numbers(200, 1_200, 2_000)
-BY_HAND = Numbers(16_000, 200_000, 65_536)
+BY_HAND = Numbers(16_000, 100_000, 20_000)
 
 # How many entries of a history are handed out as a part, behind the phase that has so many.
 PART = 32_768
@@ -59,11 +59,16 @@ def counter(rounds: int, program: Program, folder: str) -> None:
     compare("the replies", whole, re.sub(r"(?m) reserved \d+$", " reserved N", written))
 
 
+# How many reservations that are dropped a phase has: its transcript has room for them.
+PAIRS = 10_000
+
+
 def numbers_of_one_session(asked: int) -> List[Case]:
     """One session reserves and drops so many times: its totals tell so, and behind a restart ids and totals begin anew."""
     update = "bank.1: UPDATE ACCOUNT SET BALANCE = BALANCE - 1 WHERE ID = 1\n"
     totals = f"bank.1> served {2 * asked + 2} granted {asked} broken 0 refused 0 commits 0 rollbacks {asked} writes 1 queries 0\nbank.1> OK statistics\n"
-    script = ACCOUNT[0] + f"{update}bank.1: ROLLBACK\n" * asked + "@join\nbank.1: SHOW STATISTICS\n"
+    pairs = "".join(f"{update}bank.1: ROLLBACK\n" + "@join\n" * (number % PAIRS == 0) for number in range(asked))
+    script = f"{ACCOUNT[0]}{pairs}@join\nbank.1: SHOW STATISTICS\n"
     dropped = "".join(f"bank.1> OK reserved {number}\nbank.1> OK rolled back 1\n" for number in range(1, asked + 1))
     replies = ACCOUNT[1] + dropped + totals
     again = (f"@restart bank\n{update}bank.1: SHOW STATISTICS\n", "bank> OK restarted\nbank.1> OK reserved 1\n"
@@ -107,15 +112,3 @@ def longest_script_byte_by_byte() -> List[Case]:
     line = f"{ONE}@join\n--{'-' * 75}\n"
     times = MOST_BYTES // len(line)
     return [Case("a longest script byte by byte", (mode,), line * times, COMMITTED * times, stdin=Input.BYTES) for mode in ("run", "free")]
-
-
-def most_rows_opened_again() -> Story:
-    """A store with as many rows as a table may have is opened again, and restarted."""
-    filled, _ = most_rows()
-    last = "bank.1: INSERT INTO T VALUES (1, 8)\n"
-    words = ("run", "--store", "stores/bank.db")
-    return Story("the most rows, opened again", [
-        Folder("stores"),
-        Run(filled._replace(words=words)),
-        Serve(words, (f"{last}@restart bank\n{last}", "bank.1> ERR 34 table full\nbank> OK restarted\nbank.1> ERR 34 table full\n")),
-    ])

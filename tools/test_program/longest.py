@@ -93,7 +93,8 @@ STEP = 40_503
 
 
 def most_rows() -> List[Case]:
-    """A table takes so many rows, here in no order of their keys, and no more until one is deleted. All of them are shown in order."""
+    """A table takes so many rows, here in no order of their keys, and no more until one is deleted. All of them are shown in order, and a restart reads
+    them."""
     keys = [place * STEP % (MOST_ROWS + 1) for place in range(1, MOST_ROWS + 1)]
     made = [(f"bank.1: INSERT INTO T VALUES ({key}, {key % 7})\n" + "@join\n" * (place % 32_768 == 0), "bank.1> OK inserted\n")
             for place, key in enumerate(keys, 1)]
@@ -109,4 +110,6 @@ def most_rows() -> List[Case]:
         ("bank.1: SELECT * FROM T\n", f"bank.1> ID | N\n{''.join(shown)}bank.1> OK rows {MOST_ROWS}\n"),
         ("bank.1: INSERT INTO T VALUES (1, 8)\n", "bank.1> ERR 34 table full\n"),
     ))
-    return [Case("the most rows", (mode,), script, replies, reads=True) for mode in ("run", "free")]
+    restart = ("@restart bank\nbank.1: INSERT INTO T VALUES (1, 8)\n", "bank> OK restarted\nbank.1> ERR 34 table full\n")
+    return [Case("the most rows", ("free",), script, replies, reads=True),
+            Case("the most rows", ("run",), script + restart[0], replies + restart[1], reads=True)]

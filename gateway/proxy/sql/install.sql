@@ -187,7 +187,7 @@ CREATE OR REPLACE FUNCTION escrow.greet(epoch bigint, number bigint, proof bytea
 LANGUAGE plpgsql SECURITY DEFINER SET search_path = pg_catalog, pg_temp AS $$
 BEGIN
 	IF proof IS NOT DISTINCT FROM escrow.mac('greet', epoch::text, pg_backend_pid()::text, number::text)
-		AND epoch <> (SELECT last_value FROM escrow.epoch) THEN
+		AND epoch IS DISTINCT FROM (SELECT last_value FROM escrow.epoch) THEN
 		PERFORM escrow.refuse_stale();
 	ELSIF proof IS DISTINCT FROM escrow.mac('greet', epoch::text, pg_backend_pid()::text, number::text)
 		OR number <= (SELECT last_value FROM escrow.greeted) THEN
@@ -239,10 +239,14 @@ END
 $$;
 
 -- Rule 9, first step, after OWNER and the lock of the epoch are taken. It raises if this connection has not both.
+-- A standby that is promoted soon after the installation, before it has written what it read of it, may have an unlogged sequence
+-- of zeros alone, which has no row and takes none ("bad magic number", seen of PostgreSQL 15.18). Such a one is made anew.
 CREATE OR REPLACE FUNCTION escrow.set_epoch(epoch bigint) RETURNS void
 LANGUAGE plpgsql SECURITY DEFINER SET search_path = pg_catalog, pg_temp AS $$
 DECLARE
 	held bigint;
+	sequence text;
+	is_whole boolean;
 BEGIN
 	SELECT count(*) INTO held FROM pg_locks
 	WHERE locktype = 'advisory' AND pid = pg_backend_pid() AND granted AND mode = 'ExclusiveLock'
@@ -252,6 +256,14 @@ BEGIN
 	IF epoch <= 0 OR held <> 2 THEN
 		RAISE EXCEPTION 'the locks of the owner are not held' USING ERRCODE = 'object_not_in_prerequisite_state';
 	END IF;
+	FOREACH sequence IN ARRAY ARRAY['epoch', 'greeted', 'heard'] LOOP
+		EXECUTE format('SELECT EXISTS (SELECT FROM escrow.%I)', sequence) INTO is_whole;
+		IF NOT is_whole THEN
+			EXECUTE format('DROP SEQUENCE escrow.%I', sequence);
+			EXECUTE format('CREATE UNLOGGED SEQUENCE escrow.%I MINVALUE 0 START 0', sequence);
+			GRANT SELECT ON SEQUENCE escrow.epoch TO escrow_proxy;
+		END IF;
+	END LOOP;
 	PERFORM setval('escrow.epoch', epoch);
 	PERFORM setval('escrow.greeted', 0);
 END
@@ -980,7 +992,7 @@ BEGIN
 			END IF;
 			INSERT INTO escrow.held_%1$s AS h (key, epoch) VALUES (which::%2$s, load_%1$s.epoch)
 			ON CONFLICT ON CONSTRAINT held_%1$s_pkey DO UPDATE SET epoch = excluded.epoch;
-			IF load_%1$s.epoch <> (SELECT last_value FROM escrow.epoch) THEN
+			IF load_%1$s.epoch IS DISTINCT FROM (SELECT last_value FROM escrow.epoch) THEN
 				PERFORM escrow.refuse_stale();
 			END IF;
 			RETURN (escrow.value_%1$s(which::%2$s, NULL)).shown;
@@ -1019,7 +1031,7 @@ BEGIN
 				RAISE EXCEPTION 'a fold needs READ COMMITTED' USING ERRCODE = 'invalid_transaction_state';
 			END IF;
 			LOCK TABLE escrow.journal_%1$s IN ROW EXCLUSIVE MODE;
-			IF sweep_%1$s.epoch <> (SELECT last_value FROM escrow.epoch) THEN
+			IF sweep_%1$s.epoch IS DISTINCT FROM (SELECT last_value FROM escrow.epoch) THEN
 				PERFORM escrow.refuse_stale();
 			END IF;
 			FOR which IN SELECT h.key FROM escrow.held_%1$s AS h WHERE h.epoch <> sweep_%1$s.epoch ORDER BY h.key LIMIT most LOOP

@@ -239,6 +239,11 @@ impl Hub {
         *lock(&self.address) = Some(address);
     }
 
+    /// Forgets which server takes writes.
+    pub fn forget_address(&self) {
+        *lock(&self.address) = None;
+    }
+
     /// Returns the server that took writes when the keeper connected last.
     pub fn address(&self) -> Option<Address> {
         lock(&self.address).clone()

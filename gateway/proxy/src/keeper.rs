@@ -210,6 +210,9 @@ pub async fn keep(hub: Arc<Hub>, target: Arc<Target>, mut tasks: UnboundedReceiv
             if keeper.take().map_or(false, |it| it.epoch != 0) {
                 tracing::warn!("not the owner any more: {}", error);
             }
+            if target.asks_for_writes() {
+                hub.forget_address();
+            }
             hub.handle(Event::KeeperLost);
             // What was asked before is of no matter any more. OWNER is tried again at the next tick.
             while tasks.try_recv().is_ok() {}

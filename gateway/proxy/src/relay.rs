@@ -24,7 +24,7 @@ use crate::replies::Replies;
 use crate::requests::Requests;
 use crate::sasl;
 use crate::stream::Stream;
-use crate::target::Target;
+use crate::target::{LoginError, Target};
 use crate::tls::{self, Acceptor};
 
 /// How long a client may take to its StartupMessage.
@@ -211,15 +211,24 @@ pub async fn serve(client: Stream, service: &Service) -> Result<(), Error> {
     }
 }
 
-/// Connects to the server that takes writes, as far as the keeper knows it, or to the first that accepts.
+/// Connects to the server that takes writes, as far as the keeper knows it; or else to the first that accepts, unless that
+/// may be a standby.
 async fn connect(service: &Service) -> io::Result<Stream> {
-    if let Some(address) = service.hub.address() {
-        match service.target.connect_to(&address).await {
-            Ok(stream) => return Ok(stream),
-            Err(error) => tracing::debug!("{error}"),
+    let target = &service.target;
+    let known = match service.hub.address() {
+        Some(address) => target.connect_to(&address).await,
+        None => Err(io::Error::new(
+            io::ErrorKind::NotConnected,
+            LoginError::ReadOnly,
+        )),
+    };
+    match known {
+        Err(error) if !target.asks_for_writes() => {
+            tracing::debug!("{error}");
+            target.connect().await
         }
+        known => known,
     }
-    service.target.connect().await
 }
 
 /// Relays the client's authentication. Returns true behind AuthenticationOk, and false if a side has ended. What was read

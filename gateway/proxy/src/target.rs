@@ -154,6 +154,12 @@ impl Target {
         &self.addresses
     }
 
+    /// Returns whether only a server that takes writes will do: the connection string names several, and asks for that one.
+    pub fn asks_for_writes(&self) -> bool {
+        let asked = self.config.get_target_session_attrs();
+        asked == TargetSessionAttrs::ReadWrite && self.addresses.len() > 1
+    }
+
     /// Connects to the first server that accepts.
     ///
     /// # Errors

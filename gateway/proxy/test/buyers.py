@@ -360,7 +360,8 @@ def do_blocks(till: Till) -> None:
     """The order is written by a block of PL/pgSQL, which may swallow an error of its own subtransaction."""
     till.begin()
     line = till.order.line(till.draw)
-    till.run("DO $$ BEGIN INSERT INTO orders VALUES ('%s', %s, %s); BEGIN PERFORM 1 / 0; EXCEPTION WHEN OTHERS THEN NULL; END; END $$" % line)
+    values = f"'{line.key}', {line.item}, {line.pieces}"
+    till.run(f"DO $$ BEGIN INSERT INTO orders VALUES ({values}); BEGIN PERFORM 1 / 0; EXCEPTION WHEN OTHERS THEN NULL; END; END $$")
     till.order.is_first = True
     till.take(line.item, line.pieces)
     till.run("DO $$ BEGIN PERFORM count(*) FROM receipts; END $$")
@@ -414,7 +415,8 @@ def further_forms(till: Till) -> None:
             raise NotRefused(f"RETURNING gives {found}")
     elif way == 2:
         till.run("SAVEPOINT a")
-        if line.pieces < 0 or till.run("UPDATE stock SET pieces = pieces - %s WHERE id = %s AND pieces >= %s", line.pieces, line.item, line.pieces).rowcount == 0:
+        taken = "UPDATE stock SET pieces = pieces - %s WHERE id = %s AND pieces >= %s"
+        if line.pieces < 0 or till.run(taken, line.pieces, line.item, line.pieces).rowcount == 0:
             till.take(line.item, line.pieces)
         till.run("RELEASE a")
     elif way == 3:

@@ -9,8 +9,9 @@ import subprocess
 import tempfile
 from contextlib import ExitStack, contextmanager
 from dataclasses import dataclass
+from functools import partial
 from pathlib import Path
-from typing import Callable, Dict, Iterator, List, Optional, Sequence, Tuple
+from typing import Callable, Dict, Iterator, List, Mapping, Optional, Sequence, Tuple
 
 from clients.packages import NODE_MODULES, is_here, unpack_node_pg
 from clients.servers import END, PORT, Relay
@@ -31,13 +32,14 @@ TABLES = (
     "CONSTRAINT enough CHECK (balance - held >= 0))",
     "CREATE TABLE shelf (code text PRIMARY KEY, room bigint NOT NULL CONSTRAINT has_room CHECK (room BETWEEN 0 AND 100))",
 )
-DECLARED = ("SELECT escrow.reservable('stock', 'pieces')", "SELECT escrow.reservable('account', 'balance', 'held')", "SELECT escrow.reservable('shelf', 'room')")
+DECLARED = ("SELECT escrow.reservable('stock', 'pieces')", "SELECT escrow.reservable('account', 'balance', 'held')",
+            "SELECT escrow.reservable('shelf', 'room')")
 
 
 class Database(Cluster):
     """A database of a cluster that runs."""
 
-    def __init__(self, of: Cluster, name: str) -> None:
+    def __init__(self, of: Cluster, name: str) -> None:  # pylint: disable=super-init-not-called  # the other one has the server
         self.of, self.name = of, name
 
     def dsn(self, database: str = "") -> str:
@@ -70,7 +72,8 @@ class Both:
         self.rows(first)
         shown = []
         for host, port, name in ((self.cluster.sockets, PORT, self.plain.name), (self.proxy.folder, PROXYS, "bank")):
-            done = subprocess.run([str(it) for it in words(str(host), port, name, first)], capture_output=True, text=True, timeout=END, env={**os.environ, **(env or {})})
+            done = subprocess.run([str(it) for it in words(str(host), port, name, first)], capture_output=True, text=True, timeout=END,
+                                  env={**os.environ, **(env or {})}, check=False)
             expect(done.returncode, 0, f"{name}: {done.stdout[-1000:]} {done.stderr[-2000:]}")
             shown.append(done.stdout.splitlines())
         same(shown[0], shown[1])
@@ -110,13 +113,15 @@ def needs(*packages: str) -> None:
 @PART.case
 def psycopg2(both: Both) -> None:
     needs("python3-psycopg2")
-    both.compare(lambda host, port, name, first: [PYTHON, "-B", FOLDER / "with_psycopg.py", "psycopg2", first, f"host={host} port={port} dbname={name} user=clerk"])
+    both.compare(lambda host, port, name, first: [
+        PYTHON, "-B", FOLDER / "with_psycopg.py", "psycopg2", first, f"host={host} port={port} dbname={name} user=clerk"])
 
 
 @PART.case
 def psycopg3(both: Both) -> None:
     needs("python3-psycopg")
-    both.compare(lambda host, port, name, first: [PYTHON, "-B", FOLDER / "with_psycopg.py", "psycopg", first, f"host={host} port={port} dbname={name} user=clerk"])
+    both.compare(lambda host, port, name, first: [
+        PYTHON, "-B", FOLDER / "with_psycopg.py", "psycopg", first, f"host={host} port={port} dbname={name} user=clerk"])
 
 
 @PART.case
@@ -145,9 +150,13 @@ def jdbc(both: Both) -> None:
         subprocess.run(["javac", "-encoding", "UTF-8", "-cp", JDBC, "-d", folder, FOLDER / "WithJdbc.java"], check=True, timeout=END)
         ports = {PORT: straight.port, PROXYS: through.port}
         for more in ("", "&prepareThreshold=1", "&preferQueryMode=simple", "&reWriteBatchedInserts=true&binaryTransfer=true"):
-            both.compare(lambda host, port, name, first: [
-                "java", "-XX:+UseSerialGC", "-XX:TieredStopAtLevel=1", "-cp", f"{JDBC}:{folder}", "WithJdbc", first,
-                f"jdbc:postgresql://127.0.0.1:{ports[port]}/{name}?user=clerk{more}"])
+            both.compare(partial(in_java, folder, ports, more))
+
+
+def in_java(folder: str, ports: Mapping[int, int], more: str, _: str, port: int, name: str, first: int) -> Sequence[object]:
+    """Returns the command of the program in Java, which connects to a TCP port, with further parameters."""
+    return ["java", "-XX:+UseSerialGC", "-XX:TieredStopAtLevel=1", "-cp", f"{JDBC}:{folder}", "WithJdbc", first,
+            f"jdbc:postgresql://127.0.0.1:{ports[port]}/{name}?user=clerk{more}"]
 
 
 @PART.case
@@ -185,7 +194,7 @@ def pgbench(both: Both) -> None:
                          "UPDATE stock SET pieces = pieces - 1 WHERE id = :item;\nCOMMIT;\nUPDATE stock SET pieces = pieces + 1 WHERE id = :item;\n")
             script.flush()
             words = ["pgbench", "-n", "-M", mode, "-f", script.name, "-c", "8", "-t", "10", both.proxy.dsn()]
-            done = subprocess.run(words, stdout=subprocess.PIPE, stderr=subprocess.STDOUT, text=True, timeout=END)
+            done = subprocess.run(words, stdout=subprocess.PIPE, stderr=subprocess.STDOUT, text=True, timeout=END, check=False)
         expect((done.returncode, "processed: 80/80" in done.stdout), (0, True), done.stdout)
         with both.cluster.connect() as it:
             found = it.execute("SELECT sum(pieces) FROM stock WHERE id BETWEEN %s AND %s", (first, first + 99)).fetchall()
@@ -262,7 +271,7 @@ def pg_dump_and_restore(both: Both) -> None:
         same(rows(dumped(both.cluster.dsn(), *more)), rows(dumped(both.proxy.dsn(), *more)))
     both.cluster.run("CREATE DATABASE copy")
     whole = subprocess.run(["pg_dump", "-Fc", "-d", both.plain.dsn()], check=True, capture_output=True, timeout=END).stdout
-    done = subprocess.run(["pg_restore", "-d", both.proxy.dsn(dbname="copy")], input=whole, capture_output=True, timeout=END)
+    done = subprocess.run(["pg_restore", "-d", both.proxy.dsn(dbname="copy")], input=whole, capture_output=True, timeout=END, check=False)
     expect((done.returncode, done.stderr), (0, b""))
     plain, again = dumped(both.plain.dsn()), dumped(Database(both.cluster, "copy").dsn())
     same(sorted(rows(plain)), sorted(rows(again)))

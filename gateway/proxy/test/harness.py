@@ -64,6 +64,8 @@ def installed() -> Iterator[Tuple[Cluster]]:
 class Proxy(Server):
     """escrowd-proxy in front of a cluster, or of what forwards to it."""
 
+    # Options follow the address, as in a command line.
+    # pylint: disable-next=keyword-arg-before-vararg
     def __init__(self, cluster: Postgres, address: str = "", *options: object, postgres: Optional[str] = None) -> None:
         super().__init__()
         self.address, self.options = address, options
@@ -159,9 +161,9 @@ class Forwarder(Server):
         self.await_socket(self.socket)
         os.chmod(self.socket, 0o777)  # PostgreSQL does not run as root
 
-    def drop(self, all: bool = False) -> None:
+    def drop(self, are_all: bool = False) -> None:
         """Loses about half of the connections, or all, each end of them at a time of its own."""
-        self.running().send_signal(signal.SIGUSR2 if all else signal.SIGUSR1)
+        self.running().send_signal(signal.SIGUSR2 if are_all else signal.SIGUSR1)
 
     def stall(self) -> None:
         """Passes nothing on until it is told to."""

@@ -4,11 +4,14 @@ from __future__ import annotations
 
 import subprocess
 from contextlib import contextmanager
+from functools import partial
 from typing import Any, Iterator, Tuple
+
+import psycopg
 
 from clients.servers import wait_until
 from clients.suite import main
-from proxy.test.harness import PROXY, Proxy, SharedPart
+from proxy.test.harness import PROXY, Proxy, SharedPart, Standby
 from proxy.test.standin import SQL, Cluster
 
 # What a database has of schema escrow, apart from the rows of its tables.
@@ -30,7 +33,7 @@ PART = SharedPart("proxy_install", bare)
 
 def run(*words: str) -> Tuple[int, str, str]:
     """Runs the program. Returns its status, and what it says."""
-    it = subprocess.run([str(PROXY), *words], stdout=subprocess.PIPE, stderr=subprocess.PIPE, text=True, timeout=120)
+    it = subprocess.run([str(PROXY), *words], stdout=subprocess.PIPE, stderr=subprocess.PIPE, text=True, timeout=120, check=False)
     return it.returncode, it.stdout, it.stderr
 
 
@@ -59,7 +62,7 @@ def scripts_are_printed(cluster: Cluster) -> None:
         assert output == f"BEGIN;\n\n{(SQL / act).with_suffix('.sql').read_text()}\nCOMMIT;\n"
     install, uninstall = (run(act)[1].encode() for act in ("install", "uninstall"))
     for script in (install, install, uninstall):
-        it = subprocess.run(["psql", "-Xqd", cluster.dsn(), "-v", "ON_ERROR_STOP=1"], input=script, stdout=subprocess.PIPE, stderr=subprocess.PIPE)
+        it = subprocess.run(["psql", "-Xqd", cluster.dsn(), "-v", "ON_ERROR_STOP=1"], input=script, stdout=subprocess.PIPE, stderr=subprocess.PIPE, check=False)
         assert it.returncode == 0, it.stderr
     assert one(cluster, OBJECTS) == (0, 0, 0, 0)
 
@@ -89,7 +92,7 @@ def what_fails_changes_nothing(cluster: Cluster) -> None:
         status, said = apply(cluster, act, "buyer")
         assert status == 1 and ("permission denied" in said or "must be" in said), said
     expect(apply(cluster, "install", "nobody"), 1, "nobody")
-    status, output, said = run("install", "--apply", "--postgres", "host=/none user=clerk")
+    status, _, said = run("install", "--apply", "--postgres", "host=/none user=clerk")
     assert status == 1 and "PostgreSQL cannot be reached" in said, said
     assert one(cluster, OBJECTS) == before
 
@@ -115,6 +118,30 @@ def tables_stay_as_they_were(cluster: Cluster) -> None:
     cluster.run("UPDATE stock SET pieces = 3", "TRUNCATE stock")
     with Proxy(cluster) as proxy:
         wait_until("the proxy tells", lambda: "schema escrow is not installed; run `escrowd-proxy install --apply`" in proxy.said())
+
+
+@PART.alone
+def a_standby_that_is_promoted_at_once() -> None:
+    """PostgreSQL leaves the unlogged sequences of the schema as zeros there. The proxy reserves all the same, and a second one after it."""
+    with Cluster() as first, Standby(first) as second:
+        first.script("install.sql")
+        first.run("CREATE TABLE stock (id integer PRIMARY KEY, pieces integer NOT NULL CHECK (pieces >= 0))", "INSERT INTO stock VALUES (1, 9)",
+                  "SELECT escrow.reservable('stock', 'pieces')")
+        first.kill()
+        second.promote()
+        for _ in range(2):
+            with Proxy(second) as proxy:
+                wait_until("a piece is taken", partial(is_taken, proxy))
+        wait_until("both are folded", lambda: one(second, "SELECT pieces FROM stock") == (7,))
+
+
+def is_taken(proxy: Proxy) -> bool:
+    """Returns whether a piece is taken through a proxy, which may not be the owner yet."""
+    try:
+        with proxy.connect() as it:
+            return it.execute("UPDATE stock SET pieces = pieces - 1 WHERE id = 1").rowcount == 1
+    except psycopg.OperationalError:
+        return False
 
 
 if __name__ == "__main__":

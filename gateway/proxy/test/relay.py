@@ -7,6 +7,7 @@ import os
 import signal
 import socket
 import subprocess
+import time
 from contextlib import contextmanager
 from pathlib import Path
 from typing import Iterator, Tuple
@@ -14,9 +15,9 @@ from typing import Iterator, Tuple
 import psycopg
 from psycopg import errors
 
-from clients.servers import children, wait_until
+from clients.servers import PORT, children, wait_until
 from clients.suite import main
-from proxy.test.harness import Proxy, SharedPart, expect_cancel
+from proxy.test.harness import Proxy, SharedPart, Standby, expect_cancel
 from proxy.test.standin import Cluster
 
 
@@ -44,7 +45,7 @@ def psql_shows_the_same(cluster: Cluster, proxy: Proxy) -> None:
     for dsn in (cluster.dsn(), proxy.dsn()):
         cluster.run("DROP TABLE IF EXISTS t")
         words = ["psql", "-XaEd", dsn, "-P", "pager=off"]
-        it = subprocess.run(words, input=script, stdout=subprocess.PIPE, stderr=subprocess.STDOUT)
+        it = subprocess.run(words, input=script, stdout=subprocess.PIPE, stderr=subprocess.STDOUT, check=False)
         lines = it.stdout.splitlines()
         shown.append([line for line in lines if b"with PID" not in line and b"oid" not in line and b"pg_" not in line and b"'1" not in line])
     assert shown[0] == shown[1], "\n".join(f"{a!r} {b!r}" for a, b in zip(*shown) if a != b)
@@ -56,7 +57,8 @@ def pgbench_runs_in_three_modes(cluster: Cluster, proxy: Proxy) -> None:
     words = ["pgbench", "-h", str(proxy.folder), "-p", "6000", "-U", "clerk"]
     subprocess.run([*words, "-iq", "bank"], check=True, stderr=subprocess.DEVNULL)
     for mode in ("simple", "extended", "prepared"):
-        it = subprocess.run([*words, "-n", "-M", mode, "-c", "10", "-t", "20", "bank"], stdout=subprocess.PIPE, stderr=subprocess.STDOUT, text=True)
+        it = subprocess.run([*words, "-n", "-M", mode, "-c", "10", "-t", "20", "bank"], stdout=subprocess.PIPE, stderr=subprocess.STDOUT, text=True,
+                            check=False)
         assert it.returncode == 0 and "processed: 200/200" in it.stdout, it.stdout
 
 
@@ -76,7 +78,7 @@ def large_messages_pass_in_parts(cluster: Cluster, proxy: Proxy) -> None:
         with it.cursor().copy("COPY big TO STDOUT") as copy:
             assert sum(len(bytes(block)) for block in copy) == 5_000 * (len(line) + 1)
     pid = proxy.running().pid
-    peak = int(next(line for line in Path(f"/proc/{pid}/status").read_text().splitlines() if line.startswith("VmHWM:")).split()[1])
+    peak = int(next(line for line in Path(f"/proc/{pid}/status").read_text(encoding="utf-8").splitlines() if line.startswith("VmHWM:")).split()[1])
     assert peak < 60_000, f"{peak} KB for messages of 40 MB"
 
 
@@ -199,6 +201,24 @@ def a_signal_ends_it(cluster: Cluster, proxy: Proxy) -> None:
         it.kill()
         it.start()
         assert opens(it) and len(children(it.running().pid)) <= 1  # the server
+
+
+@part
+def a_standby_gets_no_client(cluster: Cluster, proxy: Proxy) -> None:
+    """Where the connection string asks for a server that takes writes, a client is refused until there is one."""
+    with Cluster() as first, Standby(first) as second:
+        first.script("install.sql")
+        target = f"host={first.sockets},{second.sockets} port={PORT} dbname=bank user=clerk target_session_attrs=read-write"
+        with Proxy(first, postgres=target) as it:
+            wait_until("it serves", lambda: opens(it))
+            first.kill()
+            begin = time.monotonic()
+            while time.monotonic() < begin + 1:
+                assert not opens(it)
+            second.promote()
+            wait_until("it serves again", lambda: opens(it))
+            with it.connect() as client:
+                client.execute("CREATE TABLE written (id integer)")
 
 
 if __name__ == "__main__":

@@ -5,6 +5,7 @@ import threading
 import time
 from contextlib import contextmanager
 from decimal import Decimal
+from functools import partial
 from typing import Any, Iterator, List, Tuple
 
 import psycopg
@@ -64,6 +65,11 @@ def is_given(it: Connection, key: int, pieces: int) -> bool:
     except errors.CheckViolation:
         return False
     return True
+
+
+def has_pieces(cluster: Cluster, key: int, count: int) -> bool:
+    """Returns whether a row has so many."""
+    return pieces(cluster, key) == count
 
 
 def pieces(cluster: Cluster, key: int, table: str = "stock") -> int:
@@ -138,8 +144,9 @@ def ends_of_transactions(cluster: Cluster, proxy: Proxy) -> None:
     key = row(cluster, 100)
     left = 100
     with proxy.connect() as it, proxy.connect() as other:
-        for end, is_kept in (("COMMIT", True), ("ROLLBACK", False), ("END WORK", True), ("ABORT", False), ("COMMIT AND CHAIN", True), ("ROLLBACK AND CHAIN", False),
-                             ("SELECT 1; COMMIT", True), ("COMMIT; SELECT 1 / 0", True), ("ROLLBACK; SELECT 1", False), ("SELECT 1 / 0", False), ("COMMIT PREPARED 'x'", False)):
+        for end, is_kept in (("COMMIT", True), ("ROLLBACK", False), ("END WORK", True), ("ABORT", False), ("COMMIT AND CHAIN", True),
+                             ("ROLLBACK AND CHAIN", False), ("SELECT 1; COMMIT", True), ("COMMIT; SELECT 1 / 0", True), ("ROLLBACK; SELECT 1", False),
+                             ("SELECT 1 / 0", False), ("COMMIT PREPARED 'x'", False)):
             it.execute("BEGIN")
             take(it, key, 3)
             try:
@@ -161,7 +168,8 @@ def ends_of_transactions(cluster: Cluster, proxy: Proxy) -> None:
 def savepoints_give_back(cluster: Cluster, proxy: Proxy) -> None:
     key = row(cluster, 10)
     with proxy.connect() as it, proxy.connect() as other:
-        for back in ("ROLLBACK TO a", "ROLLBACK TO SAVEPOINT a", "rollback transaction to a", "SELECT 1; ROLLBACK TO a", "ROLLBACK TO a; RELEASE a; SAVEPOINT a"):
+        for back in ("ROLLBACK TO a", "ROLLBACK TO SAVEPOINT a", "rollback transaction to a", "SELECT 1; ROLLBACK TO a",
+                     "ROLLBACK TO a; RELEASE a; SAVEPOINT a"):
             it.execute("BEGIN; SAVEPOINT a")
             take(it, key, -5)
             take(it, key, 7)
@@ -253,7 +261,7 @@ def what_others_see(cluster: Cluster, proxy: Proxy) -> None:
             take(other, key, -1)
             expect(it.execute("SELECT pieces FROM stock WHERE id = %s", (key,)).fetchone(), (10,))
         # Who holds the row's lock delays the fold, and no COMMIT for longer than the limit.
-        straight.execute("BEGIN; SELECT 1 FROM stock WHERE id = %s FOR UPDATE" % key)
+        straight.execute(f"BEGIN; SELECT 1 FROM stock WHERE id = {key} FOR UPDATE".encode())
         begin = time.monotonic()
         take(it, key, 2)
         took = time.monotonic() - begin
@@ -288,7 +296,8 @@ def numbers_of_all_types(cluster: Cluster, proxy: Proxy) -> None:
 
 @case
 def a_locked_row_can_be_reserved_by_who_locked_it(cluster: Cluster, proxy: Proxy) -> None:
-    for lock in ("SELECT 1 FROM stock WHERE id = {} FOR UPDATE", "UPDATE stock SET title = 'mine' WHERE id = {}", "INSERT INTO orders (item, pieces) VALUES ({}, 1)"):
+    for lock in ("SELECT 1 FROM stock WHERE id = {} FOR UPDATE", "UPDATE stock SET title = 'mine' WHERE id = {}",
+                 "INSERT INTO orders (item, pieces) VALUES ({}, 1)"):
         for is_held in (True, False):
             key = row(cluster)
             with proxy.connect() as it:
@@ -299,7 +308,7 @@ def a_locked_row_can_be_reserved_by_who_locked_it(cluster: Cluster, proxy: Proxy
                 expect(take(it, key, 2), "UPDATE 1", f"{lock}, {is_held}")
                 expect(take(it, key, 2), "UPDATE 1", f"{lock}, {is_held}")
                 it.execute("COMMIT")
-                wait_until("it is folded", lambda: pieces(cluster, key) == 6, 20)
+                wait_until("it is folded", partial(has_pieces, cluster, key, 6), 20)
 
 
 @case
@@ -368,7 +377,7 @@ def many_at_a_time(cluster: Cluster, proxy: Proxy) -> None:
                     it.execute("INSERT INTO orders (item, pieces) VALUES (%s, 1)", (key,))
                     take(it, key, 1)
                     it.execute("COMMIT" if turn % 2 else "ROLLBACK")
-        except BaseException as fault:
+        except BaseException as fault:  # pylint: disable=broad-exception-caught  # the case raises it
             faults.append(fault)
 
     threads = [threading.Thread(target=buy) for _ in range(60)]

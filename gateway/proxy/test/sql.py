@@ -11,7 +11,7 @@ import subprocess
 import threading
 import time
 from contextlib import contextmanager
-from typing import Any, Callable, Dict, Iterator, List, Optional, Tuple, Type
+from typing import Any, Callable, Dict, Iterator, List, Tuple, Type
 
 import psycopg
 from psycopg import errors
@@ -141,7 +141,8 @@ def declarations_are_tested(cluster: Cluster) -> None:
             (f"CREATE TABLE t ({good}); CREATE FUNCTION f() RETURNS trigger LANGUAGE plpgsql AS 'BEGIN RETURN NULL; END'; "
              "CREATE CONSTRAINT TRIGGER f AFTER UPDATE ON t DEFERRABLE FOR EACH ROW EXECUTE FUNCTION f()", "the trigger f can be deferred"),
             (f"CREATE TABLE t ({good}); ALTER TABLE t ADD CHECK (n > 0) NOT VALID", "the CHECK t_n_check is not validated"),
-            ("CREATE TABLE t (id integer PRIMARY KEY, n bigint NOT NULL); INSERT INTO t VALUES (1, 1000000000000000)", "the column n has the value 1000000000000000"),
+            ("CREATE TABLE t (id integer PRIMARY KEY, n bigint NOT NULL); INSERT INTO t VALUES (1, 1000000000000000)",
+             "the column n has the value 1000000000000000"),
         ):
             it.execute(made.encode())
             with refused(errors.InvalidTableDefinition, f"t cannot be declared reservable: {text}"):
@@ -259,7 +260,7 @@ def held_rows_stay(cluster: Cluster) -> None:
         # An old snapshot does not show the mark, but the load has written the row anew.
         with refused(errors.SerializationFailure):
             old.execute("DELETE FROM stock WHERE id = 1")
-        same(owner.one("SELECT escrow.leave_%s('1')" % owner.declared("stock")[0])[0], True)
+        same(owner.one(f"SELECT escrow.leave_{owner.declared('stock')[0]}('1')")[0], True)
         it.execute("UPDATE stock SET id = 9 WHERE id = 1; DELETE FROM stock WHERE id = 9; DELETE FROM stock WHERE id = 2")
         # A row that is locked for a deletion is not loaded.
         it.execute("BEGIN; DELETE FROM stock WHERE id = 3")
@@ -270,7 +271,7 @@ def held_rows_stay(cluster: Cluster) -> None:
         # A committed note that is not folded keeps its row, too.
         owner.load("stock", 4)
         Client(owner).note("stock", 4, -1)
-        cluster.run("DELETE FROM escrow.held_%s" % owner.declared("stock")[0])
+        cluster.run(f"DELETE FROM escrow.held_{owner.declared('stock')[0]}")
         with refused(errors.ObjectInUse):
             it.execute("DELETE FROM stock WHERE id = 4")
         # A load of an epoch that is over fails.
@@ -366,7 +367,8 @@ def notes_need_a_grant(cluster: Cluster) -> None:
     with refused(errors.InsufficientPrivilege, "escrow.note is for escrowd-proxy"):
         buyer.send(arguments)
     table, text = owner.declared("stock")
-    for form in ("PREPARE n (bigint, bigint, bigint, text, text[], bytea, text) AS {note}; EXECUTE n ({values}, 'stock')", "DO $$ BEGIN PERFORM * FROM ({call}) AS it; END $$", "SELECT 1; {call}"):
+    for form in ("PREPARE n (bigint, bigint, bigint, text, text[], bytea, text) AS {note}; EXECUTE n ({values}, 'stock')",
+                 "DO $$ BEGIN PERFORM * FROM ({call}) AS it; END $$", "SELECT 1; {call}"):
         given = client.arguments("stock", 1, -1)
         values = ", ".join((str(given[1]), str(given[2]), str(given[3]), f"'{given[4]}'", "'{-1}'", f"'\\x{given[6].hex()}'"))
         call = text.replace("$1, $2, $3, $4, $5, $6", values).replace("$7", "'stock'")
@@ -445,18 +447,18 @@ def a_takeover_finds_who_holds(cluster: Cluster) -> None:
         client.execute("PREPARE TRANSACTION 'orphan'")
     same(owner.keeper.execute(holders).fetchall(), [])
     client.execute("BEGIN")
-    id = client.note("stock", 1, -1).id
+    xid = client.note("stock", 1, -1).id
     client.execute("SELECT pg_advisory_unlock_all()")
     client.execute("PREPARE TRANSACTION 'orphan'")
-    same((owner.status(id), owner.keeper.execute(holders).fetchall()), ("in progress", [(None, "orphan")]))
+    same((owner.status(xid), owner.keeper.execute(holders).fetchall()), ("in progress", [(None, "orphan")]))
     # Still so behind a restart, in which PostgreSQL names it anew.
     owner.keeper.close()
     cluster.end(signal.SIGINT)
     cluster.again()
     owner = Owner(cluster)
-    same((owner.status(id), owner.keeper.execute(holders).fetchall()), ("in progress", [(None, "orphan")]))
+    same((owner.status(xid), owner.keeper.execute(holders).fetchall()), ("in progress", [(None, "orphan")]))
     cluster.run("COMMIT PREPARED 'orphan'")
-    same((owner.status(id), owner.keeper.execute(holders).fetchall()), ("committed", []))
+    same((owner.status(xid), owner.keeper.execute(holders).fetchall()), ("committed", []))
     client = Client(owner)
     client.execute("BEGIN")
     client.note("stock", 1, -1)
@@ -536,7 +538,7 @@ class Load:
                 while not self.stop.is_set():
                     step()
                     self.counts[name] = self.counts.get(name, 0) + 1
-            except BaseException as fault:
+            except BaseException as fault:  # pylint: disable=broad-exception-caught  # the case raises it
                 self.faults.append(fault)
                 self.stop.set()
 
@@ -771,10 +773,12 @@ def functions_of_the_owner_stay(cluster: Cluster) -> None:
     with cluster.connect("mallory") as it:
         it.execute("CREATE TABLE mallory.t (id integer PRIMARY KEY, n integer NOT NULL); SELECT escrow.reservable('mallory.t', 'n')")
         n = it.execute("SELECT number FROM escrow.declared").fetchall()[0][0]
-        own = it.execute(b"SELECT f::regprocedure::text FROM escrow.functions(%s) AS f JOIN pg_proc AS p ON p.oid = f WHERE proowner = 'mallory'::regrole", (n,)).fetchall()
+        own = it.execute(b"SELECT f::regprocedure::text FROM escrow.functions(%s) AS f JOIN pg_proc AS p ON p.oid = f "
+                         b"WHERE proowner = 'mallory'::regrole", (n,)).fetchall()
         same(len(own), 4)
         for name, in own:
-            for text in ("ALTER FUNCTION {} SECURITY INVOKER", "ALTER ROUTINE {} SECURITY INVOKER", "ALTER FUNCTION {} SET search_path = mallory", "ALTER FUNCTION {} RENAME TO x",
+            for text in ("ALTER FUNCTION {} SECURITY INVOKER", "ALTER ROUTINE {} SECURITY INVOKER", "ALTER FUNCTION {} SET search_path = mallory",
+                         "ALTER FUNCTION {} RENAME TO x",
                          "DROP FUNCTION {}", "ALTER FUNCTION {} RESET ALL", "CREATE OR REPLACE FUNCTION {} RETURNS boolean LANGUAGE sql AS 'SELECT true'"):
                 try:
                     it.execute(text.format(name).encode())
@@ -791,13 +795,17 @@ def nobody_calls_what_is_not_theirs(cluster: Cluster) -> None:
     owner = stock(cluster)
     n = owner.declared("stock")[0]
     cluster.run("DROP ROLE IF EXISTS buyer2", "CREATE ROLE buyer2")
-    query = """SELECT proname FROM pg_proc WHERE pronamespace = 'escrow'::regnamespace AND has_function_privilege('buyer2', oid, 'EXECUTE') AND prosecdef ORDER BY proname"""
+    query = """SELECT proname FROM pg_proc WHERE pronamespace = 'escrow'::regnamespace AND has_function_privilege('buyer2', oid, 'EXECUTE') AND prosecdef
+               ORDER BY proname"""
     same([name for name, in owner.keeper.execute(query.encode())],
-         sorted(["greet", "reservable", "ordinary", "keep_declared", f"note_{n}", f"direct_{n}", f"here_{n}", f"own_{n}", f"guard_{n}", f"own_guard_{n}", f"keep_{n}"]))
-    query = """SELECT relname FROM pg_class WHERE relnamespace = 'escrow'::regnamespace AND relkind IN ('r', 'v', 'S') AND (has_any_column_privilege('buyer2', oid, 'SELECT')
+         sorted(["greet", "reservable", "ordinary", "keep_declared",
+                 *(f"{it}_{n}" for it in ("note", "direct", "here", "own", "guard", "own_guard", "keep"))]))
+    query = """SELECT relname FROM pg_class WHERE relnamespace = 'escrow'::regnamespace AND relkind IN ('r', 'v', 'S')
+               AND (has_any_column_privilege('buyer2', oid, 'SELECT')
         OR has_table_privilege('buyer2', oid, 'INSERT, UPDATE, DELETE, TRUNCATE'))"""
     same([name for name, in owner.keeper.execute(query.encode())], ["declared"])
-    without_path = """SELECT proname FROM pg_proc WHERE pronamespace = 'escrow'::regnamespace AND prosecdef AND NOT coalesce(proconfig, '{}') && ARRAY['search_path=pg_catalog, pg_temp']"""
+    without_path = """SELECT proname FROM pg_proc WHERE pronamespace = 'escrow'::regnamespace AND prosecdef
+                      AND NOT coalesce(proconfig, '{}') && ARRAY['search_path=pg_catalog, pg_temp']"""
     same([name for name, in owner.keeper.execute(without_path.encode())], [f"move_{n}"])
     cluster.run("DROP ROLE buyer2")
 
@@ -822,7 +830,8 @@ def sums_fit_their_types(cluster: Cluster) -> None:
             it.execute("CREATE TABLE t (id integer PRIMARY KEY, a smallint NOT NULL, b smallint NOT NULL)")
             it.execute(f"ALTER TABLE t ADD CONSTRAINT it CHECK ({condition})".encode())
             it.execute("SELECT escrow.reservable('t', 'a', 'b')")
-            found = it.execute("SELECT array_to_string(ARRAY(SELECT jsonb_array_elements_text(c->'coefficients')), ' '), c->>'comparison', (c->>'limit')::bigint "
+            found = it.execute("SELECT array_to_string(ARRAY(SELECT jsonb_array_elements_text(c->'coefficients')), ' '), c->>'comparison', "
+                               "(c->>'limit')::bigint "
                                "FROM escrow.declared, jsonb_array_elements(checks) AS c WHERE c ? 'range'").fetchall()
             same(sorted(found), sorted(expected))
             it.execute("SELECT escrow.ordinary('t'); DROP TABLE t")
@@ -833,7 +842,8 @@ def reservations_are_shown_to_who_may_know(cluster: Cluster) -> None:
     owner = stock(cluster)
     make_buyer(cluster)
     n = owner.declared("stock")[0]
-    entries = f'[{{"process": 42, "table": {n}, "key": "7", "changes": ["-3"], "since": "2026-01-01T00:00:00Z"}}, {{"process": 43, "table": {n}, "key": "8", "changes": [null]}}]'
+    entries = (f'[{{"process": 42, "table": {n}, "key": "7", "changes": ["-3"], "since": "2026-01-01T00:00:00Z"}}, '
+               f'{{"process": 43, "table": {n}, "key": "8", "changes": [null]}}]')
     query = "SELECT process, relation::text, key, \"column\", change, extract(year FROM since) FROM escrow.reservations()"
     with cluster.connect() as it, cluster.connect("buyer") as buyer:
         with refused(errors.ObjectNotInPrerequisiteState, "only escrowd-proxy knows"):
@@ -999,7 +1009,7 @@ def a_dump_is_restored(cluster: Cluster) -> None:
 class Copy(Cluster):
     """The database `copy` of a cluster that runs."""
 
-    def __init__(self, of: Cluster) -> None:
+    def __init__(self, of: Cluster) -> None:  # pylint: disable=super-init-not-called  # the other one has the server
         self.of = of
 
     def dsn(self, database: str = "copy") -> str:

@@ -109,9 +109,9 @@ class Owner:
         self.number += 1
         return self.number
 
-    def status(self, id: int) -> str:
+    def status(self, xid: int) -> str:
         """Returns what PostgreSQL says of a transaction's id."""
-        return str(self.one("SELECT pg_xact_status(%s::text::xid8)", id)[0])
+        return str(self.one("SELECT pg_xact_status(%s::text::xid8)", xid)[0])
 
     def declared(self, relation: str) -> Any:
         """Returns number and note's text of a table."""

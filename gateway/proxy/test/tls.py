@@ -10,9 +10,10 @@ import ssl
 import struct
 import subprocess
 from contextlib import contextmanager
+from functools import partial
 from pathlib import Path
 from tempfile import TemporaryDirectory
-from typing import Iterator, List, Optional, Tuple
+from typing import Iterator, List, Optional, Sequence, Tuple
 
 import psycopg
 
@@ -47,7 +48,8 @@ class Authority:
         self.openssl("req", "-newkey", "rsa:2048", "-nodes", "-subj", "/CN=localhost", "-keyout", f"{name}.key", "-out", f"{name}.csr")
         (self.folder / f"{name}.ext").write_text(extensions)
         more = ["-extfile", f"{name}.ext"] if extensions else []
-        self.openssl("x509", "-req", "-in", f"{name}.csr", "-CA", "root.crt", "-CAkey", "root.key", "-CAcreateserial", "-days", "9", "-out", f"{name}.crt", *more)
+        self.openssl("x509", "-req", "-in", f"{name}.csr", "-CA", "root.crt", "-CAkey", "root.key", "-CAcreateserial", "-days", "9", "-out", f"{name}.crt",
+                     *more)
 
     def path(self, name: str) -> Path:
         """Returns a file's path."""
@@ -89,7 +91,7 @@ class Encrypted(Cluster):
 class Proxy(Server):
     """escrowd-proxy in front of it, on a port, with a certificate of its own or none."""
 
-    def __init__(self, cluster: Encrypted, parameters: str, certificate: Optional[str] = None, *more: str) -> None:
+    def __init__(self, cluster: Encrypted, parameters: str, certificate: Optional[str] = None, more: Sequence[str] = ()) -> None:
         super().__init__()
         self.target = f"host=localhost port={cluster.port} dbname=bank user=owner password=secret {parameters}"
         self.port = free_port()
@@ -101,6 +103,10 @@ class Proxy(Server):
         self.launch([PROXY, "--listen", f"localhost:{self.port}", "--postgres", self.target, *self.words], env=ENVIRONMENT)
         wait_until("the proxy listens", lambda: self.running().poll() is not None or self.is_listening())
 
+    def has_said(self, text: str) -> bool:
+        """Returns whether it has said something."""
+        return text in self.said()
+
     def is_listening(self) -> bool:
         """Returns whether somebody answers at the port."""
         with socket.socket() as it:
@@ -109,7 +115,7 @@ class Proxy(Server):
     def psql(self, parameters: str, command: str = "SELECT ssl FROM pg_stat_ssl WHERE pid = pg_backend_pid()") -> str:
         """Runs psql with these parameters as `buyer`, and returns what it says."""
         dsn = f"host=localhost port={self.port} dbname=bank user=buyer password=secret {parameters}"
-        it = subprocess.run(["psql", "-XAqtd", dsn, "-c", command], stdout=subprocess.PIPE, stderr=subprocess.STDOUT, text=True, timeout=60)
+        it = subprocess.run(["psql", "-XAqtd", dsn, "-c", command], stdout=subprocess.PIPE, stderr=subprocess.STDOUT, text=True, timeout=60, check=False)
         return it.stdout.strip()
 
     def hears(self) -> socket.socket:
@@ -157,7 +163,7 @@ def clients_choose_their_mode(cluster: Encrypted) -> None:
 @part
 def clients_without_tls_may_be_refused(cluster: Encrypted) -> None:
     cluster.show(None)
-    with Proxy(cluster, "sslmode=disable", "proxy", "--tls-only") as proxy:
+    with Proxy(cluster, "sslmode=disable", "proxy", ("--tls-only",)) as proxy:
         expect(proxy.psql("sslmode=disable"), "escrowd-proxy needs TLS")
         assert proxy.psql("sslmode=prefer") == "f"
         # libpq sends the request to cancel without TLS.
@@ -273,7 +279,7 @@ def the_proxys_own_role_is_asked_for_a_password(cluster: Encrypted) -> None:
     trusted.target = cluster.dsn().replace("user=clerk", "user=runner")
     for proxy in (trusted, asked):
         with proxy:
-            wait_until("the proxy has connected", lambda: "schema escrow is not installed" in proxy.said())
+            wait_until("the proxy has connected", partial(proxy.has_said, "schema escrow is not installed"))
             assert proxy.psql("") == "f"
             found = proxy.psql("user=runner")
             assert found == "f" if proxy is asked else "needs a password here" in found, found
@@ -295,7 +301,7 @@ def files_that_cannot_be_used_are_told(cluster: Encrypted) -> None:
     ]
     for parameters, words, why in wrong:
         line = [str(PROXY), "--listen", "localhost:1", "--postgres", f"host=localhost {parameters}", *map(str, words)]
-        it = subprocess.run(line, stderr=subprocess.PIPE, text=True, timeout=60)
+        it = subprocess.run(line, stderr=subprocess.PIPE, text=True, timeout=60, check=False)
         assert it.returncode != 0
         expect(it.stderr, why)
 

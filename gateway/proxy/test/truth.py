@@ -157,8 +157,9 @@ class Watch(threading.Thread):
 
     def run(self) -> None:
         query = (
-            f"SELECT n.id, n.pieces, b.pieces - coalesce(sum(o.pieces), 0) FROM {self.table} AS n JOIN base AS b USING (id) LEFT JOIN orders AS o ON o.item = n.id "
-            f"GROUP BY n.id, n.pieces, b.pieces HAVING n.id <> {ALONE} AND n.pieces <> b.pieces - coalesce(sum(o.pieces), 0) OR n.pieces < 0"
+            f"SELECT n.id, n.pieces, b.pieces - coalesce(sum(o.pieces), 0) FROM {self.table} AS n JOIN base AS b USING (id) "
+            f"LEFT JOIN orders AS o ON o.item = n.id GROUP BY n.id, n.pieces, b.pieces "
+            f"HAVING n.id <> {ALONE} AND n.pieces <> b.pieces - coalesce(sum(o.pieces), 0) OR n.pieces < 0"
         )
         while not self.is_off.is_set():
             try:
