@@ -246,7 +246,7 @@ def is_ended(it: Connection) -> bool:
 # The rows that clients take of, and how many clients there are.
 ROWS, PIECES = 5, 1_000_000
 CLIENTS = 2 * TRANSACTIONS
-TRIED = 1_500
+TRIED = 1_000
 LOG = "CREATE TABLE log (id INTEGER PRIMARY KEY, n INTEGER RESERVABLE)"
 # What a client does next, by the status that it was told, and how often.
 STEPS: Dict[str, Dict[str, int]] = {
@@ -386,7 +386,7 @@ def random_transactions_lose_no_session_and_no_piece(gateway: Gateway) -> None:
 # Memory
 
 # How many connections rest, the bytes that each of them may take beside what it has prepared, and the seconds behind which one has given its buffers back.
-RESTING, MOST_OF_ONE, RESTED = 300, 2_048, 2.2
+RESTING, MOST_OF_ONE, RESTED = 200, 2_048, 2.2
 
 
 def working(gateway: Gateway) -> List[Connection]:

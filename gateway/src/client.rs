@@ -30,6 +30,8 @@ pub struct Client {
     pub ticket: Option<Ticket>,
     /// Whether it waits for its turn already.
     pub is_queued: bool,
+    /// Whether it has done something since it last gave back memory.
+    pub is_restless: bool,
     is_readable: bool,
     /// Whether the other end is closed, so that the end of the input has to be read too.
     is_closed: bool,
@@ -53,6 +55,7 @@ impl Client {
             session: None,
             ticket: None,
             is_queued: false,
+            is_restless: false,
             is_readable: false,
             is_closed: false,
             is_ended: false,

@@ -103,7 +103,9 @@ pub struct Engine {
     failure: Option<Failure>,
     /// No client's deadline is earlier. It may be one that has been put off since.
     alarm: Option<Instant>,
-    /// When idle clients give back memory. None: all have.
+    /// The places of the clients that have done something since they last gave back memory.
+    restless: Vec<usize>,
+    /// When it is looked which of these rest. None: all do.
     rest: Option<Instant>,
     process_id: i32,
     buffer: Box<[u8]>,
@@ -408,7 +410,10 @@ impl Engine {
             enqueue(&mut self.queue, client, place);
         }
         wake(&mut self.alarm, client.connection.deadline());
-        self.rest.get_or_insert(self.now + REST);
+        if !std::mem::replace(&mut client.is_restless, true) {
+            self.restless.push(place);
+            self.rest.get_or_insert(self.now + REST);
+        }
     }
 
     /// Accepts clients that arrived. Returns whether there may be more.

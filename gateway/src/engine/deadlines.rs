@@ -23,11 +23,7 @@ impl Engine {
             }
         }
         if matches!(self.rest, Some(rest) if rest <= self.now) {
-            let mut is_due = false;
-            for (_, client) in self.clients.iter_mut() {
-                is_due |= client.connection.trim(REST, self.now);
-            }
-            self.rest = is_due.then_some(self.now + REST);
+            self.trim_clients();
         }
         let failed = self
             .programs
@@ -39,6 +35,19 @@ impl Engine {
         if matches!(self.metrics_due(), Some(due) if due <= self.now) {
             self.write_metrics();
         }
+    }
+
+    /// Lets clients that rest give back memory.
+    fn trim_clients(&mut self) {
+        let (clients, now) = (&mut self.clients, self.now);
+        self.restless.retain(|&place| match clients.get_mut(place) {
+            Some(client) => {
+                client.is_restless = client.connection.trim(REST, now);
+                client.is_restless
+            }
+            None => false,
+        });
+        self.rest = (!self.restless.is_empty()).then(|| now + REST);
     }
 
     /// Returns when the metrics are to be written next. They begin with the first client that may come.

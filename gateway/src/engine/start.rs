@@ -89,6 +89,7 @@ impl Engine {
             phase: Phase::Opening,
             failure: None,
             alarm: None,
+            restless: Vec::new(),
             rest: None,
             process_id: 0,
             buffer: vec![0; BUFFER].into_boxed_slice(),

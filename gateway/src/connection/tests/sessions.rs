@@ -269,6 +269,7 @@ fn a_connection_that_rests_gives_its_memory_back() {
     client.ask("SELECT * FROM stock", &select);
     client.ask(TAKE, &[(TAKE, RESERVED), ("COMMIT", COMMITTED)]);
     assert!(client.connection.trim(rest, client.now), "it may go on");
+    client.connection.take_events();
     client.now += rest;
     assert!(!client.connection.trim(rest, client.now));
     let connection = &client.connection;
