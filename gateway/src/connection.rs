@@ -154,7 +154,7 @@ const SYNC: Raw<'_> = Raw {
     body: &[],
 };
 
-/// How long a statement waits for a session.
+/// How long a transaction waits for a session.
 pub const MOST_WAIT: Duration = Duration::from_secs(1);
 
 /// How long a client may take for its last words.
@@ -206,7 +206,9 @@ pub struct Connection {
     resting: bool,
     /// Since when it waits for the client.
     idle_since: Instant,
-    /// When its statement has waited for a session for too long. None: it doesn't wait for one.
+    /// Whether its statement waits for a session.
+    in_line: bool,
+    /// When it has waited for too long, if it may not wait for as long as it takes.
     session_limit: Option<Instant>,
     transaction: Transaction,
     totals: Totals,
@@ -249,6 +251,7 @@ impl Connection {
             skipping: false,
             resting: true,
             idle_since: now,
+            in_line: false,
             session_limit: None,
             transaction: Transaction::default(),
             totals: Totals::default(),
@@ -345,17 +348,23 @@ impl Connection {
 
     /// Returns whether its next statement waits for a session.
     pub fn is_waiting(&self) -> bool {
-        self.session_limit.is_some()
+        self.in_line
     }
 
-    /// Is told that there is no session for its next statement. It is refused if that goes on for [`MOST_WAIT`].
+    /// Is told that there is no session for its next statement. A transaction is refused if that goes on for
+    /// [`MOST_WAIT`], since it may wait for other clients. A statement alone waits for the program.
     pub fn wait(&mut self, now: Instant) {
         self.now = now;
-        self.session_limit = now.checked_add(MOST_WAIT);
+        self.in_line = true;
+        self.session_limit = match self.need() {
+            Some(Need::Transaction) => now.checked_add(MOST_WAIT),
+            _ => None,
+        };
     }
 
     /// Is told that there is a session for the statement that waits.
     pub fn wait_ended(&mut self) {
+        self.in_line = false;
         self.session_limit = None;
     }
 
@@ -655,7 +664,7 @@ impl Connection {
     /// Returns when a transaction lasts too long, if one is open and nothing runs: what runs is answered first. A
     /// statement that waits for a session does not run.
     fn transaction_limit(&self) -> Option<Instant> {
-        if !self.awaited.is_empty() && self.session_limit.is_none() {
+        if !self.awaited.is_empty() && !self.in_line {
             return None;
         }
         let since = self.transaction.since()?;
@@ -678,7 +687,7 @@ impl Connection {
 
     /// Refuses the statement that has waited for a session for too long. Nothing of it was asked.
     fn refuse_session(&mut self) {
-        self.session_limit = None;
+        self.wait_ended();
         self.requests.drop_untaken();
         let awaited = self.awaited.pop_front();
         self.awaited.clear();
@@ -751,7 +760,7 @@ impl Connection {
             self.awaited.clear();
             self.giving = None;
             self.query = None;
-            self.session_limit = None;
+            self.wait_ended();
             self.requests.drop_untaken();
         }
     }
@@ -762,7 +771,7 @@ fn no_session(most: usize) -> Failure {
     let text = "too many transactions hold reservations or savepoints";
     Report::error(SqlState::TOO_MANY_CONNECTIONS, text)
         .detail(format!(
-            "At most {} transactions of a database do so at a time. The statement waited for {} s.",
+            "At most {} transactions of a database do so at a time. This one waited for {} s.",
             most,
             MOST_WAIT.as_secs()
         ))

@@ -168,9 +168,22 @@ fn a_commit_behind_a_refusal_leaves_nothing_to_roll_back() {
 }
 
 #[test]
-fn a_statement_without_a_session_is_refused_after_a_second() {
+fn a_statement_alone_waits_for_a_session_as_long_as_it_takes() {
     let mut client = Client::connected();
     client.send(&query(TAKE));
+    client.wait();
+    assert_eq!(client.connection.deadline(), None);
+    client.pass(100 * MOST_WAIT);
+    assert!(client.connection.is_waiting());
+    client.connection.wait_ended();
+    client.serve(&[(TAKE, RESERVED), ("COMMIT", COMMITTED)]);
+    assert_eq!(client.output(), ["complete UPDATE 1", "ready I"]);
+}
+
+#[test]
+fn a_transaction_without_a_session_is_refused_after_a_second() {
+    let mut client = Client::connected();
+    client.send(&query(&format!("{}; {}", TAKE, TAKE)));
     client.wait();
     client.pass(MOST_WAIT - Duration::from_millis(1));
     assert!(client.connection.is_waiting());
@@ -233,7 +246,7 @@ fn a_transaction_timeout_ends_the_wait_for_a_session() {
 #[test]
 fn a_client_that_closes_while_it_waits_asks_nothing() {
     let mut client = Client::connected();
-    client.send(&query(TAKE));
+    client.send(&query(&format!("{}; {}", TAKE, TAKE)));
     client.wait();
     client.connection.input_ended(client.now);
     assert!(!client.connection.is_closing(), "what it sent is served");
