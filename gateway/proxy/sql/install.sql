@@ -43,23 +43,12 @@ ALTER SEQUENCE escrow.greeted OWNER TO escrow_journal;
 ALTER SEQUENCE escrow.heard OWNER TO escrow_journal;
 GRANT SELECT ON SEQUENCE escrow.epoch TO escrow_proxy;
 
--- A secret of 32 random bytes as HMAC uses it: padded to 64, and combined with each of the two pads (RFC 2104).
-CREATE TABLE IF NOT EXISTS escrow.secret (is_one boolean PRIMARY KEY DEFAULT true CHECK (is_one), inner_key bytea NOT NULL, outer_key bytea NOT NULL);
+-- The key of all MACs, 64 bytes. A MAC is a half of SHA-512 over the words and, behind them, the key. So nobody who sees
+-- MACs can lengthen the words.
+CREATE TABLE IF NOT EXISTS escrow.secret (is_one boolean PRIMARY KEY DEFAULT true CHECK (is_one), key bytea NOT NULL);
 ALTER TABLE escrow.secret OWNER TO escrow_journal;
 GRANT SELECT ON escrow.secret TO escrow_proxy;
-DO $do$
-DECLARE
-	random bytea := sha256((gen_random_uuid()::text || gen_random_uuid()::text)::bytea);
-	inner_key bytea := decode(repeat('36', 64), 'hex');
-	outer_key bytea := decode(repeat('5c', 64), 'hex');
-BEGIN
-	FOR i IN 0 .. 31 LOOP
-		inner_key := set_byte(inner_key, i, get_byte(inner_key, i) # get_byte(random, i));
-		outer_key := set_byte(outer_key, i, get_byte(outer_key, i) # get_byte(random, i));
-	END LOOP;
-	INSERT INTO escrow.secret (inner_key, outer_key) VALUES (inner_key, outer_key) ON CONFLICT DO NOTHING;
-END
-$do$;
+INSERT INTO escrow.secret (key) VALUES (sha512((gen_random_uuid()::text || gen_random_uuid()::text || gen_random_uuid()::text)::bytea)) ON CONFLICT DO NOTHING;
 
 -- The tables that are declared. The proxy calls note and own fold by their texts here. `columns` are the reservable ones: name, place, type, digits, scale, least and greatest value.
 -- `checks` are linear: name, a coefficient for each of these columns, a comparison, a limit. `definition` is what the
@@ -81,14 +70,10 @@ CREATE TABLE IF NOT EXISTS escrow.declared (
 ALTER TABLE escrow.declared OWNER TO escrow_journal;
 GRANT SELECT ON escrow.declared TO PUBLIC;
 
--- HMAC-SHA-256 over words. Only functions of escrow_journal call it and the next, which have set their path of search.
+-- The MAC of words: the first half. Only functions of escrow_journal call it and the next, which have set their path of search.
 CREATE OR REPLACE FUNCTION escrow.mac(VARIADIC words text[]) RETURNS bytea LANGUAGE plpgsql STABLE AS $$
-DECLARE
-	inner_key bytea;
-	outer_key bytea;
 BEGIN
-	SELECT s.inner_key, s.outer_key INTO inner_key, outer_key FROM escrow.secret AS s;
-	RETURN sha256(outer_key || sha256(inner_key || convert_to(array_to_string(words, '|'), 'UTF8')));
+	RETURN (SELECT substr(sha512(convert_to(array_to_string(words, '|'), 'UTF8') || s.key), 1, 32) FROM escrow.secret AS s);
 END
 $$;
 ALTER FUNCTION escrow.mac OWNER TO escrow_journal;
@@ -155,17 +140,6 @@ $$;
 CREATE OR REPLACE FUNCTION escrow.is_live(epoch bigint) RETURNS boolean LANGUAGE plpgsql AS $$
 BEGIN
 	RETURN NOT pg_catalog.pg_try_advisory_xact_lock_shared(epoch);
-END
-$$;
-
--- The id of 64 bits of this transaction or of a subtransaction of it, by its 32 bits.
-CREATE OR REPLACE FUNCTION escrow.full_id(it xid) RETURNS bigint
-LANGUAGE plpgsql SET search_path = pg_catalog, pg_temp AS $$
-DECLARE
-	top bigint := pg_current_xact_id()::text::bigint;
-	candidate bigint := (top & ~4294967295::bigint) | it::text::bigint;
-BEGIN
-	RETURN CASE WHEN candidate >= top THEN candidate ELSE candidate + 4294967296 END;
 END
 $$;
 
@@ -552,6 +526,9 @@ BEGIN
 	FOR c IN SELECT tgname FROM pg_trigger WHERE tgrelid = relation AND tgdeferrable AND NOT tgisinternal LOOP
 		PERFORM escrow.refuse(relation, format('the trigger %I can be deferred to the end of a fold', c.tgname), 'Create it anew as NOT DEFERRABLE.');
 	END LOOP;
+	FOR c IN SELECT tgname FROM pg_trigger WHERE tgrelid = relation AND NOT tgisinternal AND tgtype & 19 = 19 AND tgname > '~escrow guard' LOOP
+		PERFORM escrow.refuse(relation, format('the trigger %I fires behind the one that guards reservable columns', c.tgname), 'Its name has to come before "~".');
+	END LOOP;
 	SELECT attribute.* INTO key FROM pg_index AS i JOIN pg_attribute AS attribute ON attrelid = relation AND attnum = i.indkey[0]
 	WHERE i.indrelid = relation AND i.indisprimary AND i.indnkeyatts = 1;
 	IF key IS NULL THEN
@@ -660,7 +637,7 @@ BEGIN
 	result.key_type := format_type(key.atttypid, key.atttypmod);
 	result.definition := jsonb_build_object('name', format('%s.%I', it.relnamespace::regnamespace, it.relname), 'key', key.attnum, 'key_name', key.attname, 'key_type', result.key_type,
 		'columns', result.columns, 'checks', result.checks, 'owner', it.relowner::regrole::text,
-		'triggers', (SELECT jsonb_object_agg(tgname, tgenabled) FROM pg_trigger WHERE tgrelid = relation AND tgname LIKE 'escrow %'),
+		'triggers', (SELECT jsonb_object_agg(tgname, tgenabled) FROM pg_trigger WHERE tgrelid = relation AND tgname ~ '^~?escrow '),
 		-- The table's owner owns some of them. Without SECURITY DEFINER, triggers on the table would run with other rights.
 		'functions', (SELECT jsonb_object_agg(p.proname, format('%s %s %s', p.proowner::regrole, p.prosecdef, p.proconfig))
 			FROM escrow.functions((SELECT number FROM escrow.declared AS d WHERE d.relation = describe.relation)) AS f JOIN pg_proc AS p ON p.oid = f));
@@ -686,214 +663,196 @@ DECLARE
 	proprietor text := (SELECT relowner::regrole FROM pg_class WHERE oid = it.relation);
 	names name[] := ARRAY(SELECT (c->>'name')::name FROM jsonb_array_elements(it.columns) AS c);
 	k name := it.key_name;
+	-- As a cast writes it under any path of search. Other types have names that are words of the grammar.
+	key_cast text := CASE WHEN it.key_type IN ('text', 'uuid') THEN 'pg_catalog.' || it.key_type ELSE it.key_type END;
 	texts text[];   -- of the parts that repeat for each column
 	allowed text;
 	meant text;
+	note_call text;
+	direct_call text;
+	own_call text;
+	fold_text text;
 	kind text;
-	fold_is_proved text;
 	view_name text;
 BEGIN
 	UPDATE escrow.declared AS d SET definition = '{}' WHERE d.number = n; -- the event trigger lets it alone
 	texts := ARRAY[
 		-- 1: the values that a note writes
-		(SELECT string_agg(format('coalesce(changes[%s]::numeric, 0)', i), ', ') FROM generate_subscripts(names, 1) AS i),
-		-- 2: sums of what a fold takes
-		(SELECT string_agg(format('coalesce(sum(taken.change_%s), 0)', i), ', ') FROM generate_subscripts(names, 1) AS i),
-		-- 3: what a fold sets
-		(SELECT string_agg(format('%1$I = t.%1$I::pg_catalog.numeric OPERATOR(pg_catalog.+) rises[%2$s]', names[i], i), ', ') FROM generate_subscripts(names, 1) AS i),
-		-- 4: values of a row, old and new, as a MAC sees them
-		(SELECT string_agg(format('OLD.%1$I::text, NEW.%1$I::text', names[i]), ', ') FROM generate_subscripts(names, 1) AS i),
-		(SELECT string_agg(format('t.%1$I::text, (t.%1$I + rises[%2$s])::%3$s::text', names[i], i, it.columns->(i - 1)->>'type'), ', ') FROM generate_subscripts(names, 1) AS i),
-		-- 6: whether one of them differs
-		(SELECT string_agg(format('OLD.%1$I IS DISTINCT FROM NEW.%1$I', names[i]), ' OR ') FROM generate_subscripts(names, 1) AS i),
+		(SELECT string_agg(format('coalesce(changes[%s]::pg_catalog.numeric, 0)', i), ', ') FROM generate_subscripts(names, 1) AS i),
+		-- 2: what a fold adds to a row
+		(SELECT string_agg(format('OLD.%I OPERATOR(pg_catalog.+) coalesce(pg_catalog.sum(taken.change_%s), 0)', names[i], i), ', ') FROM generate_subscripts(names, 1) AS i),
+		-- 3: what it sets, before the guard adds to it
+		(SELECT string_agg(format('%1$I = t.%1$I', names[i]), ', ') FROM generate_subscripts(names, 1) AS i),
+		-- 4: whether a role may change what a note changes
+		(SELECT string_agg(format('(changes[%1$s] IS NULL OR allowed[%1$s])', i), ' AND ') FROM generate_subscripts(names, 1) AS i),
+		-- 5: whether a row keeps its values
+		(SELECT string_agg(format('OLD.%1$I OPERATOR(pg_catalog.=) NEW.%1$I', names[i]), ' AND ') FROM generate_subscripts(names, 1) AS i),
+		-- 6: the columns of a new row
+		(SELECT string_agg(format('NEW.%I', names[i]), ', ') FROM generate_subscripts(names, 1) AS i),
 		-- 7: the columns with what is pending
 		(SELECT string_agg(format('(t.%1$I + coalesce(j.change_%2$s, 0))::%3$s AS %1$I', names[i], i, it.columns->(i - 1)->>'type'), ', ')
 			FROM generate_subscripts(names, 1) AS i),
 		-- 8: sums of the journal
 		(SELECT string_agg(format('sum(change_%1$s) AS change_%1$s', i), ', ') FROM generate_subscripts(names, 1) AS i),
 		-- 9: values of a row
-		(SELECT string_agg(format('t.%I::text', names[i]), ', ') FROM generate_subscripts(names, 1) AS i),
+		(SELECT string_agg(format('t.%I::pg_catalog.text', names[i]), ', ') FROM generate_subscripts(names, 1) AS i),
 		-- 10: columns of the journal
-		(SELECT string_agg('change_' || i, ', ') FROM generate_subscripts(names, 1) AS i),
-		-- 11: values of a locked row, old and new, as a MAC sees them
-		(SELECT string_agg(format('olds[%1$s], (olds[%1$s]::numeric + rises[%1$s])::%2$s::text', i, it.columns->(i - 1)->>'type'), ', ') FROM generate_subscripts(names, 1) AS i),
-		-- 12: what is taken and what is added to it
-		(SELECT string_agg(format('rises[%1$s] + more[%1$s]', i), ', ') FROM generate_subscripts(names, 1) AS i),
-		-- 13: whether that changes anything
-		(SELECT string_agg(format('rises[%1$s] <> 0', i), ' OR ') FROM generate_subscripts(names, 1) AS i)];
+		(SELECT string_agg('change_' || i, ', ') FROM generate_subscripts(names, 1) AS i)];
 
 	-- Rule 20: what an UPDATE needs is UPDATE and SELECT of the column, and SELECT of the key.
-	allowed := (SELECT string_agg(format('pg_catalog.has_column_privilege(current_user, %1$s::pg_catalog.oid, %2$s::pg_catalog.int2, ''UPDATE'') AND '
-				'pg_catalog.has_column_privilege(current_user, %1$s::pg_catalog.oid, %2$s::pg_catalog.int2, ''SELECT'') AND '
-				'pg_catalog.has_column_privilege(current_user, %1$s::pg_catalog.oid, %3$s::pg_catalog.int2, ''SELECT'')',
+	allowed := (SELECT string_agg(format('pg_catalog.has_column_privilege(%1$s::pg_catalog.oid, %2$s::pg_catalog.int2, ''UPDATE'') AND '
+				'pg_catalog.has_column_privilege(%1$s::pg_catalog.oid, %2$s::pg_catalog.int2, ''SELECT'') AND '
+				'pg_catalog.has_column_privilege(%1$s::pg_catalog.oid, %3$s::pg_catalog.int2, ''SELECT'')',
 				relation::oid, c->>'place', (SELECT attnum FROM pg_attribute WHERE attrelid = it.relation AND attname = k)), ', ')
 			FROM jsonb_array_elements(it.columns) AS c);
 	-- The client's path of search decides what its name of the table means.
 	meant := format('::pg_catalog.text)::pg_catalog.oid OPERATOR(pg_catalog.=) %s::pg_catalog.oid', relation::oid);
-	UPDATE escrow.declared AS d SET note_text = format('SELECT id, answer FROM escrow.note_%s($1, $2, $3, $4, $5, $6, ARRAY[%s], pg_catalog.to_regclass($7%s)', n, allowed, meant),
-		own_text = format('SELECT escrow.own_%s($1, ARRAY[%s])', n, allowed),
-		direct_text = format('SELECT id, answer, folded FROM escrow.direct_%s($1, $2, $3, $4, $5, $6, ARRAY[%s], pg_catalog.to_regclass($7%s)', n, allowed, meant),
+	note_call := format('SELECT escrow.note_%s($1, $2, $3, $4, $5, $6, ARRAY[%s], (pg_catalog.to_regclass($7%s) IS TRUE)', n, allowed, meant);
+	direct_call := format('SELECT escrow.direct_%s($1, $2, $3, $4, $5, $6, ARRAY[%s], (pg_catalog.to_regclass($7%s) IS TRUE)', n, allowed, meant);
+	own_call := format('SELECT escrow.own_%s($1, ARRAY[%s])', n, allowed);
+	UPDATE escrow.declared AS d SET note_text = note_call, own_text = own_call, direct_text = direct_call,
 		refusal_text = format('SELECT escrow.refuse_change(%s, $1, $2, $3, $4, $5, ARRAY[%s], pg_catalog.to_regclass($6%s)', n, allowed, meant),
 		here_text = format('SELECT escrow.here_%s($1, $2, $3, $4, $5, ARRAY[%s], pg_catalog.to_regclass($6%s)', n, allowed, meant) WHERE d.number = n;
 
-	-- The note: rules 3, 4, 7, 10 and 17 to 20. And the direct note of an UPDATE that is a transaction by itself: if it gets
-	-- the row's lock at once, and in READ COMMITTED, it folds its own change with all that is pending, and writes no row of
-	-- the journal. Its DELETE in the journal takes the lock of rule 7 all the same, and its id is that which wrote the row.
+	-- Functions that are called for each order set no path of search, where they can do without: that costs more than the rest
+	-- of a call. Each name, type and operator in them says its schema.
+
+	-- The note: rules 3, 4, 7, 10 and 17 to 20. A direct note, of an UPDATE that is a transaction by itself, folds it at once,
+	-- if it gets the row's lock, and in READ COMMITTED. RETURNING is evaluated behind the write (rule 7). They return the
+	-- transaction's id, that of what wrote the row of the journal, and the half of the hash that the proxy has not sent; a
+	-- direct note also whether it has folded.
 	FOREACH kind IN ARRAY ARRAY['note', 'direct'] LOOP
 	EXECUTE format($f$
-		CREATE OR REPLACE FUNCTION escrow.%6$s_%1$s(epoch bigint, tag bigint, number bigint, key text, changes text[], proof bytea, allowed boolean[], is_meant boolean,
-			OUT id bigint, OUT answer bytea%7$s)
-		LANGUAGE plpgsql SECURITY DEFINER SET search_path = pg_catalog, pg_temp SET plan_cache_mode = force_generic_plan AS $body$
+		CREATE OR REPLACE FUNCTION escrow.%6$s_%1$s(epoch bigint, tag bigint, number bigint, key text, changes text[], proof bytea, allowed boolean[], is_meant boolean) RETURNS bytea
+		LANGUAGE plpgsql SECURITY DEFINER STRICT AS $body$
 		DECLARE
-			row_id xid;
-			own text;
-			inner_key bytea;
-			outer_key bytea;
-			top bigint;
-			is_taken boolean;
+			hash pg_catalog.bytea;
+			noted pg_catalog.bytea;
+			is_so boolean;
 		BEGIN
-			-- A note is short of nothing but time: so what could be functions of its own stands here, as plain expressions.
-			SELECT d.%6$s_text, s.inner_key, s.outer_key INTO own, inner_key, outer_key FROM escrow.declared AS d, escrow.secret AS s WHERE d.number = %1$s;
-			-- concat_ws leaves out what is null.
-			IF proof IS NULL OR tag IS NULL OR %6$s_%1$s.number IS NULL OR key IS NULL OR changes IS NULL OR current_query() IS DISTINCT FROM own
-				OR proof IS DISTINCT FROM sha256(outer_key || sha256(inner_key || convert_to(concat_ws('|', 'note', '%1$s', %6$s_%1$s.epoch::text,
-					pg_backend_pid()::text, tag::text, %6$s_%1$s.number::text, octet_length(key)::text, key, array_to_string(changes, ',', '')), 'UTF8'))) THEN
+			SELECT pg_catalog.sha512(pg_catalog.convert_to(pg_catalog.concat_ws('|', 'note', '%1$s', %6$s_%1$s.epoch, pg_catalog.pg_backend_pid(), tag, %6$s_%1$s.number,
+					pg_catalog.octet_length(%6$s_%1$s.key), %6$s_%1$s.key, pg_catalog.array_to_string(changes, ',', '')), 'UTF8') OPERATOR(pg_catalog.||) s.key)
+				INTO hash FROM escrow.secret AS s;
+			-- A number that is proved is used up, whatever comes then.
+			IF (CASE WHEN proof OPERATOR(pg_catalog.=) pg_catalog.substr(hash, 1, 32) AND pg_catalog.current_query() OPERATOR(pg_catalog.=) %7$L
+					AND %6$s_%1$s.number OPERATOR(pg_catalog.>) pg_catalog.currval('escrow.heard')
+				THEN pg_catalog.setval('escrow.heard', %6$s_%1$s.number) END) IS NULL THEN
 				RAISE EXCEPTION 'escrow.note is for escrowd-proxy' USING ERRCODE = 'insufficient_privilege';
 			END IF;
-			IF NOT (%6$s_%1$s.number > currval('escrow.heard')) THEN
-				RAISE EXCEPTION 'escrow.note is for escrowd-proxy' USING ERRCODE = 'insufficient_privilege';
-			END IF;
-			top := setval('escrow.heard', %6$s_%1$s.number);
-			IF is_meant IS NOT TRUE THEN
+			IF (is_meant AND %8$s) IS NOT TRUE THEN
 				PERFORM escrow.refuse_other(%2$L, is_meant);
+				RAISE EXCEPTION 'permission denied for table %%', %2$L USING ERRCODE = 'insufficient_privilege';
 			END IF;
-			FOR i IN 1 .. cardinality(changes) LOOP
-				IF changes[i] IS NOT NULL AND allowed[i] IS NOT TRUE THEN
-					RAISE EXCEPTION 'permission denied for table %%', %2$L USING ERRCODE = 'insufficient_privilege';
-				END IF;
-			END LOOP;
 			-- As escrow.forbid_prepare does.
-			is_taken := pg_try_advisory_lock_shared(1702064994, pg_backend_pid());
-			is_taken := pg_try_advisory_xact_lock_shared(1702064994, pg_backend_pid());%8$s
-			IF row_id IS NULL THEN
-				INSERT INTO escrow.journal_%1$s (epoch, tag, number, key, %3$s)
-				VALUES (%6$s_%1$s.epoch, %6$s_%1$s.tag, %6$s_%1$s.number, %6$s_%1$s.key::%4$s, %5$s) RETURNING xmin INTO row_id;
-			END IF;
-			-- The epoch is nothing if it was never set, and if nobody holds its lock, this transaction gets it: as escrow.is_live.
-			IF pg_sequence_last_value('escrow.epoch') IS DISTINCT FROM %6$s_%1$s.epoch OR pg_try_advisory_xact_lock_shared(%6$s_%1$s.epoch) THEN
+			is_so := pg_catalog.pg_try_advisory_lock_shared(1702064994, pg_catalog.pg_backend_pid())
+				AND pg_catalog.pg_try_advisory_xact_lock_shared(1702064994, pg_catalog.pg_backend_pid());
+			-- The epoch is nothing if it was never set, and if nobody holds its lock, this transaction gets it: rules 8 and 10.
+			INSERT INTO escrow.journal_%1$s (epoch, tag, number, key, %3$s)
+			VALUES (%6$s_%1$s.epoch, %6$s_%1$s.tag, %6$s_%1$s.number, %6$s_%1$s.key::%4$s, %5$s)
+			RETURNING pg_catalog.xid8send(pg_catalog.pg_current_xact_id()) OPERATOR(pg_catalog.||) pg_catalog.xidsend(xmin),
+				pg_catalog.pg_sequence_last_value('escrow.epoch') OPERATOR(pg_catalog.=) %6$s_%1$s.epoch AND NOT pg_catalog.pg_try_advisory_xact_lock_shared(%6$s_%1$s.epoch)
+				INTO noted, is_so;
+			IF is_so IS NOT TRUE THEN
 				PERFORM escrow.refuse_stale();
-			END IF;
-			-- As escrow.full_id does.
-			top := pg_current_xact_id()::text::bigint;
-			id := (top & ~4294967295::bigint) | row_id::text::bigint;
-			IF id < top THEN
-				id := id + 4294967296;
-			END IF;
-			answer := sha256(outer_key || sha256(inner_key || convert_to(concat_ws('|', 'noted', %6$s_%1$s.epoch::text, tag::text, %6$s_%1$s.number::text, id::text), 'UTF8')));
+			END IF;%9$s
+			RETURN noted OPERATOR(pg_catalog.||) pg_catalog.substr(hash, 33);
 		END
 		$body$
-	$f$, n, (SELECT relname FROM pg_class WHERE oid = it.relation), texts[10], it.key_type, texts[1], kind,
-		CASE kind WHEN 'direct' THEN ', OUT folded boolean' END,
+	$f$, n, (SELECT relname FROM pg_class WHERE oid = it.relation), texts[10], key_cast, texts[1], kind, CASE kind WHEN 'direct' THEN direct_call ELSE note_call END, texts[4],
 		CASE kind WHEN 'direct' THEN format('
-			IF current_setting(''transaction_isolation'') = ''read committed'' THEN
-				row_id := escrow.add_%1$s(direct_%1$s.key::%2$s, true, true, ARRAY[%3$s]);
-			END IF;
-			folded := row_id IS NOT NULL;', n, it.key_type, texts[1]) END);
+			is_so := pg_catalog.current_setting(''transaction_isolation'') OPERATOR(pg_catalog.=) ''read committed'' AND escrow.row_%1$s(direct_%1$s.key::%2$s, true) IS NOT NULL;
+			RETURN noted OPERATOR(pg_catalog.||) pg_catalog.substr(hash, 33) OPERATOR(pg_catalog.||) pg_catalog.boolsend(is_so);', n, key_cast) END);
 	EXECUTE format('ALTER FUNCTION escrow.%s_%s OWNER TO escrow_journal', kind, n);
 	END LOOP;
 
-	-- The row's lock, which returns its values, and the UPDATE of a fold, with the rights of the table's owner and the usual path of search, since
-	-- triggers on it run with them. So the UPDATE names its operators in full.
+	-- Rule 11. A fold locks the row, and the guard adds to it what it takes out of the journal. It runs with the rights of the
+	-- table's owner, as triggers on the table do then, and with the usual path of search for these. No caller tells it what
+	-- to change, so anybody's fold is harmless (rule 12). It returns the transaction or subtransaction that has written the
+	-- row anew, or nothing if the row is locked or not there. It waits for a lock unless it skips it.
+	fold_text := format('UPDATE %1$s AS t SET %2$s FROM (SELECT s.%3$I FROM %1$s AS s WHERE s.%3$I OPERATOR(pg_catalog.=) which FOR NO KEY UPDATE SKIP LOCKED) AS s
+				WHERE t.%3$I OPERATOR(pg_catalog.=) s.%3$I', relation, texts[3], k);
 	EXECUTE format($f$
-		CREATE OR REPLACE FUNCTION escrow.lock_%1$s(which %2$s, skips boolean) RETURNS text[]
-		LANGUAGE plpgsql SECURITY DEFINER SET search_path = pg_catalog, pg_temp SET plan_cache_mode = force_generic_plan AS $body$
+		CREATE OR REPLACE FUNCTION escrow.row_%1$s(which %2$s, skips boolean) RETURNS xid
+		LANGUAGE plpgsql SECURITY DEFINER SET search_path = "$user", public SET escrow.fold = on AS $body$
 		DECLARE
-			olds text[];
+			writer pg_catalog.xid;
 		BEGIN
 			IF skips THEN
-				SELECT ARRAY[%5$s] INTO olds FROM %3$s AS t WHERE t.%4$I = which FOR NO KEY UPDATE SKIP LOCKED;
+				%3$s RETURNING t.xmin INTO writer;
+			END IF;
+			IF writer IS NULL AND escrow.lock_%1$s(which, skips) IS NOT NULL THEN
+				UPDATE %4$s AS t SET %5$s WHERE t.%6$I OPERATOR(pg_catalog.=) which RETURNING t.xmin INTO writer;
+				IF writer IS NULL THEN
+					RAISE EXCEPTION 'a trigger has kept a change of %% away', %7$L USING ERRCODE = 'triggered_data_change_violation';
+				END IF;
+			END IF;
+			RETURN writer;
+		END
+		$body$
+	$f$, n, it.key_type, fold_text, relation, texts[3], k, (SELECT relname FROM pg_class WHERE oid = it.relation));
+	EXECUTE format($f$
+		CREATE OR REPLACE FUNCTION escrow.lock_%1$s(which %2$s, skips boolean) RETURNS text[]
+		LANGUAGE plpgsql SECURITY DEFINER AS $body$
+		DECLARE
+			olds pg_catalog.text[];
+		BEGIN
+			IF skips THEN
+				SELECT ARRAY[%5$s] INTO olds FROM %3$s AS t WHERE t.%4$I OPERATOR(pg_catalog.=) which FOR NO KEY UPDATE SKIP LOCKED;
 			ELSE
-				SELECT ARRAY[%5$s] INTO olds FROM %3$s AS t WHERE t.%4$I = which FOR NO KEY UPDATE;
+				SELECT ARRAY[%5$s] INTO olds FROM %3$s AS t WHERE t.%4$I OPERATOR(pg_catalog.=) which FOR NO KEY UPDATE;
 			END IF;
 			RETURN olds;
 		END
 		$body$
 	$f$, n, it.key_type, relation, k, texts[9]);
 	EXECUTE format($f$
-		CREATE OR REPLACE FUNCTION escrow.move_%1$s(which %2$s, rises numeric[]) RETURNS xid
-		LANGUAGE plpgsql SECURITY DEFINER SET search_path = "$user", public SET plan_cache_mode = force_generic_plan AS $body$
-		DECLARE
-			writer xid;
+		CREATE OR REPLACE FUNCTION escrow.value_%1$s(which %2$s) RETURNS text[]
+		LANGUAGE plpgsql SECURITY DEFINER SET search_path = pg_catalog, pg_temp AS $body$
 		BEGIN
-			UPDATE %3$s AS t SET %4$s WHERE t.%5$I OPERATOR(pg_catalog.=) which RETURNING t.xmin INTO writer;
-			IF writer IS NULL THEN
-				RAISE EXCEPTION 'a trigger has kept a change of %% away', %6$L USING ERRCODE = 'triggered_data_change_violation';
-			END IF;
-			RETURN writer;
+			RETURN (SELECT ARRAY[%3$s] FROM %4$s AS t WHERE t.%5$I = which);
 		END
 		$body$
-	$f$, n, it.key_type, relation, texts[3], k, (SELECT relname FROM pg_class WHERE oid = it.relation));
-	EXECUTE format($f$
-		CREATE OR REPLACE FUNCTION escrow.value_%1$s(which %2$s, rises numeric[], OUT moved text[], OUT shown text[])
-		LANGUAGE plpgsql SECURITY DEFINER SET search_path = pg_catalog, pg_temp SET plan_cache_mode = force_generic_plan AS $body$
-		BEGIN
-			SELECT ARRAY[%3$s], ARRAY[%4$s] INTO moved, shown FROM %5$s AS t WHERE t.%6$I = which;
-		END
-		$body$
-	$f$, n, it.key_type, texts[5], texts[9], relation, k);
+	$f$, n, it.key_type, texts[9], relation, k);
 	-- Which transaction or subtransaction has written the row.
 	EXECUTE format($f$
 		CREATE OR REPLACE FUNCTION escrow.writer_%1$s(which %2$s) RETURNS xid
-		LANGUAGE plpgsql SECURITY DEFINER SET search_path = pg_catalog, pg_temp SET plan_cache_mode = force_generic_plan AS $body$
+		LANGUAGE plpgsql SECURITY DEFINER SET search_path = pg_catalog, pg_temp AS $body$
 		BEGIN
 			RETURN (SELECT t.xmin FROM %3$s AS t WHERE t.%4$I = which);
 		END
 		$body$
 	$f$, n, it.key_type, relation, k);
-	FOREACH kind IN ARRAY ARRAY['lock', 'move', 'value', 'writer'] LOOP
+	FOREACH kind IN ARRAY ARRAY['row', 'lock', 'value', 'writer'] LOOP
 		EXECUTE format('ALTER FUNCTION escrow.%1$s_%2$s OWNER TO %3$s; REVOKE ALL ON FUNCTION escrow.%1$s_%2$s FROM PUBLIC; GRANT EXECUTE ON FUNCTION escrow.%1$s_%2$s TO escrow_journal',
 			kind, n, proprietor);
 	END LOOP;
-
-	-- Rule 11. The caller runs in READ COMMITTED, so the DELETE has a snapshot of behind the lock. Returns nothing without the
-	-- row's lock, 0 if it has changed nothing, and otherwise the transaction or subtransaction that has written the row. It adds `more` to what it takes of the journal. The guard lets just the change through that the MAC names, in this transaction.
+	-- Rule 13. It locks nothing that somebody else has, and never raises: if something fails, it has folded nothing. What it
+	-- does not fold is the folder's. Returns whether it has folded all.
 	EXECUTE format($f$
-		CREATE OR REPLACE FUNCTION escrow.add_%1$s(which %2$s, skips boolean, anew boolean, more numeric[]) RETURNS xid
-		LANGUAGE plpgsql SECURITY DEFINER SET search_path = pg_catalog, pg_temp SET plan_cache_mode = force_generic_plan AS $body$
+		CREATE OR REPLACE FUNCTION escrow.own_%1$s(keys text[], allowed boolean[]) RETURNS boolean
+		LANGUAGE plpgsql SECURITY DEFINER SET search_path = "$user", public SET escrow.fold = on AS $body$
 		DECLARE
-			olds text[] := escrow.lock_%1$s(which, skips);
-			rises numeric[];
-			writer xid := '0';
-			proof text;
+			which %4$s;
+			are_all boolean := true;
 		BEGIN
-			IF olds IS NULL THEN
-				RETURN NULL;
+			IF (pg_catalog.current_query() OPERATOR(pg_catalog.=) %2$L AND NOT (false OPERATOR(pg_catalog.=) ANY (allowed))
+				AND pg_catalog.current_setting('transaction_isolation') OPERATOR(pg_catalog.=) 'read committed') IS NOT TRUE THEN
+				RETURN false;
 			END IF;
-			WITH taken AS (DELETE FROM escrow.journal_%1$s AS j WHERE j.key = which RETURNING %3$s)
-			SELECT ARRAY[%4$s] INTO rises FROM taken;
-			IF more IS NOT NULL THEN
-				rises := ARRAY[%6$s];
-			END IF;
-			IF anew OR %7$s THEN
-				proof := set_config('escrow.fold', encode(escrow.mac('fold', pg_current_xact_id()::text, '%1$s', which::text, array_to_string(ARRAY[%5$s], ',')), 'hex'), true);
-				writer := escrow.move_%1$s(which, rises);
-				proof := set_config('escrow.fold', '', true);
-			END IF;
-			RETURN writer;
+			FOREACH which IN ARRAY keys::%4$s[] LOOP
+				%3$s;
+				are_all := FOUND AND are_all;
+			END LOOP;
+			RETURN are_all;
+		EXCEPTION WHEN OTHERS OR query_canceled THEN
+			RETURN false;
 		END
 		$body$
-	$f$, n, it.key_type, texts[10], texts[2], texts[11], texts[12], texts[13]);
-	EXECUTE format($f$
-		CREATE OR REPLACE FUNCTION escrow.take_%1$s(which %2$s, skips boolean, anew boolean) RETURNS boolean
-		LANGUAGE plpgsql SECURITY DEFINER SET search_path = pg_catalog, pg_temp AS $body$
-		BEGIN
-			RETURN escrow.add_%1$s(which, skips, anew, NULL) IS NOT NULL;
-		END
-		$body$
-	$f$, n, it.key_type);
+	$f$, n, own_call, fold_text, key_cast);
+	EXECUTE format('ALTER FUNCTION escrow.own_%s OWNER TO %s', n, proprietor);
 	EXECUTE format($f$
 		CREATE OR REPLACE FUNCTION escrow.fold_%1$s(keys text[]) RETURNS SETOF text
-		LANGUAGE plpgsql SECURITY DEFINER SET search_path = pg_catalog, pg_temp SET plan_cache_mode = force_generic_plan AS $body$
+		LANGUAGE plpgsql SECURITY DEFINER SET search_path = pg_catalog, pg_temp AS $body$
 		DECLARE
 			which text;
 		BEGIN
@@ -901,49 +860,22 @@ BEGIN
 				RAISE EXCEPTION 'a fold needs READ COMMITTED' USING ERRCODE = 'invalid_transaction_state';
 			END IF;
 			FOREACH which IN ARRAY keys LOOP
-				IF escrow.add_%1$s(which::%2$s, true, false, NULL) IS NOT NULL THEN
+				IF escrow.row_%1$s(which::%2$s, true) IS NOT NULL THEN
 					RETURN NEXT which;
 				END IF;
 			END LOOP;
 		END
 		$body$
 	$f$, n, it.key_type);
-	-- Rule 13. It locks nothing that somebody else has, and never raises. What it cannot fold is the folder's. Returns whether
-	-- it has folded all.
-	EXECUTE format($f$
-		CREATE OR REPLACE FUNCTION escrow.own_%1$s(keys text[], allowed boolean[]) RETURNS boolean
-		LANGUAGE plpgsql SECURITY DEFINER SET search_path = pg_catalog, pg_temp SET plan_cache_mode = force_generic_plan AS $body$
-		DECLARE
-			which text;
-			are_all boolean := true;
-		BEGIN
-			IF current_query() IS DISTINCT FROM (SELECT own_text FROM escrow.declared AS d WHERE d.number = %1$s)
-				OR false = ANY (allowed) OR current_setting('transaction_isolation') <> 'read committed' THEN
-				RETURN false;
-			END IF;
-			FOREACH which IN ARRAY keys LOOP
-				BEGIN
-					are_all := escrow.add_%1$s(which::%2$s, true, false, NULL) IS NOT NULL AND are_all;
-				EXCEPTION WHEN OTHERS OR query_canceled THEN
-					are_all := false;
-				END;
-			END LOOP;
-			RETURN are_all;
-		END
-		$body$
-	$f$, n, it.key_type);
-	EXECUTE format('ALTER FUNCTION escrow.own_%s OWNER TO escrow_journal', n);
 	-- Rule 16. Changes a row that this transaction has locked, or that nobody has, if no proxy holds it. Returns whether it
 	-- did. In REPEATABLE READ a mark or a row of the journal may be there unseen. If they came behind the snapshot, the row
 	-- was written anew, and its lock raises 40001; with a mark from before it is left alone.
 	EXECUTE format($f$
 		CREATE OR REPLACE FUNCTION escrow.here_%1$s(epoch bigint, number bigint, key text, changes text[], proof bytea, allowed boolean[], is_meant boolean)
 		RETURNS boolean
-		LANGUAGE plpgsql SECURITY DEFINER SET search_path = pg_catalog, pg_temp SET plan_cache_mode = force_generic_plan AS $body$
+		LANGUAGE plpgsql SECURITY DEFINER SET search_path = pg_catalog, pg_temp AS $body$
 		DECLARE
 			which %2$s := key::%2$s;
-			rises numeric[] := ARRAY[%3$s];
-			marked bigint;
 		BEGIN
 			IF current_query() IS DISTINCT FROM (SELECT here_text FROM escrow.declared AS d WHERE d.number = %1$s)
 				OR proof IS DISTINCT FROM escrow.mac('here', '%1$s', epoch::text, pg_backend_pid()::text, number::text,
@@ -957,26 +889,21 @@ BEGIN
 					RAISE EXCEPTION 'permission denied for table %%', %4$L USING ERRCODE = 'insufficient_privilege';
 				END IF;
 			END LOOP;
-			IF current_setting('transaction_isolation') = 'read committed' THEN
-				IF NOT escrow.take_%1$s(which, true, false) THEN
+			IF escrow.lock_%1$s(which, true) IS NULL THEN
+				RETURN false;
+			ELSIF current_setting('transaction_isolation') = 'read committed' THEN
+				IF EXISTS (SELECT FROM escrow.held_%1$s AS h WHERE h.key = which AND h.epoch = (SELECT last_value FROM escrow.epoch)) THEN
 					RETURN false;
 				END IF;
-				SELECT h.epoch INTO marked FROM escrow.held_%1$s AS h WHERE h.key = which;
-				IF marked = (SELECT last_value FROM escrow.epoch) THEN
-					RETURN false;
-				END IF;
-			ELSIF escrow.lock_%1$s(which, true) IS NULL OR EXISTS (SELECT FROM escrow.held_%1$s AS h WHERE h.key = which)
-				OR EXISTS (SELECT FROM escrow.journal_%1$s AS j WHERE j.key = which) THEN
+			ELSIF EXISTS (SELECT FROM escrow.held_%1$s AS h WHERE h.key = which) OR EXISTS (SELECT FROM escrow.journal_%1$s AS j WHERE j.key = which) THEN
 				RETURN false;
 			END IF;
-			PERFORM set_config('escrow.fold', encode(escrow.mac('fold', pg_current_xact_id()::text, '%1$s', which::text,
-				array_to_string((escrow.value_%1$s(which, rises)).moved, ',')), 'hex'), true);
-			PERFORM escrow.move_%1$s(which, rises);
-			PERFORM set_config('escrow.fold', '', true);
+			INSERT INTO escrow.journal_%1$s (epoch, tag, number, key, %5$s) VALUES (here_%1$s.epoch, here_%1$s.number, here_%1$s.number, which, %3$s);
+			PERFORM escrow.row_%1$s(which, true);
 			RETURN true;
 		END
 		$body$
-	$f$, n, it.key_type, texts[1], (SELECT relname FROM pg_class WHERE oid = it.relation));
+	$f$, n, it.key_type, texts[1], (SELECT relname FROM pg_class WHERE oid = it.relation), texts[10]);
 	EXECUTE format('ALTER FUNCTION escrow.here_%s OWNER TO escrow_journal', n);
 	-- Rule 14. Returns the row's values, or nothing if there is no such row.
 	EXECUTE format($f$
@@ -987,7 +914,7 @@ BEGIN
 				RAISE EXCEPTION 'a load needs READ COMMITTED' USING ERRCODE = 'invalid_transaction_state';
 			END IF;
 			-- A cast to a type with a size cuts a text, and rounds a number: then it would be another row's key.
-			IF which::%3$s IS DISTINCT FROM which::%2$s OR NOT escrow.take_%1$s(which::%2$s, false, true) THEN
+			IF which::%3$s IS DISTINCT FROM which::%2$s OR escrow.row_%1$s(which::%2$s, false) IS NULL THEN
 				RETURN NULL;
 			END IF;
 			INSERT INTO escrow.held_%1$s AS h (key, epoch) VALUES (which::%2$s, load_%1$s.epoch)
@@ -995,7 +922,7 @@ BEGIN
 			IF load_%1$s.epoch IS DISTINCT FROM (SELECT last_value FROM escrow.epoch) THEN
 				PERFORM escrow.refuse_stale();
 			END IF;
-			RETURN (escrow.value_%1$s(which::%2$s, NULL)).shown;
+			RETURN escrow.value_%1$s(which::%2$s);
 		END
 		$body$
 	$f$, n, it.key_type, regexp_replace(it.key_type, '\(.*\)', ''));
@@ -1035,7 +962,7 @@ BEGIN
 				PERFORM escrow.refuse_stale();
 			END IF;
 			FOR which IN SELECT h.key FROM escrow.held_%1$s AS h WHERE h.epoch <> sweep_%1$s.epoch ORDER BY h.key LIMIT most LOOP
-				IF escrow.take_%1$s(which, true, false) THEN
+				IF escrow.row_%1$s(which, true) IS NOT NULL THEN
 					DELETE FROM escrow.held_%1$s AS h WHERE h.key = which AND h.epoch <> sweep_%1$s.epoch;
 					done := done + 1;
 				END IF;
@@ -1049,7 +976,7 @@ BEGIN
 		CREATE OR REPLACE FUNCTION escrow.leave_%1$s(which text) RETURNS boolean
 		LANGUAGE plpgsql SECURITY DEFINER SET search_path = pg_catalog, pg_temp AS $body$
 		BEGIN
-			IF NOT escrow.take_%1$s(which::%2$s, true, false) THEN
+			IF escrow.row_%1$s(which::%2$s, true) IS NULL THEN
 				RETURN false;
 			END IF;
 			DELETE FROM escrow.held_%1$s WHERE key = which::%2$s;
@@ -1057,41 +984,44 @@ BEGIN
 		END
 		$body$
 	$f$, n, it.key_type);
-	FOREACH kind IN ARRAY ARRAY['add', 'take', 'fold', 'load', 'loads', 'leave', 'sweep'] LOOP
+	FOREACH kind IN ARRAY ARRAY['fold', 'load', 'loads', 'leave', 'sweep'] LOOP
 		EXECUTE format('ALTER FUNCTION escrow.%1$s_%2$s OWNER TO escrow_journal; REVOKE ALL ON FUNCTION escrow.%1$s_%2$s FROM PUBLIC', kind, n);
 	END LOOP;
 	EXECUTE format('GRANT EXECUTE ON FUNCTION escrow.fold_%1$s, escrow.load_%1$s, escrow.loads_%1$s, escrow.leave_%1$s, escrow.sweep_%1$s TO escrow_proxy', n);
 
-	-- Rules 15 and 16. AFTER, so that no other trigger changes a value behind it.
-	fold_is_proved := format('current_setting(''escrow.fold'', true) IS NOT DISTINCT FROM encode(escrow.mac(''fold'', pg_current_xact_id()::text, ''%1$s'', NEW.%2$I::text,
-				array_to_string(ARRAY[%3$s], '','')), ''hex'')', n, k, texts[4]);
+	-- Rules 11, 15 and 16. It fires last of all triggers before an UPDATE of a row, so what it decides stays. A statement that
+	-- changes neither key nor reservable columns may ask it for a fold; then it takes all of the row's key out of the journal
+	-- and adds it. A row that this transaction has written itself may be changed by its own UPDATE if nobody holds it; and so
+	-- may the key of any row. A scan of the journal's index forgets dead entries, and other plans do not.
 	EXECUTE format($f$
 		CREATE OR REPLACE FUNCTION escrow.guard_%1$s() RETURNS trigger
-		LANGUAGE plpgsql SECURITY DEFINER SET search_path = pg_catalog, pg_temp AS $body$
+		LANGUAGE plpgsql SECURITY DEFINER SET plan_cache_mode = force_generic_plan SET enable_seqscan = off SET enable_bitmapscan = off AS $body$
+		DECLARE
+			folds boolean := (pg_catalog.current_setting('escrow.fold', true) OPERATOR(pg_catalog.=) 'on') IS TRUE;
 		BEGIN
-			IF NOT (%2$s) THEN
+			IF OLD.%2$I OPERATOR(pg_catalog.=) NEW.%2$I AND %3$s THEN
+				IF folds THEN
+					WITH taken AS (DELETE FROM escrow.journal_%1$s AS j WHERE j.key OPERATOR(pg_catalog.=) OLD.%2$I RETURNING %4$s)
+					SELECT %5$s INTO %6$s FROM taken;
+				END IF;
+				RETURN NEW;
+			END IF;
+			IF NOT (%3$s) AND (folds OR NOT escrow.is_own(OLD.xmin)) THEN
 				RAISE EXCEPTION 'reservable columns of %% are changed by escrowd-proxy alone', TG_TABLE_NAME
 					USING ERRCODE = 'feature_not_supported', SCHEMA = TG_TABLE_SCHEMA, TABLE = TG_TABLE_NAME,
 						HINT = 'Connect to escrowd-proxy, and add or subtract by the key: UPDATE t SET c = c - 3 WHERE key = 5.';
 			END IF;
-			RETURN NULL;
-		END
-		$body$
-	$f$, n, fold_is_proved);
-	-- A row that this transaction has written itself: its own UPDATE may change it if nobody holds it.
-	EXECUTE format($f$
-		CREATE OR REPLACE FUNCTION escrow.own_guard_%1$s() RETURNS trigger
-		LANGUAGE plpgsql SECURITY DEFINER SET search_path = pg_catalog, pg_temp AS $body$
-		BEGIN
-			IF EXISTS (SELECT FROM escrow.held_%1$s WHERE key = OLD.%2$I) OR EXISTS (SELECT FROM escrow.journal_%1$s WHERE key = OLD.%2$I) THEN
+			IF EXISTS (SELECT FROM escrow.held_%1$s AS h WHERE h.key OPERATOR(pg_catalog.=) OLD.%2$I)
+				OR EXISTS (SELECT FROM escrow.journal_%1$s AS j WHERE j.key OPERATOR(pg_catalog.=) OLD.%2$I) THEN
 				RAISE EXCEPTION 'the row of %% is held by escrowd-proxy', TG_TABLE_NAME
 					USING ERRCODE = 'object_in_use', SCHEMA = TG_TABLE_SCHEMA, TABLE = TG_TABLE_NAME,
-						DETAIL = format('The key is %%s.', OLD.%2$I), HINT = 'Connect to escrowd-proxy, and add or subtract by the key: UPDATE t SET c = c - 3 WHERE key = 5.';
+						DETAIL = pg_catalog.format('The key is %%s.', OLD.%2$I), HINT = CASE WHEN %3$s THEN 'Connect to escrowd-proxy, which leaves a row that nobody has reserved.'
+							ELSE 'Connect to escrowd-proxy, and add or subtract by the key: UPDATE t SET c = c - 3 WHERE key = 5.' END;
 			END IF;
-			RETURN NULL;
+			RETURN NEW;
 		END
 		$body$
-	$f$, n, k);
+	$f$, n, k, texts[5], texts[10], texts[2], texts[6]);
 	EXECUTE format($f$
 		CREATE OR REPLACE FUNCTION escrow.keep_%1$s() RETURNS trigger
 		LANGUAGE plpgsql SECURITY DEFINER SET search_path = pg_catalog, pg_temp AS $body$
@@ -1105,20 +1035,15 @@ BEGIN
 		END
 		$body$
 	$f$, n, k);
-	EXECUTE format('ALTER FUNCTION escrow.guard_%1$s OWNER TO escrow_journal; ALTER FUNCTION escrow.own_guard_%1$s OWNER TO escrow_journal; ALTER FUNCTION escrow.keep_%1$s OWNER TO escrow_journal', n);
-	-- Whoever sets escrow.fold has to prove the change, so that a fold need not look who has written the row.
+	EXECUTE format('ALTER FUNCTION escrow.guard_%1$s OWNER TO escrow_journal; ALTER FUNCTION escrow.keep_%1$s OWNER TO escrow_journal', n);
+	-- The guard has no condition, since PostgreSQL reads that anew for each statement.
 	EXECUTE format($f$
-		CREATE OR REPLACE TRIGGER "escrow guard" AFTER UPDATE ON %1$s FOR EACH ROW
-			WHEN ((%2$s) AND (current_setting('escrow.fold', true) <> '' OR NOT escrow.is_own(OLD.xmin))) EXECUTE FUNCTION escrow.guard_%3$s();
-		CREATE OR REPLACE TRIGGER "escrow guard own" AFTER UPDATE ON %1$s FOR EACH ROW
-			WHEN ((%2$s) AND coalesce(current_setting('escrow.fold', true), '') = '' AND escrow.is_own(OLD.xmin)) EXECUTE FUNCTION escrow.own_guard_%3$s();
-		CREATE OR REPLACE TRIGGER "escrow key" AFTER UPDATE ON %1$s FOR EACH ROW
-			WHEN (OLD.%4$I IS DISTINCT FROM NEW.%4$I) EXECUTE FUNCTION escrow.keep_%3$s();
-		CREATE OR REPLACE TRIGGER "escrow delete" AFTER DELETE ON %1$s FOR EACH ROW EXECUTE FUNCTION escrow.keep_%3$s();
+		CREATE OR REPLACE TRIGGER "~escrow guard" BEFORE UPDATE ON %1$s FOR EACH ROW EXECUTE FUNCTION escrow.guard_%2$s();
+		CREATE OR REPLACE TRIGGER "escrow delete" AFTER DELETE ON %1$s FOR EACH ROW EXECUTE FUNCTION escrow.keep_%2$s();
 		CREATE OR REPLACE TRIGGER "escrow truncate" BEFORE TRUNCATE ON %1$s FOR EACH STATEMENT EXECUTE FUNCTION escrow.refuse_truncate()
-	$f$, relation, texts[6], n, k);
+	$f$, relation, n);
 	EXECUTE (SELECT string_agg(format('ALTER TABLE %s ENABLE ALWAYS TRIGGER %I', relation, t), '; ')
-		FROM unnest(ARRAY['escrow guard', 'escrow guard own', 'escrow key', 'escrow delete', 'escrow truncate']) AS t);
+		FROM unnest(ARRAY['~escrow guard', 'escrow delete', 'escrow truncate']) AS t);
 
 	-- Key and reservable columns with what is pending, in one snapshot. Its owner may grant it. It has no other columns, so
 	-- that these can be altered.
@@ -1193,10 +1118,10 @@ BEGIN
 	END IF;
 	EXECUTE format('LOCK TABLE escrow.journal_%s IN ACCESS EXCLUSIVE MODE', n);
 	FOR which IN EXECUTE format('SELECT DISTINCT key::text FROM escrow.journal_%s', n) LOOP
-		EXECUTE format('SELECT escrow.take_%s($1::%s, false, false)', n, (SELECT key_type FROM escrow.declared WHERE number = n)) USING which;
+		EXECUTE format('SELECT escrow.row_%s($1::%s, false)', n, (SELECT key_type FROM escrow.declared WHERE number = n)) USING which;
 	END LOOP;
 	DELETE FROM escrow.declared WHERE number = n;
-	EXECUTE (SELECT string_agg(format('DROP TRIGGER %I ON %s', tgname, relation), '; ') FROM pg_trigger WHERE tgrelid = relation AND tgname LIKE 'escrow %');
+	EXECUTE (SELECT string_agg(format('DROP TRIGGER %I ON %s', tgname, relation), '; ') FROM pg_trigger WHERE tgrelid = relation AND tgname ~ '^~?escrow ');
 	FOR view_name IN SELECT c.oid::regclass FROM pg_class AS c WHERE c.relkind = 'v' AND c.relnamespace = 'escrow'::regnamespace
 		AND obj_description(c.oid, 'pg_class') = n::text LOOP
 		EXECUTE format('DROP VIEW %s', view_name);

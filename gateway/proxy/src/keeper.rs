@@ -47,7 +47,7 @@ pub enum Error {
     #[error("an outcome that is not known: {0}")]
     Outcome(String),
     /// Schema `escrow` has no secret.
-    #[error("escrow.secret has no two keys of 64 bytes")]
+    #[error("escrow.secret has no key of 64 bytes")]
     Secret,
     /// What granted under this epoch is gone.
     #[error("the server has ended")]
@@ -86,9 +86,9 @@ impl Keeper {
         let (own, address) = target.login(None, "escrowd-proxy keeper", options).await?;
         let client = Session::from(own);
         install::check(in_time(install::version(&client)).await?)?;
-        let query = "SELECT inner_key, outer_key FROM escrow.secret";
+        let query = "SELECT key FROM escrow.secret";
         let row = in_time(client.query_one(query, &[])).await?;
-        let secret = Secret::new(row.get(0), row.get(1)).ok_or(Error::Secret)?;
+        let secret = Secret::new(row.get(0)).ok_or(Error::Secret)?;
         Ok((Keeper { client, epoch: 0 }, secret, address.clone()))
     }
 

@@ -1,6 +1,6 @@
 //! Reservations inside the transactions of a PostgreSQL. `PROTOCOL.md` has the rules by their numbers.
 //!
-//! `protocol`, `frames`, `note` and `sasl` have no input and output. `stream` and `tls` are connections; `conninfo` and `target` say
+//! `protocol`, `frames`, `note` and `sasl` have no input and output. `stream`, `unix` and `tls` are connections; `conninfo` and `target` say
 //! where PostgreSQL is; `relay` moves bytes. `keeper` holds the owner's locks.
 
 #![forbid(unsafe_code)]
@@ -36,4 +36,5 @@ pub mod stream;
 pub mod target;
 pub mod threads;
 pub mod tls;
+pub mod unix;
 pub mod update;

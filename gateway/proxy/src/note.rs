@@ -1,19 +1,18 @@
 //! What is sent to `escrow.note` and `escrow.greet`, and what comes back, with their MACs (rules 17 and 18).
 
-use hmac::{Hmac, Mac};
-use sha2::{Digest, Sha256};
+use bytes::Buf;
+use sha2::{Digest, Sha512};
 
-/// The bytes of a block of SHA-256, to which HMAC pads its key.
-const BLOCK: usize = 64;
+use crate::protocol::Id;
 
-/// The secret of schema `escrow`, as the table `escrow.secret` keeps it: the key combined with each of HMAC's pads.
+/// The bytes of the secret.
+const LENGTH: usize = 64;
+
+/// The secret of schema `escrow`, as the table `escrow.secret` keeps it.
 #[derive(Clone)]
-pub struct Secret {
-    inner: [u8; BLOCK],
-    outer: [u8; BLOCK],
-}
+pub struct Secret([u8; LENGTH]);
 
-/// A MAC, by HMAC-SHA-256 (RFC 2104).
+/// A MAC: a half of SHA-512 over the words and the secret behind them.
 pub type Proof = [u8; 32];
 
 /// A grant, as a note tells of it.
@@ -35,37 +34,43 @@ pub struct Grant<'a> {
     pub changes: &'a [Option<String>],
 }
 
+/// The two halves of a note's hash.
+#[derive(Clone, Copy, Debug, PartialEq, Eq)]
+pub struct Proved {
+    /// What is sent.
+    pub proof: Proof,
+    /// What comes back. Only the note itself can answer it, and nobody has seen it before.
+    pub answer: Proof,
+}
+
 impl Secret {
-    /// Reads the two columns of `escrow.secret`. None: they are no padded keys.
-    pub fn new(inner: &[u8], outer: &[u8]) -> Option<Secret> {
-        Some(Secret {
-            inner: inner.try_into().ok()?,
-            outer: outer.try_into().ok()?,
-        })
+    /// Reads the column of `escrow.secret`. None: it is no key.
+    pub fn new(key: &[u8]) -> Option<Secret> {
+        Some(Secret(key.try_into().ok()?))
     }
 
-    /// Returns the MAC of words, which are joined by bars.
-    fn proof(&self, words: &[&dyn std::fmt::Display]) -> Proof {
+    /// Returns the halves of the hash of words, which are joined by bars.
+    fn proved(&self, words: &[&dyn std::fmt::Display]) -> Proved {
         let words: Vec<String> = words.iter().map(|word| word.to_string()).collect();
-        let inner = Sha256::new()
-            .chain_update(self.inner)
+        let hash = Sha512::new()
             .chain_update(words.join("|"))
+            .chain_update(self.0)
             .finalize();
-        Sha256::new()
-            .chain_update(self.outer)
-            .chain_update(inner)
-            .finalize()
-            .into()
+        let half = |at: usize| std::array::from_fn(|place| hash[at + place]);
+        Proved {
+            proof: half(0),
+            answer: half(32),
+        }
     }
 
     /// Returns the proof of a greeting.
     pub fn of_greeting(&self, epoch: i64, process: i32, number: i64) -> Proof {
-        self.proof(&[&"greet", &epoch, &process, &number])
+        self.proved(&[&"greet", &epoch, &process, &number]).proof
     }
 
     /// Returns the proof of a change of a row that the client itself has locked. It has no tag.
     pub fn of_here(&self, grant: &Grant<'_>) -> Proof {
-        self.proof(&[
+        let words: [&dyn std::fmt::Display; 8] = [
             &"here",
             &grant.table,
             &grant.epoch,
@@ -74,12 +79,13 @@ impl Secret {
             &grant.key.len(),
             &grant.key,
             &written(grant.changes),
-        ])
+        ];
+        self.proved(&words).proof
     }
 
-    /// Returns the proof of a note.
-    pub fn of_note(&self, grant: &Grant<'_>) -> Proof {
-        self.proof(&[
+    /// Returns the proof of a note, and what it has to answer.
+    pub fn of_note(&self, grant: &Grant<'_>) -> Proved {
+        self.proved(&[
             &"note",
             &grant.table,
             &grant.epoch,
@@ -90,16 +96,6 @@ impl Secret {
             &grant.key,
             &written(grant.changes),
         ])
-    }
-
-    /// Returns whether an answer is that of the note: its id, and the proof of it.
-    pub fn is_answer(&self, grant: &Grant<'_>, id: i64, answer: &[u8]) -> bool {
-        let expected = self.proof(&[&"noted", &grant.epoch, &grant.tag, &grant.number, &id]);
-        // Compared by a MAC of each, so that the time tells nothing.
-        let again = |bytes: &[u8]| {
-            Hmac::<Sha256>::new_from_slice(&self.inner).map(|it| it.chain_update(bytes).finalize())
-        };
-        matches!((again(&expected), again(answer)), (Ok(left), Ok(right)) if left == right)
     }
 }
 
@@ -112,30 +108,51 @@ fn written(changes: &[Option<String>]) -> String {
     changes.join(",")
 }
 
+/// What a note returns.
+#[derive(Clone, Copy, Debug, PartialEq, Eq)]
+pub struct Noted {
+    /// The transaction or subtransaction that wrote it.
+    pub id: Id,
+    /// Whether it is in the table's row already.
+    pub has_folded: bool,
+}
+
+impl Noted {
+    /// Reads it: the transaction's id, the lower half of the id of what wrote the note, the answer, and of a direct note
+    /// whether it has folded. None: no note has answered that. An answer is good for one note, so it does not matter that the
+    /// time of its comparison tells of it.
+    pub fn read(mut bytes: &[u8], expected: &Proof) -> Option<Noted> {
+        if !matches!(bytes.len(), 44 | 45) {
+            return None;
+        }
+        let (top, writer) = (bytes.get_u64(), bytes.get_u32());
+        let (answer, folded) = bytes.split_at(expected.len());
+        (answer == expected).then(|| Noted {
+            id: full_id(top, writer),
+            has_folded: folded == [1],
+        })
+    }
+}
+
+/// Returns the id of 64 bits of a transaction or of a subtransaction of it, by its lower half. `top` is the transaction's.
+fn full_id(top: u64, writer: u32) -> Id {
+    let id = top & !u64::from(u32::MAX) | u64::from(writer);
+    Id(if id < top { id + (1 << 32) } else { id })
+}
+
 #[cfg(test)]
 mod tests {
     use super::*;
 
-    /// Pads a key, as `install.sql` does.
-    fn secret(key: &[u8]) -> Secret {
-        let padded = |pad: u8| {
-            let mut block = [pad; BLOCK];
-            block.iter_mut().zip(key).for_each(|(to, from)| *to ^= from);
-            block
-        };
-        Secret::new(&padded(0x36), &padded(0x5c)).unwrap()
-    }
+    const KEY: &[u8; LENGTH] = b"0123456789abcdef0123456789abcdef0123456789abcdef0123456789abcdef";
 
-    fn expected(key: &[u8], text: &str) -> Proof {
-        Hmac::<Sha256>::new_from_slice(key)
-            .unwrap()
-            .chain_update(text)
-            .finalize()
-            .into_bytes()
-            .into()
+    fn expected(text: &str) -> Proved {
+        let hash = Sha512::digest([text.as_bytes(), KEY].concat());
+        Proved {
+            proof: hash[..32].try_into().unwrap(),
+            answer: hash[32..].try_into().unwrap(),
+        }
     }
-
-    const KEY: &[u8] = b"0123456789abcdef0123456789abcdef";
 
     fn grant<'a>(key: &'a str, changes: &'a [Option<String>]) -> Grant<'a> {
         Grant {
@@ -150,39 +167,54 @@ mod tests {
     }
 
     #[test]
-    fn proofs_are_those_of_hmac() {
-        let it = secret(KEY);
+    fn proofs_are_halves_of_a_hash() {
+        let it = Secret::new(KEY).unwrap();
         assert_eq!(
             it.of_greeting(77, 4_321, 9),
-            expected(KEY, "greet|77|4321|9")
+            expected("greet|77|4321|9").proof
         );
         let changes = [Some("-3".to_string()), None, Some("0.50".to_string())];
-        let noted = "note|3|77|4321|5|9|3|\u{e4}b|-3,,0.50";
+        let note = grant("\u{e4}b", &changes);
         assert_eq!(
-            it.of_note(&grant("\u{e4}b", &changes)),
-            expected(KEY, noted)
+            it.of_note(&note),
+            expected("note|3|77|4321|5|9|3|\u{e4}b|-3,,0.50")
+        );
+        assert_eq!(
+            it.of_here(&note),
+            expected("here|3|77|4321|9|3|\u{e4}b|-3,,0.50").proof
         );
     }
 
     #[test]
-    fn an_answer_is_that_of_its_note_alone() {
-        let it = secret(KEY);
-        let changes = [Some("1".to_string())];
-        let answer = expected(KEY, "noted|77|5|9|12345");
-        assert!(it.is_answer(&grant("1", &changes), 12_345, &answer));
-        assert!(!it.is_answer(&grant("1", &changes), 12_346, &answer));
-        assert!(!it.is_answer(&grant("1", &changes), 12_345, &answer[..31]));
-        assert!(!it.is_answer(&grant("1", &changes), 12_345, b""));
-        let other = Grant {
-            number: 10,
-            ..grant("1", &changes)
-        };
-        assert!(!it.is_answer(&other, 12_345, &answer));
+    fn an_id_has_the_round_of_its_transaction() {
+        let round = 7 << 32;
+        assert_eq!(full_id(round + 9, 9), Id(round + 9));
+        assert_eq!(full_id(round + 9, 12), Id(round + 12));
+        assert_eq!(full_id(round + 0xffff_fffe, 3), Id(round + (1 << 32) + 3));
     }
 
     #[test]
-    fn a_secret_has_two_blocks() {
-        assert!(Secret::new(&[0; 64], &[0; 63]).is_none());
-        assert!(Secret::new(&[0; 65], &[0; 64]).is_none());
+    fn what_a_note_returns_is_read() {
+        let bytes = [
+            &1_000u64.to_be_bytes()[..],
+            &1_002u32.to_be_bytes(),
+            &[7; 32],
+        ]
+        .concat();
+        let (id, with) = (Id(1_002), |byte: u8| [&bytes[..], &[byte]].concat());
+        let read = |bytes: &[u8]| Noted::read(bytes, &[7; 32]);
+        let noted = |has_folded| Some(Noted { id, has_folded });
+        assert_eq!(read(&bytes), noted(false));
+        assert_eq!(read(&with(0)), noted(false));
+        assert_eq!(read(&with(1)), noted(true));
+        assert_eq!(Noted::read(&bytes, &[8; 32]), None);
+        assert_eq!(read(&bytes[..43]), None);
+        assert_eq!(read(&[&with(1)[..], b"1"].concat()), None);
+    }
+
+    #[test]
+    fn a_secret_has_64_bytes() {
+        assert!(Secret::new(&[0; 63]).is_none());
+        assert!(Secret::new(&[0; 65]).is_none());
     }
 }

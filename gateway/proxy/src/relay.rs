@@ -326,8 +326,8 @@ async fn reserve(
     (input, output): (BytesMut, BytesMut),
     service: &Service,
 ) -> Result<(), Error> {
-    let (from_client, mut to_client) = client.split();
-    let (from_server, to_server) = server.split();
+    let (from_client, mut to_client) = client.split()?;
+    let (from_server, to_server) = server.split()?;
     let ends = service.hub.open();
     let _open = Open(&service.hub, ends.connection);
     let shared = Shared::new();
@@ -374,8 +374,8 @@ async fn relay(
     input: BytesMut,
     output: BytesMut,
 ) -> Result<(), Error> {
-    let (from_client, to_client) = client.split();
-    let (from_server, to_server) = server.split();
+    let (from_client, to_client) = client.split()?;
+    let (from_server, to_server) = server.split()?;
     let there = pass(from_client, to_server, input);
     let back = pass(from_server, to_client, output);
     first_end(there, back).await

@@ -12,10 +12,10 @@ use tokio::time::timeout;
 use crate::catalog::{Catalog, Table};
 use crate::expected::Expect;
 use crate::hub::Mail;
-use crate::note::{Grant, Secret};
+use crate::note::{Grant, Noted, Secret};
 use crate::own::{self, Value};
 use crate::parameters::Parameters;
-use crate::protocol::{Answer, Event, Id, Status};
+use crate::protocol::{Answer, Event, Status};
 use crate::refusals::{words, Words};
 use crate::relay::Error;
 use crate::requests::{End, How, OwnReply, Requests, Rest};
@@ -558,13 +558,14 @@ impl Requests<'_> {
             key: &key.text,
             changes: &job.change,
         };
+        let proved = secret.of_note(&grant);
         let values = [
             Value::Text(epoch.to_string()),
             Value::Text(grant.tag.to_string()),
             Value::Text(number.to_string()),
             Value::Text(key.text.to_string()),
             Value::Text(changes_array(&job.change)),
-            Value::Binary(secret.of_note(&grant).to_vec()),
+            Value::Binary(proved.proof.to_vec()),
             Value::Text(job.form.relation()),
         ];
         // A Sync in a block commits nothing.
@@ -573,19 +574,19 @@ impl Requests<'_> {
             true => End::Sync,
             false => End::Flush,
         };
-        // What changes nothing writes no row.
-        let is_change = job.change.iter().flatten().any(|it| it != "0");
-        let folds = job.alone && job.is_single && may_fold && is_change && self.shared.waits();
-        let (text, results) = match folds {
-            true => (&job.table.direct_text, &[0, 1, 0][..]),
-            false => (&job.table.note_text, &[0, 1][..]),
+        let folds = job.alone && job.is_single && may_fold && self.shared.waits();
+        let text = match folds {
+            true => &job.table.direct_text,
+            false => &job.table.note_text,
         };
-        let reply = self.ask(text, &values, results, end.clone()).await?;
+        let reply = self.ask(text, &values, &[1], end.clone()).await?;
         match &reply {
             OwnReply::Row(Some(row)) => {
-                let id = noted_id(row, &secret, &grant).ok_or(Error::Forged)?;
+                let noted = row.first().and_then(Option::as_deref);
+                let noted = noted.and_then(|bytes| Noted::read(bytes, &proved.answer));
+                let Noted { id, has_folded } = noted.ok_or(Error::Forged)?;
                 self.hub.handle(Event::Noted { connection, id });
-                if is_true(row.get(2)) {
+                if has_folded {
                     self.hub.handle(Event::OwnFolded { connection });
                 }
             }
@@ -685,17 +686,6 @@ fn changed_row() -> Words {
             .to_owned(),
         about: String::new(),
     }
-}
-
-/// Reads the id that a note returned, if its answer is that of this note.
-fn noted_id(row: &[Option<Bytes>], secret: &Secret, grant: &Grant<'_>) -> Option<Id> {
-    let (id, answer) = match row {
-        [Some(id), Some(answer)] | [Some(id), Some(answer), _] => (id, answer),
-        _ => return None,
-    };
-    let id: i64 = std::str::from_utf8(id).ok()?.parse().ok()?;
-    let is_own = secret.is_answer(grant, id, answer);
-    is_own.then_some(Id(id as u64))
 }
 
 /// Writes changes as an array.

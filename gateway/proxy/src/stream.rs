@@ -5,8 +5,10 @@ use std::pin::Pin;
 use std::task::{Context, Poll};
 
 use tokio::io::{split, AsyncRead, AsyncWrite, ReadBuf, ReadHalf, WriteHalf};
-use tokio::net::{tcp, unix, TcpStream, UnixStream};
+use tokio::net::{tcp, TcpStream, UnixStream};
 use tokio_rustls::TlsStream;
+
+use crate::unix;
 
 /// A connection. What is written to it has to be flushed: TLS keeps what the socket did not take at once.
 #[derive(Debug)]
@@ -25,7 +27,7 @@ pub enum Reader {
     /// Of TCP.
     Tcp(tcp::OwnedReadHalf),
     /// Of a Unix socket.
-    Unix(unix::OwnedReadHalf),
+    Unix(unix::Reader),
     /// Of TLS.
     Tls(ReadHalf<TlsStream<TcpStream>>),
 }
@@ -36,7 +38,7 @@ pub enum Writer {
     /// Of TCP.
     Tcp(tcp::OwnedWriteHalf),
     /// Of a Unix socket.
-    Unix(unix::OwnedWriteHalf),
+    Unix(unix::Writer),
     /// Of TLS.
     Tls(WriteHalf<TlsStream<TcpStream>>),
 }
@@ -99,21 +101,25 @@ impl Stream {
     }
 
     /// Returns the connection's two halves, which different tasks may use.
-    pub fn split(self) -> (Reader, Writer) {
-        match self {
+    ///
+    /// # Errors
+    ///
+    /// Fails if the system refuses to watch it.
+    pub fn split(self) -> io::Result<(Reader, Writer)> {
+        Ok(match self {
             Stream::Tcp(socket) => {
                 let (reader, writer) = socket.into_split();
                 (Reader::Tcp(reader), Writer::Tcp(writer))
             }
             Stream::Unix(socket) => {
-                let (reader, writer) = socket.into_split();
+                let (reader, writer) = unix::split(socket)?;
                 (Reader::Unix(reader), Writer::Unix(writer))
             }
             Stream::Tls(stream, _) => {
                 let (reader, writer) = split(*stream);
                 (Reader::Tls(reader), Writer::Tls(writer))
             }
-        }
+        })
     }
 }
 

@@ -73,12 +73,12 @@ def a_version_is_installed_kept_and_brought_up(cluster: Cluster) -> None:
     assert apply(cluster, "install") == (0, "schema escrow is installed, version 1\n")
     cluster.run("CREATE TABLE stock (id int PRIMARY KEY, pieces int NOT NULL CHECK (pieces >= 0))", "INSERT INTO stock VALUES (1, 10)",
                 "SELECT escrow.reservable('stock', 'pieces')")
-    secret = one(cluster, "SELECT inner_key FROM escrow.secret")
+    secret = one(cluster, "SELECT key FROM escrow.secret")
     before = one(cluster, OBJECTS)
     expect(apply(cluster, "install"), 0, "schema escrow had version 1, its functions are made anew\n")
     cluster.run("CREATE OR REPLACE FUNCTION escrow.version() RETURNS integer LANGUAGE sql IMMUTABLE AS 'SELECT 0'")
     expect(apply(cluster, "install"), 0, "schema escrow is brought from version 0 to version 1\n")
-    assert (one(cluster, "SELECT inner_key FROM escrow.secret"), one(cluster, OBJECTS)) == (secret, before)
+    assert (one(cluster, "SELECT key FROM escrow.secret"), one(cluster, OBJECTS)) == (secret, before)
     cluster.run("CREATE OR REPLACE FUNCTION escrow.version() RETURNS integer LANGUAGE sql IMMUTABLE AS 'SELECT 2'")
     expect(apply(cluster, "install"), 1, "schema escrow has version 2, which is newer than 1")
     assert one(cluster, OBJECTS) == before

@@ -19,7 +19,7 @@ from psycopg import errors
 from clients.servers import wait_until
 from clients.suite import main
 from proxy.test.harness import SharedPart, installed
-from proxy.test.standin import OWNER, Client, Cluster, Owner, placeholders
+from proxy.test.standin import Client, Cluster, Noted, OWNER, Owner, placeholders
 
 
 def end_owner(cluster: Cluster) -> None:
@@ -140,6 +140,8 @@ def declarations_are_tested(cluster: Cluster) -> None:
             (f"CREATE TABLE t ({good}); CREATE INDEX i ON t (id) WHERE n + n > 1", "the column n is in an expression or the condition of the index public.i"),
             (f"CREATE TABLE t ({good}); CREATE FUNCTION f() RETURNS trigger LANGUAGE plpgsql AS 'BEGIN RETURN NULL; END'; "
              "CREATE CONSTRAINT TRIGGER f AFTER UPDATE ON t DEFERRABLE FOR EACH ROW EXECUTE FUNCTION f()", "the trigger f can be deferred"),
+            (f"CREATE TABLE t ({good}); CREATE TRIGGER \"~f\" BEFORE INSERT OR UPDATE ON t FOR EACH ROW EXECUTE FUNCTION suppress_redundant_updates_trigger()",
+             "the trigger \"~f\" fires behind the one that guards reservable columns"),
             (f"CREATE TABLE t ({good}); ALTER TABLE t ADD CHECK (n > 0) NOT VALID", "the CHECK t_n_check is not validated"),
             ("CREATE TABLE t (id integer PRIMARY KEY, n bigint NOT NULL); INSERT INTO t VALUES (1, 1000000000000000)",
              "the column n has the value 1000000000000000"),
@@ -317,7 +319,7 @@ def notes_follow_their_transaction(cluster: Cluster) -> None:
     with refused(errors.DivisionByZero), client.connection.pipeline():
         cursor = client.connection.execute(placeholders(arguments[0]), arguments[1:])
         client.execute("CALL twice()")
-    same(owner.status(cursor.fetchone()[0]), "committed")  # type: ignore[index]
+    same(owner.status(Noted.of(cursor.fetchone()).id), "committed")
     cluster.run("DROP PROCEDURE twice")
 
 
@@ -327,11 +329,16 @@ def notes_need_a_grant(cluster: Cluster) -> None:
     make_buyer(cluster)
     client, other = Client(owner), Client(owner)
     # What is changed, or is NULL, or is another backend's.
-    for place, change in ((1, owner.epoch + 1), (2, 77), (3, 10**9), (4, "2"), (5, ["-2"]), (6, b"x" * 32), (6, None), (1, None), (5, [None])):
+    for place, change in ((1, owner.epoch + 1), (2, 77), (3, 10**9), (4, "2"), (5, ["-2"]), (6, b"x" * 32), (5, [None])):
         arguments = client.arguments("stock", 1, -1)
         arguments[place] = change
         with refused(errors.InsufficientPrivilege, "escrow.note is for escrowd-proxy"):
             client.send(arguments)
+    for place in range(1, 7):
+        arguments = client.arguments("stock", 1, -1)
+        arguments[place] = None
+        same(client.connection.execute(placeholders(arguments[0]), arguments[1:]).fetchone(), (None,))
+    same(value(cluster, f"SELECT count(*) FROM escrow.journal_{owner.declared('stock')[0]}"), 0)
     with refused(errors.InsufficientPrivilege, "escrow.note is for escrowd-proxy"):
         other.send(client.arguments("stock", 1, -1))
     # What was sent once: again, behind ROLLBACK TO, behind ROLLBACK, behind DISCARD.
@@ -385,14 +392,20 @@ def notes_need_a_grant(cluster: Cluster) -> None:
     for text in (
         "SELECT * FROM escrow.secret", "INSERT INTO escrow.journal_{n} VALUES (1, 1, 1, 1, 1)", "DELETE FROM escrow.journal_{n}", "SELECT escrow.mac('a')",
         "SELECT escrow.is_fresh(1)", "SELECT setval('escrow.heard', 1)", "SELECT currval('escrow.heard')", "SELECT setval('escrow.epoch', 1)",
-        "SELECT escrow.fold_{n}('{{1}}')", "SELECT escrow.take_{n}(1, true, true)", "SELECT escrow.move_{n}(1, '{{5}}')", "SELECT escrow.load_{n}(1, '1')",
+        "SELECT escrow.fold_{n}('{{1}}')", "SELECT escrow.row_{n}(1, true)", "SELECT escrow.lock_{n}(1, true)", "SELECT escrow.load_{n}(1, '1')",
         "SELECT escrow.leave_{n}('1')", "SELECT escrow.set_epoch(3)", "DELETE FROM escrow.held_{n}", "UPDATE escrow.declared SET note_text = ''",
     ):
         with refused(errors.InsufficientPrivilege, "permission denied"):
             buyer.execute(text.format(n=table))
-    # Nor a table's owner by its own functions: the guard knows no fold of it.
+    # A table's owner may fold, as anybody may who changes the row: it changes by what the journal has, and by nothing else.
+    client.execute("SET escrow.fold = on")
+    for text in (f"SELECT escrow.row_{table}(1, true)", "UPDATE stock SET title = 'folded' WHERE id = 1"):
+        pieces = value(cluster, "SELECT pieces FROM escrow.now_stock WHERE id = 1")
+        client.note("stock", 1, -1)
+        client.execute(text)
+        same((value(cluster, "SELECT pieces FROM stock WHERE id = 1"), value(cluster, f"SELECT count(*) FROM escrow.journal_{table}")), (pieces - 1, 0))
     with refused(errors.FeatureNotSupported):
-        client.execute(f"SELECT escrow.move_{table}(1, '{{5}}')")
+        client.execute("UPDATE stock SET pieces = pieces + 5")
 
 
 @part
@@ -634,22 +647,17 @@ def direct_notes_are_in_the_row(cluster: Cluster) -> None:
     client.execute("RESET default_transaction_isolation")
     assert client.direct("stock", 1, -1)
     same((value(cluster, pieces), value(cluster, journal)), (3, 0))
-    # Words that are null are left out of what a proof is over. So they prove nothing.
-    text = owner.one("SELECT direct_text FROM escrow.declared")[0]
+    # Words that are null are left out of what a proof is over. So nothing is called with them.
     for place in (2, 3):
-        arguments = client.arguments("stock", 1, -1)
+        arguments = client.direct_arguments("stock", 1, -1)
         arguments[place] = None
         words = [it for it in arguments[1:4] if it is not None]
         arguments[6] = owner.mac("note", owner.declared("stock")[0], words[0], client.connection.info.backend_pid, *words[1:], 1, "1", "-1")
-        with refused(errors.InsufficientPrivilege, "escrow.note is for escrowd-proxy"):
-            client.connection.execute(placeholders(text), arguments[1:])
-    # What a note is refused for, it is too. And a note's text is no direct one's.
+        same(client.connection.execute(placeholders(arguments[0]), arguments[1:]).fetchone(), (None,))
+    same((value(cluster, pieces), value(cluster, journal)), (3, 0))
+    # What a note is refused for, it is too.
     with refused(errors.InsufficientPrivilege, "permission denied for table stock"):
         buyer.direct("stock", 1, -1)
-    arguments = client.arguments("stock", 1, -1)
-    arguments[0] = arguments[0].replace("note_", "direct_")
-    with refused(errors.InsufficientPrivilege, "escrow.note is for escrowd-proxy"):
-        client.send(arguments)
     with refused(errors.ReadOnlySqlTransaction):
         client.execute("SET default_transaction_read_only = on")
         client.direct("stock", 1, -1)
@@ -669,19 +677,18 @@ def a_takeover_waits_for_direct_notes(cluster: Cluster) -> None:
     owner = stock(cluster)
     owner.load("stock", 1)
     client = Client(owner)
-    text = owner.one("SELECT direct_text FROM escrow.declared")[0]
     client.execute("BEGIN")
-    row = client.connection.execute(placeholders(text), client.arguments("stock", 1, -1)[1:]).fetchone()
-    assert row is not None and row[2]
+    outer = client.send(client.direct_arguments("stock", 1, -1))
+    assert outer.folded
     same([it[0] for it in owner.keeper.execute("SELECT process FROM escrow.holders()")], [client.connection.info.backend_pid])
     # Inside of a block its id is that of the subtransaction which wrote the row.
     client.execute("SAVEPOINT a")
-    inner = client.connection.execute(placeholders(text), client.arguments("stock", 1, -1)[1:]).fetchone()
-    assert inner is not None and inner[2] and inner[0] != row[0]
+    inner = client.send(client.direct_arguments("stock", 1, -1))
+    assert inner.folded and inner.id != outer.id
     client.execute("ROLLBACK TO a")
-    same((owner.status(row[0]), owner.status(inner[0])), ("in progress", "aborted"))
+    same((owner.status(outer.id), owner.status(inner.id)), ("in progress", "aborted"))
     client.execute("COMMIT")
-    same((owner.status(row[0]), value(cluster, "SELECT pieces FROM stock WHERE id = 1")), ("committed", 9))
+    same((owner.status(outer.id), value(cluster, "SELECT pieces FROM stock WHERE id = 1")), ("committed", 9))
 
 
 @part
@@ -773,13 +780,13 @@ def functions_of_the_owner_stay(cluster: Cluster) -> None:
     with cluster.connect("mallory") as it:
         it.execute("CREATE TABLE mallory.t (id integer PRIMARY KEY, n integer NOT NULL); SELECT escrow.reservable('mallory.t', 'n')")
         n = it.execute("SELECT number FROM escrow.declared").fetchall()[0][0]
-        own = it.execute(b"SELECT f::regprocedure::text FROM escrow.functions(%s) AS f JOIN pg_proc AS p ON p.oid = f "
-                         b"WHERE proowner = 'mallory'::regrole", (n,)).fetchall()
-        same(len(own), 4)
-        for name, in own:
+        own = it.execute(b"SELECT f::regprocedure::text, proconfig IS NOT NULL FROM escrow.functions(%s) AS f JOIN pg_proc AS p ON p.oid = f"
+                         b" WHERE proowner = 'mallory'::regrole", (n,)).fetchall()
+        same(len(own), 5)
+        for name, has_settings in own:
             for text in ("ALTER FUNCTION {} SECURITY INVOKER", "ALTER ROUTINE {} SECURITY INVOKER", "ALTER FUNCTION {} SET search_path = mallory",
-                         "ALTER FUNCTION {} RENAME TO x",
-                         "DROP FUNCTION {}", "ALTER FUNCTION {} RESET ALL", "CREATE OR REPLACE FUNCTION {} RETURNS boolean LANGUAGE sql AS 'SELECT true'"):
+                         "ALTER FUNCTION {} RENAME TO x", "DROP FUNCTION {}", *["ALTER FUNCTION {} RESET ALL"] * has_settings,
+                         "CREATE OR REPLACE FUNCTION {} RETURNS boolean LANGUAGE sql AS 'SELECT true'"):
                 try:
                     it.execute(text.format(name).encode())
                 except psycopg.Error:
@@ -799,15 +806,71 @@ def nobody_calls_what_is_not_theirs(cluster: Cluster) -> None:
                ORDER BY proname"""
     same([name for name, in owner.keeper.execute(query.encode())],
          sorted(["greet", "reservable", "ordinary", "keep_declared",
-                 *(f"{it}_{n}" for it in ("note", "direct", "here", "own", "guard", "own_guard", "keep"))]))
+                 *(f"{it}_{n}" for it in ("note", "direct", "here", "own", "guard", "keep"))]))
     query = """SELECT relname FROM pg_class WHERE relnamespace = 'escrow'::regnamespace AND relkind IN ('r', 'v', 'S')
                AND (has_any_column_privilege('buyer2', oid, 'SELECT')
         OR has_table_privilege('buyer2', oid, 'INSERT, UPDATE, DELETE, TRUNCATE'))"""
     same([name for name, in owner.keeper.execute(query.encode())], ["declared"])
     without_path = """SELECT proname FROM pg_proc WHERE pronamespace = 'escrow'::regnamespace AND prosecdef
-                      AND NOT coalesce(proconfig, '{}') && ARRAY['search_path=pg_catalog, pg_temp']"""
-    same([name for name, in owner.keeper.execute(without_path.encode())], [f"move_{n}"])
+                      AND NOT coalesce(proconfig, '{}') && ARRAY['search_path=pg_catalog, pg_temp'] ORDER BY proname"""
+    same([name for name, in owner.keeper.execute(without_path.encode())], [f"{name}_{n}" for name in PATHLESS])
     cluster.run("DROP ROLE buyer2")
+
+
+# The functions that set no path of search, and run with the rights of their owner.
+PATHLESS = ("direct", "guard", "lock", "note", "own", "row")
+# All that they could name of another schema's: functions, operators and types, each of which raises.
+EVIL = """
+WITH types AS (SELECT oid, typname FROM pg_type WHERE oid = ANY (
+    '{int2,int4,int8,numeric,text,bytea,bool,xid,xid8,name,oid,text[],numeric[]}'::regtype[]::oid[]))
+SELECT format('CREATE FUNCTION evil.%I(%s) RETURNS %s LANGUAGE plpgsql AS $$ BEGIN RAISE EXCEPTION ''evil''; END $$', p.proname,
+    pg_get_function_identity_arguments(p.oid), pg_get_function_result(p.oid))
+FROM pg_proc AS p WHERE p.pronamespace = 'pg_catalog'::regnamespace AND p.prokind = 'f' AND p.proname ~ '^[a-z]'
+    AND NOT (p.proargtypes::oid[] || p.prorettype) && ARRAY['internal', 'cstring', '"any"']::regtype[]::oid[]
+    AND EXISTS (SELECT FROM pg_proc AS f WHERE f.pronamespace = 'escrow'::regnamespace AND f.proname ~ '^(direct|guard|lock|note|own|row)_[0-9]'
+        AND f.prosrc ~ ('\\m' || p.proname || '\\M'))
+UNION ALL
+SELECT format('CREATE FUNCTION evil.op%s(%s, %s) RETURNS %s LANGUAGE plpgsql AS $$ BEGIN RAISE EXCEPTION ''evil''; END $$; '
+    'CREATE OPERATOR evil.%s (FUNCTION = evil.op%1$s, LEFTARG = %2$s, RIGHTARG = %3$s)', oid, oprleft::regtype, oprright::regtype, oprresult::regtype, oprname)
+FROM pg_operator WHERE oprnamespace = 'pg_catalog'::regnamespace AND oprname IN ('=', '<>', '<', '>', '+', '||')
+    AND oprleft IN (SELECT oid FROM types) AND oprright IN (SELECT oid FROM types)
+UNION ALL SELECT format('CREATE DOMAIN evil.%I AS pg_catalog.circle', typname) FROM types"""
+
+
+@part
+def functions_without_a_path_need_none(cluster: Cluster) -> None:
+    """They do the same where all that they name stands in another schema too, and that comes first."""
+    owner = stock(cluster)
+    table = owner.declared("stock")[0]
+    owner.load("stock", 1)
+    cluster.run("CREATE SCHEMA evil", "GRANT USAGE ON SCHEMA evil TO PUBLIC")
+    with cluster.connect() as it:
+        made = [text for text, in it.execute(EVIL.encode())]
+        it.execute("; ".join(made).encode())
+    assert len(made) > 120, made
+    path = "SET search_path = evil, pg_catalog, public"
+    client = Client(owner)
+    client.execute(path)
+    with refused(errors.RaiseException, "evil"):
+        client.execute("SELECT 1 = 1")
+    pieces = "SELECT pieces FROM stock WHERE id = 1"
+    client.execute("BEGIN")
+    client.note("stock", 1, -1)
+    client.fold("stock", 1)
+    client.execute("COMMIT")
+    same(value(cluster, pieces), 9)
+    assert client.direct("stock", 1, -2)
+    client.note("stock", 1, -3)
+    owner.keeper.execute(path)
+    same([key for key, in owner.keeper.execute(f"SELECT escrow.fold_{table}('{{1}}')".encode())], ["1"])
+    same(value(cluster, pieces), 4)
+    client.note("stock", 1, -1)
+    client.execute("SET escrow.fold = on; UPDATE stock SET title = 'folded' WHERE id OPERATOR(pg_catalog.=) 1; RESET escrow.fold")
+    same(value(cluster, pieces), 3)
+    with refused(errors.FeatureNotSupported, "are changed by escrowd-proxy alone"):
+        client.execute("UPDATE stock SET pieces = 5")
+    client.execute("INSERT INTO stock (id, pieces) VALUES (78, 1); UPDATE stock SET pieces = 2 WHERE id OPERATOR(pg_catalog.=) 78")
+    cluster.run("DROP SCHEMA evil CASCADE")
 
 
 @part
@@ -966,9 +1029,10 @@ def definitions_stay(cluster: Cluster) -> None:
             "ALTER TABLE stock RENAME TO ware", "ALTER TABLE stock RENAME COLUMN pieces TO items", "ALTER TABLE stock RENAME COLUMN id TO nr",
             "ALTER TABLE stock ADD CHECK (pieces < 100)", "ALTER TABLE stock DROP CONSTRAINT in_stock", "ALTER TABLE stock DROP CONSTRAINT stock_pkey",
             "ALTER TABLE stock ALTER pieces DROP NOT NULL", "ALTER TABLE stock ENABLE ROW LEVEL SECURITY", "ALTER TABLE stock DISABLE TRIGGER ALL",
-            "ALTER TABLE stock DISABLE TRIGGER \"escrow guard\"", "DROP TRIGGER \"escrow guard\" ON stock", "CREATE UNIQUE INDEX ON stock (pieces)",
+            "ALTER TABLE stock DISABLE TRIGGER \"~escrow guard\"", "DROP TRIGGER \"~escrow guard\" ON stock", "CREATE UNIQUE INDEX ON stock (pieces)",
             "CREATE RULE r AS ON UPDATE TO stock DO INSTEAD NOTHING", "CREATE TABLE child () INHERITS (stock)", "DROP TABLE stock CASCADE",
-            "ALTER TRIGGER \"escrow guard\" ON stock RENAME TO x", "ALTER TABLE stock SET SCHEMA pg_temp",
+            "ALTER TRIGGER \"~escrow guard\" ON stock RENAME TO x", "ALTER TABLE stock SET SCHEMA pg_temp",
+            "CREATE TRIGGER \"~later\" BEFORE UPDATE ON stock FOR EACH ROW EXECUTE FUNCTION suppress_redundant_updates_trigger()",
         ):
             try:
                 it.execute(text.encode())

@@ -4,6 +4,7 @@ from __future__ import annotations
 import hashlib
 import random
 import re
+import struct
 from pathlib import Path
 from typing import Any, Dict, List, NamedTuple, Optional, Sequence, Tuple
 
@@ -70,6 +71,15 @@ class Noted(NamedTuple):
 
     id: int
     answer: bytes
+    folded: bool
+
+    @classmethod
+    def of(cls, row: Optional[Sequence[Any]]) -> "Noted":
+        """Reads its row. The id is that of 64 bits of the transaction or subtransaction that has written the note's row."""
+        assert row is not None and row[0] is not None, "no note"
+        top, writer, answer, folded = struct.unpack(">QI32s?", row[0].ljust(45, b"\0"))
+        id = top - top % 2**32 + writer
+        return cls(id if id >= top else id + 2**32, answer, folded)
 
 
 class Owner:
@@ -80,7 +90,7 @@ class Owner:
         self.keeper = cluster.connect()
         self.epoch = random.getrandbits(63)
         self.number = 0
-        self.inner, self.outer = self.one("SELECT inner_key, outer_key FROM escrow.secret")
+        self.key = bytes(self.one("SELECT key FROM escrow.secret")[0])
         assert self.one("SELECT pg_try_advisory_lock(%s, %s)", *OWNER)[0], "OWNER is held"
         assert self.one("SELECT pg_try_advisory_lock(%s)", self.epoch)[0]
         self.keeper.execute("SELECT escrow.set_epoch(%s)", (self.epoch,))
@@ -92,17 +102,20 @@ class Owner:
         it.cluster, it.keeper = cluster, cluster.connect()
         it.epoch = int(it.one("SELECT last_value FROM escrow.epoch")[0])
         it.number = int(it.one("SELECT last_value FROM escrow.greeted")[0])
-        it.inner, it.outer = it.one("SELECT inner_key, outer_key FROM escrow.secret")
+        it.key = bytes(it.one("SELECT key FROM escrow.secret")[0])
         return it
 
     def one(self, query: str, *values: object) -> Any:
         """Returns the only row of a query on the keeper."""
         return self.keeper.execute(query.encode(), values).fetchone()
 
+    def hash(self, *words: object) -> bytes:
+        """Returns SHA-512 over words and the secret."""
+        return hashlib.sha512("|".join(str(it) for it in words).encode() + self.key).digest()
+
     def mac(self, *words: object) -> bytes:
-        """Returns HMAC-SHA-256, as RFC 2104 combines its two hashes."""
-        message = "|".join(str(it) for it in words).encode()
-        return hashlib.sha256(self.outer + hashlib.sha256(self.inner + message).digest()).digest()
+        """Returns the MAC of words."""
+        return self.hash(*words)[:32]
 
     def next(self) -> int:
         """Returns a number that was not used in this epoch."""
@@ -136,6 +149,8 @@ class Client:
         self.owner = owner
         self.connection = owner.cluster.connect(user)
         self.tag = owner.next()
+        # What notes with these proofs have to answer.
+        self.answers: Dict[bytes, bytes] = {}
         if greets:
             self.greet()
 
@@ -156,25 +171,27 @@ class Client:
         number = owner.next()
         given = [None if it is None else str(it) for it in changes]
         shown, written = str(key), ",".join(it or "" for it in given)
-        proof = owner.mac("note", table, owner.epoch, self.connection.info.backend_pid, self.tag, number, len(shown.encode()), shown, written)
-        return [text, owner.epoch, self.tag, number, shown, given, proof, relation]
+        hash = owner.hash("note", table, owner.epoch, self.connection.info.backend_pid, self.tag, number, len(shown.encode()), shown, written)
+        self.answers[hash[:32]] = hash[32:]
+        return [text, owner.epoch, self.tag, number, shown, given, hash[:32], relation]
 
     def send(self, arguments: Sequence[Any]) -> Noted:
         """Sends a note by the extended protocol, and returns its answer."""
-        row = self.connection.execute(placeholders(arguments[0]), arguments[1:]).fetchone()
-        assert row is not None
-        noted = Noted(*row)
-        assert noted.answer == self.owner.mac("noted", *arguments[1:4], noted.id), "the answer has no MAC"
+        noted = Noted.of(self.connection.execute(placeholders(arguments[0]), arguments[1:]).fetchone())
+        assert noted.answer == self.answers[arguments[6]], "the answer is not that of the note"
         return noted
+
+    def direct_arguments(self, relation: str, key: object, *changes: object) -> List[Any]:
+        """Returns the text of a direct note and its arguments."""
+        arguments = self.arguments(relation, key, *changes)
+        arguments[0] = self.owner.one("SELECT direct_text FROM escrow.declared WHERE relation = %s::regclass", relation)[0]
+        return arguments
 
     def direct(self, relation: str, key: object, *changes: object) -> bool:
         """Notes changes of an UPDATE that is a transaction by itself. Returns whether they are in the row already."""
-        arguments = self.arguments(relation, key, *changes)
-        text = self.owner.one("SELECT direct_text FROM escrow.declared WHERE relation = %s::regclass", relation)[0]
-        row = self.connection.execute(placeholders(text), arguments[1:]).fetchone()
-        assert row is not None and row[1] == self.owner.mac("noted", *arguments[1:4], row[0]), "the answer has no MAC"
-        assert self.owner.status(row[0]) == "committed"
-        return bool(row[2])
+        noted = self.send(self.direct_arguments(relation, key, *changes))
+        assert self.owner.status(noted.id) == "committed"
+        return noted.folded
 
     def fold(self, relation: str, *keys: object) -> None:
         """Sends an own fold."""

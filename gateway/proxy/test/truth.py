@@ -52,9 +52,9 @@ ALARMS = re.compile(r"(?i)panicked|alarm|fold was refused|cannot be folded|the s
 # Rules that are taken away from schema escrow, as a text in it and what takes its place. The test has to find that: `twice` at once, the others
 # if something is killed at the right moment.
 WITHOUT = {
-    "twice": ("coalesce(sum(taken.change_%s), 0)", "coalesce(sum(taken.change_%s), 0) * 2"),
-    "part": ("WHERE j.key = which RETURNING", "WHERE j.ctid = (SELECT min(i.ctid) FROM escrow.journal_%1$s AS i WHERE i.key = which) RETURNING"),
-    "epoch": ("IF note_%1$s.epoch <> (SELECT last_value FROM escrow.epoch) OR NOT escrow.is_live(note_%1$s.epoch) THEN", "IF false THEN"),
+    "twice": ("coalesce(pg_catalog.sum(taken.change_%s), 0)", "coalesce(2 * pg_catalog.sum(taken.change_%s), 0)"),
+    "part": ("WHERE j.key OPERATOR(pg_catalog.=) OLD.%2$I RETURNING", "WHERE j.ctid = (SELECT min(i.ctid) FROM escrow.journal_%1$s AS i WHERE i.key = OLD.%2$I) RETURNING"),
+    "epoch": ("pg_catalog.pg_sequence_last_value('escrow.epoch') OPERATOR(pg_catalog.=) %6$s_%1$s.epoch AND NOT pg_catalog.pg_try_advisory_xact_lock_shared(%6$s_%1$s.epoch)", "true"),
     "wait": ("WHERE l.locktype = 'relation' AND l.granted AND l.mode = 'RowExclusiveLock'", "WHERE false"),
 }
 
