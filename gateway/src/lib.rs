@@ -19,4 +19,5 @@ pub mod statement;
 pub mod system;
 pub mod value;
 pub mod variables;
+pub mod version;
 pub mod wire;

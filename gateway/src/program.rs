@@ -5,7 +5,6 @@ mod long;
 mod replies;
 mod sessions;
 mod statements;
-mod version;
 
 use std::fs;
 use std::io::{self, ErrorKind, Read};
@@ -25,7 +24,6 @@ use escrowd_pg::reply::{self, Done, Outcome, Question};
 use escrowd_pg::rows::Definitions;
 
 pub use sessions::{most_transactions, ClientId, Number, Ticket};
-pub use version::check_version;
 
 use crate::allocator;
 use crate::args::Database;

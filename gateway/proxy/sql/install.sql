@@ -926,24 +926,6 @@ BEGIN
 		END
 		$body$
 	$f$, n, it.key_type, regexp_replace(it.key_type, '\(.*\)', ''));
-	-- Loads keys in one transaction. It returns a null for a key that no row has, and leaves out keys whose row is locked:
-	-- the caller loads them one by one.
-	EXECUTE format($f$
-		CREATE OR REPLACE FUNCTION escrow.loads_%1$s(epoch bigint, keys text[]) RETURNS TABLE (which text, loaded text[])
-		LANGUAGE plpgsql SECURITY DEFINER SET search_path = pg_catalog, pg_temp AS $body$
-		BEGIN
-			FOR which IN SELECT DISTINCT k FROM unnest(keys) AS k ORDER BY k LOOP
-				IF escrow.writer_%1$s(which::%2$s) IS NULL THEN
-					loaded := NULL;
-					RETURN NEXT;
-				ELSIF escrow.lock_%1$s(which::%2$s, true) IS NOT NULL THEN
-					loaded := escrow.load_%1$s(epoch, which);
-					RETURN NEXT;
-				END IF;
-			END LOOP;
-		END
-		$body$
-	$f$, n, it.key_type);
 	-- Folds keys that were held in former epochs, at most so many, and removes their marks. It leaves out rows that are
 	-- locked. Returns how many it has done. The take locks the journal before the epoch is tested, so a new owner ends a
 	-- sweep of the former one before it makes marks (rules 7 and 9).
@@ -984,10 +966,10 @@ BEGIN
 		END
 		$body$
 	$f$, n, it.key_type);
-	FOREACH kind IN ARRAY ARRAY['fold', 'load', 'loads', 'leave', 'sweep'] LOOP
+	FOREACH kind IN ARRAY ARRAY['fold', 'load', 'leave', 'sweep'] LOOP
 		EXECUTE format('ALTER FUNCTION escrow.%1$s_%2$s OWNER TO escrow_journal; REVOKE ALL ON FUNCTION escrow.%1$s_%2$s FROM PUBLIC', kind, n);
 	END LOOP;
-	EXECUTE format('GRANT EXECUTE ON FUNCTION escrow.fold_%1$s, escrow.load_%1$s, escrow.loads_%1$s, escrow.leave_%1$s, escrow.sweep_%1$s TO escrow_proxy', n);
+	EXECUTE format('GRANT EXECUTE ON FUNCTION escrow.fold_%1$s, escrow.load_%1$s, escrow.leave_%1$s, escrow.sweep_%1$s TO escrow_proxy', n);
 
 	-- Rules 11, 15 and 16. It fires last of all triggers before an UPDATE of a row, so what it decides stays. A statement that
 	-- changes neither key nor reservable columns may ask it for a fold; then it takes all of the row's key out of the journal

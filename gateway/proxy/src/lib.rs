@@ -9,6 +9,7 @@
 pub mod args;
 pub mod catalog;
 pub mod conninfo;
+pub mod error;
 pub mod expected;
 pub mod folder;
 pub mod frames;

@@ -11,6 +11,7 @@ use std::time::Duration;
 
 use escrowd_pg::system::log::Log;
 use escrowd_pg::system::notify;
+use escrowd_pg::version::check_version;
 use escrowd_proxy::args::{Place, Script, Serve, Task};
 use escrowd_proxy::hub::{Hub, Workers};
 use escrowd_proxy::install::{self, Act};
@@ -23,9 +24,6 @@ use escrowd_proxy::tls::{Acceptor, BadFile};
 use escrowd_proxy::{folder, keeper, process};
 use tokio::signal::unix::{signal, SignalKind};
 use tokio::sync::mpsc::unbounded_channel;
-
-#[path = "../../src/program/version.rs"]
-mod version;
 
 /// How long no client is accepted after the system refused to.
 const PAUSE: Duration = Duration::from_millis(100);
@@ -171,7 +169,7 @@ fn program_of(args: &Serve) -> Result<PathBuf, Failure> {
         Some(path) => path,
         None => std::env::current_exe()?.with_file_name("escrowd"),
     };
-    match version::check_version(&path, is_named) {
+    match check_version(&path, is_named) {
         Ok(is_proved) => {
             if !is_proved {
                 tracing::warn!("{} is not proved", path.display());

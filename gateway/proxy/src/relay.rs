@@ -15,8 +15,9 @@ use tokio::sync::mpsc::unbounded_channel;
 use tokio::sync::Notify;
 use tokio::time::timeout;
 
+use crate::error::Error;
 use crate::expected::Track;
-use crate::frames::{BadLength, Frames, Startup};
+use crate::frames::{Frames, Startup};
 use crate::hub::Hub;
 use crate::own;
 use crate::protocol::{Connection, Ownership};
@@ -96,66 +97,6 @@ impl Shared {
     }
 }
 
-/// Why a connection ended early.
-#[derive(Debug, thiserror::Error)]
-pub enum Error {
-    /// The system refused a read or a write.
-    #[error("{0}")]
-    System(#[from] io::Error),
-    /// A message of no length that there is.
-    #[error("{0}")]
-    Protocol(#[from] BadLength),
-    /// The client's connection did not begin.
-    #[error("{0}")]
-    Begin(#[from] tls::Error),
-    /// The client can bind its authentication, and PostgreSQL would refuse it.
-    #[error("a client wants channel binding")]
-    Binding,
-    /// PostgreSQL lets the proxy's own role in without a question, so every client could be it.
-    #[error("a client comes as the proxy's own role, and PostgreSQL asks for no password")]
-    Unasked,
-    /// The client sent no StartupMessage in time.
-    #[error("no startup within {} s", STARTUP.as_secs())]
-    Late,
-    /// No server of the target accepts connections.
-    #[error("PostgreSQL cannot be reached: {0}")]
-    Unreachable(io::Error),
-    /// A client uses a name of the proxy's own (rule 19).
-    #[error("names that begin with \"escrowd-proxy \" are the proxy's own")]
-    OwnName,
-    /// A client sends a text of the proxy's own (rule 19).
-    #[error("only the proxy itself may send this text")]
-    OwnText,
-    /// Another proxy is the owner: clients find it under another host.
-    #[error("another escrowd-proxy is the owner")]
-    NotOwner,
-    /// Nobody has become the owner in time.
-    #[error("no escrowd-proxy serves reservations yet")]
-    NoOwner,
-    /// What a note answered is not what PostgreSQL's function answers.
-    #[error("an answer that no note gives")]
-    Forged,
-    /// PostgreSQL answers what nobody asked.
-    #[error("a reply that was not expected (kind {0})")]
-    Stray(char),
-    /// The state machine has ended the connection.
-    #[error("the proxy has begun anew as the owner")]
-    Ended,
-}
-
-impl Error {
-    /// Returns what the client is told, if it is told anything.
-    fn fatal(&self) -> Option<Vec<u8>> {
-        let code = match self {
-            Error::OwnName | Error::OwnText => "42501",
-            Error::NotOwner | Error::NoOwner | Error::Ended => "57P01",
-            Error::Forged | Error::Stray(_) => "08P01",
-            _ => return None,
-        };
-        Some(own::fatal(code, &self.to_string()))
-    }
-}
-
 /// Serves a client until either side ends.
 pub async fn serve(client: Stream, service: &Service) -> Result<(), Error> {
     let target = &service.target;
@@ -165,7 +106,7 @@ pub async fn serve(client: Stream, service: &Service) -> Result<(), Error> {
     {
         Ok(Ok(Some(begun))) => begun,
         Ok(Ok(None)) => return Ok(()),
-        Ok(Err(error)) => return Err(error.into()),
+        Ok(Err(error)) => return Err(error),
         Err(_) => return Err(Error::Late),
     };
     match first {

@@ -11,12 +11,13 @@ use tokio::io::{AsyncReadExt, AsyncWriteExt};
 use tokio::sync::mpsc::{UnboundedReceiver, UnboundedSender};
 use tokio::time::sleep;
 
+use crate::error::Error;
 use crate::expected::Reply;
 use crate::frames::{Frames, Piece};
 use crate::hub::Hub;
 use crate::own;
 use crate::protocol::{Connection, Event, Status};
-use crate::relay::{Error, Shared, CHUNK};
+use crate::relay::{Shared, CHUNK};
 use crate::requests::OwnReply;
 use crate::stream::{Reader, Writer};
 

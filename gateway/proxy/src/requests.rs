@@ -11,13 +11,14 @@ use escrowd_pg::wire::frontend::{self, Message, Raw};
 use tokio::io::{AsyncReadExt, AsyncWriteExt};
 use tokio::sync::mpsc::{UnboundedReceiver, UnboundedSender};
 
+use crate::error::Error;
 use crate::expected::{Bound, Expect, Prepared};
 use crate::frames::{Frames, Piece};
 use crate::hub::{Hub, Mail};
 use crate::own::{self, Value};
 use crate::parameters::Parameters;
 use crate::protocol::Connection;
-use crate::relay::{Error, Shared, CHUNK};
+use crate::relay::{Shared, CHUNK};
 use crate::stream::{Reader, Writer};
 use crate::update::Statement;
 

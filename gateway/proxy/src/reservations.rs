@@ -10,6 +10,7 @@ use bytes::Bytes;
 use tokio::time::timeout;
 
 use crate::catalog::{Catalog, Table};
+use crate::error::Error;
 use crate::expected::Expect;
 use crate::hub::Mail;
 use crate::note::{Grant, Noted, Secret};
@@ -17,7 +18,6 @@ use crate::own::{self, Value};
 use crate::parameters::Parameters;
 use crate::protocol::{Answer, Event, Status};
 use crate::refusals::{words, Words};
-use crate::relay::Error;
 use crate::requests::{End, How, OwnReply, Requests, Rest};
 use crate::server::Refusal;
 use crate::update::{Asked, Change, Deletion, Form, Key};

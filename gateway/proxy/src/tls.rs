@@ -23,7 +23,8 @@ use tokio_rustls::rustls::{
 };
 use tokio_rustls::{TlsAcceptor, TlsConnector, TlsStream};
 
-use crate::frames::{startup, BadLength, Startup};
+use crate::error::Error;
+use crate::frames::{startup, Startup};
 use crate::own::fatal;
 use crate::stream::Stream;
 
@@ -170,26 +171,6 @@ impl Acceptor {
             current.certificate.clone(),
         ))
     }
-}
-
-/// Why a client's connection does not begin.
-#[derive(Debug, thiserror::Error)]
-pub enum Error {
-    /// The system refused a read or a write, or the handshake failed.
-    #[error("{0}")]
-    System(#[from] io::Error),
-    /// A packet of no length that there is.
-    #[error("{0}")]
-    Protocol(#[from] BadLength),
-    /// The client sent something behind its wish for encryption before it was answered. Somebody between may have put it there.
-    #[error("unencrypted data behind a request for encryption")]
-    Unencrypted,
-    /// It has to use TLS, and does not.
-    #[error("a client without TLS was refused")]
-    Plain,
-    /// It asked twice for the same kind of encryption.
-    #[error("a second request for encryption")]
-    Twice,
 }
 
 /// Reads a client's packets to its first that asks for no encryption, and encrypts the connection as it asks.

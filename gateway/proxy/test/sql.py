@@ -692,22 +692,6 @@ def a_takeover_waits_for_direct_notes(cluster: Cluster) -> None:
 
 
 @part
-def rows_are_loaded_together(cluster: Cluster) -> None:
-    owner = stock(cluster)
-    table = owner.declared("stock")[0]
-    Client(owner).note("stock", 3, -4)
-    loads = f"SELECT which, loaded FROM escrow.loads_{table}(%s, %s)".encode()
-    with cluster.connect() as it:
-        it.execute("BEGIN; UPDATE stock SET title = 'locked' WHERE id = 2")
-        found = owner.keeper.execute(loads, (owner.epoch, ["3", "77", "2", "1", "1"])).fetchall()
-        same(sorted(found), [("1", ["10"]), ("3", ["6"]), ("77", None)])
-        it.execute("COMMIT")
-    same(owner.one(f"SELECT array_agg(key ORDER BY key) FROM escrow.held_{table} WHERE epoch = {owner.epoch}")[0], [1, 3])
-    with refused(errors.SerializationFailure, "not the owner any more"):
-        owner.keeper.execute(loads, (owner.epoch - 1, ["2"]))
-
-
-@part
 def marks_of_former_epochs_go(cluster: Cluster) -> None:
     owner = stock(cluster)
     table = owner.declared("stock")[0]

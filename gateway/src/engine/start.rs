@@ -10,6 +10,7 @@ use escrowd_pg::connection::Settings;
 use escrowd_pg::limits::SESSIONS;
 use escrowd_pg::rows::spool;
 use escrowd_pg::statement::known::KnownStatements;
+use escrowd_pg::version::check_version;
 use mio::{Poll, Token};
 use tracing::warn;
 
@@ -20,7 +21,7 @@ use super::{Engine, Phase, PROGRAMS};
 use crate::args::Args;
 use crate::failure::Failure;
 use crate::metrics::{Metrics, Most};
-use crate::program::{self, check_version, most_transactions, Program};
+use crate::program::{self, most_transactions, Program};
 
 /// How many bytes one read takes at most: what a pipe holds.
 const BUFFER: usize = 64 * 1024;

@@ -1,4 +1,4 @@
-//! The version of the program.
+//! The version of the program that a gateway or a proxy starts.
 
 use std::io::Read;
 use std::path::Path;
@@ -15,7 +15,7 @@ const PAUSE: Duration = Duration::from_millis(1);
 /// What a program that was built without a proof has behind its version.
 const UNPROVED: &str = " (unproved)";
 
-/// Asks the program at `path` for its version, which has to be the gateway's own: of another one, statements and replies
+/// Asks the program at `path` for its version, which has to be this library's own: of another one, statements and replies
 /// may differ. The third number of a version changes neither. Returns whether the program is proved; one that is not
 /// has to be named by the command line or the environment.
 ///
@@ -35,7 +35,7 @@ pub fn check_version(path: &Path, is_named: bool) -> io::Result<bool> {
     };
     if !is_same(version, own) {
         return Err(other(format!(
-            "its version is {version}, that of the gateway {own}"
+            "its version is {version}, and has to be {own}"
         )));
     }
     if !is_proved && !is_named {
