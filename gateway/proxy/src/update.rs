@@ -13,6 +13,7 @@ use escrowd_pg::statement::query::{
 };
 
 use escrowd_pg::statement::served::Served;
+use tokio_postgres::types::Type;
 
 use crate::catalog::Table;
 use crate::parameters::{change_text, key_text, number, Parameters};
@@ -449,7 +450,7 @@ impl Plan<'_> {
             parameters_of(expression, &mut numbers);
             for number in numbers {
                 if let Some(place) = types.get_mut(usize::from(number) - 1) {
-                    if *place == 0 {
+                    if [0, Type::UNKNOWN.oid()].contains(place) {
                         *place = oid;
                     }
                 }
@@ -854,7 +855,7 @@ mod tests {
         let plan = form.plan(&table).unwrap();
         let values = vec![Some(b"1".to_vec()); 4];
         let parameters = Parameters {
-            types: &[0, 25],
+            types: &[Type::UNKNOWN.oid(), 25],
             formats: &[],
             values: &values,
         };

@@ -1,0 +1,301 @@
+"""Statements at random, through the proxy and to PostgreSQL itself, over equal tables.
+
+    python3 -m proxy.test.compare [--seed N] [--count N]
+
+What the proxy reserves or passes on has the tags, rows, errors and effects that PostgreSQL gives on ordinary tables; or it is refused, by one of REFUSALS.
+The gate sends the same statements each time. By hand a seed and a count can be chosen. A difference is printed with its statement.
+"""
+from __future__ import annotations
+
+import argparse
+import random
+import re
+import struct
+import sys
+from dataclasses import dataclass
+from typing import Dict, List, NamedTuple, Optional, Sequence, Tuple
+
+from psycopg import pq
+
+from clients.suite import expect, load, main
+from proxy.test.drivers import Both, opened
+from proxy.test.harness import SharedPart
+
+PART = SharedPart("proxy_compare", opened)
+# What the gate sends.
+SEED, COUNT = 83, 1_200
+# The statements behind which the rows are made anew, and the differences that are shown.
+A_TABLE, MOST_SHOWN = 100, 12
+
+# How the proxy may refuse what PostgreSQL would do: SQLSTATE, and what the message has.
+REFUSALS: Dict[str, str] = {
+    "0A000": "are changed by escrowd-proxy alone",
+    "55006": "is held by escrowd-proxy",
+}
+
+ACCOUNT = "'00000000-0000-0000-0000-000000000001'"
+FORMS = (
+    "UPDATE stock SET pieces = pieces - 1, title = 'x' WHERE id = 1 AND pieces >= 1 RETURNING id, title",
+    "UPDATE stock SET pieces = pieces - 12 WHERE id = 2 AND pieces >= 12",
+    "UPDATE public.stock AS s SET pieces = s.pieces + 2::int WHERE s.id IN (1, 2, 3)",
+    "UPDATE stock SET title = title || 'y', pieces = stock.pieces - (- 3) WHERE 3 = id",
+    "UPDATE stock SET pieces = pieces - 4 WHERE id = 5",
+    "UPDATE ONLY stock SET pieces = pieces + '7', title = upper(title) WHERE (id) = (CAST('2' AS int)) RETURNING stock.id AS a, title b",
+    "UPDATE stock SET pieces = COALESCE(pieces, 0) + 1 WHERE id = '3'",
+    "UPDATE stock SET pieces = 2 + pieces WHERE id = 1.0",
+    "UPDATE account SET balance = balance - 1.25, held = held + .5 WHERE id = " + ACCOUNT,
+    "UPDATE account a SET held = a.held - 0.50 WHERE a.id = " + ACCOUNT + "::uuid RETURNING owner",
+    "UPDATE shelf SET room = room + 7 WHERE code = E'a\\'b'",
+    "UPDATE shelf SET room = room - 3 WHERE code = 'c' AND room > 2 RETURNING code",
+    "DELETE FROM stock WHERE id = 4 RETURNING id",
+    "DELETE FROM shelf WHERE code = 'c'",
+    "INSERT INTO stock VALUES (4, 'four', 10)",
+    "INSERT INTO taken (item, pieces) VALUES (1, 2), (5, 1) RETURNING item",
+)
+# Texts with parameters, and what those may be.
+WITH_PARAMETERS = (
+    "UPDATE stock SET pieces = pieces - $1 WHERE id = $2",
+    "UPDATE stock SET pieces = $1 + pieces, title = 'p' WHERE id IN ($2, 3) RETURNING title",
+    "UPDATE stock SET pieces = pieces - $1::int WHERE id = $2 AND pieces >= $1",
+    "UPDATE account SET balance = balance - $1 WHERE id = " + ACCOUNT + " AND $2 = 2",
+    "UPDATE account SET balance = balance + $1, held = held + $2 WHERE id = " + ACCOUNT,
+    "UPDATE shelf SET room = room + (- $1) WHERE code = $2",
+    "DELETE FROM stock WHERE id = $2 AND $1 = 4",
+    "DELETE FROM stock WHERE id = $2",
+)
+VALUES = (b"1", b"2", b"3", b"-1", b" 2 ", b"1.5", b"0.25", b"2.0", b"1e0", b"c", b"", b"4000000000", b"99999999999999999", b"0x1", b"NaN")
+INT2, INT4, INT8, FLOAT8, NUMERIC, TEXT, UNKNOWN, UNTOLD = 21, 23, 20, 701, 1700, 25, 705, 0
+TYPES = (UNTOLD, UNTOLD, UNTOLD, INT2, INT4, INT4, INT8, FLOAT8, NUMERIC, TEXT, UNKNOWN)
+BINARY = {INT2: "!h", INT4: "!i", INT8: "!q", FLOAT8: "!d"}
+
+CHARACTERS = "()'\"0123456789.,;=<>-+:* eE\\\n"
+WORDS = (" AND ", " OR ", "pieces", "id", "title", "NULL", "::text", "::int", "::numeric", "1", "2", "3", " NOT ", "stock", "s.", "'5'", " - ", " + ", " = ")
+
+TAKEN = "CREATE TABLE taken (item integer REFERENCES stock ON DELETE CASCADE, pieces integer NOT NULL CHECK (pieces > 0))"
+ROWS = (
+    "INSERT INTO stock (id, title, pieces) SELECT i, 'row ' || i, 10 FROM generate_series(1, 5) AS i",
+    f"INSERT INTO account (id, owner, balance, held) VALUES ({ACCOUNT}, 'Ann', 50, 1)",
+    "INSERT INTO shelf (code, room) VALUES ('c', 5), ('a''b', 0)",
+)
+SHOWN = """SELECT 'stock', id::text, title, pieces::text, '' FROM stock UNION ALL SELECT 'account', id::text, owner, balance::text, held::text FROM account
+    UNION ALL SELECT 'shelf', code, '', room::text, '' FROM shelf UNION ALL SELECT 'taken', item::text, '', pieces::text, '' FROM taken ORDER BY 1, 2, 3, 4, 5"""
+
+
+@dataclass(frozen=True)
+class Sent:
+    """A statement, and how it is sent. Without parameters it is a Query."""
+
+    text: str
+    values: Optional[Tuple[Optional[bytes], ...]] = None
+    types: Tuple[int, ...] = ()
+    formats: Tuple[int, ...] = ()
+
+    def __str__(self) -> str:
+        shown = "" if self.values is None else f" with {self.values} of types {self.types} in formats {self.formats}"
+        return repr(self.text) + shown
+
+
+class Result(NamedTuple):
+    """One result of a message: tag, columns with their types, rows; or what is told of an error."""
+
+    tag: bytes = b""
+    columns: Tuple[Tuple[Optional[bytes], int], ...] = ()
+    rows: Tuple[Tuple[Optional[bytes], ...], ...] = ()
+    error: str = ""
+    message: str = ""
+
+
+class Answer(NamedTuple):
+    """What came back, and the state of the session behind it."""
+
+    results: Tuple[Result, ...]
+    state: int
+
+    def is_refusal(self) -> bool:
+        """Returns whether the proxy has refused it as it may."""
+        return any(REFUSALS.get(it.error, "\0") in it.message for it in self.results)
+
+    def is_error(self) -> bool:
+        """Returns whether it has an error."""
+        return any(it.error for it in self.results)
+
+    def compared(self) -> object:
+        """Returns what has to be equal."""
+        return [it._replace(message="") for it in self.results], self.state
+
+
+def result(it: pq.abc.PGresult) -> Result:
+    """Reads a result."""
+    if it.status == pq.ExecStatus.FATAL_ERROR:
+        fields = [it.error_field(field) for field in (pq.DiagnosticField.SQLSTATE, pq.DiagnosticField.MESSAGE_PRIMARY)]
+        state, message = ((field or b"?").decode(errors="replace") for field in fields)
+        return Result(error=state, message=message)
+    columns = tuple((it.fname(at), it.ftype(at)) for at in range(it.nfields))
+    rows = (tuple(it.get_value(row, at) for at in range(it.nfields)) for row in range(it.ntuples))
+    # The order of an UPDATE's rows is nobody's promise.
+    return Result(it.command_status or b"", columns, tuple(sorted(rows, key=str)))
+
+
+def answer(connection: pq.abc.PGconn, sent: Sent) -> Answer:
+    """Sends a statement, and waits for all that comes back."""
+    if sent.values is None:
+        connection.send_query(sent.text.encode())
+    else:
+        connection.send_query_params(sent.text.encode(), sent.values, sent.types, sent.formats)
+    results: List[Result] = []
+    found = connection.get_result()
+    while found is not None:
+        results.append(result(found))
+        found = connection.get_result()
+    return Answer(tuple(results), connection.transaction_status)
+
+
+class Generator:
+    """Makes statements: the same ones from the same seed."""
+
+    def __init__(self, seed: int) -> None:
+        self.draw = random.Random(seed)
+
+    def mutated(self, text: str) -> str:
+        """Changes a text at up to two places: a character, or a whole word or number."""
+        draw = self.draw
+        for _ in range(draw.choice((0, 0, 1, 1, 2))):
+            tokens = re.findall(r"\w+|\s+|.", text, re.DOTALL)
+            at = draw.randrange(len(tokens))
+            if draw.random() < 0.3:
+                tokens.insert(at, draw.choice(CHARACTERS))
+            elif draw.random() < 0.5:
+                tokens[at] = draw.choice(tokens if draw.random() < 0.5 else WORDS)
+            elif draw.random() < 0.5:
+                tokens.insert(at, draw.choice(WORDS))
+            else:
+                del tokens[at]
+            text = "".join(tokens)
+        return text
+
+    def value(self) -> Tuple[Optional[bytes], int, int]:
+        """Returns a value of a parameter, its type and its format."""
+        draw = self.draw
+        value, oid = draw.choice(VALUES), draw.choice(TYPES)
+        if draw.random() < 0.05:
+            return None, oid, 0
+        if draw.random() < 0.5:
+            layout = BINARY.get(oid, "!i")
+            number = draw.choice((1, 2, 3, -1))
+            return struct.pack(layout, number), oid, 1
+        return value, oid, 0
+
+    def statement(self) -> Sent:
+        """Returns the next statement."""
+        draw = self.draw
+        if draw.random() < 0.3:
+            text = draw.choice(WITH_PARAMETERS)
+            values = [self.value() for _ in range(2)]
+            given, types, formats = zip(*values)
+            return Sent(self.mutated(text) if draw.random() < 0.3 else text, given, types, formats)
+        text = self.mutated(draw.choice(FORMS))
+        return Sent(text) if draw.random() < 0.5 else Sent(text, ())
+
+
+class Comparison:
+    """Both databases with equal rows, and what was found so far."""
+
+    def __init__(self, both: Both) -> None:
+        self.both = both
+        self.proxied, self.plain = both.proxy.connect(), both.plain.connect()
+        self.straight = both.cluster.connect()
+        self.served = self.errors = self.refused = 0
+        self.differences: List[str] = []
+
+    def renew(self) -> None:
+        """Makes the rows anew on both."""
+        for it in (self.proxied, self.plain):
+            for table, key in (("stock", "id"), ("account", "id"), ("shelf", "code")):
+                for value, in it.execute(f"SELECT {key}::text FROM {table}".encode()).fetchall():
+                    it.execute(f"DELETE FROM {table} WHERE {key} = %s".encode(), (value,))
+            for statement in ROWS:
+                it.execute(statement.encode())
+
+    def differ(self, sent: Sent, what: str, through: object, straight: object) -> None:
+        """Notes a difference."""
+        self.differences.append(f"{what} of {sent}: through the proxy {through}, PostgreSQL {straight}")
+
+    def try_one(self, sent: Sent) -> None:
+        """Sends a statement to both, and compares what they do."""
+        if self.proxied.closed or self.proxied.pgconn.status != pq.ConnStatus.OK:
+            self.proxied = self.both.proxy.connect()
+        through = answer(self.proxied.pgconn, sent)
+        if through.is_refusal():
+            self.refused += 1
+            self.end_blocks()
+            return
+        straight = answer(self.plain.pgconn, sent)
+        if through.compared() != straight.compared():
+            self.differ(sent, "the answer", through, straight)
+        self.end_blocks()
+        if through.is_error():
+            self.errors += 1
+        else:
+            self.served += 1
+        tables = [it.execute(SHOWN.encode()).fetchall() for it in (self.straight, self.plain)]
+        if tables[0] != tables[1]:
+            self.differ(sent, "the effect", *tables)
+            self.renew()
+
+    def end_blocks(self) -> None:
+        """Ends the blocks that a statement has left open."""
+        for it in (self.proxied, self.plain):
+            if it.pgconn.status == pq.ConnStatus.OK and it.pgconn.transaction_status != pq.TransactionStatus.IDLE:
+                it.execute("ROLLBACK")
+
+    def run(self, seed: int, count: int) -> None:
+        """Tries the statements of a seed."""
+        generator = Generator(seed)
+        for turn in range(count):
+            if turn % A_TABLE == 0:
+                self.renew()
+            self.try_one(generator.statement())
+            if len(self.differences) >= MOST_SHOWN:
+                return
+
+    def close(self) -> None:
+        """Ends its connections."""
+        for it in (self.proxied, self.plain, self.straight):
+            it.close()
+
+
+@PART.case
+def mutated_statements(both: Both) -> None:
+    compared(both, SEED, load(COUNT))
+
+
+def compared(both: Both, seed: int, count: int) -> None:
+    """Compares the statements of a seed. Fails, and shows the first differences, if there are some."""
+    for database in (both.cluster, both.plain):
+        database.run("DROP TABLE IF EXISTS taken", TAKEN)
+    comparison = Comparison(both)
+    try:
+        comparison.run(seed, count)
+    finally:
+        comparison.close()
+    print(f"seed {seed}: {comparison.served} served, {comparison.errors} errors, {comparison.refused} refused", file=sys.stderr)
+    expect("\n".join(comparison.differences), "", f"seed {seed}")
+    # Not all that is sent may be a syntax error.
+    expect(comparison.served > count / 5, True, f"{comparison.served} of {count} were served")
+
+
+def by_hand(words: Sequence[str]) -> None:
+    """Runs as the command line says."""
+    parser = argparse.ArgumentParser(description=__doc__, formatter_class=argparse.RawDescriptionHelpFormatter)
+    parser.add_argument("--seed", type=int, default=SEED)
+    parser.add_argument("--count", type=int, default=COUNT)
+    asked = parser.parse_args(words)
+    with opened() as (both,):
+        compared(both, asked.seed, asked.count)
+
+
+if __name__ == "__main__":
+    if any(word.startswith("-") for word in sys.argv[1:]):
+        by_hand(sys.argv[1:])
+    else:
+        main(PART)
