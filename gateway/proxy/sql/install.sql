@@ -111,6 +111,16 @@ BEGIN
 END
 $$;
 
+-- The form to write in place of the client's statement.
+CREATE OR REPLACE FUNCTION escrow.form() RETURNS text LANGUAGE sql SET search_path = pg_catalog, pg_temp AS $$
+	SELECT 'Connect to escrowd-proxy, and ' || CASE
+		WHEN current_query() ~* '\mON\s+CONFLICT\M' THEN 'write INSERT .. ON CONFLICT DO NOTHING. If that inserts nothing, add by the key in the same transaction: '
+			'UPDATE t SET c = c + 3 WHERE key = 5.'
+		WHEN current_query() ~* '\m(WITH|FROM)\M' THEN 'name the key and the number, which may be parameters: UPDATE t SET c = c - 3 WHERE key = 5.'
+		WHEN current_query() ~* '\m(MERGE|DO|CALL|EXECUTE)\M' THEN 'send the UPDATE by itself: UPDATE t SET c = c - 3 WHERE key = 5.'
+		ELSE 'add or subtract by the key: UPDATE t SET c = c - 3 WHERE key = 5.' END
+$$;
+
 -- Raises what the proxy refuses a client's UPDATE with, if the client's role may know it. `changed` are the columns that it
 -- changes. With 00000 it tests the rights alone.
 CREATE OR REPLACE FUNCTION escrow.refuse_change(table_number integer, state text, message text, detail text, about text, changed boolean[],
@@ -991,14 +1001,14 @@ BEGIN
 			IF NOT (%3$s) AND (folds OR NOT escrow.is_own(OLD.xmin)) THEN
 				RAISE EXCEPTION 'reservable columns of %% are changed by escrowd-proxy alone', TG_TABLE_NAME
 					USING ERRCODE = 'feature_not_supported', SCHEMA = TG_TABLE_SCHEMA, TABLE = TG_TABLE_NAME,
-						HINT = 'Connect to escrowd-proxy, and add or subtract by the key: UPDATE t SET c = c - 3 WHERE key = 5.';
+						HINT = escrow.form();
 			END IF;
 			IF EXISTS (SELECT FROM escrow.held_%1$s AS h WHERE h.key OPERATOR(pg_catalog.=) OLD.%2$I)
 				OR EXISTS (SELECT FROM escrow.journal_%1$s AS j WHERE j.key OPERATOR(pg_catalog.=) OLD.%2$I) THEN
 				RAISE EXCEPTION 'the row of %% is held by escrowd-proxy', TG_TABLE_NAME
 					USING ERRCODE = 'object_in_use', SCHEMA = TG_TABLE_SCHEMA, TABLE = TG_TABLE_NAME,
 						DETAIL = pg_catalog.format('The key is %%s.', OLD.%2$I), HINT = CASE WHEN %3$s THEN 'Connect to escrowd-proxy, which leaves a row that nobody has reserved.'
-							ELSE 'Connect to escrowd-proxy, and add or subtract by the key: UPDATE t SET c = c - 3 WHERE key = 5.' END;
+							ELSE escrow.form() END;
 			END IF;
 			RETURN NEW;
 		END

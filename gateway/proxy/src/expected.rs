@@ -54,6 +54,8 @@ pub enum Expect {
     Function,
     /// A ReadyForQuery.
     Sync,
+    /// The acknowledgement, or the description, of a statement of a string, which begins behind so many characters of it.
+    Piece(usize),
     /// ParseComplete, of the proxy's own.
     OwnParse,
     /// BindComplete, of the proxy's own.
@@ -104,6 +106,8 @@ pub enum Reply {
     Failed {
         /// Whether an own request was skipped.
         skips_own: bool,
+        /// By how many characters its place is further behind in the client's text.
+        moved: usize,
     },
     /// A ReadyForQuery. It counts when [`Track::ready`] is called.
     Ready(Status),
@@ -369,9 +373,15 @@ impl Track {
                 Some(Expect::Execute | Expect::Query),
             ) => Reply::Pass,
             (b'V', Some(Expect::Function)) => Reply::Pass,
-            (b'1', Some(Expect::OwnParse)) | (b'2', Some(Expect::OwnBind)) => {
+            (b'1', Some(Expect::OwnParse))
+            | (b'2', Some(Expect::OwnBind))
+            | (b'1' | b'2' | b'3' | b'n', Some(Expect::Piece(_))) => {
                 self.queue.pop_front();
                 Reply::Own
+            }
+            (b'T', Some(Expect::Piece(_))) => {
+                self.queue.pop_front();
+                Reply::Pass
             }
             (b'D' | b'T', Some(Expect::OwnExecute)) => Reply::Own,
             (b'C', Some(Expect::OwnExecute)) => {
@@ -403,12 +413,14 @@ impl Track {
     fn error(&mut self) -> Reply {
         self.is_plain = false;
         self.is_copying = false;
-        match self.queue.front() {
-            None => return Reply::Failed { skips_own: false },
-            Some(front) if front.ends_ready() => return Reply::Failed { skips_own: false },
-            Some(_) => {}
-        }
-        let is_own = self.queue.front().map_or(false, Expect::is_own);
+        let (is_own, moved) = match self.queue.front() {
+            Some(Expect::Piece(place)) => (false, *place),
+            Some(front) if !front.ends_ready() => (front.is_own(), 0),
+            _ => {
+                let (skips_own, moved) = (false, 0);
+                return Reply::Failed { skips_own, moved };
+            }
+        };
         let mut skips_own = false;
         while let Some(front) = self.queue.front() {
             if matches!(front, Expect::Sync) {
@@ -421,7 +433,7 @@ impl Track {
         if is_own {
             Reply::OwnFailed
         } else {
-            Reply::Failed { skips_own }
+            Reply::Failed { skips_own, moved }
         }
     }
 
@@ -516,7 +528,8 @@ mod tests {
         track.expect(Expect::OwnBind);
         track.expect(Expect::OwnExecute);
         track.expect(Expect::OwnClose);
-        assert_eq!(track.reply(b'E', b""), Reply::Failed { skips_own: true });
+        let (skips_own, moved) = (true, 0);
+        assert_eq!(track.reply(b'E', b""), Reply::Failed { skips_own, moved });
         assert!(track.is_skipping() && track.is_quiet());
         track.expect(Expect::Execute);
         assert!(track.is_quiet(), "it is skipped");
@@ -536,7 +549,8 @@ mod tests {
             track.reply(b'C', b"INSERT 0 1\0"),
             Reply::Completed(Tag::Plain)
         );
-        assert_eq!(track.reply(b'E', b""), Reply::Failed { skips_own: false });
+        let (skips_own, moved) = (false, 0);
+        assert_eq!(track.reply(b'E', b""), Reply::Failed { skips_own, moved });
         assert!(!track.is_skipping() && !track.is_quiet());
     }
 
@@ -554,6 +568,35 @@ mod tests {
         assert_eq!(track.reply(b'N', b""), Reply::Pass);
         assert_eq!(track.reply(b'3', b""), Reply::OwnDone);
         assert_eq!(track.reply(b'2', b""), Reply::Stray);
+    }
+
+    #[test]
+    fn a_statement_of_a_string_shows_its_rows_and_its_errors() {
+        let mut track = started();
+        for _ in 0..2 {
+            for expect in [
+                Expect::Piece(7),
+                Expect::Piece(7),
+                Expect::Piece(7),
+                Expect::Execute,
+                Expect::Piece(7),
+            ] {
+                track.expect(expect);
+            }
+        }
+        for (kind, reply) in [
+            (b'1', Reply::Own),
+            (b'2', Reply::Own),
+            (b'T', Reply::Pass),
+            (b'D', Reply::Pass),
+            (b'C', Reply::Completed(Tag::Plain)),
+            (b'3', Reply::Own),
+        ] {
+            assert_eq!(track.reply(kind, b"SELECT 1\0"), reply);
+        }
+        let (skips_own, moved) = (false, 7);
+        assert_eq!(track.reply(b'E', b""), Reply::Failed { skips_own, moved });
+        assert!(track.is_skipping());
     }
 
     #[test]

@@ -30,6 +30,7 @@ pub mod replies;
 pub mod requests;
 mod reservations;
 pub mod sasl;
+pub mod script;
 pub mod server;
 #[cfg(test)]
 mod simulation;

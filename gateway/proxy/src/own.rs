@@ -5,6 +5,10 @@ use bytes::{BufMut, Bytes};
 /// What the names of the proxy's own prepared statements and portals begin with. Clients may not use them.
 pub const PREFIX: &str = "escrowd-proxy ";
 
+/// The name of the statement and the portal of a string's statements, one after another: so one that fails leaves no more
+/// than one.
+const PIECE: &str = "escrowd-proxy piece";
+
 /// Flush.
 pub const FLUSH: &[u8] = b"H\0\0\0\x04";
 
@@ -123,6 +127,23 @@ pub fn bind(out: &mut Vec<u8>, portal: &str, statement: &str, values: &[Value], 
     });
 }
 
+/// Appends what sends a statement of a string. Returns how many replies acknowledge it in front of those of its Execute.
+pub fn piece(out: &mut Vec<u8>, text: &str) -> usize {
+    let closed = close_piece(out);
+    parse(out, PIECE, text, &[]);
+    bind(out, PIECE, PIECE, &[], &[]);
+    describe_portal(out, PIECE);
+    execute(out, PIECE);
+    closed + 3
+}
+
+/// Appends what closes the last statement of a string. Returns how many replies acknowledge it.
+pub fn close_piece(out: &mut Vec<u8>) -> usize {
+    close_statement(out, PIECE);
+    close_portal(out, PIECE);
+    2
+}
+
 /// Appends an Execute of all rows.
 pub fn execute(out: &mut Vec<u8>, portal: &str) {
     message(out, b'E', |out| {
@@ -161,13 +182,30 @@ pub fn fatal(code: &str, text: &str) -> Vec<u8> {
 
 /// Returns an ErrorResponse without what says where in PostgreSQL's functions it was raised.
 pub fn without_context(error: &[u8]) -> Vec<u8> {
+    changed(error, |field| match field.first() {
+        Some(b'W' | b'F' | b'L' | b'R') => None,
+        _ => Some(field.to_vec()),
+    })
+}
+
+/// Returns an ErrorResponse whose place in the statement is so many characters further behind.
+pub fn moved(error: &[u8], by: i64) -> Vec<u8> {
+    changed(error, |field| {
+        let place = field.strip_prefix(b"P").map(std::str::from_utf8);
+        match place.and_then(|it| it.ok()?.parse::<i64>().ok()) {
+            Some(place) => Some(format!("P{}", place + by).into_bytes()),
+            None => Some(field.to_vec()),
+        }
+    })
+}
+
+/// Returns an ErrorResponse with its fields changed.
+fn changed(error: &[u8], change: impl Fn(&[u8]) -> Option<Vec<u8>>) -> Vec<u8> {
     let fields = error.get(5..).unwrap_or_default().split(|&byte| byte == 0);
     let mut out = Vec::new();
     message(&mut out, b'E', |out| {
-        let is_shown =
-            |field: &&[u8]| !matches!(field.first(), None | Some(b'W' | b'F' | b'L' | b'R'));
-        for field in fields.filter(is_shown) {
-            out.extend_from_slice(field);
+        for field in fields.filter(|it| !it.is_empty()).filter_map(change) {
+            out.extend(field);
             out.push(0);
         }
         out.push(0);
@@ -230,6 +268,12 @@ mod tests {
             without_context(error),
             b"E\0\0\0\x17SERROR\0C23514\0Mno\0\0"
         );
+    }
+
+    #[test]
+    fn an_error_tells_its_place_in_the_clients_text() {
+        let error = b"E\0\0\0\x16SERROR\0C42703\0P9\0\0";
+        assert_eq!(moved(error, 3), b"E\0\0\0\x17SERROR\0C42703\0P12\0\0");
     }
 
     #[test]

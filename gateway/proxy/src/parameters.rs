@@ -4,7 +4,10 @@
 
 use escrowd_pg::decimal::Decimal;
 use escrowd_pg::statement::constant::{self, Datum, Input};
-use escrowd_pg::statement::query::{Expression, ExpressionKind, Operator, Span, TypeName};
+use escrowd_pg::statement::query::{
+    Expression, ExpressionKind, Name, Operator, QualifiedName, Span, TypeName,
+};
+use escrowd_pg::value::array;
 use tokio_postgres::types::Type;
 
 use crate::catalog::KeyType;
@@ -78,8 +81,111 @@ impl Parameters<'_> {
         Some(Expression { kind, span })
     }
 
-    /// Returns a parameter's value as a literal. None: it is NULL, or not understood.
-    fn value(&self, number: u16, oid: u32, place: &Expression) -> Option<Expression> {
+    /// Returns the elements of an array with which a key is compared. `oid` is the key's type. NULLs are left out, since
+    /// nothing is equal to them.
+    pub fn elements(&self, expression: &Expression, oid: u32) -> Option<Vec<Datum>> {
+        let elements = match &expression.kind {
+            ExpressionKind::Cast(operand, to) => {
+                self.array(operand, Some(element_oid(to)?), oid)?
+            }
+            _ => self.array(expression, None, oid)?,
+        };
+        elements
+            .iter()
+            .map(|element| self.evaluate(element, oid))
+            .collect()
+    }
+
+    /// Returns the elements of an array as literals. `told` is the type that a cast gives them, and `oid` that of the key.
+    fn array(
+        &self,
+        expression: &Expression,
+        told: Option<u32>,
+        oid: u32,
+    ) -> Option<Vec<Expression>> {
+        let span = expression.span;
+        let cast = |kind| match told {
+            Some(told) => cast_to(Expression { kind, span }, told),
+            None => Some(Expression { kind, span }),
+        };
+        match &expression.kind {
+            ExpressionKind::Text(text) => {
+                let texts = array::elements(text).ok()?.into_iter().flatten();
+                texts.map(|text| cast(ExpressionKind::Text(text))).collect()
+            }
+            // Texts in ARRAY[..] are of the type text, and PostgreSQL compares no number with one.
+            ExpressionKind::Array(elements) => elements
+                .iter()
+                .map(|element| match (&element.kind, told) {
+                    (ExpressionKind::Text(_), None) => cast_to(element.clone(), Type::TEXT.oid()),
+                    (ExpressionKind::Text(_), Some(told)) => cast_to(element.clone(), told),
+                    (kind, None) if is_signed_number(kind) => Some(element.clone()),
+                    _ => None,
+                })
+                .collect(),
+            ExpressionKind::Parameter(number) => {
+                self.array_parameter(*number, told, oid, expression)
+            }
+            _ => None,
+        }
+    }
+
+    /// Returns the elements of a parameter that is an array.
+    fn array_parameter(
+        &self,
+        number: u16,
+        cast: Option<u32>,
+        oid: u32,
+        place: &Expression,
+    ) -> Option<Vec<Expression>> {
+        let (bytes, format, told) = self.given(number)?;
+        let told = match told {
+            Some(told) => Some(element_of(told)?),
+            None => cast,
+        };
+        let literal = |kind| {
+            let span = place.span;
+            let literal = Expression { kind, span };
+            match told {
+                Some(told) if is_text(told) || told == Type::UUID.oid() => cast_to(literal, told),
+                _ => Some(literal),
+            }
+        };
+        match format {
+            0 => {
+                let texts = array::elements(std::str::from_utf8(bytes).ok()?).ok()?;
+                let literals = texts.into_iter().flatten().map(|text| match told {
+                    Some(told) => literal(text_literal(told, &text)?),
+                    None => literal(ExpressionKind::Text(text)),
+                });
+                literals.collect()
+            }
+            1 => {
+                let of = u32::from_be_bytes(bytes.get(8..12)?.try_into().ok()?);
+                if of != told.unwrap_or(oid) {
+                    return None;
+                }
+                let elements = array::binary_elements(bytes, of).ok()?;
+                let literals = elements.into_iter().flatten();
+                literals.map(|it| literal(binary(of, it)?)).collect()
+            }
+            _ => None,
+        }
+    }
+
+    /// Returns whether the client has told the type of a parameter.
+    pub fn is_told(&self, number: u16) -> bool {
+        let at = usize::from(number).checked_sub(1);
+        at.map_or(false, |at| self.told(at).is_some())
+    }
+
+    fn told(&self, at: usize) -> Option<u32> {
+        let told = self.types.get(at).copied();
+        told.filter(|&told| told != 0 && told != Type::UNKNOWN.oid())
+    }
+
+    /// Returns the bytes of a parameter's value, their format, and the type that the client has told. None: it is NULL.
+    fn given(&self, number: u16) -> Option<(&[u8], i16, Option<u32>)> {
         let at = usize::from(number).checked_sub(1)?;
         let bytes = self.values.get(at)?.as_deref()?;
         let format = match self.formats {
@@ -87,30 +193,19 @@ impl Parameters<'_> {
             [all] => *all,
             each => *each.get(at)?,
         };
-        let told = self
-            .types
-            .get(at)
-            .copied()
-            .filter(|&told| told != 0 && told != Type::UNKNOWN.oid());
+        Some((bytes, format, self.told(at)))
+    }
+
+    /// Returns a parameter's value as a literal. None: it is NULL, or not understood.
+    fn value(&self, number: u16, oid: u32, place: &Expression) -> Option<Expression> {
+        let (bytes, format, told) = self.given(number)?;
         let is_told = told.is_some();
         let own = told.unwrap_or(oid);
         let span = place.span;
         let is_text_place = !is_number(oid) && oid != Type::UUID.oid();
         let literal = match format {
             1 => binary(own, bytes)?,
-            0 => {
-                let text = std::str::from_utf8(bytes).ok()?;
-                match own {
-                    own if is_number(own) => number_literal(text.trim())?,
-                    own if own == Type::FLOAT8.oid() => {
-                        number_literal(&float(text.trim().parse().ok()?)?)?
-                    }
-                    own if own == Type::UUID.oid() || is_text(own) => {
-                        ExpressionKind::Text(text.to_owned())
-                    }
-                    _ => return None,
-                }
-            }
+            0 => text_literal(own, std::str::from_utf8(bytes).ok()?)?,
             _ => return None,
         };
         // PostgreSQL has no operator for a number and a text whose types are told.
@@ -124,6 +219,56 @@ impl Parameters<'_> {
             kind: literal,
             span,
         })
+    }
+}
+
+/// Reads a value of a type in text.
+fn text_literal(oid: u32, text: &str) -> Option<ExpressionKind> {
+    match oid {
+        oid if is_number(oid) => number_literal(text.trim()),
+        oid if oid == Type::FLOAT8.oid() => number_literal(&float(text.trim().parse().ok()?)?),
+        oid if oid == Type::UUID.oid() || is_text(oid) => {
+            Some(ExpressionKind::Text(text.to_owned()))
+        }
+        _ => None,
+    }
+}
+
+/// Returns the type of the elements of a type of arrays.
+fn element_of(array: u32) -> Option<u32> {
+    match array {
+        array if array == Type::UUID_ARRAY.oid() => Some(Type::UUID.oid()),
+        array => array::element(array),
+    }
+}
+
+/// Returns the type of the elements of an array that is cast to.
+fn element_oid(to: &TypeName) -> Option<u32> {
+    let mut element = to.clone();
+    element.is_array = false;
+    cast_oid(&element).filter(|_| to.is_array && to.modifiers.is_empty())
+}
+
+/// Returns a literal with a cast to a type.
+fn cast_to(literal: Expression, oid: u32) -> Option<Expression> {
+    let name = Type::from_oid(oid)?.name().to_owned();
+    let span = literal.span;
+    let name = Name { text: name, span };
+    let to = TypeName {
+        name: QualifiedName { schema: None, name },
+        modifiers: Vec::new(),
+        is_array: false,
+        span,
+    };
+    let kind = ExpressionKind::Cast(Box::new(literal), Box::new(to));
+    Some(Expression { kind, span })
+}
+
+fn is_signed_number(kind: &ExpressionKind) -> bool {
+    match kind {
+        ExpressionKind::Number(_) => true,
+        ExpressionKind::Unary(sign, operand) => sign == "-" && is_signed_number(&operand.kind),
+        _ => false,
     }
 }
 

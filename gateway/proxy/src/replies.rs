@@ -95,7 +95,9 @@ impl Replies<'_> {
         let connection = self.connection;
         match reply {
             Reply::Pass => {}
-            Reply::Failed { skips_own: false } => {
+            Reply::Failed {
+                skips_own: false, ..
+            } => {
                 if self.shared.is_engaged() {
                     self.hub.handle(Event::Failed { connection });
                 }
@@ -118,11 +120,14 @@ impl Replies<'_> {
                 }
                 self.out.extend_from_slice(bytes);
             }
-            Reply::Failed { skips_own } => {
+            Reply::Failed { skips_own, moved } => {
                 if is_engaged {
                     self.hub.handle(Event::Failed { connection });
                 }
-                self.out.extend_from_slice(bytes);
+                match moved {
+                    0 => self.out.extend_from_slice(bytes),
+                    moved => self.out.extend(own::moved(bytes, moved as i64)),
+                }
                 if skips_own {
                     self.hand_over(OwnReply::Skipped).await?;
                 }

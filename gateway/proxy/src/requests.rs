@@ -13,12 +13,13 @@ use tokio::sync::mpsc::{UnboundedReceiver, UnboundedSender};
 
 use crate::error::Error;
 use crate::expected::{Bound, Expect, Prepared};
-use crate::frames::{Frames, Piece};
+use crate::frames::{self, Frames};
 use crate::hub::{Hub, Mail};
 use crate::own::{self, Value};
 use crate::parameters::Parameters;
 use crate::protocol::Connection;
 use crate::relay::{Shared, CHUNK};
+use crate::script::{self, Piece};
 use crate::stream::{Reader, Writer};
 use crate::update::Statement;
 
@@ -35,17 +36,39 @@ pub enum OwnReply {
     Unsent,
 }
 
-/// By which protocol an UPDATE came.
+/// How a client has sent a statement.
 #[derive(Clone, Copy, Debug, PartialEq, Eq)]
-pub(crate) enum How {
-    Simple,
-    Extended,
+pub(crate) enum Sent<'a> {
+    /// By itself in a Query, which is here as a whole.
+    Query(&'a [u8]),
+    /// By an Execute, which is here as a whole.
+    Execute(&'a [u8]),
+    /// In a Query with others: its text, and how many characters are in front of it.
+    Piece(&'a str, usize),
+}
+
+impl Sent<'_> {
+    /// Returns whether it is a Query by itself, whose ReadyForQuery the client waits for.
+    pub(crate) fn is_query(self) -> bool {
+        matches!(self, Sent::Query(_))
+    }
+
+    /// Returns whether an Execute has sent it: then the client describes its rows itself.
+    pub(crate) fn is_execute(self) -> bool {
+        matches!(self, Sent::Execute(_))
+    }
 }
 
 /// A statement that PostgreSQL serves beside a reservation: its text and its parameters, as the client has sent them.
 #[derive(Clone, Debug)]
 pub(crate) struct Rest {
     pub(crate) text: String,
+    /// By how many characters the places of its errors are in front of those in the client's text.
+    pub(crate) moved: i64,
+    /// Whether its rows are described to the client.
+    pub(crate) is_described: bool,
+    /// How many rows it has to have. None: it may have any.
+    pub(crate) count: Option<usize>,
     pub(crate) types: Vec<u32>,
     pub(crate) formats: Vec<i16>,
     pub(crate) values: Vec<Option<Vec<u8>>>,
@@ -132,8 +155,8 @@ impl<'a> Requests<'a> {
         loop {
             while let Some(piece) = frames.next(&mut input)? {
                 match piece {
-                    Piece::Message(kind, bytes) => self.message(kind, bytes).await?,
-                    Piece::Part(bytes, is_first) => self.part(&bytes, is_first),
+                    frames::Piece::Message(kind, bytes) => self.message(kind, bytes).await?,
+                    frames::Piece::Part(bytes, is_first) => self.part(&bytes, is_first),
                 }
                 if self.out.len() > CHUNK {
                     self.flush().await?;
@@ -256,7 +279,7 @@ impl<'a> Requests<'a> {
                             formats: &bound.formats,
                             values: &bound.values,
                         };
-                        self.update(form, parameters, &bound.results, &bytes, How::Extended)
+                        self.update(form, parameters, &bound.results, Sent::Execute(&bytes))
                             .await?;
                     }
                     Some((bound, Statement::Delete(deletion))) => {
@@ -272,7 +295,7 @@ impl<'a> Requests<'a> {
                         self.shared.track().deallocates(name.clone());
                         self.pass(&bytes, Expect::Execute);
                     }
-                    Some((_, Statement::Commit)) => self.commit(&bytes, How::Extended).await?,
+                    Some((_, Statement::Commit)) => self.commit(Sent::Execute(&bytes)).await?,
                     None => self.pass(&bytes, Expect::Execute),
                 }
             }
@@ -342,14 +365,18 @@ impl<'a> Requests<'a> {
         Ok(())
     }
 
-    /// Reads a text that the proxy looks at, if its letters are those that it knows.
+    /// Reads a text that the proxy looks at.
     fn statement(&self, text: &[u8]) -> Option<Statement> {
+        Statement::read(self.known_text(text)?)
+    }
+
+    /// Returns a text, if its letters are those that the proxy knows.
+    fn known_text<'t>(&self, text: &'t [u8]) -> Option<&'t str> {
         let track = self.shared.track();
         if !track.is_conforming || !track.is_utf8 && !text.is_ascii() {
             return None;
         }
-        drop(track);
-        Statement::read(std::str::from_utf8(text).ok()?)
+        std::str::from_utf8(text).ok()
     }
 
     async fn query(&mut self, text: &[u8], bytes: &[u8]) -> Result<(), Error> {
@@ -357,10 +384,13 @@ impl<'a> Requests<'a> {
         if let Some(wait) = asks_to_wait(text) {
             self.shared.set_wait(wait);
         }
+        if let Some(pieces) = self.pieces(text) {
+            return self.string(&pieces).await;
+        }
         match self.statement(text) {
             Some(Statement::Update(form)) => {
                 let parameters = Parameters::default();
-                self.update(&form, parameters, &[], bytes, How::Simple)
+                self.update(&form, parameters, &[], Sent::Query(bytes))
                     .await
             }
             Some(Statement::Delete(deletion)) => {
@@ -373,7 +403,7 @@ impl<'a> Requests<'a> {
                 self.pass(bytes, Expect::Query);
                 Ok(())
             }
-            Some(Statement::Commit) => self.commit(bytes, How::Simple).await,
+            Some(Statement::Commit) => self.commit(Sent::Query(bytes)).await,
             None => {
                 if contains(text, b"escrow.reservations") {
                     self.show().await?;
@@ -384,12 +414,68 @@ impl<'a> Requests<'a> {
                     }
                 }
                 self.pass(bytes, Expect::Query);
-                if self.own.is_old {
-                    // Others shall know it as soon as this client is told.
-                    self.settle().await?;
-                    drop(self.known_catalog().await);
+                self.tell_catalog().await
+            }
+        }
+    }
+
+    /// Waits until the proxy knows what this client has declared: others shall know it as soon as this client is told.
+    async fn tell_catalog(&mut self) -> Result<(), Error> {
+        if self.own.is_old {
+            self.settle().await?;
+            drop(self.known_catalog().await);
+        }
+        Ok(())
+    }
+
+    /// Reads a string of several statements, of which one may be a reservation. None: it passes on as it is.
+    fn pieces(&self, text: &[u8]) -> Option<Vec<Piece>> {
+        let text = self.known_text(text)?;
+        let catalog = self.hub.catalog().borrow().clone()?;
+        script::pieces(text, &catalog)
+    }
+
+    /// Serves a string of several statements, one after another up to the first error. They are a pipeline, which is one
+    /// transaction outside a block, as the string is.
+    async fn string(&mut self, pieces: &[Piece]) -> Result<(), Error> {
+        self.settle().await?;
+        for piece in pieces {
+            if self.shared.track().is_skipping() {
+                break;
+            }
+            let sent = Sent::Piece(&piece.text, piece.place);
+            match &piece.statement {
+                Some(Statement::Update(form)) => {
+                    self.update(form, Parameters::default(), &[], sent).await?;
                 }
-                Ok(())
+                Some(Statement::Delete(deletion)) => {
+                    self.settle().await?;
+                    self.delete(deletion, Parameters::default()).await?;
+                    self.pass_on(sent);
+                }
+                _ => self.pass_on(sent),
+            }
+            if self.out.len() > CHUNK {
+                self.flush().await?;
+            }
+        }
+        for _ in 0..own::close_piece(&mut self.out) {
+            self.expect(Expect::Piece(0));
+        }
+        self.pass(own::SYNC, Expect::Sync);
+        self.tell_catalog().await
+    }
+
+    /// Passes a statement on.
+    pub(crate) fn pass_on(&mut self, sent: Sent<'_>) {
+        match sent {
+            Sent::Query(bytes) => self.pass(bytes, Expect::Query),
+            Sent::Execute(bytes) => self.pass(bytes, Expect::Execute),
+            Sent::Piece(text, place) => {
+                for _ in 0..own::piece(&mut self.out, text) {
+                    self.expect(Expect::Piece(place));
+                }
+                self.expect(Expect::Execute);
             }
         }
     }
@@ -427,11 +513,7 @@ impl<'a> Requests<'a> {
 
     /// Sends a statement whose rows are the client's, and waits for its tag. The other direction waits for
     /// [`Requests::go_on`] then.
-    pub(crate) async fn ask_rest(
-        &mut self,
-        rest: &Rest,
-        is_described: bool,
-    ) -> Result<OwnReply, Error> {
+    pub(crate) async fn ask_rest(&mut self, rest: &Rest) -> Result<OwnReply, Error> {
         if self.shared.track().is_skipping() {
             return Ok(OwnReply::Unsent);
         }
@@ -444,10 +526,12 @@ impl<'a> Requests<'a> {
             formats,
             values,
             results,
+            is_described,
+            ..
         } = rest;
         own::parse(&mut self.out, &name, text, types);
         own::bind_as(&mut self.out, &name, &name, formats, values, results);
-        if is_described {
+        if *is_described {
             own::describe_portal(&mut self.out, &name);
         }
         own::execute(&mut self.out, &name);
@@ -456,7 +540,7 @@ impl<'a> Requests<'a> {
         self.out.extend_from_slice(own::FLUSH);
         self.expect(Expect::OwnParse);
         self.expect(Expect::OwnBind);
-        if is_described {
+        if *is_described {
             self.expect(Expect::OwnDescribe);
         }
         self.expect(Expect::OwnRows);

@@ -18,9 +18,9 @@ use crate::own::{self, Value};
 use crate::parameters::Parameters;
 use crate::protocol::{Answer, Event, Status};
 use crate::refusals::{words, Words};
-use crate::requests::{End, How, OwnReply, Requests, Rest};
+use crate::requests::{End, OwnReply, Requests, Rest, Sent};
 use crate::server::Refusal;
-use crate::update::{Asked, Change, Deletion, Form, Key};
+use crate::update::{Asked, Change, Deletion, Form, Key, Part};
 
 /// How long an UPDATE waits until what is declared is known.
 const CATALOG_WAIT: Duration = Duration::from_secs(5);
@@ -47,11 +47,21 @@ struct Job<'a> {
     change: Change,
     /// The CHECK that refuses where the statement's condition does not hold.
     condition: Option<String>,
-    how: How,
+    sent: Sent<'a>,
     /// Whether it is a transaction by itself, as far as is known.
     alone: bool,
     /// Whether it is about one row, and asks for nothing else.
     is_single: bool,
+}
+
+impl Job<'_> {
+    /// Returns how many characters of the client's text are in front of it.
+    fn place(&self) -> i64 {
+        match self.sent {
+            Sent::Query(_) | Sent::Execute(_) => 0,
+            Sent::Piece(_, place) => place as i64,
+        }
+    }
 }
 
 /// What the hub has decided of a row.
@@ -91,9 +101,9 @@ enum Here {
 impl Requests<'_> {
     /// Passes a COMMIT, with a fold in front of what only this transaction holds (rule 13). If that fails, PostgreSQL skips
     /// the COMMIT, so that the transaction fails by an error.
-    pub(crate) async fn commit(&mut self, bytes: &[u8], how: How) -> Result<(), Error> {
+    pub(crate) async fn commit(&mut self, sent: Sent<'_>) -> Result<(), Error> {
         if self.shared.is_engaged() && self.shared.waits() {
-            if how == How::Simple || self.shared.track().is_executing() {
+            if sent.is_query() || self.shared.track().is_executing() {
                 self.settle().await?;
             }
             let keys = self.own_folds();
@@ -102,9 +112,9 @@ impl Requests<'_> {
             for (at, (table, keys)) in keys.into_iter().enumerate() {
                 let keys: Vec<String> = keys.iter().map(|key| quoted_element(&key.text)).collect();
                 let values = [Value::Text(format!("{{{}}}", keys.join(",")))];
-                let end = match how {
-                    How::Simple if at == last => End::Query(bytes.to_vec()),
-                    How::Extended if at == last => End::Execute(bytes.to_vec()),
+                let end = match sent {
+                    Sent::Query(bytes) if at == last => End::Query(bytes.to_vec()),
+                    Sent::Execute(bytes) if at == last => End::Execute(bytes.to_vec()),
                     _ => End::Flush,
                 };
                 let reply = self.ask(&table.own_text, &values, &[0], end).await?;
@@ -119,7 +129,7 @@ impl Requests<'_> {
                 }
                 self.go_on(&reply, Vec::new());
                 if has_failed {
-                    self.pass_update(bytes, how);
+                    self.pass_update(sent);
                     return Ok(());
                 }
                 if at == last {
@@ -127,10 +137,7 @@ impl Requests<'_> {
                 }
             }
         }
-        match how {
-            How::Simple => self.pass(bytes, Expect::Query),
-            How::Extended => self.pass(bytes, Expect::Execute),
-        }
+        self.pass_on(sent);
         Ok(())
     }
 
@@ -192,16 +199,15 @@ impl Requests<'_> {
         Ok(())
     }
 
-    /// Serves an UPDATE that may be a reservation. `bytes` are the client's message.
+    /// Serves an UPDATE that may be a reservation.
     pub(crate) async fn update(
         &mut self,
         form: &Form,
         parameters: Parameters<'_>,
         results: &[i16],
-        bytes: &[u8],
-        how: How,
+        sent: Sent<'_>,
     ) -> Result<(), Error> {
-        if how == How::Simple || self.shared.track().is_executing() {
+        if !sent.is_execute() || self.shared.track().is_executing() {
             self.settle().await?;
         }
         let is_failed = {
@@ -217,7 +223,7 @@ impl Requests<'_> {
         let (table, plan, asked) = match (&table, plan, asked) {
             (Some(table), Some(plan), Some(asked)) => (table, plan, asked),
             _ => {
-                self.pass_update(bytes, how);
+                self.pass_update(sent);
                 return Ok(());
             }
         };
@@ -229,7 +235,7 @@ impl Requests<'_> {
         let has_rest = plan.rest(true).is_some();
         if condition.is_some() && has_rest && keys.len() > 1 {
             // The rest would have to be that of some rows.
-            self.pass_update(bytes, how);
+            self.pass_update(sent);
             return Ok(());
         }
         let alone = {
@@ -241,7 +247,7 @@ impl Requests<'_> {
             table,
             change,
             condition,
-            how,
+            sent,
             alone,
             is_single: keys.len() == 1 && !has_rest,
         };
@@ -250,7 +256,7 @@ impl Requests<'_> {
             match self.row(&job, key).await? {
                 RowEnd::Done(reply, end) if job.is_single => {
                     self.go_on(&reply, own::command_complete("UPDATE 1"));
-                    if how == How::Simple && end == End::Flush {
+                    if sent.is_query() && end == End::Flush {
                         self.pass(own::SYNC, Expect::Sync);
                     }
                     return Ok(());
@@ -260,7 +266,7 @@ impl Requests<'_> {
                     count += 1;
                 }
                 RowEnd::Missing if keys.len() == 1 => {
-                    self.pass_update(bytes, how);
+                    self.pass_update(sent);
                     return Ok(());
                 }
                 // The transaction may have inserted it itself.
@@ -276,8 +282,11 @@ impl Requests<'_> {
                 RowEnd::Failed => return Ok(()),
             }
         }
-        let rest = plan.rest(count > 0).map(|text| Rest {
+        let rest = plan.rest(count > 0).map(|Part { text, moved }| Rest {
             text,
+            moved,
+            is_described: !sent.is_execute() && plan.rest_has_rows(),
+            count: plan.rest_counts().then_some(count),
             types: plan.rest_types(parameters),
             formats: parameters.formats.to_vec(),
             values: parameters.values.to_vec(),
@@ -296,22 +305,33 @@ impl Requests<'_> {
         let tag = own::command_complete(&format!("UPDATE {count}"));
         match rest {
             Some(rest) => {
-                let reply = self.ask_rest(&rest, job.how == How::Simple).await?;
+                let reply = self.ask_rest(&rest).await?;
                 self.tell_failure(&reply);
                 let served = match &reply {
-                    OwnReply::Row(Some(row)) => rows_of(row),
-                    OwnReply::Row(None) => None,
+                    OwnReply::Row(row) => row.as_deref().and_then(tag_of),
+                    OwnReply::Failed(error) => {
+                        let error = own::moved(error, rest.moved + job.place());
+                        self.go_on(&OwnReply::Failed(error.into()), Vec::new());
+                        self.end_query(job.sent);
+                        return Ok(());
+                    }
                     _ => {
                         self.go_on(&reply, Vec::new());
-                        self.end_failed(job.how);
+                        self.end_query(job.sent);
                         return Ok(());
                     }
                 };
-                if served != Some(count) {
+                if rest.count.is_some() && served.and_then(rows_of) != rest.count {
                     self.go_on(&reply, Vec::new());
                     return self.refuse(job, changed_row()).await;
                 }
-                self.go_on(&reply, tag);
+                match served {
+                    Some(served) if !job.form.is_main() => {
+                        let tag = own::command_complete(served);
+                        self.go_on(&reply, tag);
+                    }
+                    _ => self.go_on(&reply, tag),
+                }
             }
             None if count == 0 => {
                 // The client's role may ask for it, or not.
@@ -327,9 +347,7 @@ impl Requests<'_> {
             }
             None => self.say(tag),
         }
-        if job.how == How::Simple {
-            self.pass(own::SYNC, Expect::Sync);
-        }
+        self.end_query(job.sent);
         Ok(())
     }
 
@@ -351,7 +369,7 @@ impl Requests<'_> {
                         self.go_on(&reply, Vec::new());
                         end
                     });
-                    if job.how == How::Simple && end != Some(End::Sync) {
+                    if job.sent.is_query() && end != Some(End::Sync) {
                         self.pass(own::SYNC, Expect::Sync);
                     }
                     return Ok(RowEnd::Failed);
@@ -386,7 +404,7 @@ impl Requests<'_> {
         if let Some(reply) = self.be_greeted(&secret, epoch).await? {
             self.tell_failure(&reply);
             self.go_on(&reply, Vec::new());
-            self.end_failed(job.how);
+            self.end_query(job.sent);
             return Ok(Here::Failed);
         }
         let grant = Grant {
@@ -418,7 +436,7 @@ impl Requests<'_> {
             _ => {}
         }
         self.go_on(&reply, Vec::new());
-        self.end_failed(job.how);
+        self.end_query(job.sent);
         Ok(Here::Failed)
     }
 
@@ -430,20 +448,19 @@ impl Requests<'_> {
         }
     }
 
-    /// Ends a simple query whose own request has failed: its error has answered the client.
-    fn end_failed(&mut self, how: How) {
-        if how == How::Simple {
+    /// Ends a Query that own requests have answered.
+    fn end_query(&mut self, sent: Sent<'_>) {
+        if sent.is_query() {
             self.pass(own::SYNC, Expect::Sync);
         }
     }
 
     /// Passes an UPDATE on. If an own request has failed, its error has answered the client.
-    fn pass_update(&mut self, bytes: &[u8], how: How) {
-        let is_skipping = self.shared.track().is_skipping();
-        match how {
-            How::Simple if is_skipping => self.pass(own::SYNC, Expect::Sync),
-            How::Simple => self.pass(bytes, Expect::Query),
-            How::Extended => self.pass(bytes, Expect::Execute),
+    fn pass_update(&mut self, sent: Sent<'_>) {
+        if self.shared.track().is_skipping() && sent.is_query() {
+            self.end_query(sent);
+        } else {
+            self.pass_on(sent);
         }
     }
 
@@ -569,12 +586,13 @@ impl Requests<'_> {
             Value::Text(job.form.relation()),
         ];
         // A Sync in a block commits nothing.
-        let is_block = job.how == How::Simple && self.shared.track().status() == Status::InBlock;
+        let is_block = job.sent.is_query() && self.shared.track().status() == Status::InBlock;
         let end = match is_block && job.is_single {
             true => End::Sync,
             false => End::Flush,
         };
-        let folds = job.alone && job.is_single && may_fold && self.shared.waits();
+        let is_piece = matches!(job.sent, Sent::Piece(..));
+        let folds = job.alone && !is_piece && job.is_single && may_fold && self.shared.waits();
         let text = match folds {
             true => &job.table.direct_text,
             false => &job.table.note_text,
@@ -634,9 +652,9 @@ impl Requests<'_> {
 
     /// Has PostgreSQL raise what the client's UPDATE is refused with, so that its transaction fails as by any error.
     async fn refuse(&mut self, job: &Job<'_>, words: Words) -> Result<(), Error> {
-        let end = match job.how {
-            How::Simple => End::Sync,
-            How::Extended => End::Flush,
+        let end = match job.sent {
+            Sent::Query(_) => End::Sync,
+            Sent::Execute(_) | Sent::Piece(..) => End::Flush,
         };
         let reply = self.tell(job, words, end).await?;
         self.tell_failure(&reply);
@@ -671,9 +689,13 @@ fn is_true(value: Option<&Option<Bytes>>) -> bool {
     matches!(value, Some(Some(text)) if &text[..] == b"t")
 }
 
+/// Returns the command tag that is a reply's only value.
+fn tag_of(row: &[Option<Bytes>]) -> Option<&str> {
+    std::str::from_utf8(row.first()?.as_deref()?).ok()
+}
+
 /// Reads how many rows a command tag tells.
-fn rows_of(row: &[Option<Bytes>]) -> Option<usize> {
-    let tag = std::str::from_utf8(row.first()?.as_deref()?).ok()?;
+fn rows_of(tag: &str) -> Option<usize> {
     tag.rsplit(' ').next()?.parse().ok()
 }
 

@@ -7,13 +7,13 @@ use std::sync::Arc;
 
 use escrowd_pg::decimal::Decimal;
 use escrowd_pg::statement as gateway;
-use escrowd_pg::statement::parser::{next_statement, parse_update};
+use escrowd_pg::statement::constant::Datum;
+use escrowd_pg::statement::parser::{next_statement, parse_updates};
 use escrowd_pg::statement::query::{
-    ColumnName, Expression, ExpressionKind, Name, QualifiedName, Span, Target, Update,
+    ColumnName, Expression, ExpressionKind, FoundUpdate, Name, Place, QualifiedName, Span, Target,
 };
 
 use escrowd_pg::statement::served::Served;
-use tokio_postgres::types::Type;
 
 use crate::catalog::Table;
 use crate::parameters::{change_text, key_text, number, Parameters};
@@ -128,10 +128,16 @@ fn is_commit(text: &str) -> bool {
     .any(|known| text.eq_ignore_ascii_case(known))
 }
 
-/// What a statement's text asks for: an UPDATE of rows by their key, whose values may be parameters.
+/// What a statement's text asks for: an UPDATE of rows by their key, whose values may be parameters. It may be a part of a
+/// statement with WITH.
 #[derive(Clone, Debug, PartialEq, Eq)]
 pub struct Form {
     text: String,
+    /// Where the UPDATE is written.
+    span: Span,
+    place: Place,
+    /// The numbers of all parameters of the text.
+    numbers: Vec<u16>,
     table: QualifiedName,
     alias: Option<Name>,
     assignments: Vec<Assignment>,
@@ -163,11 +169,13 @@ struct ColumnChange {
     value: Expression,
 }
 
-/// `column = value`, `column IN (value, ..)`.
+/// `column = value`, `column IN (value, ..)`, `column = ANY (array)`.
 #[derive(Clone, Debug, PartialEq, Eq)]
 struct Keys {
     column: Vec<String>,
     values: Vec<Expression>,
+    /// Whether there is one value, which is an array of them.
+    is_array: bool,
     span: Span,
 }
 
@@ -184,6 +192,8 @@ struct AtLeast {
 struct Returning {
     span: Span,
     reads: Vec<Vec<String>>,
+    /// Whether it shows columns alone, so that nobody sees how often it is computed.
+    are_columns: bool,
 }
 
 /// What a form means for a table.
@@ -195,6 +205,15 @@ pub struct Plan<'a> {
     changes: Vec<(usize, &'a ColumnChange)>,
     /// What is left to PostgreSQL.
     plain: Vec<&'a Assignment>,
+}
+
+/// A statement that is a part of a client's.
+#[derive(Clone, Debug, PartialEq, Eq)]
+pub struct Part {
+    /// Its text.
+    pub text: String,
+    /// By how many characters the places of its errors are in front of those in the client's text.
+    pub moved: i64,
 }
 
 /// What a statement asks for.
@@ -214,11 +233,20 @@ impl Form {
         if !may_be_update(text) {
             return None;
         }
-        let update = parse_update(text).ok()??;
-        Form::of(text, update)
+        let (mut found, numbers) = parse_updates(text).ok()??;
+        // With two of them, one could be about the other's rows.
+        match (found.pop(), found.is_empty()) {
+            (Some(update), true) => Form::of(text, update, numbers),
+            _ => None,
+        }
     }
 
-    fn of(text: &str, update: Update) -> Option<Form> {
+    fn of(text: &str, found: FoundUpdate, numbers: Vec<u16>) -> Option<Form> {
+        let FoundUpdate {
+            update,
+            span: whole,
+            place,
+        } = found;
         let condition = update.condition?;
         let span = condition.span;
         let (keys, at_least) = condition_of(condition)?;
@@ -228,6 +256,9 @@ impl Form {
         };
         Some(Form {
             text: text.to_owned(),
+            span: whole,
+            place,
+            numbers,
             table: update.table,
             alias: update.alias,
             assignments: update.changes.into_iter().map(assignment).collect(),
@@ -236,6 +267,11 @@ impl Form {
             at_least,
             returning,
         })
+    }
+
+    /// Returns whether the statement's tag and rows are those of the UPDATE.
+    pub fn is_main(&self) -> bool {
+        !matches!(self.place, Place::InWith(_))
     }
 
     /// Returns the table's name without its schema.
@@ -281,6 +317,9 @@ impl Form {
         }
         if let Some(returning) = &self.returning {
             self.check_reads(table, &returning.reads)?;
+            if !self.is_main() && !returning.are_columns {
+                return None;
+            }
         }
         (!plan.changes.is_empty()).then_some(plan)
     }
@@ -320,27 +359,42 @@ impl Form {
     }
 }
 
+impl Keys {
+    /// Returns the values of the keys. None: one is not understood.
+    fn values(&self, table: &Table, parameters: Parameters<'_>) -> Option<Vec<Datum>> {
+        let oid = table.key_type.parameter_oid();
+        if self.is_array {
+            return parameters.elements(self.values.first()?, oid);
+        }
+        let values = self
+            .values
+            .iter()
+            .map(|key| match parameters.is_float(key) {
+                true => None, // PostgreSQL compares floats
+                false => parameters.evaluate(key, oid),
+            });
+        values.collect()
+    }
+}
+
 impl Plan<'_> {
     /// Returns the rows and the change that the statement asks for. None: a value is not understood, or none that the row
     /// could have.
     pub fn bind(&self, parameters: Parameters<'_>) -> Option<Asked> {
         let (form, table) = (self.form, self.table);
-        let mut keys: Vec<Key> = Vec::new();
-        for key in &form.keys.values {
-            if parameters.is_float(key) {
-                return None; // PostgreSQL compares floats
-            }
-            let key = parameters.evaluate(key, table.key_type.parameter_oid())?;
-            let key = Key {
-                table: table.number,
-                text: key_text(key, table.key_type)?.into(),
-            };
-            if !keys.contains(&key) {
-                keys.push(key);
-            }
+        if !self.knows_types(parameters) {
+            return None;
         }
+        let keys = form.keys.values(table, parameters)?.into_iter();
+        let keys = keys.map(|key| {
+            let text = key_text(key, table.key_type)?.into();
+            let table = table.number;
+            Some(Key { table, text })
+        });
+        let mut keys: Vec<Key> = keys.collect::<Option<_>>()?;
         // In one order, as PostgreSQL's locks are best taken.
         keys.sort();
+        keys.dedup();
         let mut changes = vec![None; table.columns.len()];
         for (at, change) in &self.changes {
             let column = &table.columns[*at];
@@ -406,37 +460,121 @@ impl Plan<'_> {
 
     /// Returns the statement that PostgreSQL has to serve beside the reservation, with the same parameters: the UPDATE of
     /// the plain columns, or a SELECT of what RETURNING shows. With `has_rows` false it is about no row.
-    pub fn rest(&self, has_rows: bool) -> Option<String> {
+    pub fn rest(&self, has_rows: bool) -> Option<Part> {
         let form = self.form;
-        let key = match has_rows {
-            true => form.written(form.keys.span).to_owned(),
-            false => format!("{} AND false", form.written(form.keys.span)),
-        };
+        let (condition, keys) = (form.condition, form.keys.span);
+        let none = if has_rows { "" } else { " AND false" };
         if !self.plain.is_empty() {
-            let first = form.assignments.first()?.span.start;
+            // What is left stays at its place, so that PostgreSQL's errors tell places of the client's text.
+            let mut text = String::new();
+            let mut at = 0;
+            for (turn, it) in self.plain.iter().enumerate() {
+                let between = Span {
+                    start: at,
+                    end: it.span.start,
+                };
+                match turn {
+                    0 => {
+                        let first = form.assignments.first()?.span.start;
+                        text.push_str(&form.text[..first]);
+                        text.push_str(&blank(&form.text[first..it.span.start]));
+                    }
+                    _ => {
+                        text.push(',');
+                        text.extend(blank(form.written(between)).chars().skip(1));
+                    }
+                }
+                text.push_str(form.written(it.span));
+                at = it.span.end;
+            }
             let last = form.assignments.last()?.span.end;
-            let plain = self.plain.iter().map(|it| form.written(it.span));
-            let plain: Vec<&str> = plain.collect();
-            return Some(format!(
-                "{}{}{}{}{}",
-                &form.text[..first],
-                plain.join(", "),
-                &form.text[last..form.condition.start],
-                key,
-                &form.text[form.condition.end..]
-            ));
+            text.push_str(&blank(&form.text[at..last]));
+            text.push_str(&form.text[last..condition.start]);
+            text.push_str(&blank(&form.text[condition.start..keys.start]));
+            text.push_str(form.written(keys));
+            text.push_str(none);
+            let behind = blank(&form.text[keys.end..condition.end]);
+            text.extend(behind.chars().skip(none.len()));
+            text.push_str(&form.text[condition.end..]);
+            return Some(Part { text, moved: 0 });
         }
-        let returning = form.returning.as_ref()?;
+        let shown = form.returning.as_ref().map(|it| it.span);
+        if shown.is_none() && form.place == Place::Whole {
+            return None;
+        }
         let name = &form.table;
         let start = name.schema.as_ref().unwrap_or(&name.name).span.start;
         let end = form.alias.as_ref().unwrap_or(&name.name).span.end;
-        let shown = form.written(returning.span);
-        Some(format!(
-            "SELECT {} FROM {} WHERE {}",
-            shown,
+        // Without RETURNING the UPDATE of a statement with WITH shows no row.
+        let none = if shown.is_none() { " AND false" } else { none };
+        const SELECT: &str = "SELECT ";
+        let select = format!(
+            "{SELECT}{} FROM {} WHERE {}{none}",
+            shown.map_or("", |shown| form.written(shown)),
             &form.text[start..end],
-            key
-        ))
+            form.written(keys),
+        );
+        let (in_front, behind) = (&form.text[..form.span.start], &form.text[form.span.end..]);
+        let moved = match (form.place, shown) {
+            (Place::Whole, Some(shown)) => {
+                form.text[..shown.start].chars().count() as i64 - SELECT.len() as i64
+            }
+            _ => 0,
+        };
+        let text = match form.place {
+            Place::Whole => select,
+            Place::BehindWith | Place::InWith(_) => {
+                // What is behind it stays at its place.
+                let length = form.written(form.span).chars().count();
+                format!("{in_front}{select:length$}{behind}")
+            }
+        };
+        Some(Part { text, moved })
+    }
+
+    /// Returns whether the rest has as many rows as were reserved.
+    pub fn rest_counts(&self) -> bool {
+        let form = self.form;
+        form.is_main() && (!self.plain.is_empty() || form.returning.is_some())
+    }
+
+    /// Returns whether the rows of the rest are described to a client that has sent a Query.
+    pub fn rest_has_rows(&self) -> bool {
+        !self.form.is_main() || self.form.returning.is_some()
+    }
+
+    /// Returns the parameters that the change and the condition have, each with the type that it has there.
+    fn own_numbers(&self) -> Vec<(u16, u32)> {
+        let mut found = Vec::new();
+        let mut add = |expression: &Expression, oid: u32| {
+            let mut numbers = Vec::new();
+            parameters_of(expression, &mut numbers);
+            found.extend(numbers.into_iter().map(|number| (number, oid)));
+        };
+        for (at, change) in &self.changes {
+            add(&change.value, self.table.columns[*at].oid());
+        }
+        if let Some(at_least) = &self.form.at_least {
+            let at = at_least.column.last().and_then(|it| self.table.column(it));
+            let oid = at.map_or(0, |at| self.table.columns[at].oid());
+            add(&at_least.value, oid);
+        }
+        found
+    }
+
+    /// Returns whether PostgreSQL finds the types of parameters as they are read here, also where a statement has them at
+    /// other places too. It goes through WITH from the first to the last statement, and then through the one behind it.
+    fn knows_types(&self, parameters: Parameters<'_>) -> bool {
+        let own = self.own_numbers();
+        let count = |number: u16, all: &mut dyn Iterator<Item = u16>| {
+            all.filter(|&it| it == number).count()
+        };
+        own.iter().all(|&(number, _)| {
+            let here = count(number, &mut own.iter().map(|it| it.0));
+            let everywhere = count(number, &mut self.form.numbers.iter().copied());
+            let is_first = matches!(self.form.place, Place::Whole | Place::InWith(0));
+            is_first || here == everywhere || parameters.is_told(number)
+        })
     }
 
     /// Returns the types of the parameters for [`Plan::rest`]: those that are known, and those of the parameters that it
@@ -445,29 +583,21 @@ impl Plan<'_> {
         let mut types = vec![0; parameters.values.len()];
         let count = types.len().min(parameters.types.len());
         types[..count].copy_from_slice(&parameters.types[..count]);
-        let mut know = |expression: &Expression, oid: u32| {
-            let mut numbers = Vec::new();
-            parameters_of(expression, &mut numbers);
-            for number in numbers {
-                if let Some(place) = types.get_mut(usize::from(number) - 1) {
-                    if [0, Type::UNKNOWN.oid()].contains(place) {
-                        *place = oid;
-                    }
+        for (number, oid) in self.own_numbers() {
+            if let Some(place) = types.get_mut(usize::from(number) - 1) {
+                if !parameters.is_told(number) {
+                    *place = oid;
                 }
             }
-        };
-        for (at, change) in &self.changes {
-            know(&change.value, self.table.columns[*at].oid());
-        }
-        if let Some(at_least) = &self.form.at_least {
-            let at = at_least.column.last().and_then(|it| self.table.column(it));
-            know(
-                &at_least.value,
-                at.map_or(0, |at| self.table.columns[at].oid()),
-            );
         }
         types
     }
+}
+
+/// Returns as many blanks as a text has characters.
+fn blank(text: &str) -> String {
+    let of = |it| if it == '\n' { '\n' } else { ' ' };
+    text.chars().map(of).collect()
 }
 
 fn above_limit(
@@ -478,11 +608,16 @@ fn above_limit(
     above(Decimal::parse(limit)?, is_above)
 }
 
-/// Returns whether a text may begin with UPDATE: comments and blanks are left to the parser.
+/// Returns whether a text may begin with UPDATE or WITH: comments and blanks are left to the parser.
 fn may_be_update(text: &str) -> bool {
     let text = text.trim_start_matches(|it: char| it.is_ascii_whitespace());
-    let is_comment = text.starts_with("--") || text.starts_with("/*");
-    is_comment || matches!(text.get(..6), Some(word) if word.eq_ignore_ascii_case("UPDATE"))
+    let begins = |word: &str| {
+        let first = text.get(..word.len());
+        first.map_or(false, |first| first.eq_ignore_ascii_case(word))
+    };
+    ["--", "/*", "UPDATE", "WITH"]
+        .iter()
+        .any(|word| begins(word))
 }
 
 fn texts(column: &ColumnName) -> Vec<String> {
@@ -615,6 +750,7 @@ fn condition_of(condition: Expression) -> Option<(Keys, Option<AtLeast>)> {
 
 fn keys_of(condition: Expression) -> Option<Keys> {
     let span = condition.span;
+    let mut is_array = false;
     let (column, values) = match condition.kind {
         ExpressionKind::Binary(left, operator, right) if operator == "=" => {
             match (left.kind, right.kind) {
@@ -633,11 +769,19 @@ fn keys_of(condition: Expression) -> Option<Keys> {
             ExpressionKind::Column(names) => (names, values),
             _ => return None,
         },
+        ExpressionKind::Quantified(left, operator, false, right) if operator == "=" => {
+            is_array = true;
+            match left.kind {
+                ExpressionKind::Column(names) => (names, vec![*right]),
+                _ => return None,
+            }
+        }
         _ => return None,
     };
     Some(Keys {
         column: texts(&column),
         values,
+        is_array,
         span,
     })
 }
@@ -666,12 +810,14 @@ fn at_least(condition: &Expression) -> Option<AtLeast> {
 fn returning(targets: Vec<Target>) -> Option<Returning> {
     let mut columns = Vec::new();
     let mut span: Option<Span> = None;
+    let mut are_columns = true;
     for target in targets {
         let (expression, name) = match target {
             Target::Expression(expression, name) => (expression, name),
             Target::Star(..) => return None,
         };
         reads(&expression, &mut columns)?;
+        are_columns &= matches!(expression.kind, ExpressionKind::Column(_));
         let end = name.map_or(expression.span.end, |name| name.span.end);
         let start = span.map_or(expression.span.start, |span| span.start);
         span = Some(Span { start, end });
@@ -679,6 +825,7 @@ fn returning(targets: Vec<Target>) -> Option<Returning> {
     Some(Returning {
         span: span?,
         reads: columns,
+        are_columns,
     })
 }
 
@@ -738,9 +885,10 @@ mod tests {
             .collect();
         let keys: Vec<&str> = keys.iter().map(|it| &*it.text).collect();
         let condition = condition.map_or_else(String::new, |it| format!(" unless {}", it));
+        let words = |it: Part| it.text.split_whitespace().collect::<Vec<_>>().join(" ");
         let rest = plan
             .rest(true)
-            .map_or_else(String::new, |it| format!("; {}", it));
+            .map_or_else(String::new, |it| format!("; {}", words(it)));
         Some(format!(
             "{}: {}{}{}",
             keys.join(","),
@@ -765,6 +913,11 @@ mod tests {
             ("UPDATE stock SET pieces = pieces - '3' WHERE id = -5 -- end", "-5: -3 _"),
             ("UPDATE stock SET price = price - 1 WHERE id = 5", "5: _ -1"),
             ("UPDATE stock SET pieces = pieces + 0 WHERE id = 5", "5: 0 _"),
+            ("UPDATE stock SET pieces = pieces - 3 WHERE id = ANY ('{7, 5,NULL}')", "5,7: -3 _"),
+            ("UPDATE stock SET pieces = pieces - 3 WHERE id = ANY ('{7,\"5\"}'::integer[])", "5,7: -3 _"),
+            ("UPDATE stock SET pieces = pieces - 3 WHERE id = SOME (ARRAY[7, 5, -1])", "-1,5,7: -3 _"),
+            ("UPDATE stock SET pieces = pieces - 3 WHERE id = ANY (ARRAY['7', '5']::int[])", "5,7: -3 _"),
+            ("UPDATE stock SET pieces = pieces - 3 WHERE id = ANY ('{}')", ": -3 _"),
         ] {
             let found = read(text, INTEGER, Parameters::default());
             assert_eq!(found.as_deref(), Some(expected), "{}", text);
@@ -816,13 +969,22 @@ mod tests {
             "UPDATE stock SET pieces = pieces - (SELECT 3) WHERE id = 5",
             "UPDATE stock SET pieces = pieces - $1 WHERE id = 5",
             "UPDATE stock SET pieces = pieces - 3 WHERE id = 5; SELECT 1",
-            "WITH a AS (SELECT 1) UPDATE stock SET pieces = pieces - 3 WHERE id = 5",
+            "WITH a AS (SELECT 1 AS n) UPDATE stock SET pieces = pieces - a.n FROM a WHERE id = 5",
+            "WITH a AS (UPDATE stock SET pieces = pieces - 3 WHERE id = 5), b AS (UPDATE stock SET pieces = pieces - 3 WHERE id = 6) SELECT 1",
+            "WITH a AS (UPDATE stock SET pieces = pieces - 3 WHERE id = 5 RETURNING nextval('s')) SELECT 1",
+            "WITH RECURSIVE a AS (SELECT 1) UPDATE stock SET pieces = pieces - 3 WHERE id = 5",
             "EXPLAIN UPDATE stock SET pieces = pieces - 3 WHERE id = 5",
             "UPDATE stock SET pieces = pieces - 1000000000000000 WHERE id = 5",
             "UPDATE stock SET (pieces) = (pieces - 3) WHERE id = 5",
             "UPDATE stock SET pieces = pieces - 3 WHERE CURRENT OF c",
             "UPDATE stock SET pieces = pieces - true WHERE id = 5",
             "UPDATE stock SET pieces = pieces - '3'::text WHERE id = 5",
+            "UPDATE stock SET pieces = pieces - 3 WHERE id = ALL ('{5}')",
+            "UPDATE stock SET pieces = pieces - 3 WHERE id <> ANY ('{5}')",
+            "UPDATE stock SET pieces = pieces - 3 WHERE id = ANY (ARRAY['7', '5'])",
+            "UPDATE stock SET pieces = pieces - 3 WHERE id = ANY ('{5}'::text[])",
+            "UPDATE stock SET pieces = pieces - 3 WHERE id = ANY ('{{5}}')",
+            "UPDATE stock SET pieces = pieces - 3 WHERE id = ANY (ARRAY(SELECT 5))",
         ] {
             assert_eq!(read(text, INTEGER, Parameters::default()), None, "{}", text);
         }
@@ -838,6 +1000,18 @@ mod tests {
             ),
             ("UPDATE public.stock s SET pieces = pieces - 3 WHERE id IN (7, 5, 7) RETURNING id, title || 'x' AS t", "5,7: -3 _; SELECT id, title || 'x' AS t FROM public.stock s WHERE id IN (7, 5, 7)"),
             ("UPDATE stock SET pieces = pieces - 3 WHERE id = 5 AND pieces >= 3", "5: -3 _ unless in_stock"),
+            (
+                "WITH o AS (INSERT INTO orders VALUES (5, 3) RETURNING id) UPDATE stock SET pieces = pieces - 3 WHERE id = 5",
+                "5: -3 _; WITH o AS (INSERT INTO orders VALUES (5, 3) RETURNING id) SELECT FROM stock WHERE id = 5 AND false",
+            ),
+            (
+                "WITH s AS (UPDATE stock SET pieces = pieces - 3 WHERE id = 5 AND pieces >= 3 RETURNING id) INSERT INTO orders SELECT id, 3 FROM s",
+                "5: -3 _ unless in_stock; WITH s AS (SELECT id FROM stock WHERE id = 5 ) INSERT INTO orders SELECT id, 3 FROM s",
+            ),
+            (
+                "WITH s AS (UPDATE stock SET pieces = pieces - 3, title = 'x' WHERE id = 5 RETURNING id) SELECT * FROM s",
+                "5: -3 _; WITH s AS (UPDATE stock SET title = 'x' WHERE id = 5 RETURNING id) SELECT * FROM s",
+            ),
             ("UPDATE stock SET pieces = pieces - 3 WHERE 2 < stock.pieces AND id = 5", "5: -3 _ unless in_stock"),
             ("UPDATE stock SET pieces = pieces - 3, title = 'x' WHERE id = 5 AND pieces >= 3 RETURNING id", "5: -3 _ unless in_stock; UPDATE stock SET title = 'x' WHERE id = 5 RETURNING id"),
         ] {
@@ -855,15 +1029,38 @@ mod tests {
         let plan = form.plan(&table).unwrap();
         let values = vec![Some(b"1".to_vec()); 4];
         let parameters = Parameters {
-            types: &[Type::UNKNOWN.oid(), 25],
+            types: &[tokio_postgres::types::Type::UNKNOWN.oid(), 25],
             formats: &[],
             values: &values,
         };
         assert_eq!(plan.rest_types(parameters), [23, 25, 1700, 0]);
+        let rest = plan.rest(true).unwrap();
+        let (first, last) = (" ".repeat(22), " ".repeat(21));
         assert_eq!(
-            plan.rest(true).unwrap(),
-            "UPDATE stock SET title = $2 WHERE id = $4"
+            rest.text,
+            format!("UPDATE stock SET {first}title = $2{last} WHERE id = $4")
         );
+        assert_eq!(rest.moved, 0);
+    }
+
+    #[test]
+    fn a_parameter_in_with_has_the_type_that_postgresql_finds() {
+        let table = table(INTEGER);
+        let values = vec![Some(b"1".to_vec()); 2];
+        let is_bound = |text: &str, types: &[u32]| {
+            let form = Form::read(text).unwrap();
+            let parameters = Parameters {
+                types,
+                formats: &[],
+                values: &values,
+            };
+            let plan = form.plan(&table).unwrap();
+            plan.bind(parameters).is_some()
+        };
+        let first = "WITH s AS (UPDATE stock SET pieces = pieces - $1 WHERE id = $2 RETURNING id) INSERT INTO orders SELECT id, $1 FROM s";
+        let last = "WITH o AS (INSERT INTO orders VALUES ($2, $1)) UPDATE stock SET pieces = pieces - $1 WHERE id = $2";
+        assert!(is_bound(first, &[]) && is_bound(first, &[23, 0]));
+        assert!(!is_bound(last, &[]) && is_bound(last, &[23, 0]));
     }
 
     #[test]

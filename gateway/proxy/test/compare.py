@@ -8,10 +8,12 @@ The gate sends the same statements each time. By hand a seed and a count can be 
 from __future__ import annotations
 
 import argparse
+import math
 import random
 import re
 import struct
 import sys
+import time
 from dataclasses import dataclass
 from typing import Dict, List, NamedTuple, Optional, Sequence, Tuple
 
@@ -22,8 +24,8 @@ from proxy.test.drivers import Both, opened
 from proxy.test.harness import SharedPart
 
 PART = SharedPart("proxy_compare", opened)
-# What the gate sends.
-SEED, COUNT = 83, 1_200
+# What the gate sends; and its most seconds, behind which a slow machine sends no more.
+SEED, COUNT, SECONDS = 83, 1_200, 100.0
 # The statements behind which the rows are made anew, and the differences that are shown.
 A_TABLE, MOST_SHOWN = 100, 12
 
@@ -47,10 +49,26 @@ FORMS = (
     "UPDATE account a SET held = a.held - 0.50 WHERE a.id = " + ACCOUNT + "::uuid RETURNING owner",
     "UPDATE shelf SET room = room + 7 WHERE code = E'a\\'b'",
     "UPDATE shelf SET room = room - 3 WHERE code = 'c' AND room > 2 RETURNING code",
+    "UPDATE stock SET pieces = pieces - 1 WHERE id = ANY ('{1,2}') RETURNING id",
+    "UPDATE stock SET pieces = pieces + 1, title = 'z' WHERE id = ANY (ARRAY[1, 3])",
+    "UPDATE shelf SET room = room + 1 WHERE code = ANY ('{c,\"a''b\"}'::text[])",
+    "WITH s AS (UPDATE stock SET pieces = pieces - 1 WHERE id = 1 AND pieces >= 1 RETURNING id, title) INSERT INTO taken SELECT id, 1 FROM s",
+    "WITH o AS (INSERT INTO taken VALUES (2, 3) RETURNING pieces) UPDATE stock AS s SET pieces = s.pieces - 3 WHERE id = 2 RETURNING title",
+    "WITH s AS (UPDATE stock SET pieces = pieces + 1, title = 'w' WHERE id IN (2, 3) RETURNING id) SELECT * FROM s ORDER BY id",
     "DELETE FROM stock WHERE id = 4 RETURNING id",
     "DELETE FROM shelf WHERE code = 'c'",
     "INSERT INTO stock VALUES (4, 'four', 10)",
     "INSERT INTO taken (item, pieces) VALUES (1, 2), (5, 1) RETURNING item",
+)
+# Strings of several statements, which are Queries.
+STRINGS = (
+    "BEGIN; INSERT INTO taken (item, pieces) VALUES (1, 1); UPDATE stock SET pieces = pieces - 1 WHERE id = 1; COMMIT",
+    "INSERT INTO taken VALUES (2, 1) RETURNING item; UPDATE stock SET pieces = pieces - 3 WHERE id = 2; SELECT count(*) FROM taken",
+    "UPDATE stock SET pieces = pieces - 1 WHERE id = 1; UPDATE stock SET title = 'x' WHERE id = 2 RETURNING title; UPDATE shelf SET room = room + 1 WHERE code = 'c'",
+    "BEGIN; UPDATE stock SET pieces = pieces + 2 WHERE id = 3; SAVEPOINT a; UPDATE shelf SET room = room - 1 WHERE code = 'c'; ROLLBACK TO a; COMMIT; "
+    "UPDATE stock SET pieces = pieces - 1 WHERE id = 5",
+    "SET search_path = public; DELETE FROM stock WHERE id = 4; INSERT INTO stock VALUES (4, 'again', 1)",
+    "UPDATE stock SET pieces = pieces - 1 WHERE id = 5; SELECT 'ä', nothing",
 )
 # Texts with parameters, and what those may be.
 WITH_PARAMETERS = (
@@ -60,6 +78,8 @@ WITH_PARAMETERS = (
     "UPDATE account SET balance = balance - $1 WHERE id = " + ACCOUNT + " AND $2 = 2",
     "UPDATE account SET balance = balance + $1, held = held + $2 WHERE id = " + ACCOUNT,
     "UPDATE shelf SET room = room + (- $1) WHERE code = $2",
+    "WITH s AS (UPDATE stock SET pieces = pieces - $1 WHERE id = $2 RETURNING id) INSERT INTO taken SELECT id, $1 FROM s",
+    "WITH o AS (INSERT INTO taken VALUES ($2, 1)) UPDATE stock SET pieces = pieces - $1 WHERE id = $2",
     "DELETE FROM stock WHERE id = $2 AND $1 = 4",
     "DELETE FROM stock WHERE id = $2",
 )
@@ -90,6 +110,10 @@ class Sent:
     types: Tuple[int, ...] = ()
     formats: Tuple[int, ...] = ()
 
+    def is_string(self) -> bool:
+        """Returns whether it may have several statements, of which some may be committed though a later one is refused."""
+        return self.values is None and ";" in self.text
+
     def __str__(self) -> str:
         shown = "" if self.values is None else f" with {self.values} of types {self.types} in formats {self.formats}"
         return repr(self.text) + shown
@@ -102,6 +126,7 @@ class Result(NamedTuple):
     columns: Tuple[Tuple[Optional[bytes], int], ...] = ()
     rows: Tuple[Tuple[Optional[bytes], ...], ...] = ()
     error: str = ""
+    place: Optional[bytes] = None
     message: str = ""
 
 
@@ -111,25 +136,27 @@ class Answer(NamedTuple):
     results: Tuple[Result, ...]
     state: int
 
-    def is_refusal(self) -> bool:
-        """Returns whether the proxy has refused it as it may."""
-        return any(REFUSALS.get(it.error, "\0") in it.message for it in self.results)
+    def is_refusal(self, sent: Sent) -> bool:
+        """Returns whether the proxy has refused it as it may. The changes of a string count each by itself."""
+        may_be = {**REFUSALS, "23514": "some that others have reserved"} if sent.is_string() else REFUSALS
+        return any(may_be.get(it.error, "\0") in it.message for it in self.results)
 
     def is_error(self) -> bool:
         """Returns whether it has an error."""
         return any(it.error for it in self.results)
 
-    def compared(self) -> object:
-        """Returns what has to be equal."""
-        return [it._replace(message="") for it in self.results], self.state
+    def compared(self, sent: Sent) -> object:
+        """Returns what has to be equal. In WITH the place of an error is that in the statement which PostgreSQL got."""
+        has_place = not re.match(r"\s*WITH\b", sent.text)
+        return [it._replace(message="", place=it.place if has_place else None) for it in self.results], self.state
 
 
 def result(it: pq.abc.PGresult) -> Result:
     """Reads a result."""
     if it.status == pq.ExecStatus.FATAL_ERROR:
-        fields = [it.error_field(field) for field in (pq.DiagnosticField.SQLSTATE, pq.DiagnosticField.MESSAGE_PRIMARY)]
-        state, message = ((field or b"?").decode(errors="replace") for field in fields)
-        return Result(error=state, message=message)
+        asked = (pq.DiagnosticField.SQLSTATE, pq.DiagnosticField.MESSAGE_PRIMARY, pq.DiagnosticField.MESSAGE_DETAIL)
+        state, message, detail = ((it.error_field(field) or b"").decode(errors="replace") for field in asked)
+        return Result(error=state, place=it.error_field(pq.DiagnosticField.STATEMENT_POSITION), message=f"{message} {detail}")
     columns = tuple((it.fname(at), it.ftype(at)) for at in range(it.nfields))
     rows = (tuple(it.get_value(row, at) for at in range(it.nfields)) for row in range(it.ntuples))
     # The order of an UPDATE's rows is nobody's promise.
@@ -193,6 +220,8 @@ class Generator:
             values = [self.value() for _ in range(2)]
             given, types, formats = zip(*values)
             return Sent(self.mutated(text) if draw.random() < 0.3 else text, given, types, formats)
+        if draw.random() < 0.3:
+            return Sent(self.mutated(draw.choice(STRINGS)))
         text = self.mutated(draw.choice(FORMS))
         return Sent(text) if draw.random() < 0.5 else Sent(text, ())
 
@@ -225,12 +254,18 @@ class Comparison:
         if self.proxied.closed or self.proxied.pgconn.status != pq.ConnStatus.OK:
             self.proxied = self.both.proxy.connect()
         through = answer(self.proxied.pgconn, sent)
-        if through.is_refusal():
+        is_refused = through.is_refusal(sent)
+        if is_refused and not sent.is_string():
             self.refused += 1
             self.end_blocks()
             return
         straight = answer(self.plain.pgconn, sent)
-        if through.compared() != straight.compared():
+        if through.compared(sent) != straight.compared(sent):
+            if is_refused:
+                self.refused += 1
+                self.end_blocks()
+                self.renew()
+                return
             self.differ(sent, "the answer", through, straight)
         self.end_blocks()
         if through.is_error():
@@ -248,14 +283,15 @@ class Comparison:
             if it.pgconn.status == pq.ConnStatus.OK and it.pgconn.transaction_status != pq.TransactionStatus.IDLE:
                 it.execute("ROLLBACK")
 
-    def run(self, seed: int, count: int) -> None:
-        """Tries the statements of a seed."""
+    def run(self, seed: int, count: int, seconds: float) -> None:
+        """Tries the statements of a seed, for so many seconds at most."""
         generator = Generator(seed)
+        end = time.monotonic() + seconds
         for turn in range(count):
             if turn % A_TABLE == 0:
                 self.renew()
             self.try_one(generator.statement())
-            if len(self.differences) >= MOST_SHOWN:
+            if len(self.differences) >= MOST_SHOWN or time.monotonic() > end:
                 return
 
     def close(self) -> None:
@@ -266,22 +302,23 @@ class Comparison:
 
 @PART.case
 def mutated_statements(both: Both) -> None:
-    compared(both, SEED, load(COUNT))
+    compared(both, SEED, load(COUNT), SECONDS)
 
 
-def compared(both: Both, seed: int, count: int) -> None:
+def compared(both: Both, seed: int, count: int, seconds: float = math.inf) -> None:
     """Compares the statements of a seed. Fails, and shows the first differences, if there are some."""
     for database in (both.cluster, both.plain):
         database.run("DROP TABLE IF EXISTS taken", TAKEN)
     comparison = Comparison(both)
     try:
-        comparison.run(seed, count)
+        comparison.run(seed, count, seconds)
     finally:
         comparison.close()
     print(f"seed {seed}: {comparison.served} served, {comparison.errors} errors, {comparison.refused} refused", file=sys.stderr)
     expect("\n".join(comparison.differences), "", f"seed {seed}")
     # Not all that is sent may be a syntax error.
-    expect(comparison.served > count / 5, True, f"{comparison.served} of {count} were served")
+    tried = comparison.served + comparison.errors + comparison.refused
+    expect(comparison.served > tried / 5, True, f"{comparison.served} of {tried} were served")
 
 
 def by_hand(words: Sequence[str]) -> None:

@@ -241,6 +241,12 @@ SELECT title, pieces FROM stock WHERE id = {one} \gx
 EXPLAIN (COSTS off) UPDATE stock SET pieces = pieces - 1 WHERE id = {one};
 LISTEN news;
 SELECT 1 AS a \; SELECT 2 AS b;
+BEGIN \; INSERT INTO orders (item, pieces) VALUES ({one}, 2) \; UPDATE stock SET pieces = pieces - 2 WHERE id = {one} \; COMMIT;
+INSERT INTO orders (item, pieces) VALUES ({one}, 1) RETURNING item \; UPDATE stock SET pieces = pieces - 1 WHERE id = {one} RETURNING title \; SELECT 'ä' AS c;
+UPDATE stock SET pieces = pieces - 1 WHERE id = {one} \; UPDATE stock SET pieces = pieces - 3000 WHERE id = {one} \; SELECT 1;
+\set VERBOSITY default
+SELECT 'ä' \; UPDATE stock SET pieces = pieces - 1 WHERE id = {one} \; SELECT nothing;
+WITH s AS (UPDATE stock SET pieces = pieces - 1 WHERE id = {one} RETURNING id, title) SELECT * FROM s;
 DELETE FROM stock WHERE id = {first} + 5;
 SELECT id, title, pieces FROM stock WHERE id BETWEEN {first} AND {first} + 99 ORDER BY id;
 SELECT nothing;

@@ -132,6 +132,7 @@ def an_error_is_that_of_postgres(cluster: Cluster, proxy: Proxy) -> None:
             (f"UPDATE stock SET pieces = pieces * 2 WHERE id = {key}", errors.FeatureNotSupported),
             (f"UPDATE stock SET pieces = pieces - 1 WHERE id > {key - 1} AND id < {key + 1}", errors.FeatureNotSupported),
             (f"WITH a AS (UPDATE stock SET pieces = pieces - 1 WHERE id = {key} RETURNING 1) SELECT * FROM a", errors.FeatureNotSupported),
+            (f"WITH a AS (UPDATE stock SET pieces = pieces - 11 WHERE id = {key} RETURNING id) SELECT * FROM a", errors.CheckViolation),
         ):
             with refused(kind):
                 it.execute(text.encode())
@@ -348,6 +349,54 @@ def a_row_is_deleted_once_nobody_has_reserved_it(cluster: Cluster, proxy: Proxy)
 
 
 @case
+def a_refusal_says_the_form_to_write(cluster: Cluster, proxy: Proxy) -> None:
+    key = row(cluster)
+    with proxy.connect() as it:
+        for text, form in (
+            (f"INSERT INTO stock (id, pieces) VALUES ({key}, 1) ON CONFLICT (id) DO UPDATE SET pieces = stock.pieces + excluded.pieces", "write INSERT .. ON CONFLICT DO NOTHING"),
+            (f"UPDATE stock SET pieces = stock.pieces - o.n FROM (SELECT {key} AS item, 1 AS n) AS o WHERE id = o.item", "name the key and the number"),
+            (f"WITH o AS (SELECT {key} AS item) UPDATE stock SET pieces = pieces - 1 WHERE id = (SELECT item FROM o)", "name the key and the number"),
+            (f"DO 'BEGIN UPDATE stock SET pieces = pieces - 1 WHERE id = {key}; END'", "send the UPDATE by itself"),
+            (f"UPDATE stock SET pieces = 4 WHERE id = {key}", "add or subtract by the key"),
+        ):
+            try:
+                it.execute(text.encode())
+            except errors.FeatureNotSupported as error:
+                assert form in str(error.diag.message_hint), f"{text}: {error.diag.message_hint}"
+            else:
+                raise AssertionError(f"not refused: {text}")
+        # The form that the first hint says.
+        it.execute("BEGIN")
+        expect(it.execute("INSERT INTO stock (id, pieces) VALUES (%s, 1) ON CONFLICT DO NOTHING", (key,)).statusmessage, "INSERT 0 0")
+        expect(take(it, key, -1), "UPDATE 1")
+        it.execute("COMMIT")
+    expect(pieces(cluster, key), 11)
+
+
+@case
+def strings_are_transactions(cluster: Cluster, proxy: Proxy) -> None:
+    """Others see all of a string or nothing, and its reservations end with it."""
+    key = row(cluster)
+    order, take_two = f"INSERT INTO orders (item, pieces) VALUES ({key}, 2)", f"UPDATE stock SET pieces = pieces - 2 WHERE id = {key}"
+    with proxy.connect() as it, proxy.connect() as other:
+        it.execute(f"{order}; {take_two}; {take_two}".encode())
+        expect(pieces(cluster, key), 6)
+        for end, kind in (("SELECT 1 / 0", errors.DivisionByZero), (take_two.replace("- 2", "- 7"), errors.CheckViolation), ("SELEC 1", errors.SyntaxError)):
+            for begin in ("", "BEGIN; "):
+                with refused(kind):
+                    it.execute(f"{begin}{take_two}; {order}; {end}".encode())
+                it.execute("ROLLBACK")
+                # The server has just that left.
+                expect(take(other, key, 6), "UPDATE 1", f"{begin}{end}")
+                take(other, key, -6)
+        it.execute(f"BEGIN; {take_two}".encode())
+        with refused(errors.CheckViolation):
+            take(other, key, 5)
+        it.execute(f"{take_two}; COMMIT; {order}".encode())
+        expect((pieces(cluster, key), take(other, key, 2)), (2, "UPDATE 1"))
+
+
+@case
 def what_is_refused_as_it_stands(cluster: Cluster, proxy: Proxy) -> None:
     key = row(cluster)
     with proxy.connect() as it:
@@ -405,6 +454,8 @@ def refusals_leave_nothing_in_a_session(cluster: Cluster, proxy: Proxy) -> None:
                 take(it, key, 1000)
             with refused(errors.NotNullViolation):
                 it.execute("UPDATE stock SET pieces = pieces - 1, title = NULL WHERE id = %s", (key,))
+            with refused(errors.DivisionByZero):
+                it.execute(f"UPDATE stock SET pieces = pieces - 1 WHERE id = {key}; SELECT 1 / (random() * 0)::integer".encode())
 
         be_refused()
         before = prepared()

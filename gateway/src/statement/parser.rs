@@ -13,7 +13,7 @@ use std::rc::Rc;
 
 use crate::sqlstate::{Failure, Report, SqlState};
 use crate::statement::parameters::{self, Place};
-use crate::statement::query::{Name, QualifiedName, Query, Span, Update};
+use crate::statement::query::{FoundUpdate, Name, Outline, QualifiedName, Query, Span};
 use crate::statement::{literal, Parsed};
 pub use lexer::TokenKind;
 use lexer::{Token, Tokens};
@@ -49,22 +49,52 @@ pub fn parse_query(text: &str) -> Result<Query, Failure> {
     Ok(query)
 }
 
-/// Reads a text that is one UPDATE of one table. None: it is another statement, or several.
+/// Reads a text that is one UPDATE of one table, or one statement that has WITH in front. Returns the UPDATEs in it, and the
+/// numbers of all its parameters. None: it is another statement, or several.
 ///
 /// # Errors
 ///
 /// Fails at what PostgreSQL's grammar doesn't have, and at what is missing here.
-pub fn parse_update(text: &str) -> Result<Option<Update>, Failure> {
+pub fn parse_updates(text: &str) -> Result<Option<(Vec<FoundUpdate>, Vec<u16>)>, Failure> {
     let mut at = 0;
     let tokens = match lexer::next_statement(text, &mut at) {
         Some(tokens) => tokens,
         None => return Ok(None),
     };
     let mut parser = Parser::new(text, &tokens);
-    if !parser.keyword("UPDATE") || lexer::next_statement(text, &mut at).is_some() {
+    let is_read = parser.at_keyword("UPDATE") || parser.at_keyword("WITH");
+    if !is_read || lexer::next_statement(text, &mut at).is_some() {
         return Ok(None);
     }
-    parser.update_tree().map(Some)
+    let found = parser.updates()?;
+    parser.expect_end()?;
+    let numbers = tokens.list.iter().filter_map(|token| match token.kind {
+        TokenKind::Parameter(number) => Some(number),
+        _ => None,
+    });
+    Ok(Some((found, numbers.collect())))
+}
+
+/// Reads what the next statement of `text` is, whatever of it is served, and where it is written. It begins at the byte
+/// `at`, which is moved behind its semicolon. None: there is none.
+///
+/// # Errors
+///
+/// Fails at what PostgreSQL's grammar doesn't have, at what is missing here, and at parameters.
+pub fn next_outline(text: &str, at: &mut usize) -> Result<Option<(Span, Outline)>, Failure> {
+    let tokens = match lexer::next_statement(text, at) {
+        Some(tokens) => tokens,
+        None => return Ok(None),
+    };
+    let mut parser = Parser::new(text, &tokens);
+    let start = parser.start();
+    let is_parameter = |token: &&Token| matches!(token.kind, TokenKind::Parameter(_));
+    if let Some(parameter) = tokens.list.iter().find(is_parameter) {
+        return Err(Report::missing("a parameter in a string").at(parameter.span().start));
+    }
+    let outline = parser.outline()?;
+    parser.expect_end()?;
+    Ok(Some((parser.span_from(start), outline)))
 }
 
 /// Reads the next statement of `text`, from the byte `at`, and moves `at` behind it and its semicolon. None: there is none.
@@ -600,6 +630,63 @@ mod tests {
             if let Err(report) = parse_query(&text) {
                 prop_assert!(report.place.map_or(false, |place| place <= text.len()), "{}", text);
             }
+        }
+    }
+
+    #[test]
+    fn outlines_are_read_as_postgresql_does() {
+        let read = |text: &str| {
+            let mut at = 0;
+            let mut found = Vec::new();
+            while let Some((span, outline)) = next_outline(text, &mut at)? {
+                let is_data = outline == Outline::Data;
+                found.push((text[span.start..span.end].to_owned(), is_data));
+            }
+            Ok::<_, Failure>(found)
+        };
+        let text = "BEGIN; /* a; */ INSERT INTO t VALUES (1, ';', DEFAULT) ;; COMMIT AND CHAIN";
+        let expected = [
+            ("BEGIN".to_owned(), false),
+            ("INSERT INTO t VALUES (1, ';', DEFAULT)".to_owned(), true),
+            ("COMMIT AND CHAIN".to_owned(), false),
+        ];
+        assert_eq!(read(text).unwrap(), expected);
+        for text in [
+            "INSERT INTO s.t AS x (a, b) SELECT 1, now() FROM u WHERE a = ANY ('{1}') RETURNING *",
+            "INSERT INTO t DEFAULT VALUES ON CONFLICT DO NOTHING",
+            "INSERT INTO t (a) VALUES (1) ON CONFLICT (a) DO UPDATE SET b = t.b + excluded.b WHERE t.b > 0 RETURNING a AS x",
+            "INSERT INTO t (a) VALUES (1) ON CONFLICT ON CONSTRAINT k DO NOTHING",
+            "DELETE FROM ONLY t AS x WHERE a IN (SELECT 1) RETURNING x.a",
+            "UPDATE t SET a = 1",
+            "WITH x (a) AS MATERIALIZED (DELETE FROM t RETURNING a), y AS (SELECT 1) UPDATE t SET a = 2 WHERE a = 1 RETURNING a",
+            "WITH x AS (WITH y AS (SELECT 1) SELECT * FROM y) INSERT INTO t SELECT * FROM x",
+            "SAVEPOINT a",
+            "SET a.b = 'c'",
+            "(SELECT 1) UNION SELECT 2",
+        ] {
+            assert_eq!(read(text).unwrap().len(), 1, "{text}");
+        }
+        for text in [
+            "SELEC 1",
+            "INSERT t VALUES (1)",
+            "INSERT INTO t VALUES (1) ON CONFLICT",
+            "INSERT INTO t VALUES (1) ON CONFLICT DO UPDATE",
+            "INSERT INTO t VALUES (1,)",
+            "INSERT INTO t VALUES (1) RETURNING",
+            "DELETE t",
+            "DELETE FROM t WHERE",
+            "UPDATE t SET a = 1 WHERE a = 1 b",
+            "WITH x AS (DELETE FROM t) ",
+            "WITH x AS DELETE FROM t SELECT 1",
+            "COMMIT 1",
+            "SELECT 1; SELECT (",
+            // Read by PostgreSQL, and not sent with others.
+            "VACUUM",
+            "COPY t FROM STDIN",
+            "SELECT $1",
+            "CALL p()",
+        ] {
+            assert!(read(text).is_err(), "{text}");
         }
     }
 }

@@ -450,3 +450,34 @@ pub struct Update {
     /// RETURNING.
     pub returning: Vec<Target>,
 }
+
+/// An UPDATE of one table in a statement.
+#[derive(Clone, Debug, PartialEq, Eq)]
+pub struct FoundUpdate {
+    /// The UPDATE.
+    pub update: Update,
+    /// Where it is written.
+    pub span: Span,
+    /// What it is in the statement.
+    pub place: Place,
+}
+
+/// What a part is in a statement.
+#[derive(Clone, Copy, Debug, PartialEq, Eq)]
+pub enum Place {
+    /// All of it.
+    Whole,
+    /// What is behind its WITH.
+    BehindWith,
+    /// A statement of its WITH: the first one is 0.
+    InWith(usize),
+}
+
+/// What a statement is, as far as it has to be known to send it with others.
+#[derive(Clone, Debug, PartialEq, Eq)]
+pub enum Outline {
+    /// It begins, ends or marks a transaction, or sets a setting.
+    Control(Box<super::Statement>),
+    /// A query, an INSERT, an UPDATE or a DELETE.
+    Data,
+}

@@ -130,6 +130,16 @@ public final class WithJdbc {
         connection.commit();
         connection.setAutoCommit(true);
         stock("blocks");
+        try (PreparedStatement any = connection.prepareStatement("UPDATE stock SET pieces = pieces - 1 WHERE id = ANY (?)")) {
+            any.setArray(1, connection.createArrayOf("integer", new Object[] {one, four}));
+            System.out.println("any " + any.executeUpdate());
+        }
+        try (Statement several = connection.createStatement()) {
+            several.execute("INSERT INTO orders (item, pieces) VALUES (" + one + ", 1); UPDATE stock SET pieces = pieces - 1 WHERE id = " + one + "; SELECT 7");
+            System.out.println("string " + several.getUpdateCount() + several.getMoreResults() + several.getUpdateCount() + several.getMoreResults());
+        }
+        String with = "WITH s AS (UPDATE stock SET pieces = pieces - ? WHERE id = ? AND pieces >= ? RETURNING id) INSERT INTO orders (item, pieces) SELECT id, ? FROM s";
+        System.out.println("with " + run(with, 1, one, 1, 1) + run(with, 1000, one, 1000, 1000));
         try (PreparedStatement move = connection.prepareStatement("UPDATE account SET balance = balance - ?, held = held + ? WHERE id = ?")) {
             move.setBigDecimal(1, new BigDecimal("1.25"));
             move.setBigDecimal(2, new BigDecimal("0.50"));

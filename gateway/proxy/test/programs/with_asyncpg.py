@@ -67,6 +67,10 @@ async def main() -> None:
     print("account", await it.execute("UPDATE account SET balance = balance - $1, held = held + $2 WHERE id = $3", Decimal("1.25"), Decimal("0.5"), account))
     await refused("enough", it.execute("UPDATE account SET held = held + $1 WHERE id = $2", Decimal(1000), account))
     print("account", tuple(await it.fetchrow("SELECT balance, held FROM account WHERE id = $1", account)))
+    print("any", await it.execute("UPDATE stock SET pieces = pieces - 1 WHERE id = ANY($1)", [one, three]))
+    print("string", await it.execute(f"BEGIN; INSERT INTO orders (item, pieces) VALUES ({one}, 1); UPDATE stock SET pieces = pieces - 1 WHERE id = {one}; COMMIT"))
+    taken = "WITH s AS (UPDATE stock SET pieces = pieces - $1 WHERE id = $2 AND pieces >= $1 RETURNING id) INSERT INTO orders (item, pieces) SELECT id, $1 FROM s"
+    print("with", await it.execute(taken, 1, one), await it.execute(taken, 1000, one))
     await it.copy_records_to_table("orders", records=[(one, 7), (two, 8)], columns=["item", "pieces"])
     async with asyncpg.create_pool(min_size=2, max_size=4, **words) as pool:
 

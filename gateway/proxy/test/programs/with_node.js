@@ -73,6 +73,16 @@ async function main () {
   await refused('enough', client.query(move, [90, 9, account]))
   say('account', (await client.query('SELECT owner, balance, held FROM account WHERE id = $1', [account])).rows)
   say('shelf', (await client.query('UPDATE shelf SET room = room + $1 WHERE code = $2', [7, `it's ${first} ä`])).rowCount)
+  say('any', (await client.query('UPDATE stock SET pieces = pieces - 1 WHERE id = ANY($1)', [[one, three]])).rowCount)
+  const text = `BEGIN; INSERT INTO orders (item, pieces) VALUES (${one}, 1) RETURNING item; UPDATE stock SET pieces = pieces - 1 WHERE id = ${one}; COMMIT`
+  say('string', (await client.query(text)).map(it => [it.command, it.rowCount, it.rows]))
+  await refused('in a string', client.query(text.replace('- 1', '- 1000')))
+  await client.query('ROLLBACK')
+  const taken = 'WITH s AS (UPDATE stock SET pieces = pieces - $1 WHERE id = $2 AND pieces >= $1 RETURNING id) INSERT INTO orders (item, pieces) SELECT id, $1 FROM s'
+  for (const pieces of [1, 1000]) {
+    const got = await client.query(taken, [pieces, one])
+    say('with', got.command, got.rowCount)
+  }
   await stock('pool', client)
   await client.end()
 }

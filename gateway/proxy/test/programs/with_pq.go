@@ -112,5 +112,7 @@ func main() {
 		}()
 	}
 	wait.Wait()
+	fmt.Println("any", run(it, "UPDATE stock SET pieces = pieces - 1 WHERE id = ANY($1)", pq.Array([]int{one, three})))
+	run(it, fmt.Sprintf("BEGIN; INSERT INTO orders (item, pieces) VALUES (%d, 1); UPDATE stock SET pieces = pieces - 1 WHERE id = %d; COMMIT", one, one))
 	stock("all", it, first)
 }

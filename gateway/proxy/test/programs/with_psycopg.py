@@ -122,6 +122,10 @@ class Suite:
         self.say("mixed", self.run("UPDATE stock SET title = %s, pieces = pieces - 1 WHERE id = %s", "new", four))
         self.say("if there is enough", self.run(TAKE + " AND pieces >= %s", 2, four, 2), self.run(TAKE + " AND pieces >= %s", 500, four, 500))
         self.say("both", self.run("UPDATE stock SET pieces = pieces - 1 WHERE id IN (%s, %s)", three, four))
+        self.say("any", self.run("UPDATE stock SET pieces = pieces - 1 WHERE id = ANY(%s)", [three, four]))
+        taken = "WITH s AS (UPDATE stock SET pieces = pieces - %s WHERE id = %s AND pieces >= %s RETURNING id) INSERT INTO orders (item, pieces) SELECT id, %s FROM s RETURNING pieces"
+        self.say("with", self.rows(taken, 1, four, 1, 1), self.rows(taken, 1000, four, 1000, 1000))
+        self.say("behind with", self.run("WITH o AS (INSERT INTO orders (item, pieces) VALUES (%s, %s)) " + TAKE, four, 2, 2, four))
         self.connection.autocommit = False
         self.run("INSERT INTO stock VALUES (%s, 'inserted', 5)", self.first + 9)
         self.say("just inserted", self.run(TAKE, 2, self.first + 9))
@@ -129,6 +133,27 @@ class Suite:
         self.connection.autocommit = True
         self.say("delete", self.run("DELETE FROM stock WHERE id = %s", five))
         self.stock("further forms")
+
+    def strings(self) -> None:
+        """Several statements in one text, as scripts and psycopg2's execute_batch send them."""
+        three, four = self.first + 3, self.first + 4
+        order = f"INSERT INTO orders (item, pieces) VALUES ({three}, 2)"
+        take = f"UPDATE stock SET pieces = pieces - 2 WHERE id = {three}"
+        self.run(f"{order}; {take}; {take.replace(str(three), str(four))}; SELECT 1")
+        self.run(f"BEGIN; {order}; {take}; COMMIT")
+        self.run(f"BEGIN; SAVEPOINT a; {take}; ROLLBACK TO a; {order}; {take}; RELEASE a; END; {take}")
+        self.stock("strings")
+        self.refused("too many in a string", lambda: self.run(f"{order}; {take.replace('- 2', '- 1000')}; {order}"))
+        self.refused("an error behind it", lambda: self.run(f"{order}; {take}; SELECT 1 / 0"))
+        self.refused("a fault behind it", lambda: self.run(f"BEGIN; {order}; {take}; COMMIT; SELEC"))
+        self.connection.autocommit = False
+        self.run(";".join(take.replace(str(three), str(it)) for it in (three, four, three)))
+        self.run(f"{order}; {take}")
+        self.connection.commit()
+        self.run(f"{take}; {order}")
+        self.connection.rollback()
+        self.connection.autocommit = True
+        self.stock("strings in blocks")
 
     def streams(self) -> None:
         text = f"{self.first + 1}\t7\n{self.first + 2}\t8\n"
@@ -181,7 +206,7 @@ class Suite:
 
 def main() -> None:
     suite = Suite(importlib.import_module(sys.argv[1]), int(sys.argv[2]), sys.argv[3])
-    for it in (suite.by_themselves, suite.blocks, suite.many, suite.other_tables, suite.further_forms, suite.streams, suite.pipelines):
+    for it in (suite.by_themselves, suite.blocks, suite.many, suite.other_tables, suite.further_forms, suite.strings, suite.streams, suite.pipelines):
         try:
             it()
         except suite.driver.Error as error:

@@ -8,7 +8,7 @@ from typing import Any
 import sqlalchemy
 import sqlalchemy.orm
 from sqlalchemy import Column, ForeignKey, Integer, MetaData, Numeric, String, Table, inspect, select, update
-from sqlalchemy.dialects.postgresql import UUID
+from sqlalchemy.dialects.postgresql import UUID, array
 from sqlalchemy.exc import IntegrityError
 
 # The library's types are not its users'.
@@ -94,6 +94,7 @@ def main() -> None:
         print("account", connection.execute(ACCOUNT.update().where(ACCOUNT.c.id == f"00000000-0000-0000-0000-{first:012}")
                                             .values(balance=ACCOUNT.c.balance - Decimal("1.25"), held=ACCOUNT.c.held + Decimal("0.50"))).rowcount)
         print("account", [tuple(it) for it in connection.execute(select(ACCOUNT.c.balance, ACCOUNT.c.held).where(ACCOUNT.c.id == f"00000000-0000-0000-0000-{first:012}"))])
+        print("any", connection.execute(Stock.__table__.update().where(Stock.__table__.c.id == sqlalchemy.any_(array([three, four]))).values(pieces=Stock.__table__.c.pieces - 1)).rowcount)
         print("many", connection.execute(Stock.__table__.update().where(Stock.__table__.c.id.in_([three, four])).values(pieces=Stock.__table__.c.pieces - 1)).rowcount)
     shown("all", engine, first)
     print("inspected", [(it["name"], str(it["type"]), it["nullable"]) for it in inspect(engine).get_columns("stock")], inspect(engine).get_pk_constraint("stock")["constrained_columns"])

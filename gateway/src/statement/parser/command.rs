@@ -4,7 +4,9 @@ use std::mem;
 
 use crate::sqlstate::{Failure, Report};
 use crate::statement::parser::{keywords, Parser, TokenKind};
-use crate::statement::query::{self, Expression, ExpressionKind, Name, QualifiedName};
+use crate::statement::query::{
+    self, Expression, ExpressionKind, FoundUpdate, Name, Outline, Place, QualifiedName,
+};
 use crate::statement::select::Shown;
 use crate::statement::served::{
     returned, Assignment, Delete, Insert, Keys, Served, Show, Table, Update, Verb,
@@ -122,6 +124,74 @@ impl<'a> Parser<'a> {
                     None => report.at(start),
                 })
             }
+        }
+    }
+
+    /// Reads what a statement is.
+    pub(super) fn outline(&mut self) -> Result<Outline, Failure> {
+        let is_control = matches!(
+            self.keyword_at(0),
+            Some(
+                "BEGIN"
+                    | "START"
+                    | "COMMIT"
+                    | "END"
+                    | "ROLLBACK"
+                    | "ABORT"
+                    | "SAVEPOINT"
+                    | "RELEASE"
+                    | "SET"
+            )
+        );
+        if is_control {
+            return self.unended().map(Box::new).map(Outline::Control);
+        }
+        self.updates().map(|_| Outline::Data)
+    }
+
+    /// Reads a query, an INSERT, an UPDATE or a DELETE, which may have WITH in front. Returns the UPDATEs of one table in it.
+    pub(super) fn updates(&mut self) -> Result<Vec<FoundUpdate>, Failure> {
+        let mut found = Vec::new();
+        let mut place = Place::Whole;
+        if self.keyword("WITH") {
+            if self.at_keyword("RECURSIVE") {
+                return Err(self.missing("WITH RECURSIVE"));
+            }
+            let mut number = 0;
+            self.list(|parser| {
+                parser.with_name()?;
+                if parser.at_keyword("WITH") {
+                    parser.query()?;
+                } else {
+                    parser.data(Place::InWith(number), &mut found)?;
+                }
+                number += 1;
+                parser.with_end()
+            })?;
+            place = Place::BehindWith;
+        }
+        self.data(place, &mut found)?;
+        Ok(found)
+    }
+
+    /// Reads a query, an INSERT, an UPDATE or a DELETE. It adds an UPDATE to those that were found.
+    fn data(&mut self, place: Place, found: &mut Vec<FoundUpdate>) -> Result<(), Failure> {
+        let start = self.start();
+        match self.keyword_of(&["INSERT", "UPDATE", "DELETE"]) {
+            Some("INSERT") => self.insert_tree(),
+            Some("UPDATE") => {
+                let update = self.update_tree()?;
+                let span = self.span_from(start);
+                found.push(FoundUpdate {
+                    update,
+                    span,
+                    place,
+                });
+                Ok(())
+            }
+            Some(_) => self.delete_tree(),
+            None if self.at_query(0) => self.query().map(drop),
+            None => Err(self.missing("such a statement beside others")),
         }
     }
 
@@ -477,7 +547,7 @@ impl<'a> Parser<'a> {
     }
 
     /// Reads an UPDATE from behind that word, whatever of it is served.
-    pub(super) fn update_tree(&mut self) -> Result<query::Update, Failure> {
+    fn update_tree(&mut self) -> Result<query::Update, Failure> {
         let (table, alias) = self.changed_table()?;
         let assignments = self.assignments()?;
         let condition = if self.keyword("WHERE") {
@@ -485,12 +555,6 @@ impl<'a> Parser<'a> {
         } else {
             None
         };
-        let returning = if self.keyword("RETURNING") {
-            self.targets()?
-        } else {
-            Vec::new()
-        };
-        self.expect_end()?;
         Ok(query::Update {
             table,
             alias,
@@ -499,8 +563,90 @@ impl<'a> Parser<'a> {
                 .map(|it| (it.column, it.value))
                 .collect(),
             condition,
-            returning,
+            returning: self.returning_tree()?,
         })
+    }
+
+    /// Reads RETURNING, if it is here.
+    fn returning_tree(&mut self) -> Result<Vec<query::Target>, Failure> {
+        if self.keyword("RETURNING") {
+            self.targets()
+        } else {
+            Ok(Vec::new())
+        }
+    }
+
+    /// Reads an INSERT from behind that word, whatever of it is served.
+    fn insert_tree(&mut self) -> Result<(), Failure> {
+        self.insert_into()?;
+        if self.keyword("VALUES") {
+            self.list(|parser| {
+                parser.list_in_parentheses(|parser| match parser.keyword("DEFAULT") {
+                    true => Ok(()),
+                    false => parser.expression().map(drop),
+                })
+            })?;
+            if self.at_query_end() {
+                return Err(self.missing("INSERT of such a query"));
+            }
+        } else if !self.keywords(&["DEFAULT", "VALUES"]) {
+            self.query()?;
+        }
+        self.conflict()?;
+        self.returning_tree().map(drop)
+    }
+
+    /// Moves behind the next token if it is this word, which is no keyword here, and returns whether it was.
+    fn plain_word(&mut self, word: &str) -> bool {
+        let found = self
+            .word()
+            .map_or(false, |found| found.eq_ignore_ascii_case(word));
+        self.at += usize::from(found);
+        found
+    }
+
+    /// Reads ON CONFLICT, if it is here.
+    fn conflict(&mut self) -> Result<(), Failure> {
+        if !self.keyword("ON") {
+            return Ok(());
+        }
+        if !self.plain_word("CONFLICT") {
+            return Err(self.fault());
+        }
+        if self.at_symbol(0, b'(') {
+            self.list_in_parentheses(Self::name)?;
+            if self.at_keyword("WHERE") {
+                return Err(self.missing("ON CONFLICT of a partial index"));
+            }
+        } else if self.keyword("ON") {
+            self.expect_keyword("CONSTRAINT")?;
+            self.name()?;
+        }
+        self.expect_keyword("DO")?;
+        if !self.keyword("UPDATE") {
+            return match self.plain_word("NOTHING") {
+                true => Ok(()),
+                false => Err(self.fault()),
+            };
+        }
+        self.assignments()?;
+        if self.keyword("WHERE") {
+            self.expression()?;
+        }
+        Ok(())
+    }
+
+    /// Reads a DELETE from behind that word, whatever of it is served.
+    fn delete_tree(&mut self) -> Result<(), Failure> {
+        self.expect_keyword("FROM")?;
+        self.changed_table()?;
+        if self.at_keyword("USING") {
+            return Err(self.missing("DELETE .. USING"));
+        }
+        if self.keyword("WHERE") {
+            self.expression()?;
+        }
+        self.returning_tree().map(drop)
     }
 
     fn update(&mut self) -> Result<Statement, Failure> {
@@ -528,9 +674,10 @@ impl<'a> Parser<'a> {
         })))
     }
 
-    fn insert(&mut self) -> Result<Statement, Failure> {
+    /// Reads INTO of an INSERT: the table, its alias, and the columns that are named.
+    fn insert_into(&mut self) -> Result<(QualifiedName, Option<Name>, Vec<Name>), Failure> {
         self.expect_keyword("INTO")?;
-        let name = self.qualified_name()?;
+        let table = self.qualified_name()?;
         let alias = if self.keyword("AS") {
             Some(self.name()?)
         } else {
@@ -550,6 +697,11 @@ impl<'a> Parser<'a> {
         if self.at_keyword("OVERRIDING") {
             return Err(self.missing("OVERRIDING"));
         }
+        Ok((table, alias, columns))
+    }
+
+    fn insert(&mut self) -> Result<Statement, Failure> {
+        let (name, alias, columns) = self.insert_into()?;
         if self.at_keyword("DEFAULT") {
             return Err(Verb::Insert.missing("DEFAULT VALUES", self.start()));
         }

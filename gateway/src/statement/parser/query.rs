@@ -136,15 +136,7 @@ impl<'a> Parser<'a> {
         }
         let is_recursive = self.keyword("RECURSIVE");
         let with = self.list(|parser| {
-            let name = parser.name()?;
-            let columns = parser.column_names()?;
-            parser.expect_keyword("AS")?;
-            if parser.keyword("NOT") {
-                parser.expect_keyword("MATERIALIZED")?;
-            } else {
-                parser.keyword("MATERIALIZED");
-            }
-            parser.expect_symbol(b'(')?;
+            let alias = parser.with_name()?;
             if let Some(word) = ["INSERT", "UPDATE", "DELETE"]
                 .iter()
                 .find(|word| parser.at_keyword(word))
@@ -152,14 +144,33 @@ impl<'a> Parser<'a> {
                 return Err(parser.missing(&format!("{} in WITH", word)));
             }
             let query = parser.query()?;
-            parser.expect_symbol(b')')?;
-            if parser.at_keyword("SEARCH") || parser.at_keyword("CYCLE") {
-                return Err(parser.missing("SEARCH and CYCLE"));
-            }
-            let alias = Alias { name, columns };
+            parser.with_end()?;
             Ok(With { alias, query })
         })?;
         Ok((with, is_recursive))
+    }
+
+    /// Reads what is in front of a statement of WITH, with its parenthesis.
+    pub(super) fn with_name(&mut self) -> Result<Alias, Failure> {
+        let name = self.name()?;
+        let columns = self.column_names()?;
+        self.expect_keyword("AS")?;
+        if self.keyword("NOT") {
+            self.expect_keyword("MATERIALIZED")?;
+        } else {
+            self.keyword("MATERIALIZED");
+        }
+        self.expect_symbol(b'(')?;
+        Ok(Alias { name, columns })
+    }
+
+    /// Reads what is behind a statement of WITH, from its parenthesis.
+    pub(super) fn with_end(&mut self) -> Result<(), Failure> {
+        self.expect_symbol(b')')?;
+        if self.at_keyword("SEARCH") || self.at_keyword("CYCLE") {
+            return Err(self.missing("SEARCH and CYCLE"));
+        }
+        Ok(())
     }
 
     /// Reads the names of columns in parentheses, if there are any.
