@@ -184,7 +184,8 @@ $$;
 ALTER FUNCTION escrow.greet OWNER TO escrow_journal;
 
 -- What the proxy tells a session of open reservations, in front of a statement that asks for them. It is kept only for
--- roles that may know. The entries have process, table (its number), key, changes (one for each column, or null) and since.
+-- roles that may know. The entries have process, table (its number), key, changes (one for each column, or null) and since;
+-- those of a table that an alarm has stopped have table, since and stopped.
 CREATE OR REPLACE FUNCTION escrow.show(entries jsonb) RETURNS void
 LANGUAGE plpgsql SET search_path = pg_catalog, pg_temp AS $$
 BEGIN
@@ -194,9 +195,11 @@ BEGIN
 END
 $$;
 
--- Open reservations, one row for each change of a column. `process` is that of pg_stat_activity.
-CREATE OR REPLACE FUNCTION escrow.reservations()
-RETURNS TABLE (process integer, relation regclass, key text, "column" name, change numeric, since timestamptz)
+-- Open reservations, one row for each change of a column. `process` is that of pg_stat_activity. And a row for each table
+-- that an alarm has stopped, with the reason.
+DROP FUNCTION IF EXISTS escrow.reservations();
+CREATE FUNCTION escrow.reservations()
+RETURNS TABLE (process integer, relation regclass, key text, "column" name, change numeric, since timestamptz, stopped text)
 LANGUAGE plpgsql SET search_path = pg_catalog, pg_temp AS $$
 BEGIN
 	IF NOT (pg_has_role(current_user, 'pg_monitor', 'USAGE') OR pg_has_role(current_user, 'escrow_proxy', 'USAGE')) THEN
@@ -206,11 +209,28 @@ BEGIN
 		RAISE EXCEPTION 'only escrowd-proxy knows the open reservations' USING ERRCODE = 'object_not_in_prerequisite_state',
 			HINT = 'Connect to escrowd-proxy.';
 	END IF;
-	RETURN QUERY SELECT e.process, d.relation, e.key, (d.columns->(c.place::integer - 1)->>'name')::name, c.change::numeric, e.since
-	FROM jsonb_to_recordset(current_setting('escrow.shown')::jsonb) AS e (process integer, "table" integer, key text, changes jsonb, since timestamptz)
+	RETURN QUERY SELECT e.process, d.relation, e.key, (d.columns->(c.place::integer - 1)->>'name')::name, c.change::numeric, e.since, e.stopped
+	FROM jsonb_to_recordset(current_setting('escrow.shown')::jsonb)
+		AS e (process integer, "table" integer, key text, changes jsonb, since timestamptz, stopped text)
 	JOIN escrow.declared AS d ON d.number = e."table"
-	CROSS JOIN jsonb_array_elements_text(e.changes) WITH ORDINALITY AS c (change, place)
-	WHERE c.change IS NOT NULL;
+	LEFT JOIN jsonb_array_elements_text(e.changes) WITH ORDINALITY AS c (change, place) ON true
+	WHERE c.change IS NOT NULL OR e.stopped IS NOT NULL;
+END
+$$;
+
+-- Lets a table go on that an alarm has stopped: the proxy tries its folds again, and grants. The table's owner calls it, once
+-- the cause is gone.
+CREATE OR REPLACE FUNCTION escrow.resume(relation regclass) RETURNS void
+LANGUAGE plpgsql SET search_path = pg_catalog, pg_temp AS $$
+DECLARE
+	n integer := (SELECT number FROM escrow.declared AS d WHERE d.relation = resume.relation);
+BEGIN
+	IF n IS NULL THEN
+		RAISE EXCEPTION '% is not declared reservable', relation USING ERRCODE = 'object_not_in_prerequisite_state';
+	ELSIF NOT pg_has_role((SELECT relowner FROM pg_class WHERE oid = relation), 'USAGE') THEN
+		RAISE EXCEPTION 'must be owner of table %', relation USING ERRCODE = 'insufficient_privilege';
+	END IF;
+	PERFORM pg_notify('escrow_declared', n::text);
 END
 $$;
 
@@ -1084,7 +1104,7 @@ BEGIN
 	EXECUTE format('ALTER TABLE escrow.journal_%1$s OWNER TO escrow_journal; ALTER TABLE escrow.held_%1$s OWNER TO escrow_journal', it.number);
 	EXECUTE format('GRANT SELECT ON escrow.journal_%1$s, escrow.held_%1$s TO escrow_proxy', it.number);
 	PERFORM escrow.generate(it);
-	NOTIFY escrow_declared;
+	NOTIFY escrow_declared; -- the proxy looks anew
 	RETURN QUERY SELECT format('%s: %s', condition->>'name', escrow.told(condition, reservable)) FROM jsonb_array_elements(it.checks) AS condition
 		WHERE NOT condition ? 'range';
 END
@@ -1122,7 +1142,7 @@ BEGIN
 		EXECUTE format('DROP FUNCTION %s', it.function);
 	END LOOP;
 	EXECUTE format('DROP TABLE escrow.journal_%1$s, escrow.held_%1$s', n);
-	NOTIFY escrow_declared; -- a proxy that listens looks anew
+	NOTIFY escrow_declared;
 END
 $$;
 

@@ -8,14 +8,14 @@ use std::sync::Arc;
 use std::time::{Duration, Instant};
 
 use tokio::sync::mpsc::error::TryRecvError;
-use tokio::sync::mpsc::UnboundedReceiver;
+use tokio::sync::mpsc::{unbounded_channel, UnboundedReceiver, UnboundedSender};
 use tokio::sync::watch;
 use tokio::time::{sleep, timeout};
 use tokio_postgres::error::SqlState;
 use tokio_postgres::{Error, Statement};
 
 use crate::catalog::Catalog;
-use crate::hub::{FolderTask, Generation, Hub, Left, LoaderTask};
+use crate::hub::{FolderTask, Generation, Hub, HubEvent, Left, LoaderTask};
 use crate::protocol::Event;
 use crate::target::{Session, Target};
 use crate::update::Key;
@@ -31,8 +31,13 @@ const PAUSE: Duration = Duration::from_millis(100);
 const AGAIN: Duration = Duration::from_millis(2);
 const LONGEST_AGAIN: Duration = Duration::from_millis(100);
 
-/// How often what is declared is read.
-const REFRESH: Duration = Duration::from_secs(1);
+/// How often what is declared is read in any case; and how soon it is tried again where it could not be read, and rows where
+/// a sweep found them locked.
+const REFRESH: Duration = Duration::from_secs(30);
+const RETRY: Duration = Duration::from_secs(1);
+
+/// On which PostgreSQL notifies of what is declared.
+const CHANNEL: &str = "escrow_declared";
 
 /// How many keys of a journal are folded at once by a sweep.
 const PIECE: i32 = 1_000;
@@ -51,6 +56,8 @@ struct Own {
     session: Option<Session>,
     prepared: HashMap<String, Statement>,
     generations: watch::Receiver<Generation>,
+    /// Takes what [`CHANNEL`] says, if the connection listens. It is empty, or the number of a table that may go on.
+    news: Option<UnboundedSender<String>>,
 }
 
 /// Why nothing came of a query.
@@ -83,6 +90,7 @@ impl Own {
             session: None,
             prepared: HashMap::new(),
             generations: hub.generations(),
+            news: None,
         }
     }
 
@@ -95,7 +103,14 @@ impl Own {
                 let first = self.hub.address();
                 let login = self.target.login(first.as_ref(), self.name, &self.options);
                 let (own, _) = login.await.map_err(|it| Failure::Lost(it.to_string()))?;
-                Session::from(own)
+                match &self.news {
+                    Some(news) => {
+                        let session = Session::listening(own, news.clone());
+                        session.batch_execute(&format!("LISTEN {CHANNEL}")).await?;
+                        session
+                    }
+                    None => Session::from(own),
+                }
             }
         };
         Ok(self.session.insert(session))
@@ -201,10 +216,9 @@ pub async fn fold(hub: Arc<Hub>, target: Arc<Target>, mut tasks: UnboundedReceiv
         match task {
             Some(FolderTask::Fold(generation, keys)) => {
                 let begun = Instant::now();
-                let event = fold_keys(&mut own, &keys).await;
+                let event = fold_keys(&hub, &mut own, &keys).await;
                 match &event {
                     Event::FoldFailed => hub.metrics().fold_failed(),
-                    Event::FoldRefused => hub.metrics().fold_refused(),
                     _ => hub.metrics().folded(begun.elapsed()),
                 }
                 match &event {
@@ -231,8 +245,8 @@ fn again(hub: Arc<Hub>, generation: Generation, pause: Duration) {
     });
 }
 
-/// Folds keys, and returns what came of it.
-async fn fold_keys(own: &mut Own, keys: &[Key]) -> Event<Key, crate::update::Change> {
+/// Folds keys, and returns what came of it. A table whose fold is refused stops, and the others go on.
+async fn fold_keys(hub: &Hub, own: &mut Own, keys: &[Key]) -> HubEvent {
     let mut tables: HashMap<i32, Vec<&str>> = HashMap::new();
     for key in keys {
         tables.entry(key.table).or_default().push(&key.text);
@@ -259,10 +273,7 @@ async fn fold_keys(own: &mut Own, keys: &[Key]) -> Event<Key, crate::update::Cha
                     text: text.into(),
                 }));
             }
-            Err(Failure::Refused(error)) => {
-                tracing::error!("A FOLD WAS REFUSED (table {}): {}", table, error);
-                return Event::FoldRefused;
-            }
+            Err(Failure::Refused(error)) => hub.fold_refused(table, &words(&error)),
         }
     }
     Event::Folded { keys: folded }
@@ -270,6 +281,14 @@ async fn fold_keys(own: &mut Own, keys: &[Key]) -> Event<Key, crate::update::Cha
 
 fn fold_text(table: i32) -> String {
     format!("SELECT escrow.fold_{}($1::text[])", table)
+}
+
+/// Returns PostgreSQL's words for an error.
+fn words(error: &Error) -> String {
+    match error.as_db_error() {
+        Some(error) => format!("a fold was refused: {}", error.message()),
+        None => format!("a fold was refused: {error}"),
+    }
 }
 
 /// What the owner of an epoch has still to do about what former owners have left.
@@ -288,9 +307,10 @@ impl Sweep {
         let mut catalog = hub.catalog();
         while catalog.borrow().is_none() && catalog.changed().await.is_ok() {}
         let known = catalog.borrow().clone().unwrap_or_default();
+        let tables = known.tables().iter().map(|table| table.number);
         Sweep {
             epoch,
-            tables: known.tables().iter().map(|table| table.number).collect(),
+            tables: tables.filter(|&table| !hub.is_stopped(table)).collect(),
             is_left: false,
         }
     }
@@ -307,7 +327,7 @@ impl Sweep {
             Ok(Swept::All) => {}
             Err(Failure::Refused(error)) if is_gone(&error) => {}
             Err(Failure::Refused(error)) if !is_passing(&error) => {
-                tracing::error!("a journal cannot be folded (table {table}): {error}");
+                hub.fold_refused(table, &words(&error));
             }
             Err(failure) => {
                 tracing::warn!("a journal is not folded yet (table {table}): {failure}");
@@ -318,7 +338,7 @@ impl Sweep {
         if self.tables.is_empty() && self.is_left {
             let (hub, epoch) = (hub.clone(), self.epoch);
             tokio::spawn(async move {
-                sleep(REFRESH).await;
+                sleep(RETRY).await;
                 hub.sweep(epoch);
             });
         }
@@ -436,19 +456,23 @@ async fn leave(own: &mut Own, key: &Key) {
     }
 }
 
-/// Looks what is declared, each second and when it is asked to.
+/// Looks what is declared: when PostgreSQL notifies it of a change, when it is asked to, and now and then in any case.
 pub async fn watch(hub: Arc<Hub>, target: Arc<Target>) {
+    let (sender, mut news) = unbounded_channel();
     let mut own = Own::new(
         &hub,
         target,
         "escrowd-proxy watcher",
         "-c lock_timeout=1000",
     );
+    own.news = Some(sender);
     let mut is_installed = true;
     loop {
+        let mut pause = RETRY;
         match own.read().await {
             Ok(catalog) => {
                 is_installed = true;
+                pause = REFRESH;
                 hub.set_catalog(catalog);
             }
             Err(Failure::Refused(error)) if is_gone(&error) => {
@@ -464,9 +488,17 @@ pub async fn watch(hub: Arc<Hub>, target: Arc<Target>) {
             }
             Err(Failure::Lost(why)) => tracing::debug!("what is declared cannot be read: {}", why),
         }
+        let mut generations = own.generations.clone();
         tokio::select! {
-            _ = sleep(REFRESH) => {}
+            _ = sleep(pause) => {}
+            _ = generations.changed() => {}
             _ = hub.is_asked_to_refresh() => {}
+            // `own` has a sender, so the channel does not end.
+            Some(table) = news.recv() => {
+                if let Ok(table) = table.parse() {
+                    hub.resume(table);
+                }
+            }
         }
     }
 }

@@ -3,7 +3,7 @@
 //! Nothing waits here. The server's lines are queued under the same lock, so that it is told things in the order in which
 //! the machine decided them.
 
-use std::collections::{BTreeSet, HashMap};
+use std::collections::{BTreeMap, BTreeSet, HashMap};
 use std::sync::{Arc, Mutex, MutexGuard, PoisonError};
 use std::time::{Duration, Instant, SystemTime};
 
@@ -114,6 +114,12 @@ pub struct Workers {
     pub starter: UnboundedSender<Generation>,
 }
 
+/// An alarm that has stopped a table.
+struct Stop {
+    since: SystemTime,
+    why: String,
+}
+
 struct State {
     protocol: Protocol<Key, Change>,
     links: HashMap<Connection, Link>,
@@ -125,6 +131,8 @@ struct State {
     refusals: HashMap<Connection, Refusal>,
     /// When each transaction with reservations got its first one.
     since: HashMap<Connection, Instant>,
+    /// The tables that alarms have stopped, by their numbers.
+    stopped: BTreeMap<i32, Stop>,
     /// The number of commits when the last fold began.
     commits: u64,
     epoch: i64,
@@ -165,6 +173,7 @@ impl Hub {
                 lines: None,
                 refusals: HashMap::new(),
                 since: HashMap::new(),
+                stopped: BTreeMap::new(),
                 commits: 0,
                 epoch: 0,
                 number: 0,
@@ -278,7 +287,7 @@ impl Hub {
         }
     }
 
-    /// Returns all that is reserved, as `escrow.show` reads it.
+    /// Returns all that is reserved and the tables that are stopped, as `escrow.show` reads it.
     pub fn reservations(&self) -> String {
         let state = lock(&self.state);
         let now = SystemTime::now();
@@ -297,7 +306,15 @@ impl Hub {
                 json::time(now.checked_sub(age).unwrap_or(now))
             )
         });
-        format!("[{}]", entries.collect::<Vec<_>>().join(","))
+        let stopped = state.stopped.iter().map(|(table, stop)| {
+            format!(
+                "{{\"table\":{table},\"changes\":[],\"since\":\"{}\",\"stopped\":{}}}",
+                json::time(stop.since),
+                json::string(&stop.why)
+            )
+        });
+        let entries: Vec<String> = entries.chain(stopped).collect();
+        format!("[{}]", entries.join(","))
     }
 
     /// Returns the epoch.
@@ -346,7 +363,46 @@ impl Hub {
 
     /// Keeps what is declared.
     pub fn set_catalog(&self, catalog: Catalog) {
+        let stopped: Vec<i32> = lock(&self.state).stopped.keys().copied().collect();
+        for table in stopped {
+            if catalog.of_number(table).is_none() {
+                self.resume(table); // it is ordinary now
+            }
+        }
         self.catalog.send_replace(Some(Arc::new(catalog)));
+    }
+
+    /// Stops a table whose fold PostgreSQL has refused.
+    pub fn fold_refused(&self, table: i32, why: &str) {
+        self.metrics.fold_refused();
+        let mut state = lock(&self.state);
+        state.stop(table, why);
+        self.take(&mut state, Event::FoldRefused { table });
+    }
+
+    /// Lets a table go on that an alarm has stopped.
+    pub fn resume(&self, table: i32) {
+        let mut state = lock(&self.state);
+        if state.stopped.remove(&table).is_some() {
+            tracing::info!("table {} goes on", self.name_of(table));
+            self.take(&mut state, Event::Resumed { table });
+            self.sweep(state.epoch);
+        }
+    }
+
+    /// Returns whether an alarm has stopped a table.
+    pub fn is_stopped(&self, table: i32) -> bool {
+        lock(&self.state).stopped.contains_key(&table)
+    }
+
+    /// Returns how the log names a table.
+    fn name_of(&self, table: i32) -> String {
+        let catalog = self.catalog.borrow();
+        let known = catalog.as_ref().and_then(|it| it.of_number(table));
+        known.map_or_else(
+            || format!("of number {table}"),
+            |it| format!("{}.{}", it.schema, it.name),
+        )
     }
 
     /// Asks for what is declared anew.
@@ -498,12 +554,9 @@ impl Hub {
             }
             Action::Grant(connection, key, change) => {
                 if !state.server.grant(connection, &key, &change) {
-                    tracing::error!(
-                        "the server lacks a row (table {}, key {})",
-                        key.table,
-                        key.text
-                    );
-                    self.take(state, Event::ServerBroke);
+                    let why = format!("the server lacks a row (key {})", key.text);
+                    state.stop(key.table, &why);
+                    self.take(state, Event::RowLacks { connection, key });
                 }
             }
             Action::Note(connection, key, change) => {
@@ -534,15 +587,31 @@ impl Hub {
                     link.end.notify_one();
                 }
             }
-            Action::Alarm(alarm) => {
+            Action::Alarm(alarm, table) => {
                 self.metrics.alarm(alarm);
-                tracing::error!("ALARM: {:?}: no further reservation is granted until this program is started anew", alarm);
+                let why = table.and_then(|table| state.stopped.get(&table));
+                match (table, why) {
+                    (Some(table), Some(stop)) => tracing::error!(
+                        "ALARM: {alarm:?}: {}: table {} grants nothing more until escrow.resume is called",
+                        stop.why,
+                        self.name_of(table)
+                    ),
+                    _ => tracing::error!("ALARM: {alarm:?}: no further reservation is granted until this program is started anew"),
+                }
             }
         }
     }
 }
 
 impl State {
+    /// Remembers why a table stops, as it was told first.
+    fn stop(&mut self, table: i32, why: &str) {
+        self.stopped.entry(table).or_insert_with(|| Stop {
+            since: SystemTime::now(),
+            why: why.to_owned(),
+        });
+    }
+
     fn mail(&self, connection: Connection, mail: Mail) {
         if let Some(link) = self.links.get(&connection) {
             let _ = link.mail.send(mail);

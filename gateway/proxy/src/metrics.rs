@@ -59,6 +59,7 @@ pub struct Metrics {
     open: IntGauge,
     held: IntGauge,
     pending: IntGauge,
+    stopped: IntGauge,
     oldest: Gauge,
     reservations: IntCounter,
     refusals: IntCounterVec,
@@ -122,6 +123,10 @@ impl Metrics {
                 "escrowd_proxy_rows_pending",
                 "Rows with committed changes that are not folded yet.",
             )?,
+            stopped: gauge(
+                "escrowd_proxy_tables_stopped",
+                "Tables that an alarm has stopped. It must be 0.",
+            )?,
             oldest: registered(&registry, oldest)?,
             reservations: counter(
                 "escrowd_proxy_reservations_total",
@@ -151,11 +156,11 @@ impl Metrics {
             )?,
             folds_refused: counter(
                 "escrowd_proxy_folds_refused_total",
-                "Folds that PostgreSQL refused. It must be 0: the proxy grants no more.",
+                "Folds that PostgreSQL refused. It must be 0: their table grants no more.",
             )?,
             alarms: counters(
                 "escrowd_proxy_alarms_total",
-                "Broken rules, by kind. It must be 0: the proxy grants no more.",
+                "Broken rules, by kind. It must be 0: a table or the proxy grants no more.",
                 &["kind"],
             )?,
             registry,
@@ -231,6 +236,7 @@ impl Metrics {
         self.open.set(whole(now.counts.reservations));
         self.held.set(whole(now.counts.rows));
         self.pending.set(whole(now.counts.pending));
+        self.stopped.set(whole(now.counts.stopped));
         self.oldest.set(now.oldest.as_secs_f64());
     }
 
@@ -362,6 +368,7 @@ mod tests {
             pending: 2,
             reservations: 7,
             commits: 0,
+            stopped: 1,
         },
         oldest: Duration::from_millis(1_500),
     };
@@ -392,6 +399,7 @@ mod tests {
             "escrowd_proxy_reservations 7",
             "escrowd_proxy_rows_held 5",
             "escrowd_proxy_rows_pending 2",
+            "escrowd_proxy_tables_stopped 1",
             "escrowd_proxy_oldest_reservation_seconds 1.5",
             "escrowd_proxy_reservations_total 1",
             r#"escrowd_proxy_refusals_total{constraint="in_stock",kind="check"} 1"#,

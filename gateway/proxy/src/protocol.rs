@@ -21,6 +21,15 @@ use folds::Folds;
 /// The most savepoints that the server keeps of a session.
 pub const MARKS: u32 = 64;
 
+/// The key of a row.
+pub trait Row: Clone + Ord {
+    /// What tells its table.
+    type Table: Copy + Ord;
+
+    /// Returns the row's table.
+    fn table(&self) -> Self::Table;
+}
+
 /// A client's connection.
 #[derive(Clone, Copy, Debug, PartialEq, Eq, PartialOrd, Ord, Hash)]
 pub struct Connection(pub u32);
@@ -89,7 +98,7 @@ pub enum Status {
 
 /// What happened.
 #[derive(Clone, Debug, PartialEq, Eq)]
-pub enum Event<K, C> {
+pub enum Event<K: Row, C> {
     /// The keeper has OWNER and the lock of a new epoch.
     OwnerTaken,
     /// Another proxy has OWNER.
@@ -131,10 +140,25 @@ pub enum Event<K, C> {
         /// Whose.
         connection: Connection,
     },
-    /// A fold was refused (rule 22).
-    FoldRefused,
+    /// A fold of a table was refused (rule 22). Those of other tables go on.
+    FoldRefused {
+        /// Which table.
+        table: K::Table,
+    },
+    /// The server does not have the row of a grant (rule 22).
+    RowLacks {
+        /// Whose grant.
+        connection: Connection,
+        /// The row's key.
+        key: K,
+    },
     /// The server has refused what it must do (rule 22).
     ServerBroke,
+    /// A table that an alarm has stopped may be tried again.
+    Resumed {
+        /// Which table.
+        table: K::Table,
+    },
     /// A row is no longer to be held: somebody wants to delete it, or others need the room.
     Leave {
         /// Who waits for that, if anybody does.
@@ -237,6 +261,8 @@ pub enum Answer {
     NotOwner,
     /// An alarm has stopped the proxy.
     Stopped,
+    /// An alarm has stopped the table.
+    TableStopped,
 }
 
 /// A rule was broken (rule 22).
@@ -274,11 +300,13 @@ pub struct Counts {
     pub reservations: usize,
     /// Transactions with reservations that were committed and left to the folder in this epoch.
     pub commits: u64,
+    /// Tables that an alarm has stopped.
+    pub stopped: usize,
 }
 
 /// What is to be done.
 #[derive(Clone, Debug, PartialEq, Eq)]
-pub enum Action<K, C> {
+pub enum Action<K: Row, C> {
     /// Try to take OWNER, and the lock of a new epoch. The next [`Event::Tick`] tries again.
     TakeOwner,
     /// Set the epoch whose lock is held.
@@ -307,8 +335,8 @@ pub enum Action<K, C> {
     Deliver(Connection),
     /// End the connection at both sides. No [`Event::Lost`] follows.
     Close(Connection),
-    /// Tell the operator.
-    Alarm(Alarm),
+    /// Tell the operator. It stops one table, or all of them.
+    Alarm(Alarm, Option<K::Table>),
 }
 
 /// How far a proxy is with becoming the owner.
@@ -329,7 +357,7 @@ pub enum Ownership {
 }
 
 /// The state of a proxy.
-pub struct Protocol<K, C> {
+pub struct Protocol<K: Row, C> {
     ownership: Ownership,
     clients: BTreeMap<Connection, Client<K, C>>,
     /// The rows that the server has.
@@ -339,6 +367,8 @@ pub struct Protocol<K, C> {
     /// Who waits until a row is no longer held.
     leaving: BTreeMap<K, Option<Connection>>,
     folds: Folds<K>,
+    /// The tables that an alarm has stopped, until an operator lets them go on.
+    stopped: BTreeSet<K::Table>,
     #[cfg(test)]
     pub(crate) fault: Option<Fault>,
 }
@@ -357,13 +387,13 @@ pub(crate) enum Fault {
     NoWait,
 }
 
-impl<K: Clone + Ord, C: Clone> Default for Protocol<K, C> {
+impl<K: Row, C: Clone> Default for Protocol<K, C> {
     fn default() -> Self {
         Protocol::new()
     }
 }
 
-impl<K: Clone + Ord, C: Clone> Protocol<K, C> {
+impl<K: Row, C: Clone> Protocol<K, C> {
     /// Returns a standby, which takes OWNER at the first [`Event::Tick`].
     pub fn new() -> Protocol<K, C> {
         Protocol {
@@ -373,6 +403,7 @@ impl<K: Clone + Ord, C: Clone> Protocol<K, C> {
             loading: BTreeMap::new(),
             leaving: BTreeMap::new(),
             folds: Folds::new(),
+            stopped: BTreeSet::new(),
             #[cfg(test)]
             fault: None,
         }
@@ -390,7 +421,13 @@ impl<K: Clone + Ord, C: Clone> Protocol<K, C> {
             pending: self.folds.len(),
             reservations: self.clients.values().map(Client::reservations).sum(),
             commits: self.folds.commits(),
+            stopped: self.stopped.len(),
         }
+    }
+
+    /// Returns whether an alarm has stopped a row's table.
+    fn is_stopped(&self, key: &K) -> bool {
+        self.stopped.contains(&key.table())
     }
 
     /// Returns whether nothing is open: no request, no reservation, no outcome and no fold.
@@ -423,7 +460,10 @@ impl<K: Clone + Ord, C: Clone> Protocol<K, C> {
                 .clients
                 .iter()
                 .filter(|(&other, _)| other != connection);
-            self.folds.has(key) || others.into_iter().any(|(_, client)| client.wants(key))
+            let mut others = others.into_iter();
+            self.is_stopped(key)
+                || self.folds.has(key)
+                || others.any(|(_, client)| client.wants(key))
         };
         if keys.iter().any(is_wanted) {
             return BTreeSet::new();
@@ -500,11 +540,18 @@ impl<K: Clone + Ord, C: Clone> Protocol<K, C> {
                     client.folded();
                 }
             }
-            Event::FoldRefused => {
-                self.folds.failed();
-                self.alarm(Alarm::FoldRefused, &mut actions);
+            Event::FoldRefused { table } => {
+                self.stop_table(table, Alarm::FoldRefused, &mut actions);
+            }
+            Event::RowLacks { connection, key } => {
+                self.stop_table(key.table(), Alarm::ServerBroke, &mut actions);
+                self.refused(connection, Answer::TableStopped, &mut actions);
             }
             Event::ServerBroke => self.alarm(Alarm::ServerBroke, &mut actions),
+            Event::Resumed { table } => {
+                self.stopped.remove(&table);
+                self.fold(true, &mut actions);
+            }
             Event::Reserve {
                 connection,
                 key,
@@ -516,7 +563,9 @@ impl<K: Clone + Ord, C: Clone> Protocol<K, C> {
                 self.advance(connection, &mut actions);
             }
             Event::Granted { connection } => self.granted(connection, &mut actions),
-            Event::Refused { connection } => self.refused(connection, &mut actions),
+            Event::Refused { connection } => {
+                self.refused(connection, Answer::Refused, &mut actions);
+            }
             Event::Noted { connection, id } => self.noted(connection, id, &mut actions),
             Event::NoteFailed { connection } => self.note_failed(connection, &mut actions),
             Event::Completed { connection, tag } => self.completed(connection, tag),
@@ -593,14 +642,27 @@ impl<K: Clone + Ord, C: Clone> Protocol<K, C> {
         if self.ownership != Ownership::Serving {
             return;
         }
-        if let Some(keys) = self.folds.begin(all) {
+        let stopped = &self.stopped;
+        let may_be_folded = |key: &K| !stopped.contains(&key.table());
+        if let Some(keys) = self.folds.begin(all, may_be_folded) {
             actions.push(Action::Fold(keys));
         }
     }
 
     fn alarm(&mut self, alarm: Alarm, actions: &mut Vec<Action<K, C>>) {
         self.ownership = Ownership::Stopped;
-        actions.push(Action::Alarm(alarm));
+        actions.push(Action::Alarm(alarm, None));
+    }
+
+    /// Grants and folds nothing more of a table. What has committed stays in its journal, so nobody waits for it.
+    fn stop_table(&mut self, table: K::Table, alarm: Alarm, actions: &mut Vec<Action<K, C>>) {
+        if self.stopped.insert(table) {
+            actions.push(Action::Alarm(alarm, Some(table)));
+        }
+        for connection in self.folds.give_up(|key| key.table() == table) {
+            self.deliver(connection, actions);
+        }
+        self.advance_all(actions);
     }
 
     fn deliver(&mut self, connection: Connection, actions: &mut Vec<Action<K, C>>) {
@@ -652,6 +714,9 @@ impl<K: Clone + Ord, C: Clone> Protocol<K, C> {
             Some(request) => (request.key.clone(), request.change.clone()),
             None => return,
         };
+        if self.stopped.contains(&key.table()) {
+            return self.end_request(connection, Answer::TableStopped, actions);
+        }
         if self.leaving.contains_key(&key) {
             return;
         }
@@ -675,7 +740,8 @@ impl<K: Clone + Ord, C: Clone> Protocol<K, C> {
     /// Holds a row no longer, if nobody has reserved it, asks for it, or may still commit a change of it (event 16).
     fn leave(&mut self, connection: Option<Connection>, key: K, actions: &mut Vec<Action<K, C>>) {
         let is_wanted = self.clients.values().any(|client| client.wants(&key));
-        let may_leave = self.ownership == Ownership::Serving && !is_wanted;
+        let may_leave =
+            self.ownership == Ownership::Serving && !is_wanted && !self.is_stopped(&key);
         if may_leave && self.loaded.remove(&key) {
             self.leaving.insert(key.clone(), connection);
             actions.push(Action::Leave(key));
@@ -720,7 +786,7 @@ impl<K: Clone + Ord, C: Clone> Protocol<K, C> {
     }
 
     /// Answers what the server has refused.
-    fn refused(&mut self, connection: Connection, actions: &mut Vec<Action<K, C>>) {
+    fn refused(&mut self, connection: Connection, answer: Answer, actions: &mut Vec<Action<K, C>>) {
         let client = match self.clients.get_mut(&connection) {
             Some(client) if client.is_at(Stage::Granting) => client,
             _ => return,
@@ -729,7 +795,7 @@ impl<K: Clone + Ord, C: Clone> Protocol<K, C> {
             // The session has a mark, and nothing else.
             actions.push(Action::Tell(connection, Told::Rollback));
         }
-        self.end_request(connection, Answer::Refused, actions);
+        self.end_request(connection, answer, actions);
         self.settle(connection, actions);
     }
 
@@ -894,7 +960,14 @@ impl<K: Clone + Ord, C: Clone> Protocol<K, C> {
                     self.deliver(connection, actions);
                 } else if !settled.committed.is_empty() {
                     let waiting = Some(connection).filter(|_| !is_lost && client.is_kept());
-                    self.folds.committed(settled.committed, waiting);
+                    let stopped = &self.stopped;
+                    let may_be_folded = |key: &K| !stopped.contains(&key.table());
+                    let waits = self
+                        .folds
+                        .committed(settled.committed, waiting, may_be_folded);
+                    if !waits {
+                        self.deliver(connection, actions);
+                    }
                     self.fold(false, actions);
                 } else if settled.is_over {
                     self.deliver(connection, actions);

@@ -65,6 +65,11 @@ pub fn words(table: &Table, answer: Answer, refusal: Option<Refusal>) -> Words {
             &format!("could not obtain lock on row in relation \"{name}\""),
             "Another transaction has locked the row, or it cannot be held now. Repeat the transaction.",
         ),
+        (Answer::TableStopped, _) => plain(
+            "55000",
+            &format!("escrowd-proxy has stopped reservations of table \"{name}\""),
+            "A change that was committed cannot be moved into its row. escrow.reservations() says why.",
+        ),
         _ => plain(
             "55000",
             "escrowd-proxy has stopped reservations",

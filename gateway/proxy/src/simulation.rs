@@ -10,7 +10,7 @@ use rand::rngs::StdRng;
 use rand::seq::SliceRandom;
 use rand::{Rng, SeedableRng};
 
-use crate::protocol::{Fault, Ownership};
+use crate::protocol::{Fault, Ownership, Row};
 use postgres::Postgres;
 use relay::Relay;
 
@@ -28,6 +28,13 @@ const RUN: u64 = 4_000;
 
 type Key = usize;
 type Change = i64;
+
+impl Row for Key {
+    /// There is one table.
+    type Table = ();
+
+    fn table(&self) {}
+}
 
 /// What is taken away, of the proxy or beside it.
 #[derive(Clone, Copy, Debug, PartialEq, Eq)]

@@ -8,12 +8,14 @@ use std::sync::atomic::{AtomicBool, Ordering};
 use std::sync::Arc;
 use std::time::Duration;
 
+use futures_util::future::poll_fn;
 use tokio::net::{TcpStream, UnixStream};
+use tokio::sync::mpsc::UnboundedSender;
 use tokio::task::JoinHandle;
 use tokio::time::timeout;
 use tokio_postgres::config::{Host, SslMode, TargetSessionAttrs};
 use tokio_postgres::tls::NoTlsStream;
-use tokio_postgres::{Client, Config, Connection, NoTls};
+use tokio_postgres::{AsyncMessage, Client, Config, Connection, NoTls};
 
 use crate::conninfo::Conninfo;
 use crate::stream::Stream;
@@ -85,6 +87,25 @@ impl From<Own> for Session {
         let task = tokio::spawn(async {
             // Whoever asks gets its error.
             let _ = connection.await;
+        });
+        Session { client, task }
+    }
+}
+
+impl Session {
+    /// Serves a connection, and hands over what notifications say. Its end is news too, since something may be missed.
+    pub fn listening(own: Own, news: UnboundedSender<String>) -> Session {
+        let (client, mut connection) = own;
+        let task = tokio::spawn(async move {
+            while let Some(Ok(message)) = poll_fn(|context| connection.poll_message(context)).await
+            {
+                if let AsyncMessage::Notification(it) = message {
+                    // If that fails, nobody waits for news any more.
+                    let _ = news.send(it.payload().to_owned());
+                }
+            }
+            drop(connection);
+            let _ = news.send(String::new());
         });
         Session { client, task }
     }

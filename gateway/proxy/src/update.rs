@@ -17,6 +17,7 @@ use escrowd_pg::statement::served::Served;
 
 use crate::catalog::Table;
 use crate::parameters::{change_text, key_text, number, Parameters};
+use crate::protocol::Row;
 
 /// A row of a declared table.
 #[derive(Clone, Debug, PartialEq, Eq, PartialOrd, Ord, Hash)]
@@ -25,6 +26,14 @@ pub struct Key {
     pub table: i32,
     /// The key as text, in one form for each value.
     pub text: Arc<str>,
+}
+
+impl Row for Key {
+    type Table = i32;
+
+    fn table(&self) -> i32 {
+        self.table
+    }
 }
 
 /// What each reservable column changes by, as text. None: it does not change.

@@ -349,6 +349,56 @@ def a_row_is_deleted_once_nobody_has_reserved_it(cluster: Cluster, proxy: Proxy)
 
 
 @case
+def a_table_whose_fold_is_refused_stops_alone(cluster: Cluster, proxy: Proxy) -> None:
+    """The other tables go on, an operator sees it, and lets it go on."""
+    key = row(cluster)
+    cluster.run("INSERT INTO money VALUES (7, 5, 10, 0)")
+    stopped = "SELECT relation::text, stopped FROM escrow.reservations() WHERE stopped IS NOT NULL"
+    with proxy.connect() as it:
+        take(it, key, 0)
+        cluster.run("CREATE FUNCTION not_today() RETURNS trigger LANGUAGE plpgsql AS 'BEGIN RAISE EXCEPTION ''not today''; END'",
+                    "CREATE TRIGGER not_today BEFORE UPDATE ON stock FOR EACH ROW EXECUTE FUNCTION not_today()")
+        it.execute("BEGIN")
+        take(it, key, 2)
+        it.execute("COMMIT")
+        wait_until("the table is stopped", lambda: it.execute(stopped).fetchall(), 20)
+        expect(it.execute(stopped).fetchall(), [("stock", "a fold was refused: not today")])
+        assert "ALARM: FoldRefused: a fold was refused: not today: table public.stock" in proxy.said(), proxy.said()
+        with refused(errors.ObjectNotInPrerequisiteState, 'escrowd-proxy has stopped reservations of table "stock"'):
+            take(it, key, 1)
+        expect((pieces(cluster, key), pieces(cluster, key, "escrow.now_stock")), (10, 8))
+        for left in (9, 8):
+            expect(it.execute("UPDATE money SET amount = amount - 1 WHERE id = 7").statusmessage, "UPDATE 1")
+            expect(it.execute("SELECT amount FROM money WHERE id = 7").fetchone(), (left,))
+        # Nothing is changed by an operator who has not removed the cause.
+        it.execute("SELECT escrow.resume('stock')")
+        wait_until("it is stopped again", lambda: proxy.said().count("ALARM") > 1, 20)
+        cluster.run("DROP TRIGGER not_today ON stock", "DROP FUNCTION not_today")
+        it.execute("SELECT escrow.resume('stock')")
+        wait_until("the change is in the row", lambda: pieces(cluster, key) == 8, 20)
+        expect(take(it, key, 8), "UPDATE 1")
+        expect(it.execute(stopped).fetchall(), [])
+
+
+@case
+def a_table_is_known_once_it_is_declared(cluster: Cluster, proxy: Proxy) -> None:
+    """Also if a session has declared it that does not pass the proxy."""
+    cluster.run("CREATE TABLE late (id integer PRIMARY KEY, n integer NOT NULL CHECK (n >= 0))", "INSERT INTO late VALUES (1, 1)", "SELECT escrow.reservable('late', 'n')")
+    with proxy.connect() as it:
+
+        def is_taken() -> bool:
+            try:
+                it.execute("UPDATE late SET n = n - 1 WHERE id = 1")
+            except errors.FeatureNotSupported:
+                return False
+            return True
+
+        # The proxy also looks by itself, but not as often.
+        wait_until("the table is known", is_taken, 20)
+    cluster.run("SELECT escrow.ordinary('late')", "DROP TABLE late")
+
+
+@case
 def a_refusal_says_the_form_to_write(cluster: Cluster, proxy: Proxy) -> None:
     key = row(cluster)
     with proxy.connect() as it:

@@ -890,17 +890,35 @@ def reservations_are_shown_to_who_may_know(cluster: Cluster) -> None:
     make_buyer(cluster)
     n = owner.declared("stock")[0]
     entries = (f'[{{"process": 42, "table": {n}, "key": "7", "changes": ["-3"], "since": "2026-01-01T00:00:00Z"}}, '
-               f'{{"process": 43, "table": {n}, "key": "8", "changes": [null]}}]')
-    query = "SELECT process, relation::text, key, \"column\", change, extract(year FROM since) FROM escrow.reservations()"
+               f'{{"process": 43, "table": {n}, "key": "8", "changes": [null]}}, '
+               f'{{"table": {n}, "changes": [], "since": "2026-01-02T00:00:00Z", "stopped": "why"}}]')
+    query = "SELECT process, relation::text, key, \"column\", change, extract(year FROM since), stopped FROM escrow.reservations() ORDER BY process"
     with cluster.connect() as it, cluster.connect("buyer") as buyer:
         with refused(errors.ObjectNotInPrerequisiteState, "only escrowd-proxy knows"):
             it.execute(query.encode())
         for connection in (it, buyer):
             connection.execute("SELECT escrow.show(%s)", (entries,))
-        same(it.execute(query.encode()).fetchall(), [(42, "stock", "7", "pieces", -3, 2026)])
+        same(it.execute(query.encode()).fetchall(), [(42, "stock", "7", "pieces", -3, 2026, None), (None, "stock", None, None, None, 2026, "why")])
         with refused(errors.InsufficientPrivilege, "permission denied for function escrow.reservations"):
             buyer.execute(query.encode())
         same(buyer.execute("SELECT current_setting('escrow.shown', true)").fetchall()[0][0], None)
+
+
+@part
+def only_a_tables_owner_lets_it_go_on(cluster: Cluster) -> None:
+    stock(cluster)
+    make_buyer(cluster)
+    with cluster.connect() as listener, cluster.connect("buyer") as buyer:
+        listener.execute("LISTEN escrow_declared")
+        with refused(errors.InsufficientPrivilege, "must be owner of table public.stock"):
+            buyer.execute("SELECT escrow.resume('stock')")
+        with refused(errors.ObjectNotInPrerequisiteState, "public.orders is not declared reservable"):
+            listener.execute("SELECT escrow.resume('orders')")
+        number = listener.execute("SELECT number::text FROM escrow.declared").fetchall()[0][0]
+        found: List[str] = []
+        listener.add_notify_handler(lambda it: found.append(it.payload))
+        listener.execute("SELECT escrow.resume('stock')")
+        same(found, [number])
 
 
 @part

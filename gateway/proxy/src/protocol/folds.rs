@@ -59,35 +59,68 @@ impl<K: Clone + Ord> Folds<K> {
         }
     }
 
-    /// Adds keys of a transaction that has committed. `waiting` waits for them.
-    pub(super) fn committed(&mut self, keys: Vec<K>, waiting: Option<Connection>) {
+    /// Adds keys of a transaction that has committed. `waiting` waits for those that may be folded. Returns whether it does.
+    pub(super) fn committed(
+        &mut self,
+        keys: Vec<K>,
+        waiting: Option<Connection>,
+        may_be_folded: impl Fn(&K) -> bool,
+    ) -> bool {
         self.turn += 1;
         for key in &keys {
             self.skipped.remove(key);
             self.pending.insert(key.clone(), self.turn);
         }
-        if let Some(connection) = waiting {
-            let turn = self.turn;
-            let keys = keys.into_iter().map(|key| (key, turn)).collect();
-            self.waiting.insert(connection, keys);
+        let turn = self.turn;
+        let keys = keys.into_iter().filter(|key| may_be_folded(key));
+        let keys: Vec<(K, Turn)> = keys.map(|key| (key, turn)).collect();
+        match waiting {
+            Some(connection) if !keys.is_empty() => {
+                self.waiting.insert(connection, keys);
+                true
+            }
+            _ => false,
         }
     }
 
-    /// Begins a fold. Returns its keys, or none if one is under way or nothing is pending. `all` tries the skipped ones
-    /// again.
-    pub(super) fn begin(&mut self, all: bool) -> Option<Vec<K>> {
+    /// Begins a fold of what may be folded. Returns its keys, or none if one is under way or nothing is pending. `all` tries
+    /// the skipped ones again.
+    pub(super) fn begin(
+        &mut self,
+        all: bool,
+        may_be_folded: impl Fn(&K) -> bool,
+    ) -> Option<Vec<K>> {
         if self.folding.is_some() {
             return None;
         }
         if all {
             self.pending.append(&mut self.skipped);
         }
-        if self.pending.is_empty() {
+        let keys = self.pending.keys().filter(|key| may_be_folded(key));
+        let keys: Vec<K> = keys.cloned().collect();
+        if keys.is_empty() {
             return None;
         }
-        let keys: Vec<K> = self.pending.keys().cloned().collect();
         self.folding = Some((keys.clone(), self.turn));
         Some(keys)
+    }
+
+    /// Nobody waits for these keys any more. Returns who is free by that.
+    pub(super) fn give_up(&mut self, is_given_up: impl Fn(&K) -> bool) -> Vec<Connection> {
+        self.free(|key, _| is_given_up(key))
+    }
+
+    /// Returns who waits no longer, once nobody waits for these keys of these turns.
+    fn free(&mut self, is_over: impl Fn(&K, Turn) -> bool) -> Vec<Connection> {
+        let mut free = Vec::new();
+        self.waiting.retain(|&connection, keys| {
+            keys.retain(|(key, since)| !is_over(key, *since));
+            if keys.is_empty() {
+                free.push(connection);
+            }
+            !keys.is_empty()
+        });
+        free
     }
 
     /// Notes that the fold has moved these keys. Returns who waits no longer.
@@ -105,15 +138,7 @@ impl<K: Clone + Ord> Folds<K> {
                 self.skipped.insert(key, last);
             }
         }
-        let mut free = Vec::new();
-        self.waiting.retain(|&connection, keys| {
-            keys.retain(|(key, since)| *since > turn || !moved.contains(key));
-            if keys.is_empty() {
-                free.push(connection);
-            }
-            !keys.is_empty()
-        });
-        free
+        self.free(|key, since| since <= turn && moved.contains(key))
     }
 
     /// Notes that the fold has moved nothing.
@@ -134,15 +159,19 @@ mod tests {
     const ONE: Connection = Connection(1);
     const TWO: Connection = Connection(2);
 
+    fn all(_: &&str) -> bool {
+        true
+    }
+
     #[test]
     fn a_commit_behind_the_beginning_of_a_fold_waits_for_the_next() {
         let mut folds = Folds::new();
-        folds.committed(vec!["a"], Some(ONE));
-        assert_eq!(folds.begin(false), Some(vec!["a"]));
-        folds.committed(vec!["a"], Some(TWO));
-        assert_eq!(folds.begin(false), None, "one is under way");
+        folds.committed(vec!["a"], Some(ONE), all);
+        assert_eq!(folds.begin(false, all), Some(vec!["a"]));
+        folds.committed(vec!["a"], Some(TWO), all);
+        assert_eq!(folds.begin(false, all), None, "one is under way");
         assert_eq!(folds.folded(&["a"]), vec![ONE]);
-        assert_eq!(folds.begin(false), Some(vec!["a"]));
+        assert_eq!(folds.begin(false, all), Some(vec!["a"]));
         assert_eq!(folds.folded(&["a"]), vec![TWO]);
         assert!(folds.is_empty());
     }
@@ -150,15 +179,31 @@ mod tests {
     #[test]
     fn a_locked_row_waits_for_the_next_try_and_keeps_its_client() {
         let mut folds = Folds::new();
-        folds.committed(vec!["a", "b"], Some(ONE));
-        assert_eq!(folds.begin(false), Some(vec!["a", "b"]));
+        folds.committed(vec!["a", "b"], Some(ONE), all);
+        assert_eq!(folds.begin(false, all), Some(vec!["a", "b"]));
         assert_eq!(folds.folded(&["b"]), vec![]);
-        assert_eq!(folds.begin(false), None);
+        assert_eq!(folds.begin(false, all), None);
         assert!(!folds.is_empty());
-        assert_eq!(folds.begin(true), Some(vec!["a"]));
+        assert_eq!(folds.begin(true, all), Some(vec!["a"]));
         folds.failed();
-        assert_eq!(folds.begin(false), Some(vec!["a"]));
+        assert_eq!(folds.begin(false, all), Some(vec!["a"]));
         assert_eq!(folds.folded(&["a"]), vec![ONE]);
         assert!(folds.is_empty());
+    }
+
+    #[test]
+    fn nobody_waits_for_what_may_not_be_folded() {
+        let mut folds = Folds::new();
+        let is_b = |key: &&str| *key == "b";
+        assert!(folds.committed(vec!["a", "b"], Some(ONE), all));
+        assert_eq!(folds.begin(false, all), Some(vec!["a", "b"]));
+        assert_eq!(folds.give_up(|key| *key == "a"), vec![]);
+        assert_eq!(folds.folded(&["b"]), vec![ONE]);
+        assert_eq!(folds.begin(true, is_b), None);
+        assert!(!folds.committed(vec!["a"], Some(TWO), is_b));
+        assert!(folds.committed(vec!["b"], Some(TWO), is_b));
+        assert_eq!(folds.begin(true, is_b), Some(vec!["b"]));
+        assert_eq!(folds.folded(&["b"]), vec![TWO]);
+        assert_eq!(folds.begin(true, all), Some(vec!["a"]));
     }
 }

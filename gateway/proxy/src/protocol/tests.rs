@@ -5,6 +5,16 @@ use super::*;
 type Machine = Protocol<&'static str, i64>;
 
 const ONE: Connection = Connection(1);
+const TWO: Connection = Connection(2);
+
+impl Row for &'static str {
+    /// The first letter.
+    type Table = char;
+
+    fn table(&self) -> char {
+        self.chars().next().unwrap_or_default()
+    }
+}
 
 /// Returns an owner that has loaded the row `a`.
 fn serving() -> Machine {
@@ -204,7 +214,7 @@ fn what_survives_and_is_no_prefix_is_an_alarm() {
         ready(&mut it, Status::Idle),
         [Action::Ask(ONE, vec![Id(7), Id(8)])]
     );
-    let alarm = [Action::Alarm(Alarm::NoPrefix)];
+    let alarm = [Action::Alarm(Alarm::NoPrefix, None)];
     assert_eq!(
         verdicts(&mut it, &[Verdict::Aborted, Verdict::Committed]),
         alarm
@@ -375,4 +385,55 @@ fn a_row_that_nobody_wants_is_left_and_loaded_anew() {
     let left = [answer[0].clone(), Action::Load(key)];
     assert_eq!(it.handle(Event::Left { key }), left);
     assert_eq!(it.handle(leave(Some(two))), answer, "it is wanted");
+}
+
+#[test]
+fn a_fold_that_is_refused_stops_its_table_alone() {
+    let mut it = serving();
+    hold(&mut it, true, 7);
+    let told = [Action::Tell(ONE, Told::Commit), Action::Fold(vec!["a"])];
+    assert_eq!(ready(&mut it, Status::Idle), told);
+    let stopped = [
+        Action::Alarm(Alarm::FoldRefused, Some('a')),
+        Action::Deliver(ONE),
+    ];
+    assert_eq!(it.handle(Event::FoldRefused { table: 'a' }), stopped);
+    assert_eq!(it.handle(Event::Folded { keys: vec![] }), []);
+    assert_eq!(it.handle(Event::Tick), [], "its folds stand still");
+    assert_eq!((it.counts().stopped, it.counts().pending), (1, 1));
+    let refused = [Action::Answer(ONE, Answer::TableStopped)];
+    assert_eq!(reserve(&mut it, "a", false), refused);
+    assert_eq!(reserve(&mut it, "b", false), [Action::Load("b")]);
+    it.handle(Event::Loaded { key: "b" });
+    it.handle(Event::Refused { connection: ONE });
+    // It is tried again, and granted, once an operator lets it go on.
+    let resumed = it.handle(Event::Resumed { table: 'a' });
+    assert_eq!(resumed, [Action::Fold(vec!["a"])]);
+    it.handle(Event::Folded { keys: vec!["a"] });
+    assert!(it.is_quiet());
+    hold(&mut it, false, 8);
+}
+
+#[test]
+fn a_row_that_the_server_lacks_stops_its_table_alone() {
+    let mut it = serving();
+    reserve(&mut it, "a", false);
+    let event = Event::RowLacks {
+        connection: ONE,
+        key: "a",
+    };
+    let stopped = [
+        Action::Alarm(Alarm::ServerBroke, Some('a')),
+        Action::Tell(ONE, Told::Rollback),
+        Action::Answer(ONE, Answer::TableStopped),
+    ];
+    assert_eq!(it.handle(event), stopped);
+    assert_eq!(it.ownership(), Ownership::Serving);
+    let other = Event::Reserve {
+        connection: TWO,
+        key: "b",
+        change: 1,
+        alone: false,
+    };
+    assert_eq!(it.handle(other), [Action::Load("b")]);
 }

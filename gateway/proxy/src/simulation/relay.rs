@@ -329,7 +329,7 @@ impl Relay {
                     postgres.cut(client.backend);
                 }
             }
-            Action::Alarm(alarm) => return Err(format!("{:?}", alarm)),
+            Action::Alarm(alarm, _) => return Err(format!("{:?}", alarm)),
         }
         Ok(())
     }
@@ -354,7 +354,8 @@ impl Relay {
             | Answer::Locked
             | Answer::TooMany
             | Answer::NotOwner
-            | Answer::Stopped => {
+            | Answer::Stopped
+            | Answer::TableStopped => {
                 postgres.send(client.backend, Message::Statement(Statement::Fail));
                 client.expected += 1;
                 client.skips = true;
