@@ -17,7 +17,7 @@ from psycopg import errors
 
 from clients.servers import BUILT, PROGRAM, Postgres, Server, postgres_binary, unprivileged, wait_until
 from clients.suite import Alone, Part
-from proxy.test.standin import Cluster
+from proxy.test.standin import Cluster, of_proxy
 
 PROXY = Path(os.environ.get("ESCROWD_PROXY", BUILT / "release/escrowd-proxy"))
 PORT = 6000
@@ -69,7 +69,7 @@ class Proxy(Server):
     def __init__(self, cluster: Postgres, address: str = "", *options: object, postgres: Optional[str] = None) -> None:
         super().__init__()
         self.address, self.options = address, options
-        self.postgres = postgres or cluster.dsn()
+        self.postgres = postgres or of_proxy(cluster.dsn())
 
     @property
     def socket(self) -> Path:

@@ -12,12 +12,12 @@ import psycopg
 from clients.servers import wait_until
 from clients.suite import main
 from proxy.test.harness import PROXY, Proxy, SharedPart, Standby
-from proxy.test.standin import SQL, Cluster
+from proxy.test.standin import ROLE, SQL, Cluster
 
 # What a database has of schema escrow, apart from the rows of its tables.
 OBJECTS = """
     SELECT (SELECT count(*) FROM pg_namespace WHERE nspname = 'escrow'), (SELECT count(*) FROM pg_event_trigger),
-        (SELECT count(*) FROM pg_roles WHERE rolname LIKE 'escrow%'), (SELECT count(*) FROM pg_trigger WHERE NOT tgisinternal)
+        (SELECT count(*) FROM pg_roles WHERE rolname LIKE 'escrow\\_%'), (SELECT count(*) FROM pg_trigger WHERE NOT tgisinternal)
 """
 
 
@@ -99,6 +99,7 @@ def what_fails_changes_nothing(cluster: Cluster) -> None:
 
 @PART.case
 def a_running_proxy_keeps_the_schema(cluster: Cluster) -> None:
+    cluster.run(f"GRANT escrow_proxy TO {ROLE}")
     with Proxy(cluster) as proxy:
         wait_until("the proxy is the owner", lambda: "owner of epoch" in proxy.said())
         expect(apply(cluster, "uninstall"), 1, "an escrowd-proxy is running\nHINT: Stop it first.")

@@ -13,7 +13,7 @@ from clients.servers import wait_until
 from clients.suite import Part, main
 from clients.with_pages import DATABASE, Terminal
 from proxy.test.harness import TOP, Proxy
-from proxy.test.standin import SQL, Cluster
+from proxy.test.standin import ROLE, SQL, Cluster, of_proxy
 
 PART = Part("proxy_page")
 PAGE = TOP.parent / "docs/proxy.md"
@@ -38,12 +38,12 @@ def the_page_shows_what_psql_shows() -> None:
     """`ESCROWD_WRITE=1` writes what the terminals show into the page; read the difference before you keep it."""
     page = PAGE.read_text()
     with Cluster() as cluster:
-        cluster.run("CREATE ROLE ada LOGIN", "CREATE ROLE escrowd LOGIN", f"CREATE DATABASE {DATABASE} OWNER ada")
+        cluster.run("CREATE ROLE ada LOGIN", f"CREATE DATABASE {DATABASE} OWNER ada")
         dsn = cluster.dsn(DATABASE)
         with psycopg.connect(dsn) as it:
             it.execute((SQL / "install.sql").read_bytes())
-            it.execute("GRANT escrow_proxy TO escrowd")
-        with Proxy(cluster, "", "--fold-wait", 2000, postgres=dsn.replace("user=clerk", "user=escrowd")) as proxy:
+            it.execute(f"GRANT escrow_proxy TO {ROLE}".encode())
+        with Proxy(cluster, "", "--fold-wait", 2000, postgres=of_proxy(dsn)) as proxy:
             wait_until("it is the owner", lambda: "owner of epoch" in proxy.said())
             terminals: Dict[str, Terminal] = {}
             shown = BLOCK.sub(lambda block: replayed(block, terminals, proxy, cluster), page)

@@ -1104,7 +1104,7 @@ def removal_leaves_tables(cluster: Cluster) -> None:
     cluster.script("uninstall.sql")
     same(dumped(), sorted("3\trow 3\t7" if it == "3\trow 3\t10" else it for it in before))
     same(value(cluster, "SELECT count(*) FROM pg_namespace WHERE nspname LIKE 'escrow%'"), 0)
-    same(value(cluster, "SELECT count(*) FROM pg_roles WHERE rolname LIKE 'escrow%'"), 0)
+    same(value(cluster, "SELECT count(*) FROM pg_roles WHERE rolname LIKE 'escrow\\_%'"), 0)
     cluster.script("install.sql")
 
 

@@ -14,6 +14,13 @@ from clients.servers import Postgres
 
 SQL = Path(__file__).resolve().parents[1] / "sql"
 OWNER = (1702064993, 1)
+# The role of the proxy's own connections. It has the rights that the page says, and no others.
+ROLE = "escrowd"
+
+
+def of_proxy(dsn: str) -> str:
+    """Returns a connection string as a proxy has it."""
+    return dsn.replace("user=clerk", f"user={ROLE}")
 
 
 class Cluster(Postgres):
@@ -23,6 +30,10 @@ class Cluster(Postgres):
         super().__init__("max_prepared_transactions=5", "fsync=off", "statement_timeout=20s", *settings)
         self.words: Sequence[object] = ()
         self.user: Optional[str] = None
+
+    def start(self) -> None:
+        super().start()
+        self.run(f"CREATE ROLE {ROLE} LOGIN")
 
     def launch(self, words: Sequence[object], user: Optional[str] = None, env: Optional[Dict[str, str]] = None) -> None:
         self.words, self.user = words, user
@@ -58,6 +69,8 @@ class Cluster(Postgres):
         with self.connect() as it:
             it.execute(b"BEGIN")
             it.execute(text.encode())
+            if name == "install.sql":
+                it.execute(f"GRANT escrow_proxy TO {ROLE}".encode())
             it.execute(b"COMMIT")
 
 
