@@ -285,11 +285,12 @@ async fn clients_at_the_same_time_get_replies_of_their_own() {
 }
 
 #[tokio::test]
-async fn each_database_has_64_sessions() {
-    if !has_program("sessions") {
+async fn each_database_has_connections_of_its_own() {
+    if !has_program("connections") {
         return;
     }
-    let gateway = Gateway::start(&[OsStr::new("shop"), OsStr::new("other")]);
+    let databases = [OsStr::new("shop"), OsStr::new("other")];
+    let gateway = Gateway::start_with(&databases, &["--connections", "64"]);
     let mut clients = Vec::new();
     for _ in 0..64 {
         clients.push(gateway.connect("shop").await.expect("a connection"));

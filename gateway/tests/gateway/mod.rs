@@ -66,8 +66,14 @@ pub struct Gateway {
 impl Gateway {
     /// Starts one with these databases, as the command line has them, and waits until it serves.
     pub fn start(databases: &[&OsStr]) -> Gateway {
+        Gateway::start_with(databases, &[])
+    }
+
+    /// Starts it with more options.
+    pub fn start_with(databases: &[&OsStr], options: &[&str]) -> Gateway {
         let folder = Folder::new();
-        let mut child = command(&folder.0, databases).spawn().expect("the gateway");
+        let mut command = command(&folder.0, databases);
+        let mut child = command.args(options).spawn().expect("the gateway");
         let errors = child.stderr.take().expect("its standard error");
         let mut gateway = Gateway {
             child,
