@@ -37,7 +37,7 @@ from clients.servers import PATIENCE, PORT, children, wait_until
 from clients.suite import Part, expect, main
 from proxy.test.buyers import ALONE, KINDS, TABLES, Line
 from proxy.test.harness import TOP, Forwarder, Proxy, Standby
-from proxy.test.standin import ROLE, Cluster
+from proxy.test.standin import Cluster
 
 PART = Part("proxy_truth")
 PROCESSES, EACH = 4, 10
@@ -367,7 +367,7 @@ class Scene:
 
 def connection_string(forwarders: Sequence[Forwarder]) -> str:
     """Returns how the database is reached through forwarders: by the first that accepts and writes."""
-    return f"host={','.join(str(it.folder) for it in forwarders)} port={PORT} dbname=bank user={ROLE} target_session_attrs=read-write"
+    return f"host={','.join(str(it.folder) for it in forwarders)} port={PORT} dbname=bank user=clerk target_session_attrs=read-write"
 
 
 # What is killed, and whether there has to be a proxy.
