@@ -242,10 +242,10 @@ impl Form {
         if !may_be_update(text) {
             return None;
         }
-        let (mut found, numbers) = parse_updates(text).ok()??;
+        let mut found = parse_updates(text).ok()??;
         // With two of them, one could be about the other's rows.
-        match (found.pop(), found.is_empty()) {
-            (Some(update), true) => Form::of(text, update, numbers),
+        match (found.updates.pop(), found.updates.is_empty()) {
+            (Some(update), true) => Form::of(text, update, found.parameters),
             _ => None,
         }
     }

@@ -13,7 +13,7 @@ use std::rc::Rc;
 
 use crate::sqlstate::{Failure, Report, SqlState};
 use crate::statement::parameters::{self, Place};
-use crate::statement::query::{FoundUpdate, Name, Outline, QualifiedName, Query, Span};
+use crate::statement::query::{FoundUpdates, Name, Outline, QualifiedName, Query, Span};
 use crate::statement::{literal, Parsed};
 pub use lexer::TokenKind;
 use lexer::{Token, Tokens};
@@ -55,7 +55,7 @@ pub fn parse_query(text: &str) -> Result<Query, Failure> {
 /// # Errors
 ///
 /// Fails at what PostgreSQL's grammar doesn't have, and at what is missing here.
-pub fn parse_updates(text: &str) -> Result<Option<(Vec<FoundUpdate>, Vec<u16>)>, Failure> {
+pub fn parse_updates(text: &str) -> Result<Option<FoundUpdates>, Failure> {
     let mut at = 0;
     let tokens = match lexer::next_statement(text, &mut at) {
         Some(tokens) => tokens,
@@ -66,13 +66,17 @@ pub fn parse_updates(text: &str) -> Result<Option<(Vec<FoundUpdate>, Vec<u16>)>,
     if !is_read || lexer::next_statement(text, &mut at).is_some() {
         return Ok(None);
     }
-    let found = parser.updates()?;
+    let updates = parser.updates()?;
     parser.expect_end()?;
-    let numbers = tokens.list.iter().filter_map(|token| match token.kind {
+    let parameters = tokens.list.iter().filter_map(|token| match token.kind {
         TokenKind::Parameter(number) => Some(number),
         _ => None,
     });
-    Ok(Some((found, numbers.collect())))
+    let parameters = parameters.collect();
+    Ok(Some(FoundUpdates {
+        updates,
+        parameters,
+    }))
 }
 
 /// Reads what the next statement of `text` is, whatever of it is served, and where it is written. It begins at the byte

@@ -451,6 +451,15 @@ pub struct Update {
     pub returning: Vec<Target>,
 }
 
+/// The UPDATEs in a statement.
+#[derive(Clone, Debug, PartialEq, Eq)]
+pub struct FoundUpdates {
+    /// The UPDATEs.
+    pub updates: Vec<FoundUpdate>,
+    /// The numbers of all parameters of the statement, in the order in which they are written.
+    pub parameters: Vec<u16>,
+}
+
 /// An UPDATE of one table in a statement.
 #[derive(Clone, Debug, PartialEq, Eq)]
 pub struct FoundUpdate {
