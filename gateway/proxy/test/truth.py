@@ -53,8 +53,10 @@ ALARMS = re.compile(r"(?i)panicked|alarm|fold was refused|cannot be folded|the s
 # if something is killed at the right moment.
 WITHOUT = {
     "twice": ("coalesce(pg_catalog.sum(taken.change_%s), 0)", "coalesce(2 * pg_catalog.sum(taken.change_%s), 0)"),
-    "part": ("WHERE j.key OPERATOR(pg_catalog.=) OLD.%2$I RETURNING", "WHERE j.ctid = (SELECT min(i.ctid) FROM escrow.journal_%1$s AS i WHERE i.key = OLD.%2$I) RETURNING"),
-    "epoch": ("pg_catalog.pg_sequence_last_value('escrow.epoch') OPERATOR(pg_catalog.=) %6$s_%1$s.epoch AND NOT pg_catalog.pg_try_advisory_xact_lock_shared(%6$s_%1$s.epoch)", "true"),
+    "part": ("WHERE j.key OPERATOR(pg_catalog.=) OLD.%2$I RETURNING",
+             "WHERE j.ctid = (SELECT min(i.ctid) FROM escrow.journal_%1$s AS i WHERE i.key = OLD.%2$I) RETURNING"),
+    "epoch": ("pg_catalog.pg_sequence_last_value('escrow.epoch') OPERATOR(pg_catalog.=) %6$s_%1$s.epoch "
+              "AND NOT pg_catalog.pg_try_advisory_xact_lock_shared(%6$s_%1$s.epoch)", "true"),
     "wait": ("WHERE l.locktype = 'relation' AND l.granted AND l.mode = 'RowExclusiveLock'", "WHERE false"),
 }
 
