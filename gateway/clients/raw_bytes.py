@@ -6,7 +6,6 @@ import select
 import socket
 import struct
 import time
-from typing import List
 
 from clients import wire
 from clients.few_sessions import expect_all_free

@@ -26,7 +26,7 @@ def loads_counts_and_reserves(gateway: Gateway) -> None:
             table_name = "stock"
 
     stock: Any = Stock
-    stock.bind(database)
+    stock.bind(database)  # pylint: disable=no-value-for-parameter  # peewee gives the class its methods
     with Connection(gateway.socket) as it:  # peewee opens a block for each statement, in which these are refused
         it.do(TABLE, "INSERT INTO stock VALUES (1, 5, 'tea')", "INSERT INTO stock VALUES (2, 5, 'milk')")
     expect(stock.get_by_id(1).name, "tea")

@@ -64,7 +64,8 @@ FORMS = (
 STRINGS = (
     "BEGIN; INSERT INTO taken (item, pieces) VALUES (1, 1); UPDATE stock SET pieces = pieces - 1 WHERE id = 1; COMMIT",
     "INSERT INTO taken VALUES (2, 1) RETURNING item; UPDATE stock SET pieces = pieces - 3 WHERE id = 2; SELECT count(*) FROM taken",
-    "UPDATE stock SET pieces = pieces - 1 WHERE id = 1; UPDATE stock SET title = 'x' WHERE id = 2 RETURNING title; UPDATE shelf SET room = room + 1 WHERE code = 'c'",
+    "UPDATE stock SET pieces = pieces - 1 WHERE id = 1; UPDATE stock SET title = 'x' WHERE id = 2 RETURNING title; "
+    "UPDATE shelf SET room = room + 1 WHERE code = 'c'",
     "BEGIN; UPDATE stock SET pieces = pieces + 2 WHERE id = 3; SAVEPOINT a; UPDATE shelf SET room = room - 1 WHERE code = 'c'; ROLLBACK TO a; COMMIT; "
     "UPDATE stock SET pieces = pieces - 1 WHERE id = 5",
     "SET search_path = public; DELETE FROM stock WHERE id = 4; INSERT INTO stock VALUES (4, 'again', 1)",
@@ -98,7 +99,8 @@ ROWS = (
     "INSERT INTO shelf (code, room) VALUES ('c', 5), ('a''b', 0)",
 )
 SHOWN = """SELECT 'stock', id::text, title, pieces::text, '' FROM stock UNION ALL SELECT 'account', id::text, owner, balance::text, held::text FROM account
-    UNION ALL SELECT 'shelf', code, '', room::text, '' FROM shelf UNION ALL SELECT 'taken', item::text, '', pieces::text, '' FROM taken ORDER BY 1, 2, 3, 4, 5"""
+    UNION ALL SELECT 'shelf', code, '', room::text, '' FROM shelf
+    UNION ALL SELECT 'taken', item::text, '', pieces::text, '' FROM taken ORDER BY 1, 2, 3, 4, 5"""
 
 
 @dataclass(frozen=True)

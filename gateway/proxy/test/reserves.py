@@ -383,7 +383,8 @@ def a_table_whose_fold_is_refused_stops_alone(cluster: Cluster, proxy: Proxy) ->
 @case
 def a_table_is_known_once_it_is_declared(cluster: Cluster, proxy: Proxy) -> None:
     """Also if a session has declared it that does not pass the proxy."""
-    cluster.run("CREATE TABLE late (id integer PRIMARY KEY, n integer NOT NULL CHECK (n >= 0))", "INSERT INTO late VALUES (1, 1)", "SELECT escrow.reservable('late', 'n')")
+    table = "CREATE TABLE late (id integer PRIMARY KEY, n integer NOT NULL CHECK (n >= 0))"
+    cluster.run(table, "INSERT INTO late VALUES (1, 1)", "SELECT escrow.reservable('late', 'n')")
     with proxy.connect() as it:
 
         def is_taken() -> bool:
@@ -403,7 +404,8 @@ def a_refusal_says_the_form_to_write(cluster: Cluster, proxy: Proxy) -> None:
     key = row(cluster)
     with proxy.connect() as it:
         for text, form in (
-            (f"INSERT INTO stock (id, pieces) VALUES ({key}, 1) ON CONFLICT (id) DO UPDATE SET pieces = stock.pieces + excluded.pieces", "write INSERT .. ON CONFLICT DO NOTHING"),
+            (f"INSERT INTO stock (id, pieces) VALUES ({key}, 1) ON CONFLICT (id) DO UPDATE SET pieces = stock.pieces + excluded.pieces",
+             "write INSERT .. ON CONFLICT DO NOTHING"),
             (f"UPDATE stock SET pieces = stock.pieces - o.n FROM (SELECT {key} AS item, 1 AS n) AS o WHERE id = o.item", "name the key and the number"),
             (f"WITH o AS (SELECT {key} AS item) UPDATE stock SET pieces = pieces - 1 WHERE id = (SELECT item FROM o)", "name the key and the number"),
             (f"DO 'BEGIN UPDATE stock SET pieces = pieces - 1 WHERE id = {key}; END'", "send the UPDATE by itself"),

@@ -91,8 +91,8 @@ class Noted(NamedTuple):
         """Reads its row. The id is that of 64 bits of the transaction or subtransaction that has written the note's row."""
         assert row is not None and row[0] is not None, "no note"
         top, writer, answer, folded = struct.unpack(">QI32s?", row[0].ljust(45, b"\0"))
-        id = top - top % 2**32 + writer
-        return cls(id if id >= top else id + 2**32, answer, folded)
+        whole = top - top % 2**32 + writer
+        return cls(whole if whole >= top else whole + 2**32, answer, folded)
 
 
 class Owner:
@@ -184,9 +184,9 @@ class Client:
         number = owner.next()
         given = [None if it is None else str(it) for it in changes]
         shown, written = str(key), ",".join(it or "" for it in given)
-        hash = owner.hash("note", table, owner.epoch, self.connection.info.backend_pid, self.tag, number, len(shown.encode()), shown, written)
-        self.answers[hash[:32]] = hash[32:]
-        return [text, owner.epoch, self.tag, number, shown, given, hash[:32], relation]
+        halves = owner.hash("note", table, owner.epoch, self.connection.info.backend_pid, self.tag, number, len(shown.encode()), shown, written)
+        self.answers[halves[:32]] = halves[32:]
+        return [text, owner.epoch, self.tag, number, shown, given, halves[:32], relation]
 
     def send(self, arguments: Sequence[Any]) -> Noted:
         """Sends a note by the extended protocol, and returns its answer."""
