@@ -12,7 +12,7 @@ import subprocess
 import sys
 import tempfile
 import time
-from typing import Iterable, List, Optional, Sequence, Tuple
+from typing import Iterable, List, Optional, Sequence, Tuple, Union
 
 sys.dont_write_bytecode = True
 from runs import Run
@@ -86,7 +86,7 @@ class Server:
         """The server's processor time."""
         return sum(float(line.split(b":")[1]) for line in self.ask(["INFO", "cpu"]) if re.match(rb"used_cpu_(user|sys):", line))
 
-    def transactions(self, load: str, own: bool, clients: int, limit: int, way: int, is_plain: bool = False) -> Run:
+    def transactions(self, load: str, own: bool, clients: int, limit: Union[int, str], way: int, is_plain: bool = False) -> Run:
         """Has clients make transactions by clients.c, each so many or for so long, and looks at the amounts behind it. A plain one is a DECR."""
         self.send([command(["FLUSHALL"])], 1)
         fields = f"amount {START} falls 0 rises 0 floor 0 ceiling 900000000000000".split()

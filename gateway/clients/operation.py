@@ -175,7 +175,9 @@ def a_server_that_was_stopped() -> None:
     """The gateway lets it go on at the end, so that it answers, and closes its store."""
     with Gateway(IN_A_STORE) as gateway:
         it = with_stock(gateway, 9)
-        os.kill(gateway.programs()[0], signal.SIGSTOP)
+        program = gateway.programs()[0]
+        os.kill(program, signal.SIGSTOP)
+        wait_until("the program is stopped", lambda: "(stopped)" in Path(f"/proc/{program}/status").read_text(encoding="utf-8"))
         it.send(wire.query(TAKE.format(2)))
         expect_served(gateway)  # so it has read the statement too
         expect(gateway.end(), 0, gateway.said())

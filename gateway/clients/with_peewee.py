@@ -26,10 +26,11 @@ def loads_counts_and_reserves(gateway: Gateway) -> None:
             table_name = "stock"
 
     stock: Any = Stock
-    stock.bind(database)  # pylint: disable=no-value-for-parameter  # peewee gives the class its methods
+    stock.bind(database)
     with Connection(gateway.socket) as it:  # peewee opens a block for each statement, in which these are refused
         it.do(TABLE, "INSERT INTO stock VALUES (1, 5, 'tea')", "INSERT INTO stock VALUES (2, 5, 'milk')")
     expect(stock.get_by_id(1).name, "tea")
+    # pylint: disable-next=no-value-for-parameter  # peewee's decorator gives count its database
     expect((stock.select().count(), stock.select().where(stock.id == 1).exists(), stock.get_or_none(stock.id == 9)), (2, True, None))
     expect([it.id for it in stock.select().where(stock.id.in_([1, 2])).order_by(stock.id)], [1, 2])
     expect([it.id for it in stock.select().order_by(stock.id.desc()).paginate(1, 1)], [2])
