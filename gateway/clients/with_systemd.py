@@ -212,7 +212,7 @@ def what_the_service_shows() -> None:
         manager.do("stop")
         told = {line["MESSAGE"]: line["PRIORITY"] for line in manager.journal()}
         expect(told.get("serving shop at /run/escrowd/.s.PGSQL.5432"), "6", str(told))
-        expect([told[line] for line in told if "has session 1" in line], ["7"], str(told))
+        expect([told[line] for line in told if line.startswith("shop: connection 1 of user ")], ["7"], str(told))
         expect(told.get("SIGTERM: stopping"), "6", str(told))
 
 
