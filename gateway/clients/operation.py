@@ -201,17 +201,23 @@ def a_start_behind_a_kill() -> None:
         gateway.expect_clean_end()
 
 
+def holder_of(store: Path) -> "subprocess.Popen[bytes]":
+    """Starts a program that has a store open."""
+    holder = subprocess.Popen([PROGRAM, "serve", "--store", store], stdin=subprocess.PIPE, stdout=subprocess.PIPE)
+    assert holder.stdin and holder.stdout
+    holder.stdin.write(b"bank.1: SHOW STATISTICS\n")
+    holder.stdin.flush()
+    holder.stdout.readline()
+    return holder
+
+
 @PART.alone
 def a_store_that_is_open_elsewhere() -> None:
     """The gateway waits for it, ten seconds at most."""
     with Operated(IN_A_STORE) as gateway:
         with_stock(gateway, 9).close()
         gateway.expect_clean_end()
-        holder = subprocess.Popen([PROGRAM, "serve", "--store", gateway.store], stdin=subprocess.PIPE, stdout=subprocess.PIPE)
-        assert holder.stdin and holder.stdout
-        holder.stdin.write(b"bank.1: SHOW STATISTICS\n")
-        holder.stdin.flush()
-        holder.stdout.readline()
+        holder = holder_of(gateway.store)
         begin = time.monotonic()
         gateway.begin()
         expect(gateway.running().wait(END), 3, gateway.said())
@@ -220,8 +226,7 @@ def a_store_that_is_open_elsewhere() -> None:
         gateway.begin()
         time.sleep(1)
         expect(gateway.running().poll(), None, gateway.said())
-        holder.stdin.close()
-        holder.wait(END)
+        holder.communicate(timeout=END)
         gateway.await_socket(gateway.socket)
         expect_served(gateway)
         gateway.expect_clean_end()
@@ -233,11 +238,7 @@ def a_stop_while_a_store_is_open_elsewhere() -> None:
     with Operated({"bank": Path("bank.db"), "shop": Path("shop.db")}, ("--log-level", "debug")) as gateway:
         with_stock(gateway, 9).close()
         gateway.expect_clean_end()
-        holder = subprocess.Popen([PROGRAM, "serve", "--store", gateway.store], stdin=subprocess.PIPE, stdout=subprocess.PIPE)
-        assert holder.stdin and holder.stdout
-        holder.stdin.write(b"bank.1: SHOW STATISTICS\n")
-        holder.stdin.flush()
-        holder.stdout.readline()
+        holder = holder_of(gateway.store)
         for number in (signal.SIGTERM, signal.SIGINT):
             (gateway.folder / "said").unlink()
             gateway.begin()
@@ -245,8 +246,8 @@ def a_stop_while_a_store_is_open_elsewhere() -> None:
             expect(gateway.end(number), 0, gateway.said())
             expect("all stores are closed" in gateway.said(), True, gateway.said())
         expect((gateway.folder / "shop.db-wal").exists(), False)
-        holder.stdin.close()
-        expect(holder.wait(END), 0)
+        holder.communicate(timeout=END)
+        expect(holder.returncode, 0)
 
 
 @PART.alone
