@@ -14,9 +14,9 @@ _escrowd_pg() {
         --log-level)
             mapfile -t COMPREPLY < <(compgen -W "error warning info debug" -- "$word")
             ;;
-        --database | --port | --mode | --connections | --idle-in-transaction-timeout | --transaction-timeout) ;;
+        --database | --port | --mode | --sessions | --connections | --idle-in-transaction-timeout | --transaction-timeout) ;;
         *)
-            mapfile -t COMPREPLY < <(compgen -W "--listen --port --mode --database --program --connections
+            mapfile -t COMPREPLY < <(compgen -W "--listen --port --mode --database --program --sessions --connections
                 --idle-in-transaction-timeout --transaction-timeout --metrics --log-level --help
                 --version" -- "$word")
             ;;

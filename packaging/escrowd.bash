@@ -24,12 +24,13 @@ _escrowd() {
             mapfile -t COMPREPLY < <(compgen -W '1 2 3 4 5 6 7 8 9 10 11 12 13 14 15 16' -- "$word")
             return
             ;;
+        --sessions) return ;;
     esac
 
     local place
     for ((place = 1; place < COMP_CWORD; place++)); do
         case ${COMP_WORDS[place]} in
-            --store | --databases)
+            --store | --databases | --sessions)
                 # Its value is no mode.
                 [[ ${COMP_WORDS[place + 1]} != = ]] || ((++place))
                 ((++place))
@@ -38,11 +39,11 @@ _escrowd() {
         esac
     done
     if [[ $word == -* ]]; then
-        mapfile -t COMPREPLY < <(compgen -W '--store --databases --help --version' -- "$word")
+        mapfile -t COMPREPLY < <(compgen -W '--store --databases --sessions --help --version' -- "$word")
     elif [[ -z $given ]]; then
         mapfile -t COMPREPLY < <(compgen -W 'serve run free' -- "$word")
     else
-        mapfile -t COMPREPLY < <(compgen -W '--store --databases' -- "$word")
+        mapfile -t COMPREPLY < <(compgen -W '--store --databases --sessions' -- "$word")
     fi
 }
 

@@ -1,6 +1,8 @@
 """Many connections on few sessions: who has one and when, who waits, what comes back behind each end, and what an idle connection keeps.
 
     python3 -m clients.few_sessions --walk SECONDS [SEED]     random transactions for so long, and a line for each round of them
+    python3 -m clients.few_sessions --beside HOLDERS SECONDS  how many pieces 40 sellers sell a second, without holders of the same row and beside them
+    python3 -m clients.few_sessions --carts CARTS SECONDS     carts that hold a piece each: half of them buy it, the others run into a time limit
 """
 from __future__ import annotations
 
@@ -14,7 +16,7 @@ from typing import Callable, Dict, List, Tuple
 
 from clients import wire
 from clients.limits import AT_ONCE, STOCK, TAKE, last_words, with_stock
-from clients.servers import END, TRANSACTIONS, Gateway, holds, wait_until
+from clients.servers import END, SESSIONS, TRANSACTIONS, Gateway, holds, wait_until
 from clients.suite import Part, expect, load, main
 from clients.wire import Connection
 
@@ -241,6 +243,27 @@ def is_ended(it: Connection) -> bool:
         it.socket.settimeout(60.0)
 
 
+@PART.alone
+def as_many_sessions_as_are_asked_for() -> None:
+    """Hundreds of connections hold a piece each, and others sell meanwhile. Each hold ends as its client says."""
+    count = 800
+    resource.setrlimit(resource.RLIMIT_NOFILE, (4 * count, resource.getrlimit(resource.RLIMIT_NOFILE)[1]))
+    with Gateway({"bank": None}, "--sessions", str(count + SESSIONS - TRANSACTIONS)) as gateway:
+        seller = with_stock(gateway, count + 1)
+        many = holders(gateway, count)
+        expect(seller.ask(TAKE.format(1)), ["complete UPDATE 1", "ready I"])
+        expect(seller.ask(TAKE.format(1)), ["ERROR 23514", "ready I"])
+        expect(len(seller.rows("SHOW JOURNAL")), count)
+        seller.do("BEGIN")
+        expect(seller.ask("SAVEPOINT a"), NO_SESSION)
+        seller.do("ROLLBACK")
+        for place, it in enumerate(many):
+            it.do("COMMIT" if place % 2 else "ROLLBACK")
+        expect((seller.rows("SHOW JOURNAL"), seller.rows(SESSIONS_OF_ALL)), ([], []))
+        expect(seller.rows("SELECT * FROM stock"), [("1", str(count // 2))])
+        gateway.expect_clean_end()
+
+
 # Random transactions
 
 # The rows that clients take of, and how many clients there are.
@@ -420,6 +443,84 @@ def a_connection_that_rests_keeps_little() -> None:
         gateway.expect_clean_end()
 
 
+# Thousands of holders, by hand
+
+# The clients who sell beside them, and how often each is measured.
+SELLERS, ROUNDS = 40, 3
+# The connections and sessions beside those of the holders.
+BESIDE = 96
+
+
+def many_served(holders: int, *options: str) -> Gateway:
+    """Returns a gateway with room for so many holders and some more."""
+    sessions, connections = holders + BESIDE, 2 * holders + BESIDE
+    resource.setrlimit(resource.RLIMIT_NOFILE, (3 * connections, resource.getrlimit(resource.RLIMIT_NOFILE)[1]))
+    return Gateway({"bank": None}, "--sessions", str(sessions), "--connections", str(connections), *options)
+
+
+def sold(sellers: List[Connection], seconds: float) -> float:
+    """Lets clients take a piece each, again and again. Returns how many are sold a second."""
+    count, begin = 0, time.monotonic()
+    with selectors.DefaultSelector() as ready:
+        for it in sellers:
+            ready.register(it.socket, selectors.EVENT_READ, it)
+            it.send(wire.query(TAKE.format(1)))
+        while ready.get_map():
+            for key, _ in ready.select(END):
+                expect([said.shown() for said in key.data.until_ready()], ["complete UPDATE 1", "ready I"])
+                count += 1
+                if time.monotonic() - begin < seconds:
+                    key.data.send(wire.query(TAKE.format(1)))
+                else:
+                    ready.unregister(key.fileobj)
+    return count / (time.monotonic() - begin)
+
+
+def beside(count: int, seconds: float) -> None:
+    """Measures sellers without and beside so many holders of the same row, in turn."""
+    with many_served(count) as gateway:
+        watch = with_stock(gateway, 900_000_000)
+        sellers = [Connection(gateway.socket) for _ in range(SELLERS)]
+        idle = [Connection(gateway.socket) for _ in range(BESIDE - SELLERS - 1)]
+        rates: List[Tuple[float, float]] = []
+        for _ in range(ROUNDS):
+            alone = sold(sellers, seconds)
+            many = holders(gateway, count)
+            expect(len(watch.rows(SESSIONS_OF_ALL)), count)
+            rates.append((alone, sold(sellers, seconds)))
+            for it in many:
+                it.close()
+            wait_until("nothing is held", lambda: watch.rows("SHOW JOURNAL") == [])
+        for alone, held in rates:
+            print(f"{alone:.0f} a second alone, {held:.0f} beside {count} holders and {len(idle)} idle connections: {held / alone:.2f}", flush=True)
+        gateway.expect_clean_end()
+
+
+def carts(count: int, seconds: float) -> None:
+    """Lets carts hold a piece each for so many seconds at the most. Every second one is bought, and the others' pieces are there again."""
+    with many_served(count) as gateway:
+        watch = with_stock(gateway, count)
+        begin = time.monotonic()
+        limit = f"-c transaction_timeout={round(1000 * seconds)}"
+        many = [Connection(gateway.socket, options=limit) for _ in range(count)]
+        for it in many:
+            it.do("BEGIN", TAKE.format(1))
+        filled = time.monotonic() - begin
+        expect(watch.ask(TAKE.format(1)), ["ERROR 23514", "ready I"])
+        expect(len(watch.rows("SHOW JOURNAL")), count)
+        for it in many[::2]:
+            it.do("COMMIT")
+        bought = time.monotonic() - begin
+        for it in many[1::2]:
+            expect(last_words(it)[0], "25P04")
+        wait_until("nothing is held", lambda: watch.rows("SHOW JOURNAL") == [])
+        ended = time.monotonic() - begin
+        expect(watch.rows("SELECT * FROM stock"), [("1", str(count // 2))])
+        print(f"{count} carts were filled in {filled:.1f} s, half of them bought after {bought:.1f} s, the others ended after {ended:.1f} s; "
+              f"the gateway had {holds(gateway.running().pid) // 1024} KB at the end", flush=True)
+        gateway.expect_clean_end()
+
+
 def by_hand() -> None:
     """Walks for so many seconds, from a seed."""
     seconds, seed = float(sys.argv[2]), int(sys.argv[3]) if len(sys.argv) > 3 else 1
@@ -437,5 +538,9 @@ def by_hand() -> None:
 if __name__ == "__main__":
     if sys.argv[1:2] == ["--walk"]:
         by_hand()
+    elif sys.argv[1:2] == ["--beside"]:
+        beside(int(sys.argv[2]), float(sys.argv[3]))
+    elif sys.argv[1:2] == ["--carts"]:
+        carts(int(sys.argv[2]), float(sys.argv[3]))
     else:
         main(PART)

@@ -159,8 +159,8 @@ class Server:
             self.process.wait()
 
 
-# The transactions of a database that may have a session at a time.
-TRANSACTIONS = 60
+# The sessions that a gateway gets, unless a test says otherwise, and the transactions that may have one at a time: few enough that a test takes all.
+SESSIONS, TRANSACTIONS = 64, 60
 
 
 class Gateway(Server):
@@ -187,7 +187,8 @@ class Gateway(Server):
         """Returns the command line."""
         named = [f"{name}={path}" if path else name for name, path in self.databases.items()]
         chosen = [word for it in named for word in ("--database", it)]
-        return [str(GATEWAY), "--listen", str(self.folder), "--port", str(PORT), "--program", str(PROGRAM), *chosen, *self.options]
+        sessions = [] if "--sessions" in self.options else ["--sessions", str(SESSIONS)]
+        return [str(GATEWAY), "--listen", str(self.folder), "--port", str(PORT), "--program", str(PROGRAM), *chosen, *sessions, *self.options]
 
     def start(self) -> None:
         self.launch(self.words())

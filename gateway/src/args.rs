@@ -63,6 +63,10 @@ pub struct Args {
     #[arg(long, value_name = "PATH")]
     pub program: Option<PathBuf>,
 
+    /// The sessions of each database's program, from 5 to 65,535. All but 4 are for transactions that hold something
+    #[arg(long, value_name = "N", default_value_t = 4096, value_parser = clap::value_parser!(u16).range(5..))]
+    pub sessions: u16,
+
     /// The most connections of a database, from 1 to 65,535. Each takes a file descriptor
     #[arg(long, value_name = "N", default_value_t = 8192, value_parser = clap::value_parser!(u16).range(1..))]
     pub connections: u16,
@@ -178,7 +182,7 @@ mod tests {
         let args = read(&["--listen", "/run/x", "--database", "shop"]).unwrap();
         assert_eq!(args.listen, PathBuf::from("/run/x"));
         assert_eq!((args.port, args.mode), (5432, 0o600));
-        assert_eq!(args.connections, 8192);
+        assert_eq!((args.sessions, args.connections), (4096, 8192));
         assert_eq!(
             args.databases,
             [Database {
@@ -200,6 +204,7 @@ mod tests {
             "--database=shop=/var/a=b.db",
             "--database=other",
             "--program=/opt/escrowd",
+            "--sessions=300",
             "--connections=500",
             "--idle-in-transaction-timeout=30",
             "--transaction-timeout=4294967295",
@@ -208,7 +213,7 @@ mod tests {
         ])
         .unwrap();
         assert_eq!((args.port, args.mode), (6432, 0o660));
-        assert_eq!(args.connections, 500);
+        assert_eq!((args.sessions, args.connections), (300, 500));
         assert_eq!(args.databases[0].store, Some(PathBuf::from("/var/a=b.db")));
         assert_eq!(args.databases[1].store, None);
         assert_eq!(args.program, Some(PathBuf::from("/opt/escrowd")));
@@ -243,7 +248,7 @@ mod tests {
     #[test]
     fn what_cannot_be_used_is_refused() {
         let long = "n".repeat(NAME_LIMIT + 1);
-        let refused: [&[&str]; 14] = [
+        let refused: [&[&str]; 16] = [
             &[],
             &["--listen", "x"],
             &["--database", "a"],
@@ -254,6 +259,8 @@ mod tests {
             &["--listen", "x", "--database", "a", "--database", "a=b"],
             &["--listen", "x", "--database", "a", "--mode", "1777"],
             &["--listen", "x", "--database", "a", "--port", "0"],
+            &["--listen", "x", "--database", "a", "--sessions", "4"],
+            &["--listen", "x", "--database", "a", "--sessions", "65536"],
             &["--listen", "x", "--database", "a", "--connections", "0"],
             &["--listen", "x", "--database", "a", "--connections", "65536"],
             &["--listen", "x", "--database", "a", "--log-level", "loud"],

@@ -775,5 +775,5 @@ fn no_session(most: usize) -> Failure {
             most,
             MOST_WAIT.as_secs()
         ))
-        .hint("Repeat the transaction, or end others sooner: --transaction-timeout limits how long they last.")
+        .hint("Repeat the transaction. The gateway's option --sessions lets more of them hold something.")
 }

@@ -3,9 +3,6 @@
 //! The program cannot be asked for them. They stay while its version begins with 1, and the gateway starts no program of
 //! another version than its own.
 
-/// The sessions of a database. Their numbers are 1 to this one.
-pub const SESSIONS: u16 = 64;
-
 /// The bytes of a line, without its end and with its prefix.
 pub const LINE: usize = 4_096;
 
@@ -20,6 +17,9 @@ pub const NAME: usize = 30;
 
 /// The open reservations of a session.
 pub const RESERVATIONS: usize = 256;
+
+/// The open reservations of a row.
+pub const RESERVATIONS_OF_A_ROW: usize = 16_384;
 
 /// The savepoints of a session.
 pub const SAVEPOINTS: usize = 64;

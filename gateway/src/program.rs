@@ -19,7 +19,6 @@ use mio::{Interest, Registry, Token};
 use tracing::{debug, info, warn};
 
 use escrowd_pg::connection::Need;
-use escrowd_pg::limits::SESSIONS;
 use escrowd_pg::reply::{self, Done, Outcome, Question};
 use escrowd_pg::rows::Definitions;
 
@@ -146,11 +145,12 @@ pub struct Program {
 }
 
 impl Program {
-    /// Starts the program at `path` for a database, registers its pipes as `token` and the two behind it, and asks it
-    /// whether its store is open.
+    /// Starts the program at `path` for a database of so many sessions, registers its pipes as `token` and the two
+    /// behind it, and asks it whether its store is open.
     pub fn start(
         path: &Path,
         database: &Database,
+        sessions: u16,
         registry: &Registry,
         token: Token,
         now: Instant,
@@ -160,7 +160,7 @@ impl Program {
             program: path.to_owned(),
             error,
         };
-        let mut child = spawn(path, database).map_err(failed)?;
+        let mut child = spawn(path, database, sessions).map_err(failed)?;
         let mut pipes = Pipes::of(&mut child).map_err(failed)?;
         pipes.register(registry, token).map_err(failed)?;
         let mut program = Program {
@@ -173,9 +173,9 @@ impl Program {
             output: Source::new(pipes.output),
             errors: Source::new(pipes.errors),
             error_lines: ErrorLines::default(),
-            statements: Statements::new(SESSIONS),
-            replies: Replies::new(SESSIONS),
-            sessions: Sessions::new(SESSIONS),
+            statements: Statements::new(sessions),
+            replies: Replies::new(sessions),
+            sessions: Sessions::new(sessions),
             long: LongSelects::default(),
             refused: Vec::new(),
             definitions: Definitions::default(),
@@ -216,10 +216,18 @@ impl Program {
         let is_due = self.retry_at().map_or(false, |retry| retry <= now);
         if is_due && self.has_exited(now) {
             let (started, definitions) = (self.started, self.definitions.clone());
+            let sessions = self.sessions.count();
             *self = Program {
                 started,
                 definitions,
-                ..Program::start(&self.path, &self.database, registry, self.token, now)?
+                ..Program::start(
+                    &self.path,
+                    &self.database,
+                    sessions,
+                    registry,
+                    self.token,
+                    now,
+                )?
             };
         }
         Ok(())
@@ -682,8 +690,8 @@ fn is_rolled_back(line: &[u8]) -> Result<bool, Wrong> {
     }
 }
 
-/// Starts the program at `path` for a database.
-fn spawn(path: &Path, database: &Database) -> io::Result<Child> {
+/// Starts the program at `path` for a database of so many sessions.
+fn spawn(path: &Path, database: &Database, sessions: u16) -> io::Result<Child> {
     // The shell's own words for these would be harder to read.
     let found = fs::metadata(path)?;
     if !found.is_file() || found.permissions().mode() & 0o111 == 0 {
@@ -694,7 +702,9 @@ fn spawn(path: &Path, database: &Database) -> io::Result<Child> {
     command
         .args(["-c", WITHOUT_KEYS, "sh"])
         .arg(path)
-        .arg("serve");
+        .arg("serve")
+        .arg("--sessions")
+        .arg(sessions.to_string());
     if let Some(store) = &database.store {
         command.arg("--store").arg(store);
     }

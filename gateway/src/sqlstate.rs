@@ -345,9 +345,13 @@ pub fn refusal(refusal: &Refusal<'_>, refused: Refused<'_>) -> Failure {
         Refusal::Broken(broken) => of_table(broken_check(broken, refused)),
         Refusal::TooManyReservations => Report::error(
             SqlState::LIMIT_EXCEEDED,
-            "too many reservations in a transaction",
+            "too many open reservations",
         )
-        .detail(format!("A transaction holds at most {} reservations.", limits::RESERVATIONS))
+        .detail(format!(
+            "A transaction holds at most {} reservations, and a row has at most {}.",
+            limits::RESERVATIONS,
+            limits::RESERVATIONS_OF_A_ROW,
+        ))
         .hint("Commit more often."),
         Refusal::NoSuchSavepoint => Report::error(SqlState::UNDEFINED_SAVEPOINT, "savepoint does not exist"),
         Refusal::TooManySavepoints => Report::error(

@@ -2,7 +2,7 @@
 from typing import Iterator, List, NamedTuple, Optional, Sequence
 
 from process import Case, Input, Output, Word
-from texts import BAD_MODE, CLOSED_INPUT, DATABASES, FOLDER_INPUT, MODES, NOT_UTF8, READ, UNREADY_INPUT, Reason, unanswered, unprinted
+from texts import BAD_MODE, CLOSED_INPUT, DATABASES, FOLDER_INPUT, MODES, NOT_UTF8, READ, SESSIONS, UNREADY_INPUT, Reason, unanswered, unprinted
 
 SCRIPT = "bank.1: COMMIT\nbank2.1: COMMIT\nbank3.1: COMMIT\n"
 ONE_OF_THREE = "bank.1> OK committed 0\nscript> ERR 12 line\nscript> ERR 12 line\n"
@@ -13,7 +13,7 @@ HELP = """A server of tables whose RESERVABLE columns many sessions can change a
 It reads statements from standard input, one per line, and writes the replies to
 standard output.
 
-Usage: escrowd <MODE> [--store <PATH>] [--databases <N>]
+Usage: escrowd <MODE> [--store <PATH>] [--databases <N>] [--sessions <N>]
 
 Arguments:
   <MODE>  `serve` and `run` serve one line after another; `free` serves the sessions of a phase at the same time
@@ -21,10 +21,12 @@ Arguments:
 Options:
       --store <PATH>   The file that stores bank; bank2 is stored in PATH.2 and so on [default: in memory]
       --databases <N>  The number of databases, 1 to 16: bank, bank2, bank3 and so on [default: 1]
+      --sessions <N>   With `serve`: the number of sessions of a database, 1 to 65535 [default: 64]
   -h, --help           Print help
   -V, --version        Print version
 
-A line is a database, a dot, a session from 1 to 64, a colon and a statement:
+A line is a database, a dot, a session from 1 to 64 (or as --sessions says), a colon
+and a statement:
 
   bank.1: CREATE TABLE ACCOUNT (ID INTEGER PRIMARY KEY, BALANCE INTEGER RESERVABLE CHECK (BALANCE >= 50))
   bank.1: INSERT INTO ACCOUNT VALUES (1, 100)
@@ -151,7 +153,9 @@ BAD = [
     (("run", "--store", "--databases", "2"), NO_VALUE),
     (("run", "--store", "a", "--store", "b"), MULTIPLE.format("--store <PATH>")),
     (("run", "--databases=2", "--databases=2"), MULTIPLE.format("--databases <N>")),
+    (("serve", "--sessions=65", "--sessions=65"), MULTIPLE.format("--sessions <N>")),
 ]
+BAD_SESSIONS = ["0", "65536", "x", "", "-1", "1.0", " 2", "18446744073709551617"]
 BAD_NUMBERS = ["0", "17", "x", "", "-1", "1.0", " 2", "256", "18446744073709551617"]
 # An empty path is taken as one, and refused.
 EMPTY_PATH = "escrowd: the store of bank, ``, can't be opened: the path is empty, is `:memory:`, or begins with `file:`\n"
@@ -166,6 +170,10 @@ def bad_cases() -> Iterator[Case]:
     for mode in MODES:
         for number in BAD_NUMBERS:
             yield Case("bad number", (mode, f"--databases={number}"), SCRIPT, errors=DATABASES, status=2, reads=False, files=())
+    for number in BAD_SESSIONS:
+        yield Case("bad sessions", ("serve", f"--sessions={number}"), SCRIPT, errors=SESSIONS, status=2, reads=False, files=())
+    for mode in ("run", "free"):
+        yield Case("sessions of a script", (mode, "--sessions=64"), SCRIPT, errors=SESSIONS, status=2, reads=False, files=())
     yield Case("no UTF-8", ("run", b"\xff"), SCRIPT, errors=NOT_UTF8, status=2, reads=False)
     for path in (("--store=",), ("--store", "")):
         yield Case("empty path", ("run", *path), SCRIPT, errors=EMPTY_PATH, status=3, reads=False, files=())

@@ -13,7 +13,7 @@ TOO_MANY = """escrowd: unexpected argument '{}' found
 
   tip: a script is read from standard input, as in 'escrowd run < FILE'
 
-Usage: escrowd <MODE> [--store <PATH>] [--databases <N>]
+Usage: escrowd <MODE> [--store <PATH>] [--databases <N>] [--sessions <N>]
 
 For more information, try '--help'.
 """
@@ -21,7 +21,7 @@ NO_OPTION = """escrowd: unexpected argument '--bogus' found
 
   tip: to pass '--bogus' as a value, use '-- --bogus'
 
-Usage: escrowd <MODE> [--store <PATH>] [--databases <N>]
+Usage: escrowd <MODE> [--store <PATH>] [--databases <N>] [--sessions <N>]
 
 For more information, try '--help'.
 """

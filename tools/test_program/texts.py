@@ -15,6 +15,7 @@ BAD_MODE = "escrowd: the mode must be `run`, `free` or `serve`\n"
 MISSING_FOLDER = "its directory doesn't exist"
 LOST_LINK = "it is a symbolic link to a file that doesn't exist"
 DATABASES = "escrowd: --databases must be a number from 1 to 16\n"
+SESSIONS = "escrowd: --sessions must be a number from 1 to 65535, and only `serve` has it\n"
 
 
 class Reason(enum.Enum):

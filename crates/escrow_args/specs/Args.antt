@@ -1,5 +1,8 @@
 -- Believed: what the words of a command line ask for, by clap's definition of a simple command.
-use Rattle.std.specs.Prelude.{◌&&◌, ℕ, Option, Some, None, option_map, option_and_then, List, [], ◌∷◌, true, bytes_eq, codes, nat_le, if◌then◌else◌}
+use Rattle.std.specs.Prelude.{◌&&◌, ◌==◌, ◌^◌, ℕ, Option, Some, None, option_map, option_and_then, List, [], ◌∷◌, length, true, bytes_eq, codes, nat_le, nat_lt, if◌then◌else◌}
+use Rattle.std.specs.Char.{digit_value}
+use Rattle.std.specs.List.{list_all}
+use Rattle.std.specs.Str.Parse.{digits_value, without_leading_plus}
 use Rattle.clap.specs.Walk.{Row, Rule, Text, byte_or_zero, first_of, is_empty}
 use Rattle.clap.specs.Simple.{App, matches_of, new_app, new_rule, on_top, with_rule}
 use Rattle.clap.specs.Kinds.{Kinds}
@@ -11,6 +14,7 @@ use Rattle.escrow_args.specs.declared.args.ArgFault.{ArgFault}
 use Rattle.escrow_args.specs.declared.args.Args.{Args}
 use Rattle.escrow_args.specs.declared.args.Mode.{Mode}
 use Rattle.escrow_args.specs.declared.args.Mode.TheVariants as mode
+use Rattle.escrow_num.specs.declared.session.TheConstants.Session.{MAX_SHARED}
 use Rattle.escrow_script.specs.declared.limits.TheConstants.{MAX_DATABASES}
 
 -- THE COMMAND LINE, in clap's definitions
@@ -27,13 +31,17 @@ store_rule = record (new_rule (codes "store")) { long = Some (codes "store"); ac
 abbrev pub databases_rule : Rule
 databases_rule = record (new_rule (codes "databases")) { long = Some (codes "databases"); action = Some Set; value_names = 1 }
 
+-- an option that may be left out: `--sessions N`
+abbrev pub sessions_rule : Rule
+sessions_rule = record (new_rule (codes "sessions")) { long = Some (codes "sessions"); action = Some Set; value_names = 1 }
+
 -- a command that has a version
 abbrev pub with_version : App → App
 with_version a = on_top (λ s. record s { has_version = true }) a
 
--- the command with these three, to which clap adds `--help` and `--version`
+-- the command with these four, to which clap adds `--help` and `--version`
 abbrev pub app : App
-app = with_rule (with_rule (with_rule (with_version (new_app (codes "escrowd"))) mode_rule) store_rule) databases_rule
+app = with_rule (with_rule (with_rule (with_rule (with_version (new_app (codes "escrowd"))) mode_rule) store_rule) databases_rule) sessions_rule
 
 -- what is wrong with words before their values are read, or that they ask for help or the version: nothing, or
 -- one kind of error
@@ -60,11 +68,30 @@ abbrev pub databases_of : Option Text → Option ℕ
 databases_of None = Some 1
 databases_of (Some value) = allowed (byte_or_zero value)
 
--- the arguments of the values, if mode and number can be read; the path is any text, or there is none
+-- a number in a text, as Rust reads a `u16`, or 0 if the text has none
+abbrev pub number_or_zero : Text → ℕ
+number_or_zero text =
+    let digits = without_leading_plus text in
+    if nat_lt 0 (length digits) && list_all (λ d. nat_lt (digit_value d) 10) digits && nat_lt (digits_value 10 digits) (2 ^ 16) then digits_value 10 digits else 0
+
+-- a number of sessions, from 1 on
+abbrev pub some_sessions : ℕ → Option ℕ
+some_sessions count = if count == 0 then None else Some count
+
+-- how many sessions a value asks for, or 64 if there is no value. Only `serve` may have one. A value is read as Rust
+-- reads a `u16`, possibly with a plus or leading zeros
+abbrev pub sessions_of : Mode → Option Text → Option ℕ
+sessions_of asked None = Some MAX_SHARED
+sessions_of mode.Serve (Some value) = some_sessions (number_or_zero value)
+sessions_of mode.Run (Some value) = None
+sessions_of mode.Free (Some value) = None
+
+-- the arguments of the values, if the mode and both numbers can be read; the path is any text, or there is none
 abbrev pub values_ask : List Row → Option Args
 values_ask rows =
-    option_and_then (λ asked.
-    option_map (λ count. record { mode = asked; path = first_of (codes "store") rows; databases = count }) (databases_of (first_of (codes "databases") rows)))
+    option_and_then (λ asked. option_and_then (λ count.
+    option_map (λ sessions. record { mode = asked; path = first_of (codes "store") rows; databases = count; sessions = sessions }) (sessions_of asked (first_of (codes "sessions") rows)))
+    (databases_of (first_of (codes "databases") rows)))
     (mode_of (first_of (codes "mode") rows))
 
 -- WHAT WORDS ASK FOR, beginning with the program's name: the arguments of their values, if nothing else is wrong with

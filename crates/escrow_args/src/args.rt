@@ -1,11 +1,11 @@
 ghost use Rattle.std.specs.Prelude.{◌≡◌, ◌≤◌, ◌⊎◌, false, Some, None, map, option_map, IfOk, IfSome, IsErrAnd, MatchResult};
 ghost use Rattle.clap.specs.Words.{FailsBy, app_of, found_of, kind_of, matches_of, rows_of, rule_of};
 ghost use Rattle.escrow_args.specs.declared.args.Args.{Args};
-ghost use Rattle.escrow_args.specs.Args.{app, asked_by, databases_of, databases_rule, faults_of, mode_of, mode_rule, no_memory, refused_status, status_of, store_rule, values_ask};
+ghost use Rattle.escrow_args.specs.Args.{app, asked_by, databases_of, databases_rule, faults_of, mode_of, mode_rule, no_memory, refused_status, sessions_of, sessions_rule, some_sessions, status_of, store_rule, values_ask};
 
 use clap::error::ErrorKind;
 use clap::{Arg, ArgAction, ArgMatches, Command, Error};
-use escrow_num::Text;
+use escrow_num::{Session, Text};
 use escrow_script::MAX_DATABASES;
 use std::alloc::{AllocError, Global};
 use std::convert::AsStr;
@@ -31,6 +31,9 @@ pub struct Args {
     pub path: Option<Text>,
     /// How many databases there are, from 1 to 16.
     pub databases: u8,
+    /// How many sessions each database has, from 1 to 65,535: 64, but for `serve` as many as its
+    /// words ask for.
+    pub sessions: u16,
 }
 
 /// Why there are no arguments to continue with.
@@ -58,7 +61,7 @@ impl ArgFault {
 
 /// Reads the words of a command line, beginning with the program's name. They are `run`, `free` or
 /// `serve`, an optional `--store PATH`, and an optional `--databases N`, with N from 1 to 16 and 1
-/// by default.
+/// by default. `serve` has an optional `--sessions N`, with N from 1 to 65,535 and 64 by default.
 ///
 /// # Errors
 ///
@@ -93,12 +96,13 @@ fn command<'a>(alloc: Global) -> Result<Command<'a>, AllocError>
 {
     Command::new(alloc, "escrowd")
         .version(VERSION)
-        .override_usage("escrowd <MODE> [--store <PATH>] [--databases <N>]")
+        .override_usage("escrowd <MODE> [--store <PATH>] [--databases <N>] [--sessions <N>]")
         .about(ABOUT)
         .after_help(AFTER_HELP)
         .arg(mode_arg(alloc))?
         .arg(store_arg(alloc))?
-        .arg(databases_arg(alloc))
+        .arg(databases_arg(alloc))?
+        .arg(sessions_arg(alloc))
 }
 
 /// Returns the mode.
@@ -139,6 +143,18 @@ fn databases_arg<'a>(alloc: Global) -> Arg<'a>
         .help("The number of databases, 1 to 16: bank, bank2, bank3 and so on [default: 1]")
 }
 
+/// Returns `--sessions N`.
+fn sessions_arg<'a>(alloc: Global) -> Arg<'a>
+    ensures rule { rule_of result ≡ sessions_rule }
+    ensures local { result.global ≡ false }
+{
+    Arg::new(alloc, "sessions")
+        .long("sessions")
+        .action(ArgAction::Set)
+        .value_name("N")
+        .help("With `serve`: the number of sessions of a database, 1 to 65535 [default: 64]")
+}
+
 /// The version of the program.
 const VERSION: &str = "1.1";
 
@@ -148,7 +164,8 @@ It reads statements from standard input, one per line, and writes the replies to
 standard output.";
 
 const AFTER_HELP: &str =
-    "A line is a database, a dot, a session from 1 to 64, a colon and a statement:
+    "A line is a database, a dot, a session from 1 to 64 (or as --sessions says), a colon
+and a statement:
 
   bank.1: CREATE TABLE ACCOUNT (ID INTEGER PRIMARY KEY, BALANCE INTEGER RESERVABLE CHECK (BALANCE >= 50))
   bank.1: INSERT INTO ACCOUNT VALUES (1, 100)
@@ -188,11 +205,18 @@ fn asked(alloc: Global, matches: &ArgMatches<'_>) -> Result<Args, ArgFault>
     let Some(databases) = databases_of(matches.get_str("databases")) else {
         return Err(wrong(alloc, "--databases must be a number from 1 to 16\n"));
     };
+    let Some(sessions) = sessions_of(mode, matches.get_str("sessions")) else {
+        return Err(wrong(
+            alloc,
+            "--sessions must be a number from 1 to 65535, and only `serve` has it\n",
+        ));
+    };
     match path_of(alloc, matches.get_str("store")) {
         Ok(path) => Ok(Args {
             mode,
             path,
             databases,
+            sessions,
         }),
         Err(_) => Err(ArgFault::memory(alloc)),
     }
@@ -235,6 +259,27 @@ fn databases_of(value: Option<&str>) -> Option<u8>
     } else {
         None
     }
+}
+
+/// Returns the number of sessions of a value, from 1 to 65,535, which only `serve` may have. The
+/// number is read as Rust reads a `u16`, so `+3` and `00000065` are accepted.
+fn sessions_of(mode: Mode, value: Option<&str>) -> Option<u16>
+    ensures { result ≡ sessions_of mode (option_map (λ s. s.now) value.entry) }
+{
+    let Some(text) = value else {
+        return Some(Session::MAX_SHARED);
+    };
+    match mode {
+        Mode::Serve => some_sessions(text.parse::<u16>().unwrap_or(0)),
+        Mode::Run | Mode::Free => None,
+    }
+}
+
+/// Returns a number of sessions, if it isn't 0.
+fn some_sessions(count: u16) -> Option<u16>
+    ensures { result ≡ some_sessions count }
+{
+    if count == 0 { None } else { Some(count) }
 }
 
 /// Returns what to print for a parse without matches.

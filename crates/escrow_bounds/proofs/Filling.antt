@@ -52,24 +52,25 @@ of_table_own : (table : List ℕ) (held : List Reservation) (r : Reservation) �
 of_table_own table held r within =
     of_table_more table held r ∙ ap (λ (passes : Bool). of_table table held ++ cond passes (r ∷ []) []) within
 
--- a row has at most as many reservations of the table as there are reservations
-few_one : (row : RowName) (r : Reservation) (some : List Reservation) (n : ℕ) (passes is_own : Bool) → length (of_row row some) ≤ n
-    → length (cond passes (cond is_own (deltas r.changes ∷ of_row row some) (of_row row some)) (of_row row some)) ≤ suc n
-few_one row r some n true true few = omega (arith, few)
-few_one row r some n true false few = omega (arith, few)
-few_one row r some n false is_own few = omega (arith, few)
+-- a row has at most as many reservations of the table as of all tables
+few_one : (row : RowName) (r : Reservation) (some all : List Reservation) (passes is_own : Bool) → length (of_row row some) ≤ length (of_row row all)
+    → length (cond passes (cond is_own (deltas r.changes ∷ of_row row some) (of_row row some)) (of_row row some)) ≤ length (cond is_own (deltas r.changes ∷ of_row row all) (of_row row all))
+few_one row r some all true true few = omega (arith, few)
+few_one row r some all true false few = few
+few_one row r some all false true few = omega (arith, few)
+few_one row r some all false false few = few
 
 either_list : (row : RowName) (r : Reservation) (some : List Reservation) (passes : Bool)
     → of_row row (cond passes (r ∷ some) some) ≡ cond passes (cond (same_row row r.row) (deltas r.changes ∷ of_row row some) (of_row row some)) (of_row row some)
 either_list row r some true = refl
 either_list row r some false = refl
 
-few_of_table : (table : List ℕ) (row : RowName) (held : List Reservation) → length (of_row row (of_table table held)) ≤ length held
+few_of_table : (table : List ℕ) (row : RowName) (held : List Reservation) → length (of_row row (of_table table held)) ≤ length (of_row row held)
 few_of_table table row [] = omega arith
 few_of_table table row (r ∷ held) =
     let some = of_table table held in
     let passes = bytes_eq r.row.table table in
-    subst (λ (zs : List (List ℤ)). length zs ≤ suc (length held)) (sym (either_list row r some passes)) (few_one row r some (length held) passes (same_row row r.row) (few_of_table table row held))
+    subst (λ (zs : List (List ℤ)). length zs ≤ length (of_row row (r ∷ held))) (sym (either_list row r some passes)) (few_one row r some held passes (same_row row r.row) (few_of_table table row held))
 
 -- ---- one more reservation is counted
 
@@ -186,19 +187,29 @@ pub open_there : (places : Bounds) (held : List Reservation) (i : ℕ) (r : Rese
 open_there places held i r below is counting counts =
     placed_is places held r.row counting counts ∙ has_any (λ (q : Reservation). same_row q.row r.row) held r (has_at held i r below is) (same_row_itself r.row)
 
+longer : (b : Bool) (changes : List ℤ) (some all : List (List ℤ)) → length some < length all → length (cond b (changes ∷ some) some) < length (cond b (changes ∷ all) all)
+longer true changes some all few = omega (arith, few)
+longer false changes some all few = few
+
+-- those before a reservation of a row are fewer than all of the row
+fewer_taken : (held : List Reservation) (i : ℕ) (r : Reservation) → i < length held → r ≡ get_or held i r → length (of_row r.row (take i held)) < length (of_row r.row held)
+fewer_taken [] i r below is = absurd (omega (arith, below))
+fewer_taken (first ∷ held) zero r below is =
+    let own : same_row r.row first.row ≡ true = ap (λ (q : Reservation). same_row r.row q.row) (sym is) ∙ same_row_itself r.row in
+    subst (λ (b : Bool). 0 < length (cond b (deltas first.changes ∷ of_row r.row held) (of_row r.row held))) (sym own) (omega arith)
+fewer_taken (first ∷ held) (suc i) r below is =
+    longer (same_row r.row first.row) (deltas first.changes) (of_row r.row (take i held)) (of_row r.row held) (fewer_taken held i r (omega (arith, below)) is)
+
 -- while not all reservations are counted, a place has room for one more
-pub filled_room : (table : List ℕ) (checks : List Check) (held : List Reservation) (i : ℕ) (places filled : Bounds) (row : RowName) → i < length held → length held ≤ MAX_OPEN
-    → AreFilled table checks (take i held) places filled → (place : Place) → place_at filled row ≡ Some place → place.count < MAX_OPEN
-filled_room table checks held i places filled row below many are place at =
+pub filled_room : (table : List ℕ) (checks : List Check) (held : List Reservation) (i : ℕ) (places filled : Bounds) (r : Reservation) → i < length held → r ≡ get_or held i r
+    → length (of_row r.row held) ≤ MAX_OPEN
+    → AreFilled table checks (take i held) places filled → (place : Place) → place_at filled r.row ≡ Some place → place.count < MAX_OPEN
+filled_room table checks held i places filled r below is many are place at =
+    let row = r.row in
     let known : CountsJust (Some place) (of_row row (of_table table (take i held))) = subst (λ (p : Option Place). CountsJust p (of_row row (of_table table (take i held)))) at (are.counts row) in
     let few = few_of_table table row (take i held) in
-    let taken = length-taken i held in
-    omega (arith, known.0, few, taken, below, many)
-  where
-    length-taken : (n : ℕ) (rs : List Reservation) → length (take n rs) ≤ n
-    length-taken zero rs = omega arith
-    length-taken (suc n) [] = omega arith
-    length-taken (suc n) (r ∷ rs) = let rest = length-taken n rs in omega (arith, rest)
+    let fewer = fewer_taken held i r below is in
+    omega (arith, known.0, few, fewer, many)
 
 pub filled_next : (table : List ℕ) (checks : List Check) (held : List Reservation) (i : ℕ) (places old new : Bounds) (r : Reservation) → i < length held → r ≡ get_or held i r
     → ((some : List Reservation) → AreFilled table checks some places old → AreFilled table checks (some ++ r ∷ []) places new)

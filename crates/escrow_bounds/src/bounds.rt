@@ -1,4 +1,4 @@
-ghost use Rattle.std.specs.Prelude.{◌≡◌, ℤ, List, [], ◌∷◌, ◌++◌, ◌<◌, ◌≤◌, true, false, IfOk, IfSome, OnOk, OnErr, IsSome, Some, None, is_some, length, option_copied, option_map, slice_get, bytes_eq};
+ghost use Rattle.std.specs.Prelude.{◌≡◌, ℤ, List, [], ◌∷◌, ◌++◌, ◌<◌, ◌≤◌, true, false, IfOk, IfSome, OnOk, OnErr, IsSome, Some, None, is_some, length, option_copied, option_map, slice_get, bytes_eq, nat_le};
 ghost use Rattle.std.specs.List.{AllByRecursion, list_any};
 ghost use Rattle.escrow_num.specs.declared.reservation.Reservation.{Reservation};
 ghost use Rattle.escrow_num.specs.declared.value.RowName.{RowName};
@@ -24,7 +24,7 @@ use crate::changes::deltas;
 use crate::place::Place;
 use crate::verdict::Verdict;
 pub use addition::Addition;
-use escrow_checks::Check;
+use escrow_checks::{Check, Spread};
 use escrow_num::{Amount, End, Name, Reservation, RowName, Violation, Wide};
 use indexmap::IndexMap;
 use std::alloc::{AllocError, Global};
@@ -244,6 +244,16 @@ impl Bounds {
     {
         let (_, place) = self.places.get_index(index).unwrap();
         place.verdict(changes)
+    }
+
+    /// Returns whether the place at an index counts as many reservations as a row may have,
+    /// [`Spread::MAX_OPEN`].
+    pub fn is_full_at(&self, index: usize) -> bool
+        requires { (row : RowName) × IsAt self.now row index }
+        ensures { (row : RowName) (place : Place) → IsAt self.now row index → place_at self.now row ≡ Some place → result ≡ nat_le MAX_OPEN place.count }
+    {
+        let (_, place) = self.places.get_index(index).unwrap();
+        place.count() >= Spread::MAX_OPEN
     }
 
     /// Counts a new reservation of a row. Its place must count fewer than 16,384.

@@ -126,7 +126,7 @@ pub fn sums_are_wide()
 
 /// The limits of this layer. A table declares at most 32 conditions. A coefficient is at most
 /// 1,000,000 as written, and at most 10^12 as kept. A form has at most 10 coefficients. A wide sum
-/// fits 128 bits. At most 16,384 reservations are open.
+/// fits 128 bits. At most 16,384 reservations of a row are open.
 pub fn limits()
     ensures { Limits }
 {}

@@ -22,7 +22,7 @@ pub struct Spread {
 impl Spread {
     ghost use Rattle.escrow_checks.specs.Spread.{IsSpread};
 
-    /// The most reservations that are open at a time: 64 sessions with 256 each.
+    /// The most open reservations of a row, as many as 64 sessions with 256 each may have.
     pub const MAX_OPEN: usize = 16_384;
 
     /// Returns the spread of no reservations.

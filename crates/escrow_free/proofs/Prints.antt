@@ -6,7 +6,7 @@ use Rattle.escrow_sql.specs.declared.fault.ParseFault.{ParseFault}
 use Rattle.escrow_statement.specs.declared.statement.Request.{Request}
 use Rattle.escrow_script.specs.Written.{fault_refusal, no_line_text}
 use Rattle.escrow_script.proofs.WrittenLemmas.{appends_more, appends_none}
-use Rattle.escrow_num.specs.Session.{IsSession}
+use Rattle.escrow_num.specs.Session.{IsShared}
 use Rattle.escrow_stats.specs.Text.{rendered_totals}
 use Rattle.escrow_stats.specs.declared.tally.Tally.{Tally}
 use Rattle.escrow_script.specs.Line.{database_name}
@@ -52,7 +52,7 @@ refused_prints place session f plan desks totals = λ items taken m fits counts.
     record { left = items; took = taken; matches = m; fits = fits; counts = counts; prints = λ back end p. (back, p, refl) }
 
 pub totals_print : (place session : ℕ) (tally : Tally) (plan : List Planned) (desks : List Desk) (totals : List Tally)
-    → IsSession session → slice_get totals (desk_of place session) ≡ Some tally
+    → IsShared session → slice_get totals (desk_of place session) ≡ Some tally
     → PrintsTo (planned.Totals place session ∷ plan) desks totals (rendered_totals (database_name place) session tally) plan desks totals
 totals_print place session tally plan desks totals is at = λ items taken m fits counts.
     record {

@@ -2,7 +2,7 @@
 use Rattle.std.proofs.Common.{◌≡◌, ◌≢◌, ◌⊎◌, ℕ, Bool, true, false, ◌&&◌, ◌<◌, ◌≤◌, eqb, if◌then◌else◌, Option, Some, None, List, [], ◌∷◌, ◌++◌, length, map, set, slice_get, refl, sym, ap, subst, ◌∙◌, inl, inr, arith}
 use Rattle.std.proofs.lemmas.Bool.{eq-eqb, ne_eqb, cases_eq}
 use Rattle.std.proofs.lemmas.List.{length-append, length-map, map-append}
-use Rattle.escrow_num.specs.Session.{IsSession}
+use Rattle.escrow_num.specs.Session.{IsShared}
 use Rattle.escrow_num.specs.declared.refusal.Refusal.TheVariants as refusal
 use Rattle.escrow_statement.specs.declared.statement.Request.{Request}
 use Rattle.escrow_statement.specs.declared.statement.Request.TheVariants as request
@@ -162,7 +162,7 @@ next_turns place session taken asked rs None olds news pass counted totals is co
 -- DESKS
 
 -- sessions with the same desk are equal
-one_desk : (p s place session : ℕ) → IsSession s → IsSession session → desk_of p s ≡ desk_of place session → (p ≡ place) × (s ≡ session)
+one_desk : (p s place session : ℕ) → IsShared s → IsShared session → desk_of p s ≡ desk_of place session → (p ≡ place) × (s ≡ session)
 one_desk p s place session is also same =
     let a = is.0 in let b = is.1 in let c = also.0 in let d = also.1 in (omega arith, omega arith)
 
@@ -173,7 +173,7 @@ of_other : (k : ℕ) (item : ℕ × Request) (items : List (ℕ × Request)) →
 of_other k item items apart = rw (ne_eqb item.0 k apart) refl
 
 -- a line that requests something prints its session's next answer
-module _ (place session : ℕ) (desks : List Desk) (totals : List Tally) (old new : Desk) (counted tally : Tally) (next : Option Given) (plan : List Planned) (is_session : IsSession session)
+module _ (place session : ℕ) (desks : List Desk) (totals : List Tally) (old new : Desk) (counted tally : Tally) (next : Option Given) (plan : List Planned) (is_session : IsShared session)
     (at : slice_get desks (desk_of place session) ≡ Some old) (beside : slice_get totals (desk_of place session) ≡ Some counted) (pass : new.pass ≡ old.pass)
     (nexts : IsNext (answers_of old) next (answers_of new)) (counts : IsCounted next old.pass counted tally) where
   fits_after : (item : ℕ × Request) (items : List (ℕ × Request)) (taken : List Taken) (asked : Statement) → item.0 ≡ desk_of place session → Fits (item ∷ items) taken desks

@@ -1,8 +1,8 @@
 -- Helps: the desks of sessions.
 use Rattle.std.specs.Prelude.{◌≡◌, ℕ, ◌+◌, ◌-◌, ◌*◌, ◌<◌, Option, Some, None, List, [], ◌∷◌, ◌++◌, length, slice_get}
 use Rattle.std.specs.Vec.Iter.{into_iter_items}
-use Rattle.escrow_num.specs.Session.{IsSession}
-use Rattle.escrow_num.specs.declared.session.TheConstants.Session.{MAX}
+use Rattle.escrow_num.specs.Session.{IsShared}
+use Rattle.escrow_num.specs.declared.session.TheConstants.Session.{MAX_SHARED}
 use Rattle.escrow_statement.specs.declared.statement.Request.{Request}
 use Rattle.escrow_machine.specs.declared.reply.Reply.{Reply}
 use Rattle.escrow_stats.specs.Tally.{tally_of}
@@ -21,7 +21,7 @@ use Rattle.escrow_free.specs.declared.desk.Desk.{Desk}
 
 -- the place of a session's desk among the desks of all databases
 abbrev pub desk_of : ℕ → ℕ → ℕ
-desk_of place session = place * MAX + (session - 1)
+desk_of place session = place * MAX_SHARED + (session - 1)
 
 -- the pass of a desk, and its answers that aren't printed yet
 abbrev pub pass_of : Desk → Pass
@@ -53,8 +53,8 @@ HasDesk sharing desk = HasPass sharing desk.pass
 
 -- each session of each database has a desk
 pub record HavePasses {S : Type 0} (sharing : Shared S) (desks : List Desk) : Type 0 where
-  pub sessions : sharing.sessions ≡ MAX
-  pub count : length desks ≡ length sharing.openings * MAX
+  pub sessions : sharing.sessions ≡ MAX_SHARED
+  pub count : length desks ≡ length sharing.openings * MAX_SHARED
 
 -- passes were served: each has a desk, whose answers are those to the requests of the items that name its place
 pub record ArePassesServed (passes : List Pass) (items : List (ℕ × Request)) (served : List Desk) : Type 0 where
@@ -82,11 +82,11 @@ seat_after place session taken = record { database = place; session = session; r
 -- answers to the remaining requests lead to the desk's pass
 abbrev pub Fits : List (ℕ × Request) → List Taken → List Desk → Type 0
 Fits items taken desks =
-    (place session : ℕ) (desk : Desk) → IsSession session → slice_get desks (desk_of place session) ≡ Some desk
+    (place session : ℕ) (desk : Desk) → IsShared session → slice_get desks (desk_of place session) ≡ Some desk
     → Serves (seat_after place session taken) (of (desk_of place session) items) (answers_of desk) desk.pass
 
 -- the totals of each session, by the place of its desk, are those of the replies that its lines took
 abbrev pub AreTotals : List Taken → List Tally → Type 0
 AreTotals taken totals =
-    (place session : ℕ) (tally : Tally) → IsSession session → slice_get totals (desk_of place session) ≡ Some tally
+    (place session : ℕ) (tally : Tally) → IsShared session → slice_get totals (desk_of place session) ≡ Some tally
     → tally ≡ tally_of (replies_by place session taken)

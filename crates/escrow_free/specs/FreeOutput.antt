@@ -1,8 +1,9 @@
 -- Believed: the output of a script whose sessions run at the same time.
 use Rattle.std.specs.Prelude.{◌≡◌, ◌⊎◌, ℕ, ◌==◌, ◌&&◌, ◌≤◌, Option, Some, if◌then◌else◌, List, [], ◌∷◌, ◌++◌, length, map, slice_get}
 use Rattle.std.specs.Io.KnownBytes.{Appends}
+use Rattle.escrow_num.specs.declared.session.TheConstants.Session.{MAX_SHARED}
 use Rattle.escrow_num.specs.declared.refusal.Refusal.{Refusal}
-use Rattle.escrow_num.specs.Session.{IsSession}
+use Rattle.escrow_num.specs.Session.{IsShared}
 use Rattle.escrow_sql.specs.declared.fault.ParseFault.{ParseFault}
 use Rattle.escrow_statement.specs.declared.statement.Statement.{Statement}
 use Rattle.escrow_statement.specs.declared.statement.Request.{Request}
@@ -82,7 +83,7 @@ DoesLine taken (statement place session text) out new = DoesText taken place ses
 
 -- the bytes of a line, with this many databases
 abbrev pub DoesBytes : ℕ → List Taken → List ℕ → List ℕ → List Taken → Type 0
-DoesBytes databases taken bytes out new = (reading : Reading) × Reads databases bytes reading × DoesLine taken reading out new
+DoesBytes databases taken bytes out new = (reading : Reading) × Reads databases MAX_SHARED bytes reading × DoesLine taken reading out new
 
 -- lines, one after another
 abbrev pub DoLines : ℕ → List Taken → List (List ℕ) → List ℕ → List Taken → Type 0
@@ -95,7 +96,7 @@ DoLines databases taken (line ∷ lines) out new =
 pub record FreeOutput (script : List ℕ) (histories : List (List Entry)) (out : List ℕ) : Type 0 where
   pub taken : List Taken
   pub lines : DoLines (length histories) [] (lines_of script) out taken
-  pub all : (place session : ℕ) (entries : List Entry) → slice_get histories place ≡ Some entries → IsSession session
+  pub all : (place session : ℕ) (entries : List Entry) → slice_get histories place ≡ Some entries → IsShared session
       → taken_by place session taken ≡ receipts_of session entries
 
 -- the whole script was served: it is no longer than a script may be, and its output was written

@@ -1,7 +1,7 @@
 -- Helps: phases that are read and served one after another.
 use Rattle.std.specs.Prelude.{◌≡◌, ℕ, ◌≤◌, Option, Some, None, List, [], ◌*◌, ◌++◌, length, ⊤}
 use Rattle.std.specs.Io.KnownBytes.{Appends}
-use Rattle.escrow_num.specs.declared.session.TheConstants.Session.{MAX}
+use Rattle.escrow_num.specs.declared.session.TheConstants.Session.{MAX_SHARED}
 use Rattle.escrow_script.specs.declared.limits.TheConstants.{MAX_SCRIPT}
 use Rattle.escrow_script.specs.Line.{lines_of}
 use Rattle.escrow_free.specs.Desks.{Fits}
@@ -34,6 +34,6 @@ pub record IsServed (databases : ℕ) (script : List ℕ) (desks : List Desk) (o
   pub out : List ℕ
   pub taken : List Taken
   pub lines : DoLines databases [] (lines_of script) out taken
-  pub count : length desks ≡ databases * MAX
+  pub count : length desks ≡ databases * MAX_SHARED
   pub fits : Fits [] taken desks
   pub appends : Appends old_bytes new_bytes out

@@ -1,5 +1,6 @@
 -- Helps: what is planned for lines.
 use Rattle.std.specs.Prelude.{◌≡◌, ◌⊎◌, ℕ, List, [], ◌∷◌, ◌++◌}
+use Rattle.escrow_num.specs.declared.session.TheConstants.Session.{MAX_SHARED}
 use Rattle.escrow_sql.specs.declared.fault.ParseFault.{ParseFault}
 use Rattle.escrow_statement.specs.declared.statement.Statement.{Statement}
 use Rattle.escrow_statement.specs.declared.statement.Request.{Request}
@@ -28,7 +29,7 @@ PlansReading (statement place session text) lines items = PlansText place sessio
 
 -- what the bytes of a line add, with this many databases
 abbrev pub PlansBytes : ℕ → List ℕ → List Planned → List (ℕ × Request) → Type 0
-PlansBytes databases bytes lines items = (reading : Reading) × Reads databases bytes reading × PlansReading reading lines items
+PlansBytes databases bytes lines items = (reading : Reading) × Reads databases MAX_SHARED bytes reading × PlansReading reading lines items
 
 -- what lines add, one after another
 abbrev pub Plans : ℕ → List (List ℕ) → List Planned → List (ℕ × Request) → Type 0

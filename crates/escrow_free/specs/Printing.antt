@@ -1,7 +1,8 @@
 -- Helps: what is printed for planned lines.
-use Rattle.std.specs.Prelude.{◌≡◌, ℕ, ◌<◌, Option, Some, None, List, [], ◌∷◌, ◌++◌}
+use Rattle.std.specs.Prelude.{◌≡◌, ℕ, ◌<◌, ◌≤◌, Option, Some, None, List, [], ◌∷◌, ◌++◌}
 use Rattle.std.specs.Io.KnownBytes.{Appends}
 use Rattle.escrow_num.specs.declared.refusal.Refusal.TheVariants as refusal
+use Rattle.escrow_num.specs.declared.session.TheConstants.Session.{MAX_SHARED}
 use Rattle.escrow_statement.specs.declared.statement.Statement.{Statement}
 use Rattle.escrow_statement.specs.declared.statement.Request.{Request}
 use Rattle.escrow_statement.specs.declared.statement.Request.TheVariants as request
@@ -29,12 +30,12 @@ given_text name session (Some (given.Reply (answer.Unserved cause))) = rendered 
 given_text name session (Some (given.Totals totals)) = rendered_totals name session totals
 given_text name session None = rendered name session (reply.Refused refusal.Memory)
 
--- a planned line names a database, and a desk that exists
+-- a planned line names a database, and a session that has a desk
 abbrev pub HasItsDesk : ℕ → Planned → Type 0
 HasItsDesk desks planned.NoLine = Unit {0}
 HasItsDesk desks (planned.Refused place session f) = place < MAX_DATABASES
-HasItsDesk desks (planned.Asked place session) = (place < MAX_DATABASES) × (desk_of place session < desks)
-HasItsDesk desks (planned.Totals place session) = (place < MAX_DATABASES) × (desk_of place session < desks)
+HasItsDesk desks (planned.Asked place session) = (place < MAX_DATABASES) × (session ≤ MAX_SHARED) × (desk_of place session < desks)
+HasItsDesk desks (planned.Totals place session) = (place < MAX_DATABASES) × (session ≤ MAX_SHARED) × (desk_of place session < desks)
 
 -- each line that asks has its statement, for its session's desk, in order
 abbrev pub Matches : List Planned → List (ℕ × Request) → Type 0

@@ -1,7 +1,8 @@
 //! The desk of a session: its pass, and its answers that aren't printed yet.
-ghost use Rattle.std.specs.Prelude.{◌≡◌, ◌<◌, map, IfOk};
+ghost use Rattle.std.specs.Prelude.{◌≡◌, ◌<◌, ◌≤◌, map, IfOk};
 ghost use Rattle.std.specs.List.{AllZip};
-ghost use Rattle.escrow_num.specs.Session.{IsSession};
+ghost use Rattle.escrow_num.specs.Session.{IsShared};
+ghost use Rattle.escrow_num.specs.declared.session.TheConstants.Session.{MAX_SHARED};
 ghost use Rattle.escrow_free.specs.Desks.{IsNewDesk, IsDoneDesk, IsUnservedDesk, desk_of, pass_of};
 
 use escrow_num::Session;
@@ -60,11 +61,12 @@ impl Desk {
 
 /// Returns the place of a session's desk among the desks of all databases.
 pub(crate) fn desk_of(database: usize, session: Session) -> usize
-    requires { database < MAX_DATABASES }
+    requires few { database < MAX_DATABASES }
+    requires shared { session ≤ MAX_SHARED }
     ensures place { result ≡ desk_of database session }
-    ensures is_session { IsSession session }
+    ensures is_session { IsShared session }
 {
-    let first = database * usize::from(Session::MAX);
+    let first = database * usize::from(Session::MAX_SHARED);
     first + usize::from(session.get()) - 1
 }
 

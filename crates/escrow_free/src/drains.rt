@@ -82,7 +82,7 @@ impl<S: Alter + Drop> Drains<S> {
 /// Returns the number of the last entry of a database, by the receipts at its desks, or 0 if there
 /// is none. The desks of a database are consecutive.
 fn last_number(database: usize, desks: &[Desk]) -> u64 {
-    let sessions = usize::from(Session::MAX);
+    let sessions = usize::from(Session::MAX_SHARED);
     let Some(its_desks) = desks.chunks(sessions).nth(database) else {
         return 0;
     };

@@ -1,5 +1,6 @@
 //! What the lines of a phase print, and what they ask.
 ghost use Rattle.std.specs.Prelude.{◌≡◌, ◌≤◌, ◌<◌, OnOk};
+ghost use Rattle.escrow_num.specs.declared.session.TheConstants.Session.{MAX_SHARED};
 
 use crate::desk::desk_of;
 use escrow_num::Session;
@@ -71,7 +72,7 @@ impl Plan {
         requires { databases ≤ MAX_DATABASES }
         ensures { OnOk result (Adds databases line.now self.old self.new) }
     {
-        match classify(databases, line) {
+        match classify(databases, Session::MAX_SHARED, line) {
             Line::Nothing => Ok(false),
             Line::Join => Ok(true),
             Line::NoLine | Line::Restart { .. } => {
@@ -97,7 +98,8 @@ impl Plan {
         session: Session,
         text: &str,
     ) -> Result<(), AllocError>
-        requires { database < MAX_DATABASES }
+        requires few { database < MAX_DATABASES }
+        requires shared { session ≤ MAX_SHARED }
         ensures { OnOk result (AddsText database session text.now self.old self.new) }
     {
         match parse(alloc, text) {

@@ -1,6 +1,6 @@
 ghost use Rattle.std.specs.Prelude.{◌≡◌, ◌≢◌, ◌↔◌, ◌≤◌, true, List, [], length, map, replicate, vec_len, IfErr, IfOk, IfSome, IsErrOf, OnOk};
 ghost use Rattle.std.specs.Io.KnownBytes.{IsAtEnd};
-ghost use Rattle.escrow_num.specs.declared.session.TheConstants.Session.{MAX};
+ghost use Rattle.escrow_num.specs.declared.session.TheConstants.Session.{MAX_SHARED};
 ghost use Rattle.escrow_core.specs.Database.{Database};
 ghost use Rattle.escrow_stats.specs.Tally.{tally_of};
 ghost use Rattle.escrow_shards.specs.Opened.{any_open, AreRead, database_at};
@@ -142,8 +142,8 @@ fn serve_stage<
     audience: &mut A,
 ) -> Result<Audit<S>, FreeFault>
     requires few { length stage.shared.openings ≤ MAX_DATABASES }
-    requires sessions { stage.shared.sessions ≡ MAX }
-    requires passes { stage.passes.items ≡ new_passes (length stage.shared.openings) MAX }
+    requires sessions { stage.shared.sessions ≡ MAX_SHARED }
+    requires passes { stage.passes.items ≡ new_passes (length stage.shared.openings) MAX_SHARED }
 
     // This holds for whichever databases were read when the sharing began.
     ensures legal { IfOk result (λ audit. (databases : List (Database S)) → AreRead S.Store databases (map database_at stage.shared.openings)

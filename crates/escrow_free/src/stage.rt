@@ -1,6 +1,6 @@
 //! Databases that are shared for a script, and what is found when the sharing ends.
 ghost use Rattle.std.specs.Prelude.{◌≡◌, ◌≢◌, ◌↔◌, ◌≤◌, true, false, length, map, vec_len, IfOk, IfErr, MatchResult, OnOk};
-ghost use Rattle.escrow_num.specs.declared.session.TheConstants.Session.{MAX};
+ghost use Rattle.escrow_num.specs.declared.session.TheConstants.Session.{MAX_SHARED};
 ghost use Rattle.escrow_shards.specs.Opened.{any_open, AreRead, database_at};
 ghost use Rattle.escrow_shards.specs.Pass.{new_passes};
 ghost use Rattle.escrow_shards.specs.Whole.{AreWhole};
@@ -31,12 +31,12 @@ pub(crate) fn share<S: Alter + Drop>(
     requires some { 1 ≤ vec_len databases }
     requires few { vec_len databases ≤ MAX_DATABASES }
     ensures read { IfOk result (λ stage. AreRead S.Store databases.items (map database_at stage.shared.openings)) }
-    ensures sessions { IfOk result (λ stage. stage.shared.sessions ≡ MAX) }
-    ensures passes { IfOk result (λ stage. stage.passes.items ≡ new_passes (length databases.items) MAX) }
+    ensures sessions { IfOk result (λ stage. stage.shared.sessions ≡ MAX_SHARED) }
+    ensures passes { IfOk result (λ stage. stage.passes.items ≡ new_passes (length databases.items) MAX_SHARED) }
     ensures closed { OnOk result (any_open databases.items ≡ false) }
     ensures open { IfErr result (λ fault. (fault ≡ FreeFault.Open) ↔ (any_open databases.items ≡ true)) }
 {
-    match Shared::<S>::make(alloc, databases, Session::MAX) {
+    match Shared::<S>::make(alloc, databases, Session::MAX_SHARED) {
         Ok((shared, passes)) => Ok(Stage {
             shared,
             passes,
@@ -55,12 +55,12 @@ pub(crate) fn share_watched<'r, S: Alter + Drop, T: Wait>(
     requires some { 1 ≤ vec_len databases }
     requires few { vec_len databases ≤ MAX_DATABASES }
     ensures read { IfOk result (λ stage. AreRead S.Store databases.items (map database_at stage.shared.openings)) }
-    ensures sessions { IfOk result (λ stage. stage.shared.sessions ≡ MAX) }
-    ensures passes { IfOk result (λ stage. stage.passes.items ≡ new_passes (length databases.items) MAX) }
+    ensures sessions { IfOk result (λ stage. stage.shared.sessions ≡ MAX_SHARED) }
+    ensures passes { IfOk result (λ stage. stage.passes.items ≡ new_passes (length databases.items) MAX_SHARED) }
     ensures closed { OnOk result (any_open databases.items ≡ false) }
     ensures open { IfErr result (λ fault. (fault ≡ FreeFault.Open) ↔ (any_open databases.items ≡ true)) }
 {
-    match Shared::make_watched(rt, alloc, databases, Session::MAX, 1) {
+    match Shared::make_watched(rt, alloc, databases, Session::MAX_SHARED, 1) {
         Ok((shared, passes, watchers)) => Ok(Stage {
             shared,
             passes,

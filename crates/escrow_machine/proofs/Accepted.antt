@@ -20,6 +20,7 @@ use Rattle.escrow_statement.specs.declared.statement.Statement.TheVariants as st
 use Rattle.escrow_statement.specs.declared.statement.TableChange.{TableChange}
 use Rattle.escrow_statement.specs.declared.statement.TableChange.TheVariants as change
 use Rattle.escrow_checks.specs.Grant.{broken}
+use Rattle.escrow_checks.specs.declared.spread.TheConstants.Spread.{MAX_OPEN}
 use Rattle.escrow_schema.specs.declared.plan.Plan.{Plan}
 use Rattle.escrow_schema.specs.declared.plan.Plan.TheVariants as plan
 use Rattle.escrow_schema.specs.declared.table.TableDef.{TableDef}
@@ -33,7 +34,7 @@ use Rattle.escrow_journal.specs.declared.journal.TheConstants.Journal.{MAX_SAVEP
 use Rattle.escrow_journal.specs.Reservations.{own_savepoints}
 use Rattle.escrow_journal.specs.Savepoints.{without_savepoint}
 use Rattle.escrow_machine.specs.Accepted.{IsAccepted}
-use Rattle.escrow_machine.specs.State.{State, open_in, is_reserved, is_table_reserved}
+use Rattle.escrow_machine.specs.State.{State, open_in, is_reserved, is_table_reserved, on_row}
 use Rattle.escrow_schema.specs.Rows.{row_named, rows_of, changes_to}
 use Rattle.escrow_machine.specs.Transition.{transition_of, alter_refusals, update_refusals}
 use Rattle.escrow_machine.specs.Altered.{table_with_check, table_without_check, added_violation, drop_refusal_of, table_altered}
@@ -197,6 +198,7 @@ pub record ReserveStands (s : State) (session : ℕ) (text : UpdateText) (key : 
   pub planned : planned table text ≡ Ok (plan.Reserve key changes)
   pub row : Row
   pub found : row_named s.rows (row_name text.table key) ≡ Some row
+  pub row_room : length (on_row (row_name text.table key) s.reservations) < MAX_OPEN
   pub free : IsFree session (open_in s)
   pub safe : broken table.checks row.amounts (deltas changes) (map (changes_to row) s.reservations) ≡ None
 
@@ -215,7 +217,8 @@ reserve_stands s session text key changes is accepted =
     let p = update_plan s session text accepted in
     let none = late_passed s session text (plan.Reserve key changes) is accepted in
     let row = present (row_named s.rows name) refusal.NoSuchRow none.0 in
-    let none_broken : violation_of s r ≡ None = unbroken (violation_of s r) none.1.1.0 in
+    let none_broken : violation_of s r ≡ None = unbroken (violation_of s r) none.1.1.1.0 in
+    let held = length (on_row name s.reservations) in
     let in_table : option_and_then (λ (x : Row). broken p.table.checks x.amounts (deltas changes) (map (changes_to x) s.reservations)) (row_named s.rows name) ≡ None =
     subst (λ (o : Option TableDef). option_and_then (λ (t : TableDef). option_and_then (λ (x : Row). broken t.checks x.amounts (deltas changes) (map (changes_to x) s.reservations)) (row_named s.rows name)) o ≡ None)
     p.named none_broken in
@@ -225,7 +228,8 @@ reserve_stands s session text key changes is accepted =
       planned = same_plan s text (plan.Reserve key changes) p is;
       row = row.0;
       found = row.1;
-      free = is_free session (open_in s) none.1.0;
+      row_room = below MAX_OPEN held (failed (nat_le MAX_OPEN held) refusal.TooManyReservations none.1.0);
+      free = is_free session (open_in s) none.1.1.0;
       safe = subst (λ (o : Option Row). option_and_then (λ (x : Row). broken p.table.checks x.amounts (deltas changes) (map (changes_to x) s.reservations)) o ≡ None) row.1 in_table;
     }
 

@@ -83,6 +83,7 @@ over_catalog s catalog orderly tables found =
       reservations_in = has_all (IsReservationIn catalog s.next_id) s.reservations still_in;
       reservation_order = orderly.reservation_order;
       few_reservations = orderly.few_reservations;
+      few_on_rows = orderly.few_on_rows;
       savepoints_in = orderly.savepoints_in;
       savepoint_order = orderly.savepoint_order;
       few_savepoints = orderly.few_savepoints;

@@ -2,7 +2,7 @@
 use Rattle.std.specs.Prelude.{◌≡◌, ℕ, ℤ, ◌<◌, ◌≤◌, ◌==◌, Bool, false, not, is_none, nat_le, option_map, unwrap_or, Option, Some, None, List, [], ◌∷◌, length, map, filter}
 use Rattle.std.specs.List.{AllByRecursion}
 use Rattle.std.proofs.Common.{refl, sym, ap, ap₂, ◌∙◌, subst, arith}
-use Rattle.std.proofs.lemmas.Bool.{and_right, not_from_false, false_from_ne_true, leb-true}
+use Rattle.std.proofs.lemmas.Bool.{and_right, not_from_false, false_from_ne_true, leb-true, lt-leb}
 use Rattle.escrow_num.specs.declared.refusal.Refusal.{Refusal}
 use Rattle.escrow_num.specs.declared.refusal.Refusal.TheVariants as refusal
 use Rattle.escrow_num.specs.declared.reservation.Reservation.{Reservation}
@@ -10,6 +10,7 @@ use Rattle.escrow_num.specs.declared.reservation.Savepoint.{Savepoint}
 use Rattle.escrow_num.specs.declared.row.Row.{Row}
 use Rattle.escrow_num.specs.declared.value.RowName.{RowName}
 use Rattle.escrow_num.specs.declared.value.Value.{Value}
+use Rattle.escrow_num.specs.Order.{same_row}
 use Rattle.escrow_num.specs.Refusal.{refuse_if, first_refusal}
 use Rattle.escrow_num.specs.Reservation.{deltas}
 use Rattle.escrow_num.proofs.Ascending.{ascending_filter}
@@ -17,6 +18,7 @@ use Rattle.escrow_num.proofs.Items.{Has, all_has}
 use Rattle.escrow_statement.specs.declared.statement.Statement.TheVariants as statement
 use Rattle.escrow_statement.specs.declared.statement.UpdateText.{UpdateText}
 use Rattle.escrow_checks.specs.Grant.{broken}
+use Rattle.escrow_checks.specs.declared.spread.TheConstants.Spread.{MAX_OPEN}
 use Rattle.escrow_schema.specs.declared.plan.Plan.{Plan}
 use Rattle.escrow_schema.specs.declared.plan.Plan.TheVariants as plan
 use Rattle.escrow_schema.specs.declared.table.TableDef.{TableDef}
@@ -29,7 +31,7 @@ use Rattle.escrow_machine.specs.declared.reply.Reply.TheVariants as reply
 use Rattle.escrow_machine.specs.Asked.{plan_of, plan_refusal_of, row_name, reservation_from, violation_of}
 use Rattle.escrow_machine.specs.Laws.{BackAtOnceChangesNothing, BackRefusesNothing}
 use Rattle.escrow_machine.specs.Accepted.{IsAccepted}
-use Rattle.escrow_machine.specs.State.{State, open_in}
+use Rattle.escrow_machine.specs.State.{State, open_in, on_row}
 use Rattle.escrow_schema.specs.Rows.{row_named, changes_to}
 use Rattle.escrow_machine.specs.Step.{step}
 use Rattle.escrow_machine.specs.Transition.{transition_of, after_savepoint, after_rollback_to, update_refusals, update_reply}
@@ -114,11 +116,11 @@ BreaksNone table name changes rows reservations =
 -- an accepted UPDATE is also accepted beside other rows and reservations, if the session holds no more of them,
 -- and changes that broke nothing still break nothing
 late_beside : (s : State) (rows : List Row) (reservations : List Reservation) (savepoints : List Savepoint) (session : ℕ) (text : UpdateText) (key : Value) (changes : List (Option ℤ))
-    → length (own session reservations) ≤ length (own session s.reservations)
+    → length (own session reservations) ≤ length (own session s.reservations) → ((name : RowName) → length (on_row name reservations) ≤ length (on_row name s.reservations))
     → ((table : TableDef) (name : RowName) → BreaksNone table name (deltas changes) s.rows s.reservations → BreaksNone table name (deltas changes) rows reservations)
     → plan_of s text ≡ Some (plan.Reserve key changes) → IsAccepted s session (statement.Update text)
     → AllByRecursion (λ o. o ≡ None) (update_refusals (beside s rows reservations savepoints) session text.table (plan.Reserve key changes))
-late_beside s rows reservations savepoints session text key changes fewer still is accepted =
+late_beside s rows reservations savepoints session text key changes fewer fewer_on still is accepted =
     let stands = reserve_stands s session text key changes is accepted in
     let name = row_name text.table key in
     let t : State = beside s rows reservations savepoints in
@@ -126,8 +128,11 @@ late_beside s rows reservations savepoints session text key changes fewer still 
     let unbroken : violation_of t (reservation_from s session name changes) ≡ None = rw (stands.named, found.1) found.2 in (
       rw found.1 refl,
       (
-        unrefused session (open_in t) (record { room = le_lt fewer stands.free.room; more_ids = stands.free.more_ids }),
-        (ap (option_map refusal.Check) unbroken, tt),
+        rw (not_full (fewer_on name) stands.row_room) refl,
+        (
+          unrefused session (open_in t) (record { room = le_lt fewer stands.free.room; more_ids = stands.free.more_ids }),
+          (ap (option_map refusal.Check) unbroken, tt),
+        ),
       ),
     )
   where
@@ -135,13 +140,16 @@ late_beside s rows reservations savepoints session text key changes fewer still 
         → length (own session reservations) < MAX_RESERVATIONS
     le_lt few room = omega arith
 
+    not_full : {fewer held : ℕ} → fewer ≤ held → held < MAX_OPEN → nat_le MAX_OPEN fewer ≡ false
+    not_full {fewer} {held} few room = lt-leb MAX_OPEN fewer (omega arith)
+
 pub accepted_beside : (s : State) (rows : List Row) (reservations : List Reservation) (savepoints : List Savepoint) (session : ℕ) (text : UpdateText) (key : Value) (changes : List (Option ℤ))
-    → length (own session reservations) ≤ length (own session s.reservations)
+    → length (own session reservations) ≤ length (own session s.reservations) → ((name : RowName) → length (on_row name reservations) ≤ length (on_row name s.reservations))
     → ((table : TableDef) (name : RowName) → BreaksNone table name (deltas changes) s.rows s.reservations → BreaksNone table name (deltas changes) rows reservations)
     → plan_of s text ≡ Some (plan.Reserve key changes) → IsAccepted s session (statement.Update text)
     → IsAccepted (beside s rows reservations savepoints) session (statement.Update text)
 unfolding transition_of
-accepted_beside s rows reservations savepoints session text key changes fewer still is accepted =
+accepted_beside s rows reservations savepoints session text key changes fewer fewer_on still is accepted =
     let t : State = beside s rows reservations savepoints in
     let unknown = refuse_if (is_none (table_named s.catalog text.table)) refusal.NoSuchTable in
     let before = unwrap_or (option_map (update_refusals s session text.table) (plan_of s text)) [] in
@@ -149,7 +157,7 @@ accepted_beside s rows reservations savepoints session text key changes fewer st
     let none = all_passed (unknown ∷ plan_refusal_of s text ∷ before) accepted in
     let late : AllByRecursion (λ o. o ≡ None) later =
     subst (λ (o : Option Plan). AllByRecursion (λ r. r ≡ None) (unwrap_or (option_map (update_refusals t session text.table) o) [])) (sym is)
-    (late_beside s rows reservations savepoints session text key changes fewer still is accepted) in
+    (late_beside s rows reservations savepoints session text key changes fewer fewer_on still is accepted) in
     none_applies (unknown ∷ plan_refusal_of s text ∷ later) (none.0, (none.1.0, late))
 
 -- a reservation that breaks nothing beside all open ones breaks nothing beside some of them
@@ -188,6 +196,7 @@ granted_beside s keep savepoints session text id granted =
     let is = granted_plan s session text id none.1 in
     accepted_reply t session text
     (accepted_beside s s.rows left savepoints session text is.0 is.1 (length-filter_filter (λ (r : Reservation). r.session == session) keep s.reservations)
+    (λ name. length-filter_filter (λ (r : Reservation). same_row name r.row) keep s.reservations)
     (λ table name. fewer_break keep s table name (deltas is.1)) is.2 none.0)
     ∙ reserved_reply t session text is.0 is.1 is.2
     ∙ sym (reserved_reply s session text is.0 is.1 is.2)

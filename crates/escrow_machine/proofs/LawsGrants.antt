@@ -34,7 +34,7 @@ use Rattle.escrow_journal.specs.Open.{grant_refusal}
 use Rattle.escrow_journal.specs.Reservations.{others}
 use Rattle.escrow_machine.specs.Accepted.{IsAccepted}
 use Rattle.escrow_machine.specs.Asked.{plan_of, plan_refusal_of, reservation_from, row_name, reserved_by, reservation_of, violation_of}
-use Rattle.escrow_machine.specs.State.{State, open_in, is_open}
+use Rattle.escrow_machine.specs.State.{State, open_in, is_open, is_row_full}
 use Rattle.escrow_schema.specs.Rows.{row_named, changes_to, row_after}
 use Rattle.escrow_machine.specs.Step.{refusals, step}
 use Rattle.escrow_machine.specs.Transition.{transition_of, update_refusals, update_reply}
@@ -175,12 +175,14 @@ late_violation s session text (Some (plan.Reserve key changes)) violation first 
     let P : Refusal → Type 0 = λ other. ¬ (other ≡ refusal.Check violation) in
     let name = row_name text.table key in
     let no_row = refuse_if (is_none (row_named s.rows name)) refusal.NoSuchRow in
+    let full = refuse_if (is_row_full s name) refusal.TooManyReservations in
     let not_free = grant_refusal session (open_in s) in
     let o = violation_of s (reservation_from s session name changes) in
     let last = option_map refusal.Check o in
     let here = refusal.Check violation in
-    let past_row = passed_over no_row (not_free ∷ last ∷ []) here (if_among P _ _ (λ q. absurd (cc))) first in
-    let past_free = passed_over not_free (last ∷ []) here (grant_among P session (open_in s) (λ q. absurd (cc)) (λ q. absurd (cc))) past_row in
+    let past_row = passed_over no_row (full ∷ not_free ∷ last ∷ []) here (if_among P _ _ (λ q. absurd (cc))) first in
+    let past_full = passed_over full (not_free ∷ last ∷ []) here (if_among P _ _ (λ q. absurd (cc))) past_row in
+    let past_free = passed_over not_free (last ∷ []) here (grant_among P session (open_in s) (λ q. absurd (cc)) (λ q. absurd (cc))) past_full in
     last_violation o violation past_free
 late_violation s session text (Some (plan.Plain key values)) violation first =
     let P : Refusal → Type 0 = λ other. ¬ (other ≡ refusal.Check violation) in

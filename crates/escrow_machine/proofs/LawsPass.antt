@@ -47,7 +47,7 @@ use Rattle.escrow_machine.proofs.LawsBack.{BreaksNone, accepted_beside, reserved
 use Rattle.escrow_machine.proofs.LawsEnds.{own_stay, same_state, transactions_commute}
 use Rattle.escrow_machine.proofs.LawsGrants.{choice_of_image, granted_none, granted_plan}
 use Rattle.escrow_machine.proofs.LawsSteps.{step_has}
-use Rattle.escrow_machine.proofs.Lengths.{find_map}
+use Rattle.escrow_machine.proofs.Lengths.{find_map, length-filter_filter}
 use Rattle.escrow_machine.proofs.SavepointNames.{named_is, found_of_other}
 use Rattle.escrow_machine.proofs.Savepoints.{session_up_to, by_session, put_by_session, put_kept, through_ascending, through_kept}
 use Rattle.escrow_machine.proofs.Transitions.{is_transition}
@@ -271,6 +271,7 @@ update_passes s session other text id differ granted =
     let fewer : length (own other (others session s.reservations)) ≤ length (own other s.reservations) = omega arith in
     let accepted : IsAccepted t other (statement.Update text) =
     accepted_beside s (applied s.rows (own session s.reservations)) (others session s.reservations) (other_savepoints session s.savepoints) other text is.0 is.1 fewer
+    (λ name. length-filter_filter (λ (r : Reservation). same_row name r.row) (λ r. not (r.session == session)) s.reservations)
     (λ table name. committed_break s session table name (deltas is.1)) is.2 none.0 in
     alike s session other (statement.Update text) (accepted ∙ sym none.0)
     (reserved_reply t other text is.0 is.1 is.2 ∙ sym (reserved_reply s other text is.0 is.1 is.2))

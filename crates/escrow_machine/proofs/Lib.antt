@@ -15,6 +15,7 @@ pub mod LawsEnds
 pub mod LawsGrants
 pub mod LawsHeld
 pub mod LawsIds
+pub mod LawsLimit
 pub mod LawsMemory
 pub mod LawsPass
 pub mod LawsPromised

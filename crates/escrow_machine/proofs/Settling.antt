@@ -1,5 +1,5 @@
 -- The state after a plan of ends, entry by entry.
-use Rattle.std.specs.Prelude.{◌≡◌, ℕ, ◌+◌, ◌<◌, ◌≤◌, ℤ, Bool, true, false, cond, not, ◌==◌, ◌||◌, ◌&&◌, Option, Some, option_map, is_none, List, [], ◌∷◌, ◌++◌, map, filter, find, length, take, slice_get}
+use Rattle.std.specs.Prelude.{◌≡◌, ℕ, ◌+◌, ◌<◌, ◌≤◌, ◌^◌, ℤ, Bool, true, false, cond, not, ◌==◌, ◌||◌, ◌&&◌, Option, Some, option_map, is_none, List, [], ◌∷◌, ◌++◌, map, filter, find, length, take, slice_get}
 use Rattle.std.proofs.Common.{refl, sym, ap, ap₂, subst, arith, drop, get_or, ◌∙◌}
 use Rattle.std.proofs.lemmas.List.{drop_all, drop_more, take_all, take_more}
 use Rattle.std.proofs.lemmas.List.Filters.{length-filter_both}
@@ -10,7 +10,6 @@ use Rattle.escrow_num.specs.declared.row.Row.{Row}
 use Rattle.escrow_num.specs.declared.session.End.{End}
 use Rattle.escrow_num.specs.declared.session.End.TheVariants as end
 use Rattle.escrow_checks.specs.Form.{changed, all_changed}
-use Rattle.escrow_checks.specs.declared.spread.TheConstants.Spread.{MAX_OPEN}
 use Rattle.escrow_journal.specs.Reservations.{own, others, other_savepoints}
 use Rattle.escrow_machine.specs.declared.settled.Settled.{Settled}
 use Rattle.escrow_machine.specs.declared.settled.Stop.{Stop}
@@ -232,7 +231,7 @@ counts_end plan all i reservations done past so_far =
 
 -- the counts stay within the limit of open reservations
 pub counts_fit : (s : State) (whole rest : List (ℕ × End)) (reservations : List Reservation) (done : Settled) (a count : ℕ) → HasOrder s
-    → CountsSoFar whole s.reservations rest reservations done → count ≡ length (own a reservations) → done.committed + done.released + count ≤ MAX_OPEN
+    → CountsSoFar whole s.reservations rest reservations done → count ≡ length (own a reservations) → done.committed + done.released + count < 2 ^ 32
 counts_fit s whole rest reservations done a count orderly so_far is =
     let few = so_far.few in
     let most = few_reservations s orderly in

@@ -1,5 +1,5 @@
 -- What a valid state bounds, and the shapes of its tables, rows and reservations.
-use Rattle.std.specs.Prelude.{◌≡◌, ◌≤◌, ℕ, ℤ, List, Some, length, bytes_eq, IsSomeAnd}
+use Rattle.std.specs.Prelude.{◌≡◌, ◌<◌, ◌≤◌, ◌*◌, ◌^◌, ℕ, ℤ, List, Some, length, bytes_eq, IsSomeAnd}
 use Rattle.std.specs.List.{AllByRecursion}
 use Rattle.std.proofs.Common.{subst, arith}
 use Rattle.escrow_num.specs.declared.row.Row.{Row}
@@ -15,7 +15,6 @@ use Rattle.escrow_schema.specs.Definition.{IsTable}
 use Rattle.escrow_schema.specs.Fit.{IsRowOf}
 use Rattle.escrow_schema.proofs.LawLemmas.{checks_of_whole_row}
 use Rattle.escrow_num.specs.declared.session.TheConstants.Session.{MAX}
-use Rattle.escrow_checks.specs.declared.spread.TheConstants.Spread.{MAX_OPEN}
 use Rattle.escrow_journal.specs.declared.journal.TheConstants.Journal.{MAX_RESERVATIONS}
 use Rattle.escrow_machine.specs.State.{State}
 use Rattle.escrow_schema.specs.Rows.{row_named, HasTable}
@@ -36,11 +35,13 @@ pub is_table_found : (s : State) → HasOrder s → (name : List ℕ) (table : T
 is_table_found s orderly name table found =
     all_has IsTable s.catalog orderly.tables.tables table (find_has (λ (t : TableDef). bytes_eq t.name name) s.catalog table found).0
 
--- a database has at most 16384 open reservations: 256 for each of 64 sessions
-pub few_reservations : (s : State) → HasOrder s → length s.reservations ≤ MAX_OPEN
+-- the open reservations of a database can be counted in 32 bits: each session has at most 256
+pub few_reservations : (s : State) → HasOrder s → length s.reservations < 2 ^ 32
 few_reservations s orderly =
+    let most : length s.reservations ≤ MAX_RESERVATIONS * MAX =
     length-by_number (λ (r : Reservation). r.session) MAX_RESERVATIONS MAX s.reservations
-    (λ r h. (all_has (IsReservationIn s.catalog s.next_id) s.reservations orderly.reservations_in r h).session) orderly.few_reservations
+    (λ r h. (all_has (IsReservationIn s.catalog s.next_id) s.reservations orderly.reservations_in r h).session) orderly.few_reservations in
+    omega (arith, most)
 
 -- ROWS
 

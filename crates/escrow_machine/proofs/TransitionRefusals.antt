@@ -76,8 +76,11 @@ update_late s session text (Some (plan.Reserve key changes)) =
     let IsUpdate : Refusal → Type 0 = IsLate (statement.Update text) in (
       late (statement.Update text) _ _ refl,
       (
-        grant_among IsUpdate session (open_in s) refl refl,
-        (check_among IsUpdate (violation_of s (reservation_from s session (row_name text.table key) changes)) (λ _. refl), tt),
+        late (statement.Update text) _ _ refl,
+        (
+          grant_among IsUpdate session (open_in s) refl refl,
+          (check_among IsUpdate (violation_of s (reservation_from s session (row_name text.table key) changes)) (λ _. refl), tt),
+        ),
       ),
     )
 update_late s session text (Some (plan.Plain key values)) = (late (statement.Update text) _ _ refl, (late (statement.Update text) _ _ refl, tt))

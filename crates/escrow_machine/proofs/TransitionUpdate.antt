@@ -42,7 +42,7 @@ pub reserved_valid : (s : State) (session : ℕ) (text : UpdateText) (key : Valu
 reserved_valid s session text key changes valid of_session is accepted =
     let stands = reserve_stands s session text key changes is accepted in
     update_valid s stands.table stands.row (reservation_from s session (row_name text.table key) changes) valid stands.named stands.found of_session refl stands.free.more_ids
-    (plans_of_whole_row stands.table text key changes stands.planned) stands.free.room stands.safe
+    (plans_of_whole_row stands.table text key changes stands.planned) stands.free.room stands.row_room stands.safe
 
 -- replaced plain values leave the state valid
 pub replaced_valid : (s : State) (session : ℕ) (text : UpdateText) (key : Value) (values : List (Option Value)) → IsValid s

@@ -17,6 +17,7 @@ opened_orderly catalog tables = record {
   reservations_in = tt;
   reservation_order = tt;
   few_reservations = λ session. omega arith;
+  few_on_rows = λ name. omega arith;
   savepoints_in = tt;
   savepoint_order = tt;
   few_savepoints = λ session. omega arith;

@@ -40,6 +40,7 @@ kept_orderly catalog reservations savepoints left next_id keep orderly left_in o
   reservations_in = all_filter (IsReservationIn catalog next_id) keep reservations orderly.reservations_in;
   reservation_order = ascending_filter reservation_before keep reservations orderly.reservation_order;
   few_reservations = λ k. le_trans (length-filter_filter (λ r. r.session == k) keep reservations) (orderly.few_reservations k);
+  few_on_rows = λ name. le_trans (length-filter_filter (λ (r : Reservation). same_row name r.row) keep reservations) (orderly.few_on_rows name);
   savepoints_in = left_in;
   savepoint_order = order;
   few_savepoints = few;

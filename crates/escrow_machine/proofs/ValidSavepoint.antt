@@ -33,6 +33,7 @@ savepoint_orderly s session name orderly of_session room =
       reservations_in = orderly.reservations_in;
       reservation_order = orderly.reservation_order;
       few_reservations = orderly.few_reservations;
+      few_on_rows = orderly.few_on_rows;
       savepoints_in = has_all In (put_savepoint new left) (λ q h.
           elim (has_put_savepoint new left q h) [ inl e ↦ subst In e new_in | inr k ↦ each_in q (has_filter other s.savepoints q k).0 ]);
       savepoint_order = put_ascending savepoint_before before_session sessions_rise new left (λ q h same. before_made q new (last q h same)) (ascending_filter savepoint_before other s.savepoints orderly.savepoint_order);

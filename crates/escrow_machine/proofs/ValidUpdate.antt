@@ -14,13 +14,14 @@ use Rattle.escrow_num.specs.Reservation.{deltas}
 use Rattle.escrow_num.specs.Session.{IsSession}
 use Rattle.escrow_checks.specs.Form.{changed, all_changed}
 use Rattle.escrow_checks.specs.Grant.{Meets, broken}
+use Rattle.escrow_checks.specs.declared.spread.TheConstants.Spread.{MAX_OPEN}
 use Rattle.escrow_schema.specs.declared.table.TableDef.{TableDef}
 use Rattle.escrow_schema.specs.Catalog.{table_named}
 use Rattle.escrow_schema.specs.Column.{reservables}
 use Rattle.escrow_num.specs.declared.reservation.TheConstants.Reservation.{MAX_ID}
 use Rattle.escrow_journal.specs.declared.journal.TheConstants.Journal.{MAX_RESERVATIONS}
 use Rattle.escrow_journal.specs.Reservations.{own, reservation_before}
-use Rattle.escrow_machine.specs.State.{State}
+use Rattle.escrow_machine.specs.State.{State, on_row}
 use Rattle.escrow_schema.specs.Rows.{row_named, changes_to, row_after, applied, MeetsChecks}
 use Rattle.escrow_machine.specs.Valid.{IsValid, IsOrderly, IsReservationIn, IsSavepointIn, HasRow}
 use Rattle.escrow_num.proofs.Items.{Has, all_has, has_all, has_push, find_has}
@@ -81,25 +82,36 @@ meets_push s table row r valid named found safe front choice other h =
           (safe_row s valid front choice other h)
     ]
 
+-- at most as many pass a test as before, or one more where there is room
+few_more : (p : Reservation → Bool) (most : ℕ) (reservations : List Reservation) (r : Reservation) → length (filter p reservations) ≤ most
+    → (p r ≡ true → length (filter p reservations) < most) → length (filter p (reservations ++ r ∷ [])) ≤ most
+few_more p most reservations r few room =
+    let parts : length (filter p (reservations ++ r ∷ [])) ≡ length (filter p reservations) + length (filter p (r ∷ [])) =
+    ap length (filter-append p reservations (r ∷ [])) ∙ length-append (filter p reservations) (filter p (r ∷ [])) in
+    cond_both (p r) (r ∷ []) [] (λ zs. length (filter p (reservations ++ r ∷ [])) ≡ length (filter p reservations) + length zs → length (filter p (reservations ++ r ∷ [])) ≤ most)
+    (λ t e. let here = room t in omega arith)
+    (λ f e. omega arith) parts
+
 -- a session has at most as many reservations as the limit, with the new one
 few_own : (reservations : List Reservation) (r : Reservation) (session : ℕ) → length (own session reservations) ≤ MAX_RESERVATIONS → length (own r.session reservations) < MAX_RESERVATIONS
     → length (own session (reservations ++ r ∷ [])) ≤ MAX_RESERVATIONS
 few_own reservations r session few room =
-    let p : Reservation → Bool = λ x. x.session == session in
-    let parts : length (filter p (reservations ++ r ∷ [])) ≡ length (filter p reservations) + length (filter p (r ∷ [])) =
-    ap length (filter-append p reservations (r ∷ [])) ∙ length-append (filter p reservations) (filter p (r ∷ [])) in
-    cond_both (p r) (r ∷ []) [] (λ zs. length (filter p (reservations ++ r ∷ [])) ≡ length (filter p reservations) + length zs → length (filter p (reservations ++ r ∷ [])) ≤ MAX_RESERVATIONS)
-    (λ t e. let same : r.session ≡ session = eqb-true r.session session t in
-    let here : length (own session reservations) < MAX_RESERVATIONS = subst (λ k. length (own k reservations) < MAX_RESERVATIONS) same room in
-    omega arith)
-    (λ f e. omega arith) parts
+    few_more (λ x. x.session == session) MAX_RESERVATIONS reservations r few
+    (λ t. subst (λ k. length (own k reservations) < MAX_RESERVATIONS) (eqb-true r.session session t) room)
+
+-- so has a row
+few_of_row : (reservations : List Reservation) (r : Reservation) (name : RowName) → length (on_row name reservations) ≤ MAX_OPEN → length (on_row r.row reservations) < MAX_OPEN
+    → length (on_row name (reservations ++ r ∷ [])) ≤ MAX_OPEN
+few_of_row reservations r name few room =
+    few_more (λ x. same_row name x.row) MAX_OPEN reservations r few
+    (λ t. subst (λ (n : RowName). length (on_row n reservations) < MAX_OPEN) (sym (row_same name r.row t)) room)
 
 -- a reservation with the next id is the last in order, and takes that id
 pub granted_orderly : (s : State) (table : TableDef) (r : Reservation) → IsOrderly s.catalog s.reservations s.savepoints s.next_id → table_named s.catalog r.row.table ≡ Some table
     → IsSession r.session → r.id ≡ s.next_id → s.next_id ≤ MAX_ID
-    → length r.changes ≡ length (reservables table.columns) → length (own r.session s.reservations) < MAX_RESERVATIONS
+    → length r.changes ≡ length (reservables table.columns) → length (own r.session s.reservations) < MAX_RESERVATIONS → length (on_row r.row s.reservations) < MAX_OPEN
     → IsOrderly s.catalog (s.reservations ++ r ∷ []) s.savepoints (s.next_id + 1)
-granted_orderly s table r orderly named of_session next more_ids long room =
+granted_orderly s table r orderly named of_session next more_ids long room row_room =
     let old : (x : Reservation) → Has s.reservations x → IsReservationIn s.catalog s.next_id x =
     all_has (IsReservationIn s.catalog s.next_id) s.reservations orderly.reservations_in in
     let first : 1 ≤ s.next_id = orderly.first_id in
@@ -127,6 +139,7 @@ granted_orderly s table r orderly named of_session next more_ids long room =
       reservations_in = has_all (IsReservationIn s.catalog (s.next_id + 1)) (s.reservations ++ r ∷ []) each_in;
       reservation_order = ascending_push reservation_before s.reservations r orderly.reservation_order in_order;
       few_reservations = λ session. few_own s.reservations r session (orderly.few_reservations session) room;
+      few_on_rows = λ name. few_of_row s.reservations r name (orderly.few_on_rows name) row_room;
       savepoints_in = has_all (IsSavepointIn (s.next_id + 1)) s.savepoints savepoint_in;
       savepoint_order = orderly.savepoint_order;
       few_savepoints = orderly.few_savepoints;
@@ -142,10 +155,10 @@ with_reservation s r = record s { reservations = s.reservations ++ r ∷ []; nex
 pub update_valid : (s : State) (table : TableDef) (row : Row) (r : Reservation) → IsValid s
     → table_named s.catalog r.row.table ≡ Some table → row_named s.rows r.row ≡ Some row
     → IsSession r.session → r.id ≡ s.next_id → s.next_id ≤ MAX_ID
-    → length r.changes ≡ length (reservables table.columns) → length (own r.session s.reservations) < MAX_RESERVATIONS
+    → length r.changes ≡ length (reservables table.columns) → length (own r.session s.reservations) < MAX_RESERVATIONS → length (on_row r.row s.reservations) < MAX_OPEN
     → broken table.checks row.amounts (deltas r.changes) (map (changes_to row) s.reservations) ≡ None
     → IsValid (with_reservation s r)
-update_valid s table row r valid named found of_session next more_ids long room safe =
+update_valid s table row r valid named found of_session next more_ids long room row_room safe =
     let Safe : List Reservation → Type 0 = λ c. AllByRecursion (MeetsChecks s.catalog) (applied s.rows c) in
     let stands : HasRow s.rows r = subst (λ (o : Option Row). IsSome o) (sym found) refl in
     let each_stands : (x : Reservation) → Has (s.reservations ++ r ∷ []) x → HasRow s.rows x = λ x h.
@@ -160,7 +173,7 @@ update_valid s table row r valid named found of_session next more_ids long room 
           (safe_rows s.catalog s.rows (k.0 ++ r ∷ []) (meets_push s table row r valid named found safe k.0 k.1))
     ] in
     record {
-      orderly = granted_orderly s table r valid.orderly named of_session next more_ids long room;
+      orderly = granted_orderly s table r valid.orderly named of_session next more_ids long room row_room;
       safe_rows = record {
         tables = valid.safe_rows.tables;
         row_order = valid.safe_rows.row_order;

@@ -1,5 +1,5 @@
 -- Believed: the statements of the laws in src/laws.rt.
-use Rattle.std.specs.Prelude.{◌≡◌, ℕ, ℤ, ◌+◌, ◌<◌, ◌≤◌, ◌+ℤ◌, ◌≤ℤ◌, true, false, Some, None, IsSome, IsSomeAnd, List, [], ◌∷◌, ◌++◌, length, map, take, slice_get, Contains, IsTrue}
+use Rattle.std.specs.Prelude.{◌≡◌, ℕ, ℤ, ◌+◌, ◌*◌, ◌<◌, ◌≤◌, ◌+ℤ◌, ◌≤ℤ◌, true, false, is_none, option_map, Option, Some, None, IsSome, IsSomeAnd, List, [], ◌∷◌, ◌++◌, length, map, take, slice_get, Contains, IsTrue}
 use Rattle.std.specs.List.{AllByRecursion, AllZip}
 use Rattle.escrow_num.specs.declared.refusal.Violation.{Violation}
 use Rattle.escrow_num.specs.declared.refusal.Refusal.{Refusal}
@@ -8,10 +8,11 @@ use Rattle.escrow_num.specs.declared.reservation.Reservation.{Reservation}
 use Rattle.escrow_num.specs.declared.reservation.Savepoint.{Savepoint}
 use Rattle.escrow_num.specs.declared.row.Row.{Row}
 use Rattle.escrow_num.specs.declared.session.End.{End}
-use Rattle.escrow_num.specs.Refusal.{first_refusal}
+use Rattle.escrow_num.specs.Refusal.{refuse_if, first_refusal}
 use Rattle.escrow_num.specs.Reservation.{deltas}
 use Rattle.escrow_num.specs.Session.{IsSession}
 use Rattle.escrow_num.specs.Span.{Holds}
+use Rattle.escrow_num.specs.declared.value.Value.{Value}
 use Rattle.escrow_statement.specs.declared.statement.Statement.{Statement}
 use Rattle.escrow_statement.specs.declared.statement.Statement.TheVariants as statement
 use Rattle.escrow_statement.specs.declared.statement.UpdateText.{UpdateText}
@@ -23,6 +24,7 @@ use Rattle.escrow_checks.specs.Form.{form}
 use Rattle.escrow_checks.specs.Grant.{Meets}
 use Rattle.escrow_checks.specs.Laws.{IsBeyond}
 use Rattle.escrow_checks.specs.Sublists.{sublists}
+use Rattle.escrow_checks.specs.declared.spread.TheConstants.Spread.{MAX_OPEN}
 use Rattle.escrow_schema.specs.declared.column.Column.{Column}
 use Rattle.escrow_schema.specs.declared.table.TableDef.{TableDef}
 use Rattle.escrow_schema.specs.declared.plan.Plan.{Plan}
@@ -41,16 +43,18 @@ use Rattle.escrow_machine.specs.declared.reply.Reply.{Reply}
 use Rattle.escrow_machine.specs.declared.reply.Reply.TheVariants as reply
 use Rattle.escrow_machine.specs.Event.{HasSession}
 use Rattle.escrow_machine.specs.Reply.{failure_of, holds_memory, is_refused}
+use Rattle.escrow_journal.specs.declared.journal.TheConstants.Journal.{MAX_RESERVATIONS}
+use Rattle.escrow_journal.specs.Open.{grant_refusal}
 use Rattle.escrow_journal.specs.Reservations.{own, others, own_savepoints}
 use Rattle.escrow_journal.specs.Savepoints.{savepoint_of}
 use Rattle.escrow_machine.specs.Held.{passes, Waiting, IsHeldRun, Outcome, events_of, answers_by, ended_by}
 use Rattle.escrow_machine.specs.Altered.{table_altered}
-use Rattle.escrow_machine.specs.Asked.{new_row, plan_of, row_name, named_by, reservation_of}
+use Rattle.escrow_machine.specs.Asked.{new_row, plan_of, row_name, named_by, reservation_from, reservation_of, violation_of}
 use Rattle.escrow_machine.specs.Settle.{end_of, settled, after_end, after_ends}
-use Rattle.escrow_machine.specs.State.{State, empty, opened}
+use Rattle.escrow_machine.specs.State.{State, empty, opened, open_in}
 use Rattle.escrow_schema.specs.Rows.{row_named, changes_to, row_after, applied, with_row, without_row, without_rows_of, with_plain, MeetsChecks}
 use Rattle.escrow_machine.specs.Step.{step, StepOrRefusal, IsRun}
-use Rattle.escrow_machine.specs.Transition.{transition_of}
+use Rattle.escrow_machine.specs.Transition.{transition_of, update_refusals}
 use Rattle.escrow_machine.specs.Valid.{IsValid}
 
 -- VALIDITY
@@ -345,3 +349,19 @@ BoundsDecideGrants = (s : State) (session : ℕ) (text : UpdateText) (table : Ta
     → ((id : ℕ) → (step s session (statement.Update text)).0 ≡ reply.Reserved id → AllByRecursion (StaysWithin row s.reservations (deltas new.changes)) table.checks)
     × ((violation : Violation) → (step s session (statement.Update text)).0 ≡ reply.Refused (refusal.Check violation)
     → ¬ (AllByRecursion (StaysWithin row s.reservations (deltas new.changes)) table.checks))
+
+-- THE LIMIT OF A ROW
+
+-- why a session can't reserve changes of a row, if the row's limit is left out
+abbrev pub refusals_without_limit : State → ℕ → List ℕ → Value → List (Option ℤ) → List (Option Refusal)
+refusals_without_limit s session table key changes =
+    refuse_if (is_none (row_named s.rows (row_name table key))) refusal.NoSuchRow
+    ∷ grant_refusal session (open_in s)
+    ∷ option_map refusal.Check (violation_of s (reservation_from s session (row_name table key) changes))
+    ∷ []
+
+-- if a row may have all the reservations that so many sessions may hold, its limit refuses nothing that theirs doesn't
+abbrev pub SessionsFillFirst : Type 0
+SessionsFillFirst = (s : State) (sessions session : ℕ) (table : List ℕ) (key : Value) (changes : List (Option ℤ)) → IsValid s
+    → MAX_RESERVATIONS * sessions ≤ MAX_OPEN → AllByRecursion (λ r. r.session ≤ sessions) s.reservations → 1 ≤ session → session ≤ sessions
+    → first_refusal (update_refusals s session table (plan.Reserve key changes)) ≡ first_refusal (refusals_without_limit s session table key changes)

@@ -1,11 +1,12 @@
 -- Believed: the state of a database, and what is read from it.
-use Rattle.std.specs.Prelude.{ℕ, Bool, List, [], bytes_eq}
+use Rattle.std.specs.Prelude.{ℕ, Bool, List, [], bytes_eq, filter, length, nat_le}
 use Rattle.std.specs.List.{list_any}
 use Rattle.escrow_num.specs.declared.value.RowName.{RowName}
 use Rattle.escrow_num.specs.declared.row.Row.{Row}
 use Rattle.escrow_num.specs.declared.reservation.Reservation.{Reservation}
 use Rattle.escrow_num.specs.declared.reservation.Savepoint.{Savepoint}
 use Rattle.escrow_num.specs.Order.{same_row}
+use Rattle.escrow_checks.specs.declared.spread.TheConstants.Spread.{MAX_OPEN}
 use Rattle.escrow_schema.specs.declared.table.TableDef.{TableDef}
 use Rattle.escrow_journal.specs.Open.{Open}
 use Rattle.escrow_journal.specs.Open as journal
@@ -48,6 +49,14 @@ has_open s = journal.has_open (open_in s)
 -- whether an open reservation, of any session, is of the row
 abbrev pub is_reserved : State → RowName → Bool
 is_reserved s name = list_any (λ r. same_row r.row name) s.reservations
+
+-- the open reservations of a row, of all sessions, in order of grant
+abbrev pub on_row : RowName → List Reservation → List Reservation
+on_row name reservations = filter (λ r. same_row name r.row) reservations
+
+-- whether as many open reservations, of all sessions, are of the row as a row may have
+abbrev pub is_row_full : State → RowName → Bool
+is_row_full s name = nat_le MAX_OPEN (length (on_row name s.reservations))
 
 -- whether an open reservation, of any session, is of a row of the table
 abbrev pub is_table_reserved : State → List ℕ → Bool

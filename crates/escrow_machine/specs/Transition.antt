@@ -25,7 +25,7 @@ use Rattle.escrow_machine.specs.Altered.{table_with_check, added_violation, drop
 use Rattle.escrow_machine.specs.Asked.{new_row, insert_violation, plan_of, plan_refusal_of, row_name, reservation_from, violation_of, named_by, key_refusal_of, select_refusal_of, select_reply, show_reply}
 use Rattle.escrow_machine.specs.Bounds.{bounds_reply}
 use Rattle.escrow_machine.specs.Journal.{journal_reply}
-use Rattle.escrow_machine.specs.State.{State, open_in, with_open, is_open, is_reserved, is_table_reserved}
+use Rattle.escrow_machine.specs.State.{State, open_in, with_open, is_open, is_reserved, is_row_full, is_table_reserved}
 use Rattle.escrow_schema.specs.Rows.{row_named, rows_of, applied, with_row, without_row, without_rows_of, with_plain}
 
 -- How the machine answers a statement of a session: its refusals in their order, first those that are given whatever
@@ -64,6 +64,7 @@ alter_refusals s table (change.Drop check) = []
 abbrev pub update_refusals : State → ℕ → List ℕ → Plan → List (Option Refusal)
 update_refusals s session table (plan.Reserve key changes) =
     refuse_if (is_none (row_named s.rows (row_name table key))) refusal.NoSuchRow
+    ∷ refuse_if (is_row_full s (row_name table key)) refusal.TooManyReservations
     ∷ grant_refusal session (open_in s)
     ∷ option_map refusal.Check (violation_of s (reservation_from s session (row_name table key) changes))
     ∷ []

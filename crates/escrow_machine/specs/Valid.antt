@@ -2,19 +2,21 @@
 use Rattle.std.specs.Prelude.{◌≡◌, ℕ, ◌+◌, ◌<◌, ◌≤◌, IsSome, List, length, IsSomeAnd}
 use Rattle.std.specs.List.{AllByRecursion}
 use Rattle.escrow_num.specs.declared.row.Row.{Row}
+use Rattle.escrow_num.specs.declared.value.RowName.{RowName}
 use Rattle.escrow_num.specs.declared.reservation.Reservation.{Reservation}
 use Rattle.escrow_num.specs.declared.reservation.Savepoint.{Savepoint}
 use Rattle.escrow_num.specs.declared.reservation.TheConstants.Reservation.{MAX_ID}
 use Rattle.escrow_num.specs.Ascending.{IsAscending}
 use Rattle.escrow_num.specs.Session.{IsSession}
 use Rattle.escrow_checks.specs.Sublists.{sublists}
+use Rattle.escrow_checks.specs.declared.spread.TheConstants.Spread.{MAX_OPEN}
 use Rattle.escrow_schema.specs.declared.table.TableDef.{TableDef}
 use Rattle.escrow_schema.specs.Catalog.{IsCatalog, table_named}
 use Rattle.escrow_schema.specs.Column.{reservables}
 use Rattle.escrow_schema.specs.declared.table.TheConstants.TableDef.{MAX_ROWS}
 use Rattle.escrow_journal.specs.declared.journal.TheConstants.Journal.{MAX_RESERVATIONS, MAX_SAVEPOINTS}
 use Rattle.escrow_journal.specs.Reservations.{own, own_savepoints, reservation_before, savepoint_before}
-use Rattle.escrow_machine.specs.State.{State}
+use Rattle.escrow_machine.specs.State.{State, on_row}
 use Rattle.escrow_schema.specs.Rows.{row_named, rows_of, row_before, HasTable, MeetsChecks, applied}
 
 -- a reservation is of a session, has an id below the next one, and has a change, or none, for each RESERVABLE column of
@@ -37,6 +39,7 @@ pub record IsOrderly (catalog : List TableDef) (reservations : List Reservation)
   pub reservations_in : AllByRecursion (IsReservationIn catalog next_id) reservations
   pub reservation_order : IsAscending reservation_before reservations
   pub few_reservations : (session : ℕ) → length (own session reservations) ≤ MAX_RESERVATIONS
+  pub few_on_rows : (name : RowName) → length (on_row name reservations) ≤ MAX_OPEN
   pub savepoints_in : AllByRecursion (IsSavepointIn next_id) savepoints
   pub savepoint_order : IsAscending savepoint_before savepoints
   pub few_savepoints : (session : ℕ) → length (own_savepoints session savepoints) ≤ MAX_SAVEPOINTS

@@ -1,7 +1,7 @@
 //! Laws of the machine. Each is the contract of a function that does nothing. They state for its
 //! steps what O'Neil's escrow method (1986) promises of transactions.
 
-ghost use Rattle.escrow_machine.specs.Laws.{StepKeepsValid, RunKeepsValid, CommittedRowsMeetChecks, CommittedValuesFit, EveryRunIsSafe, RefusedChangesNothing, MachineNeverFails, EarlyRefusalsStand, CommitIsNeverRefused, QueriesSeeCommitsAlone, IdsNeverFall, IdsAreUsedOnce, IdsTellTheOrder, TransactionsCommute, AnyOrderOfEnds, SettledIsTheRun, SettledStaysValid, SettledInAnyOrder, PassesCommits, HeldCommitsMayComeLast, ReservationsKeepRows, ShownStays, BoundsAreReached, BackAtOnceChangesNothing, BackLeavesWhatWas, BackRefusesNothing, GrantedInEveryChoice, OwnIncrementNotSpent, RefusedByAChoice, BoundsDecideGrants};
+ghost use Rattle.escrow_machine.specs.Laws.{StepKeepsValid, RunKeepsValid, CommittedRowsMeetChecks, CommittedValuesFit, EveryRunIsSafe, RefusedChangesNothing, MachineNeverFails, EarlyRefusalsStand, CommitIsNeverRefused, QueriesSeeCommitsAlone, IdsNeverFall, IdsAreUsedOnce, IdsTellTheOrder, TransactionsCommute, AnyOrderOfEnds, SettledIsTheRun, SettledStaysValid, SettledInAnyOrder, PassesCommits, HeldCommitsMayComeLast, ReservationsKeepRows, ShownStays, BoundsAreReached, BackAtOnceChangesNothing, BackLeavesWhatWas, BackRefusesNothing, GrantedInEveryChoice, OwnIncrementNotSpent, RefusedByAChoice, BoundsDecideGrants, SessionsFillFirst};
 
 /// Whatever a session asks in a valid state, the state after it is valid: whichever of the open
 /// reservations are applied, each row meets each check of its table.
@@ -184,4 +184,11 @@ pub fn refused_by_a_choice()
 /// refuses a reservation, some of them would not.
 pub fn bounds_decide_grants()
     ensures { BoundsDecideGrants }
+{}
+
+/// With at most 64 sessions the limit of a row, 16,384 open reservations, refuses nothing: the limit
+/// of the session, 256, refuses it too. So an UPDATE gets the refusal that it would get without the
+/// row's limit.
+pub fn sessions_fill_first()
+    ensures { SessionsFillFirst }
 {}

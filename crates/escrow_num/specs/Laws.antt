@@ -12,12 +12,13 @@ use Rattle.escrow_num.specs.declared.name.TheConstants.Name.{MAX_LEN, MAX_WRITTE
 use Rattle.escrow_num.specs.declared.reservation.TheConstants.Reservation.{MAX_ID}
 use Rattle.escrow_num.specs.declared.scale.TheConstants.Scale.{MAX as MAX_SCALE}
 use Rattle.escrow_num.specs.declared.scaled.TheConstants.Scaled.{MAX_LEN as MAX_TEXT}
-use Rattle.escrow_num.specs.declared.session.TheConstants.Session.{MAX as MAX_SESSION}
+use Rattle.escrow_num.specs.declared.session.TheConstants.Session.{MAX as MAX_SESSION, MAX_SHARED as MAX_SHARED_SESSION}
 use Rattle.escrow_num.specs.declared.wide.TheConstants.Wide.{MAX as MAX_WIDE}
 
 -- the limits of this layer, as numbers
 pub record Limits : Type 0 where
-  pub sessions : MAX_SESSION ≡ 64
+  pub sessions : MAX_SESSION ≡ 65535
+  pub shared_sessions : MAX_SHARED_SESSION ≡ 64
   pub amounts : MAX_AMOUNT ≡ pos 999999999999999
   pub wide_sums : MAX_WIDE ≡ pos 1000000000000000000000000000000000
   pub ids : MAX_ID ≡ 999999999999999

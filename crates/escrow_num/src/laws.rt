@@ -1,10 +1,11 @@
 //! Laws of limits and of decimals. Each is the contract of a function that does nothing.
 ghost use Rattle.escrow_num.specs.Laws.{DigitsAreSpelled, Limits, PartsAreDigits, TextsAreReadBack, UnitsAreExact};
 
-/// The limits of this layer. Sessions are 1 to 64. An amount has at most 15 digits, a wide sum lies
-/// within 10^33, and the last id of a reservation is 999,999,999,999,999. A written name has at
-/// most 30 bytes, and any name 36. A scale has at most 6 digits, a decimal lies within
-/// 999,999,999,999,999, and the text of a number with a scale has at most 36 bytes.
+/// The limits of this layer. Sessions are 1 to 65,535, and 1 to 64 in scripts and among threads. An
+/// amount has at most 15 digits, a wide sum lies within 10^33, and the last id of a reservation is
+/// 999,999,999,999,999. A written name has at most 30 bytes, and any name 36. A scale has at most 6
+/// digits, a decimal lies within 999,999,999,999,999, and the text of a number with a scale has at
+/// most 36 bytes.
 pub fn limits()
     ensures { Limits }
 {}

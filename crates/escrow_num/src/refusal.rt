@@ -63,7 +63,7 @@ pub enum Refusal {
     TooManyTables,
     /// 41: a check could be broken.
     Check(Violation),
-    /// 42: the session holds 256 reservations.
+    /// 42: the row has 16,384 open reservations, or the session holds 256.
     TooManyReservations,
     /// 43: the transaction has no savepoint of that name.
     NoSuchSavepoint,

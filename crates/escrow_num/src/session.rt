@@ -3,10 +3,10 @@ ghost use Rattle.escrow_num.specs.Session.{IsSession};
 
 use std::marker::Model;
 
-/// The number of a session of a database, from 1 to 64.
+/// The number of a session of a database, from 1 to 65,535.
 #[derive(Clone, Copy, Debug, PartialEq, Eq, PartialOrd, Ord)]
 pub struct Session {
-    number: u8,
+    number: u16,
 }
 
 impl Model for Session {
@@ -23,14 +23,18 @@ impl Model for Session {
 }
 
 impl Session {
-    /// The greatest number of a session, which is how many sessions a database has.
-    pub const MAX: u8 = 64;
+    /// The greatest number of a session, which is how many sessions a database may have.
+    pub const MAX: u16 = 65_535;
+
+    /// The greatest number of a session in a script, and of a session of a database that threads
+    /// share.
+    pub const MAX_SHARED: u16 = 64;
 
     /// The first session.
     pub const FIRST: Session = Session { number: 1 };
 
-    /// Returns the session of a number, or `None` unless it is from 1 to 64.
-    pub fn new(number: u8) -> Option<Self>
+    /// Returns the session of a number, or `None` unless it is from 1 to 65,535.
+    pub fn new(number: u16) -> Option<Self>
         ensures { SomeIff result (IsSession number) number }
     {
         if number < 1 || Self::MAX < number {
@@ -40,8 +44,8 @@ impl Session {
         }
     }
 
-    /// Returns the number, from 1 to 64.
-    pub fn get(self) -> u8
+    /// Returns the number, from 1 to 65,535.
+    pub fn get(self) -> u16
         ensures value { result ≡ self }
         ensures within { IsSession result }
     {

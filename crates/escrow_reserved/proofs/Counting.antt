@@ -1,5 +1,5 @@
 -- Open reservations, and the places that count them.
-use Rattle.std.specs.Prelude.{◌≡◌, ◌+◌, map, take, ◌<◌, ◌≤◌, ℕ, zero, suc, ℤ, Bool, true, false, not, nat_eq, is_some, option_map, unwrap_or, Option, Some, None, IsSome, List, [], ◌∷◌, ◌++◌, length, ◌==◌}
+use Rattle.std.specs.Prelude.{◌≡◌, ◌+◌, map, take, ◌<◌, ◌≤◌, ℕ, zero, suc, ℤ, Bool, true, false, not, nat_eq, nat_le, is_some, option_map, unwrap_or, Option, Some, None, IsSome, List, [], ◌∷◌, ◌++◌, length, ◌==◌}
 use Rattle.std.specs.List.{AllByRecursion, list_any}
 use Rattle.std.proofs.Common.{inl, inr, refl, sym, ap, ap₂, subst, ◌∙◌, arith, cond, get_or, append-nil}
 use Rattle.std.proofs.lemmas.List.{map_more, map_push}
@@ -10,11 +10,13 @@ use Rattle.escrow_num.specs.declared.value.RowName.{RowName}
 use Rattle.escrow_num.specs.Order.{same_row}
 use Rattle.escrow_num.specs.Reservation.{deltas}
 use Rattle.escrow_num.specs.declared.refusal.Refusal.TheVariants as refusal
+use Rattle.escrow_num.specs.Refusal.{refuse_if}
 use Rattle.escrow_num.proofs.Items.{Has, all_filter, has_all, has_filter}
 use Rattle.escrow_num.proofs.Orders.{same_row_itself}
 use Rattle.escrow_checks.specs.declared.coefficients.TheConstants.Coefficients.{MAX_LEN}
 use Rattle.escrow_checks.specs.declared.check.Check.{Check}
 use Rattle.escrow_checks.specs.Grant.{broken}
+use Rattle.escrow_checks.specs.declared.spread.TheConstants.Spread.{MAX_OPEN}
 use Rattle.escrow_bounds.specs.Counts.{Counts, TakesIn, is_counting}
 use Rattle.escrow_bounds.specs.Held.{of_row, AllCount, CountsAll}
 use Rattle.escrow_bounds.specs.Place.{Place}
@@ -25,9 +27,10 @@ use Rattle.escrow_bounds.proofs.Reordering.{parts_count}
 use Rattle.escrow_journal.specs.Open.{Open, open_after_rollback_to, grant_refusal, open_after_grant, returned_to}
 use Rattle.escrow_journal.specs.Reservations.{own, others}
 use Rattle.escrow_journal.specs.Savepoints.{savepoint_of, after, is_after, not_after}
+use Rattle.escrow_machine.specs.State.{on_row}
 use Rattle.escrow_machine.specs.Walked.{IsShort}
 use Rattle.escrow_machine.proofs.Choices.{append_all}
-use Rattle.escrow_machine.proofs.Refusals.{passed}
+use Rattle.escrow_machine.proofs.Refusals.{all_passed, failed, below}
 use Rattle.escrow_reserved.specs.Reserved.{AreAmounts, AreCounted, ArePlaced, Releases, reason_by}
 use Rattle.escrow_reserved.proofs.Places.{some_same}
 
@@ -60,18 +63,6 @@ short_own session reservations short = all_filter IsShort (λ (r : Reservation).
 pub short_others : (session : ℕ) (reservations : List Reservation) → AllByRecursion IsShort reservations → AllByRecursion IsShort (others session reservations)
 short_others session reservations short = all_filter IsShort (λ (r : Reservation). not (r.session == session)) reservations short
 
--- a place counts at most as many as there are open reservations
-length-of_row : (row : RowName) (reservations : List Reservation) → length (of_row row reservations) ≤ length reservations
-length-of_row row [] = omega arith
-length-of_row row (r ∷ reservations) = one (same_row row r.row) (deltas r.changes) (of_row row reservations) reservations (length-of_row row reservations)
-  where
-    one : (b : Bool) (changes : List ℤ) (rest : List (List ℤ)) (others : List Reservation) → length rest ≤ length others → length (cond b (changes ∷ rest) rest) ≤ suc (length others)
-    one true changes rest others few = omega arith
-    one false changes rest others few = omega arith
-
-pub few_counted : (row : RowName) (reservations : List Reservation) (place : Place) → Counts place (of_row row reservations) → place.count ≤ length reservations
-few_counted row reservations place counts = subst (λ (n : ℕ). n ≤ length reservations) (sym counts.0) (length-of_row row reservations)
-
 -- a place that is released if it counts nothing is released if its row is not reserved
 pub released_is : (reservations : List Reservation) (row : RowName) (old new : Bounds) → CountsAll old reservations
     → (is_counting (place_at old row) ≡ false → place_at new row ≡ None) → (is_counting (place_at old row) ≡ true → new ≡ old) → Releases reservations row old new
@@ -83,7 +74,27 @@ released_is reservations row old new counts empty counting = record {
 -- if there is no reason against a reservation, the table of transactions has none
 pub free_of : (session : ℕ) (checks : List Check) (amounts changes : List ℤ) (reservations : List (List ℤ)) (o : Open) → reason_by session checks amounts changes reservations o ≡ None
     → grant_refusal session o ≡ None
-free_of session checks amounts changes reservations o none = (passed (grant_refusal session o) (option_map refusal.Check (broken checks amounts changes reservations) ∷ []) none).first
+free_of session checks amounts changes reservations o none =
+    let full = refuse_if (nat_le MAX_OPEN (length reservations)) refusal.TooManyReservations in
+    (all_passed (full ∷ grant_refusal session o ∷ option_map refusal.Check (broken checks amounts changes reservations) ∷ []) none).1.0
+
+-- and fewer reservations are of its row than may be
+pub room_of : (session : ℕ) (checks : List Check) (amounts changes : List ℤ) (reservations : List (List ℤ)) (o : Open) → reason_by session checks amounts changes reservations o ≡ None
+    → length reservations < MAX_OPEN
+room_of session checks amounts changes reservations o none =
+    let full = nat_le MAX_OPEN (length reservations) in
+    let each = all_passed (refuse_if full refusal.TooManyReservations ∷ grant_refusal session o ∷ option_map refusal.Check (broken checks amounts changes reservations) ∷ []) none in
+    below MAX_OPEN (length reservations) (failed full refusal.TooManyReservations each.0)
+
+-- a row's open reservations are as many as those whose changes its place counts
+pub on_row_counts : (name : RowName) (reservations : List Reservation) → length (of_row name reservations) ≡ length (on_row name reservations)
+on_row_counts name [] = refl
+on_row_counts name (r ∷ reservations) = one (same_row name r.row) (deltas r.changes) (of_row name reservations) r (on_row name reservations) (on_row_counts name reservations)
+  where
+    one : (b : Bool) (changes : List ℤ) (all : List (List ℤ)) (r : Reservation) (rs : List Reservation) → length all ≡ length rs
+        → length (cond b (changes ∷ all) all) ≡ length (cond b (r ∷ rs) rs)
+    one true changes all r rs is = ap suc is
+    one false changes all r rs is = is
 
 -- one more reservation is counted, at the end
 pub granted_counts : (session : ℕ) (row : RowName) (changes : List (Option ℤ)) (o : Open) (old new : Bounds) → CountsAll old o.reservations → AllByRecursion IsShort o.reservations → length changes ≤ MAX_LEN

@@ -1,4 +1,4 @@
-mod Counting
+pub mod Counting
 pub mod Ends
 pub mod Journals
 pub mod Places

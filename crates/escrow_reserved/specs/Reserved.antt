@@ -1,15 +1,16 @@
 -- Believed: what is open in a database, and the places of the rows that it reserves.
-use Rattle.std.specs.Prelude.{◌≡◌, ℕ, ℤ, true, false, Option, Some, None, is_some, option_map, List, [], ◌∷◌, map}
+use Rattle.std.specs.Prelude.{◌≡◌, ℕ, ℤ, nat_le, length, true, false, Option, Some, None, is_some, option_map, List, [], ◌∷◌, map}
 use Rattle.std.specs.List.{AllByRecursion, list_any}
 use Rattle.escrow_num.specs.declared.refusal.Refusal.{Refusal}
 use Rattle.escrow_num.specs.declared.refusal.Refusal.TheVariants as refusal
 use Rattle.escrow_num.specs.declared.reservation.Reservation.{Reservation}
 use Rattle.escrow_num.specs.declared.value.RowName.{RowName}
 use Rattle.escrow_num.specs.Order.{same_row}
-use Rattle.escrow_num.specs.Refusal.{first_refusal}
+use Rattle.escrow_num.specs.Refusal.{refuse_if, first_refusal}
 use Rattle.escrow_num.specs.Reservation.{deltas}
 use Rattle.escrow_checks.specs.declared.check.Check.{Check}
 use Rattle.escrow_checks.specs.Grant.{broken}
+use Rattle.escrow_checks.specs.declared.spread.TheConstants.Spread.{MAX_OPEN}
 use Rattle.escrow_bounds.specs.Held.{of_row, CountsAll}
 use Rattle.escrow_bounds.specs.Place.{Place, checks_of}
 use Rattle.escrow_bounds.specs.Bounds.{Bounds, place_at}
@@ -38,7 +39,8 @@ ArePlaced reservations places = (row : RowName) → is_some (place_at places row
 -- why a session can't get changes of a row with these amounts and open reservations, by the checks of its table
 abbrev pub reason_by : ℕ → List Check → List ℤ → List ℤ → List (List ℤ) → Open → Option Refusal
 reason_by session checks amounts changes reservations o = first_refusal (
-    grant_refusal session o
+    refuse_if (nat_le MAX_OPEN (length reservations)) refusal.TooManyReservations
+    ∷ grant_refusal session o
     ∷ option_map refusal.Check (broken checks amounts changes reservations)
     ∷ [])
 

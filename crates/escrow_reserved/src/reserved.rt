@@ -51,7 +51,7 @@ impl Model for Reserved {
 }
 
 impl Reserved {
-    ghost use Rattle.std.specs.Prelude.{◌⊎◌, ◌+◌, ◌<◌, ◌≤◌, IfOk, IfErr, IfSome, IsSome, OnErr, Err, bytes_eq, flat_map};
+    ghost use Rattle.std.specs.Prelude.{◌⊎◌, ◌+◌, ◌^◌, ◌<◌, ◌≤◌, IfOk, IfErr, IfSome, IsSome, OnErr, Err, bytes_eq, flat_map};
     ghost use Rattle.std.specs.List.{list_any};
     ghost use Rattle.escrow_num.specs.Order.{same_row};
     ghost use Rattle.escrow_num.specs.Reservation.{deltas};
@@ -131,7 +131,7 @@ impl Reserved {
     {
         let mut all = Vec::new(alloc);
         for (session, _) in plan {
-            push_all(&mut all, self.txns.journal(*session).all())?;
+            push_all(&mut all, self.txns.reservations(*session))?;
         }
         Ok(all)
     }
@@ -164,8 +164,7 @@ impl Reserved {
     /// Grants a session the first open reservation of a row, and returns its id, the next one. The
     /// row gets a place, which counts the reservation. `amounts` are the row's committed amounts,
     /// at most 10, and `checks` those of its table. `changes` has one, or none, for each RESERVABLE
-    /// column. If the session may hold one more, fewer than
-    /// [`Spread::MAX_OPEN`](escrow_checks::Spread::MAX_OPEN) must be open.
+    /// column.
     ///
     /// Fails if the session holds 256 reservations, no id is left, or the changes would break a
     /// check. The first of these reasons is the error, however little memory there is. Otherwise it
@@ -183,7 +182,6 @@ impl Reserved {
         requires few { length amounts.now ≤ MAX_LEN }
         requires new { place_at self.old.places row ≡ None }
         requires short { length changes ≤ MAX_LEN }
-        requires room { IsSession session → grant_refusal session self.old.txns ≡ None → length self.old.txns.reservations < MAX_OPEN }
         ensures id { IfOk result (λ id. id ≡ self.old.txns.next_id) }
         ensures free { OnOk result (reason_by session checks.now amounts.now (deltas changes) (of_row row self.old.txns.reservations) self.old.txns ≡ None) }
         ensures granted { OnOk result (self.new.txns ≡ open_after_grant session row changes self.old.txns) }
@@ -226,12 +224,12 @@ impl Reserved {
 
     /// Grants a session one more reservation of a row that has open ones, and returns its id, the
     /// next one. The row's place, whose index is `at` ([`Reserved::find`]), counts the reservation.
-    /// `changes` and the number of open reservations are as for [`Reserved::grant_first`].
+    /// `changes` are as for [`Reserved::grant_first`].
     ///
-    /// Fails if the session holds 256 reservations, no id is left, or some choice of the open
-    /// reservations with this one would break a check. The first of these reasons is the error,
-    /// however little memory there is. Otherwise it fails only if memory is refused. After an error
-    /// nothing has changed.
+    /// Fails if [`Spread::MAX_OPEN`](escrow_checks::Spread::MAX_OPEN) open reservations are of the
+    /// row, the session holds 256, no id is left, or some choice of the open reservations with this
+    /// one would break a check. The first of these reasons is the error, however little memory there
+    /// is. Otherwise it fails only if memory is refused. After an error nothing has changed.
     pub fn grant(
         &mut self,
         session: Session,
@@ -243,7 +241,6 @@ impl Reserved {
         requires placed { IsSome (place_at self.old.places row) }
         requires at { IsAt self.old.places row at }
         requires short { length changes ≤ MAX_LEN }
-        requires room { IsSession session → grant_refusal session self.old.txns ≡ None → length self.old.txns.reservations < MAX_OPEN }
         ensures id { IfOk result (λ id. id ≡ self.old.txns.next_id) }
         ensures free { OnOk result ((place : Place) → place_at self.old.places row ≡ Some place → reason_against session place row changes self.old.txns ≡ None) }
         ensures granted { OnOk result (self.new.txns ≡ open_after_grant session row changes self.old.txns) }
@@ -270,8 +267,12 @@ impl Reserved {
             → result ≡ reason_against session place row asked self.now.txns }
         ensures within { IsSession session }
     {
-        if let Some(refusal) = self.txns.grant_refusal(session) {
-            return Some(refusal);
+        let refusal = self.txns.grant_refusal(session);
+        if self.bounds.is_full_at(at) {
+            return Some(Refusal::TooManyReservations);
+        }
+        if refusal.is_some() {
+            return refusal;
         }
         self.bounds.verdict_at(at, changes).map(Refusal::Check)
     }
@@ -293,7 +294,7 @@ impl Reserved {
         requires at { IsAt self.old.places row at }
         requires short { length changes ≤ MAX_LEN }
         requires added { added.now ≡ deltas changes }
-        requires room { length self.old.txns.reservations < MAX_OPEN }
+        requires room { length (of_row row self.old.txns.reservations) < MAX_OPEN }
         ensures id { IfOk result (λ id. id ≡ self.old.txns.next_id) }
         ensures granted { OnOk result (self.new.txns ≡ open_after_grant session row changes self.old.txns) }
         ensures takes { OnOk result (Becomes (TakesIn (deltas changes)) (place_at self.old.places row) (place_at self.new.places row)) }
@@ -322,9 +323,9 @@ impl Reserved {
         ensures places { AreEnded end (own session self.old.txns.reservations) self.old.places self.new.places }
         ensures placed { ArePlaced self.old.txns.reservations self.old.places → ArePlaced self.new.txns.reservations self.new.places }
     {
-        let journal = self.txns.journal(session);
-        let count = journal.all().len() as u32;
-        self.bounds.remove_all(journal.all(), end);
+        let reservations = self.txns.reservations(session);
+        let count = reservations.len() as u32;
+        self.bounds.remove_all(reservations, end);
         self.txns.take_all(session);
         count
     }
@@ -332,7 +333,7 @@ impl Reserved {
     /// Ends the transactions of the sessions of a plan, one after another, and returns how many
     /// reservations they held. A session that is named again has nothing left to end. Takes no memory.
     pub fn end_all(&mut self, plan: &[(Session, End)]) -> u32
-        requires { length self.old.txns.reservations ≤ MAX_OPEN }
+        requires { length self.old.txns.reservations < 2 ^ 32 }
         ensures count { result + length self.new.txns.reservations ≡ length self.old.txns.reservations }
         ensures txns { self.new.txns ≡ all_ended plan.now self.old.txns }
         ensures places { AreAllEnded plan.now self.old.txns self.old.places self.new.places }
@@ -376,7 +377,7 @@ impl Reserved {
     /// amounts. Fails only if memory is refused.
     pub fn prepare(&self, alloc: Global, table: Name, checks: &[Check]) -> Result<Addition, Refusal>
         requires placed { ArePlaced self.now.txns.reservations self.now.places }
-        requires many { length self.now.txns.reservations ≤ MAX_OPEN }
+        requires many { (row : Row) → length (of_row row self.now.txns.reservations) ≤ MAX_OPEN }
         requires few { (row : Row) (place : Place) → bytes_eq row.table table ≡ true → place_at self.now.places row ≡ Some place
             → length place.amounts ≤ MAX_LEN }
         requires covered { (row : Row) (place : Place) → bytes_eq row.table table ≡ true → place_at self.now.places row ≡ Some place

@@ -1,25 +1,25 @@
 -- Where a line may be cut, and its parts.
-use Rattle.std.proofs.Common.{◌≡◌, ◌≢◌, ◌⊎◌, ◌==◌, ◌&&◌, ◌||◌, not, if◌then◌else◌, ℕ, zero, suc, ◌+◌, ◌-◌, ◌*◌, ◌^◌, ◌/◌, ◌%◌, ◌<◌, ◌≤◌, Bool, true, false, List, [], ◌∷◌, ◌++◌, length, take, drop, get_or, get_or-take, take-append-drop, Option, Some, None, arith, refl, sym, ap, subst, ◌∙◌, append_assoc, Bor, inl, inr, add-one}
+use Rattle.std.proofs.Common.{◌≡◌, ◌≢◌, ◌⊎◌, ◌==◌, ◌||◌, not, if◌then◌else◌, ℕ, zero, suc, ◌+◌, ◌-◌, ◌*◌, ◌^◌, ◌<◌, ◌≤◌, Bool, true, false, List, [], ◌∷◌, ◌++◌, length, take, drop, get_or, get_or-take, take-append-drop, Option, Some, None, arith, refl, sym, ap, subst, ◌∙◌, append_assoc, Bor, inl, inr, add-one, drop-cons}
 use Rattle.std.specs.Bool.{Decides}
-use Rattle.std.specs.Prelude.{nat_eq, nat_le, codes, decimal, bytes_eq, MatchOption, IfNone}
-use Rattle.std.specs.Char.{is_ascii_digit}
+use Rattle.std.specs.Char.{is_ascii_digit, digit_value}
+use Rattle.std.specs.Prelude.{nat_eq, codes, decimal, bytes_eq, MatchOption, IfNone, IfSome, nat_lt}
 use Rattle.std.specs.List.{AllPass, prefix_len, list_all, starts_with}
 use Rattle.std.specs.Str.{IsUtf8, IsCharBoundary}
-use Rattle.std.specs.Str.Parse.{AllDigits}
-use Rattle.std.proofs.lemmas.Bool.{eqb-true, cases_lt, true≢false, and_parts, and_from, not-false, or_parts, or_right, or_cases, le-leb, leb-true}
+use Rattle.std.specs.Str.Parse.{AllDigits, digits_value, digits_value_after}
+use Rattle.std.proofs.lemmas.Bool.{eqb-true, cases_lt, ltb-false, true≢false, and_parts, and_from, not-false, or_parts, or_right, or_cases}
 use Rattle.std.proofs.lemmas.Bool.Decides.{nat_tests, Decides-eqb}
-use Rattle.std.proofs.lemmas.Fmt.{decimal_digit, decimal_step, decimal_is_IsNumeral}
-use Rattle.std.proofs.lemmas.List.{nil_from_length, length-take}
+use Rattle.std.proofs.lemmas.Fmt.{decimal-digits_value, decimal_is_IsNumeral, first_decimal}
+use Rattle.std.proofs.lemmas.List.{drop_all, nil_from_length, length-take}
 use Rattle.std.proofs.lemmas.List.Sums.{prefix_len_passes, prefix_len-le-length, AllPass-from_list_all, list_all-from_AllPass}
 use Rattle.std.proofs.lemmas.Slice.Eq.{starts_is, bytes_eq-Decides}
 use Rattle.std.proofs.lemmas.Str.{IsCharBoundary-start, IsCharBoundary-after_ascii}
-use Rattle.std.proofs.lemmas.Str.Parse.{digit_from_value}
+use Rattle.std.proofs.lemmas.Str.Parse.{IsNumeralModel, digit_at, digit_from_value, numerals_by_value, tells_digits}
 use Rattle.std.proofs.lemmas.Str.Pattern.{IsSplitOnceResult, split_after, split_parts}
 use Rattle.clap.proofs.CutLemmas.{Lacks}
 use Rattle.escrow_num.specs.Session.{IsSession}
 use Rattle.escrow_script.specs.Line.{Reading, nothing, join, restart, statement, no_line, is_blank, after_blanks, database_name, IsComment, IsJoin, IsRestart, IsStatement, IsMadeOf, Reads}
 use Rattle.escrow_script.specs.declared.limits.TheConstants.{MAX_DATABASES}
-use Rattle.escrow_script.specs.Reading.{is_nothing, is_join, is_first_digit, named_place, database_place, restart_of, session_of, word_len}
+use Rattle.escrow_script.specs.Reading.{is_nothing, is_join, named_place, database_place, restart_of, word_len, Spells}
 
 -- WHERE A LINE MAY BE CUT
 
@@ -74,9 +74,9 @@ pub record Parts (content : List ℕ) (place session : ℕ) (text : List ℕ) : 
   pub number_lacks : Lacks 58 (decimal session)
   pub whole : content ≡ database_name place ++ 46 ∷ (decimal session ++ 58 ∷ text)
 
-pub parts_of : (databases : ℕ) (content : List ℕ) (place session : ℕ) (text : List ℕ) → databases ≤ MAX_DATABASES
-    → IsStatement databases content place session text → Parts content place session text
-parts_of databases content place session text few is = record {
+pub parts_of : (databases sessions : ℕ) (content : List ℕ) (place session : ℕ) (text : List ℕ) → databases ≤ MAX_DATABASES
+    → IsStatement databases sessions content place session text → Parts content place session text
+parts_of databases sessions content place session text few is = record {
   name_lacks = name_lacks place (omega (arith, is.within));
   number_lacks = decimal_lacks 58 session (inr (omega arith)) (omega (arith, is.is_session.1));
   whole = is.parts ∙ statement_parts (database_name place) (decimal session) text;
@@ -87,64 +87,61 @@ abbrev pub Cut : Type 0
 Cut = Option (Bor (List ℕ) × Bor (List ℕ))
 
 -- no statement
-abbrev pub NoStatement : ℕ → List ℕ → Type 0
-NoStatement databases content = (place session : ℕ) (text : List ℕ) → IsStatement databases content place session text → ⊥
+abbrev pub NoStatement : ℕ → ℕ → List ℕ → Type 0
+NoStatement databases sessions content = (place session : ℕ) (text : List ℕ) → IsStatement databases sessions content place session text → ⊥
 
-pub no_point : (databases : ℕ) (content : List ℕ) (at_point : Cut) → databases ≤ MAX_DATABASES → IsSplitOnceResult 46 content at_point → at_point ≡ None → NoStatement databases content
-no_point databases content at_point few cut none place session text is =
-    let parts = parts_of databases content place session text few is in
+pub no_point : (databases sessions : ℕ) (content : List ℕ) (at_point : Cut) → databases ≤ MAX_DATABASES → IsSplitOnceResult 46 content at_point → at_point ≡ None → NoStatement databases sessions content
+no_point databases sessions content at_point few cut none place session text is =
+    let parts = parts_of databases sessions content place session text few is in
     let found = split_after 46 content (database_name place) (decimal session ++ 58 ∷ text) at_point cut (omega arith) parts.whole parts.name_lacks in
     subst (λ (r : Cut). MatchOption r ⊥ (λ x. (x.0.now ≡ database_name place) × (x.1.now ≡ decimal session ++ 58 ∷ text))) none found
 
 -- the two parts of a content cut at its point are those of the statement
-at_point_of : (databases : ℕ) (content : List ℕ) (at_point : Cut) (x : Bor (List ℕ) × Bor (List ℕ)) (place session : ℕ) (text : List ℕ) → databases ≤ MAX_DATABASES
-    → IsSplitOnceResult 46 content at_point → at_point ≡ Some x → IsStatement databases content place session text
+at_point_of : (databases sessions : ℕ) (content : List ℕ) (at_point : Cut) (x : Bor (List ℕ) × Bor (List ℕ)) (place session : ℕ) (text : List ℕ) → databases ≤ MAX_DATABASES
+    → IsSplitOnceResult 46 content at_point → at_point ≡ Some x → IsStatement databases sessions content place session text
     → (x.0.now ≡ database_name place) × (x.1.now ≡ decimal session ++ 58 ∷ text)
-at_point_of databases content at_point x place session text few cut some is =
-    let parts = parts_of databases content place session text few is in
+at_point_of databases sessions content at_point x place session text few cut some is =
+    let parts = parts_of databases sessions content place session text few is in
     let found = split_after 46 content (database_name place) (decimal session ++ 58 ∷ text) at_point cut (omega arith) parts.whole parts.name_lacks in
     subst (λ (r : Cut). MatchOption r ⊥ (λ x. (x.0.now ≡ database_name place) × (x.1.now ≡ decimal session ++ 58 ∷ text))) some found
 
-pub no_colon : (databases : ℕ) (content : List ℕ) (at_point at_colon : Cut) (x : Bor (List ℕ) × Bor (List ℕ)) → databases ≤ MAX_DATABASES
-    → IsSplitOnceResult 46 content at_point → at_point ≡ Some x → IsSplitOnceResult 58 x.1.now at_colon → at_colon ≡ None → NoStatement databases content
-no_colon databases content at_point at_colon x few cut some cut_again none place session text is =
-    let parts = parts_of databases content place session text few is in
-    let both = at_point_of databases content at_point x place session text few cut some is in
+pub no_colon : (databases sessions : ℕ) (content : List ℕ) (at_point at_colon : Cut) (x : Bor (List ℕ) × Bor (List ℕ)) → databases ≤ MAX_DATABASES
+    → IsSplitOnceResult 46 content at_point → at_point ≡ Some x → IsSplitOnceResult 58 x.1.now at_colon → at_colon ≡ None → NoStatement databases sessions content
+no_colon databases sessions content at_point at_colon x few cut some cut_again none place session text is =
+    let parts = parts_of databases sessions content place session text few is in
+    let both = at_point_of databases sessions content at_point x place session text few cut some is in
     let found = split_after 58 x.1.now (decimal session) text at_colon cut_again (omega arith) both.1 parts.number_lacks in
     subst (λ (r : Cut). MatchOption r ⊥ (λ y. (y.0.now ≡ decimal session) × (y.1.now ≡ text))) none found
 
-pub no_name : (databases : ℕ) (content : List ℕ) (at_point : Cut) (x : Bor (List ℕ) × Bor (List ℕ)) → databases ≤ MAX_DATABASES
-    → IsSplitOnceResult 46 content at_point → at_point ≡ Some x → ((place : ℕ) → place < databases → x.0.now ≡ database_name place → ⊥) → NoStatement databases content
-no_name databases content at_point x few cut some unknown place session text is =
-    let both = at_point_of databases content at_point x place session text few cut some is in
+pub no_name : (databases sessions : ℕ) (content : List ℕ) (at_point : Cut) (x : Bor (List ℕ) × Bor (List ℕ)) → databases ≤ MAX_DATABASES
+    → IsSplitOnceResult 46 content at_point → at_point ≡ Some x → ((place : ℕ) → place < databases → x.0.now ≡ database_name place → ⊥) → NoStatement databases sessions content
+no_name databases sessions content at_point x few cut some unknown place session text is =
+    let both = at_point_of databases sessions content at_point x place session text few cut some is in
     unknown place is.within both.0
 
--- digits that spell a session
-abbrev pub Spell : List ℕ → ℕ → Type 0
-Spell digits session = IsSession session × (digits ≡ decimal session)
-
-pub no_number : (databases : ℕ) (content : List ℕ) (at_point at_colon : Cut) (x y : Bor (List ℕ) × Bor (List ℕ)) → databases ≤ MAX_DATABASES
+pub no_number : (databases sessions : ℕ) (content : List ℕ) (at_point at_colon : Cut) (x y : Bor (List ℕ) × Bor (List ℕ)) → databases ≤ MAX_DATABASES
     → IsSplitOnceResult 46 content at_point → at_point ≡ Some x → IsSplitOnceResult 58 x.1.now at_colon → at_colon ≡ Some y
-    → ((session : ℕ) → Spell y.0.now session → ⊥) → NoStatement databases content
-no_number databases content at_point at_colon x y few cut some cut_again some_again unknown place session text is =
-    let parts = parts_of databases content place session text few is in
-    let both = at_point_of databases content at_point x place session text few cut some is in
+    → ((session : ℕ) → Spells sessions y.0.now session → ⊥) → NoStatement databases sessions content
+no_number databases sessions content at_point at_colon x y few cut some cut_again some_again unknown place session text is =
+    let parts = parts_of databases sessions content place session text few is in
+    let both = at_point_of databases sessions content at_point x place session text few cut some is in
     let found = split_after 58 x.1.now (decimal session) text at_colon cut_again (omega arith) both.1 parts.number_lacks in
     let again = subst (λ (r : Cut). MatchOption r ⊥ (λ y. (y.0.now ≡ decimal session) × (y.1.now ≡ text))) some_again found in
-    unknown session (is.is_session, again.0)
+    unknown session (is.is_session, is.among, again.0)
 
 -- a statement that is found is one
-pub statement_found : (databases : ℕ) (content : List ℕ) (at_point at_colon : Cut) (x y : Bor (List ℕ) × Bor (List ℕ)) (place session : ℕ)
+pub statement_found : (databases sessions : ℕ) (content : List ℕ) (at_point at_colon : Cut) (x y : Bor (List ℕ) × Bor (List ℕ)) (place session : ℕ)
     → IsSplitOnceResult 46 content at_point → at_point ≡ Some x → IsSplitOnceResult 58 x.1.now at_colon → at_colon ≡ Some y
-    → (place < databases) × (x.0.now ≡ database_name place) → Spell y.0.now session → IsStatement databases content place session y.1.now
-statement_found databases content at_point at_colon x y place session cut some cut_again some_again named spelled =
+    → (place < databases) × (x.0.now ≡ database_name place) → Spells sessions y.0.now session → IsStatement databases sessions content place session y.1.now
+statement_found databases sessions content at_point at_colon x y place session cut some cut_again some_again named spelled =
     let first = subst (λ (r : Cut). MatchOption r (Lacks 46 content) (λ x. (content ≡ x.0.now ++ (46 ∷ x.1.now)) × Lacks 46 x.0.now)) some (split_parts 46 content at_point cut (omega arith)) in
     let second = subst (λ (r : Cut). MatchOption r (Lacks 58 x.1.now) (λ y. (x.1.now ≡ y.0.now ++ (58 ∷ y.1.now)) × Lacks 58 y.0.now)) some_again (split_parts 58 x.1.now at_colon cut_again (omega arith)) in
     record {
       within = named.0;
       is_session = spelled.0;
+      among = spelled.1;
       parts = first.0 ∙ ap (λ (name : List ℕ). name ++ 46 ∷ x.1.now) named.1 ∙ ap (λ (rest : List ℕ). database_name place ++ 46 ∷ rest) second.0
-          ∙ ap (λ (number : List ℕ). database_name place ++ 46 ∷ (number ++ 58 ∷ y.1.now)) spelled.1
+          ∙ ap (λ (number : List ℕ). database_name place ++ 46 ∷ (number ++ 58 ∷ y.1.now)) spelled.2
           ∙ sym (statement_parts (database_name place) (decimal session) y.1.now);
     }
 
@@ -173,97 +170,102 @@ place_of_is (suc n) name = place_of_step n name (bytes_eq (database_name n) name
 
 -- THE SESSION OF DIGITS
 
-one_digit : (a : ℕ) → 49 ≤ a → a ≤ 57 → Spell (a ∷ []) (a - 48)
-one_digit a low high =
-    let back : 48 + (a - 48) ≡ a = omega arith in
-    ((omega arith, omega arith), ap (λ (d : ℕ). d ∷ []) (sym back) ∙ sym (decimal_digit (a - 48) (omega arith)))
+-- digits that write a number of 16 bits
+abbrev pub IsShort : List ℕ → Type 0
+IsShort digits = AllDigits 10 digits × (digits_value 10 digits < 2 ^ 16)
 
-two_digits : (a b : ℕ) → 49 ≤ a → a ≤ 57 → 48 ≤ b → b ≤ 57 → (a - 48) * 10 + (b - 48) ≤ 64 → Spell (a ∷ b ∷ []) ((a - 48) * 10 + (b - 48))
-two_digits a b low high low_b high_b few =
-    let n = (a - 48) * 10 + (b - 48) in
-    let tens : n / 10 ≡ a - 48 = omega arith in
-    let ones : n % 10 ≡ b - 48 = omega arith in
-    let first : 48 + (a - 48) ≡ a = omega arith in
-    let second : 48 + (b - 48) ≡ b = omega arith in
-    let front : decimal (n / 10) ≡ a ∷ [] = ap decimal tens ∙ decimal_digit (a - 48) (omega arith) ∙ ap (λ (d : ℕ). d ∷ []) first in
-    let back : 48 + n % 10 ≡ b = ap (λ (d : ℕ). 48 + d) ones ∙ second in
-    let whole : decimal n ≡ a ∷ b ∷ [] = decimal_step n (omega arith) (omega arith) ∙ ap (λ (d : List ℕ). d ++ ((48 + n % 10) ∷ [])) front ∙ ap (λ (d : ℕ). a ∷ d ∷ []) back in
-    ((omega arith, omega arith), sym whole)
+value_grows : (n : ℕ) (ds : List ℕ) → n ≤ digits_value_after 10 n ds
+value_grows n [] = omega arith
+value_grows n (c ∷ cs) = omega (arith, value_grows (n * 10 + digit_value c) cs)
 
--- a session has one digit or two
-session_digits : (session : ℕ) → IsSession session
-    → ((session < 10) × (decimal session ≡ (48 + session) ∷ [])) ⊎ ((10 ≤ session) × (decimal session ≡ (48 + session / 10) ∷ (48 + session % 10) ∷ []))
-session_digits session is = elim (cases_lt session 10) [
-  | inl below ↦ inl (below, decimal_digit session below)
-  | inr above ↦ inr (above, decimal_step session above (omega (arith, is.1)) ∙ ap (λ (d : List ℕ). d ++ ((48 + session % 10) ∷ [])) (decimal_digit (session / 10) (omega (arith, is.1))))
-]
+-- of digits, the first i are read, and n is their number
+pub record AreRead (ds : List ℕ) (i n : ℕ) : Type 0 where
+  pub digits : AllDigits 10 (drop i ds) → AllDigits 10 ds
+  pub value : digits_value_after 10 n (drop i ds) ≡ digits_value 10 ds
+  pub short : n < 2 ^ 16
 
--- a session spelled by digits has as many digits
-empty_spells : (session : ℕ) → Spell [] session → ⊥
-empty_spells session spell = elim (session_digits session spell.0) [
-  | inl one ↦ omega (arith, ap length (spell.1 ∙ one.1))
-  | inr two ↦ omega (arith, ap length (spell.1 ∙ two.1))
-]
+-- what a digit writes
+digit_is : (c : ℕ) → is_ascii_digit c ≡ true → (digit_value c ≡ c - 48) × (c - 48 < 10)
+digit_is c digit = (grind (arith, nat_tests), grind (arith, nat_tests))
 
-one_spells : (a session : ℕ) → Spell (a ∷ []) session → is_first_digit a ≡ true
-one_spells a session spell = elim (session_digits session spell.0) [
-  | inl one ↦
-      let same : a ≡ 48 + session = ap (λ (ds : List ℕ). get_or ds 0 0) (spell.1 ∙ one.1) in
-      let low = spell.0.0 in
-      let high = one.0 in
-      grind (arith, nat_tests)
-  | inr two ↦ absurd (omega (arith, ap length (spell.1 ∙ two.1)))
-]
+-- the next one is read
+pub one_read : (ds : List ℕ) (i n next : ℕ) → i < length ds → is_ascii_digit (get_or ds i 0) ≡ true → next ≡ n * 10 + (get_or ds i 0 - 48) → next < 2 ^ 16 → AreRead ds i n → AreRead ds (i + 1) next
+one_read ds i n next below digit is short read =
+    let c = get_or ds i 0 in
+    let value = digit_is c digit in
+    let step : drop i ds ≡ c ∷ drop (i + 1) ds = rw (add-one, drop-cons ds i 0) refl in
+    let whole : next ≡ n * 10 + digit_value c = omega (arith, is, value) in
+    record {
+      digits = λ rest. read.digits (subst (AllDigits 10) (sym step) (omega (arith, value), rest));
+      value = ap (λ m. digits_value_after 10 m (drop (i + 1) ds)) whole ∙ ap (digits_value_after 10 n) (sym step) ∙ read.value;
+      short = short;
+    }
 
-two_spell : (a b session : ℕ) → Spell (a ∷ b ∷ []) session → (is_first_digit a && (is_ascii_digit b && nat_le ((a - 48) * 10 + (b - 48)) 64)) ≡ true
-two_spell a b session spell = elim (session_digits session spell.0) [
-  | inl one ↦ absurd (omega (arith, ap length (spell.1 ∙ one.1)))
-  | inr two ↦
-      let tens : a ≡ 48 + session / 10 = ap (λ (ds : List ℕ). get_or ds 0 0) (spell.1 ∙ two.1) in
-      let ones : b ≡ 48 + session % 10 = ap (λ (ds : List ℕ). get_or ds 1 0) (spell.1 ∙ two.1) in
-      let high = spell.0.1 in
-      let low_a : nat_le 49 a ≡ true = le-leb 49 a (omega arith) in
-      let high_a : nat_le a 57 ≡ true = le-leb a 57 (omega arith) in
-      let low_b : nat_le 48 b ≡ true = le-leb 48 b (omega arith) in
-      let high_b : nat_le b 57 ≡ true = le-leb b 57 (omega arith) in
-      let few : nat_le ((a - 48) * 10 + (b - 48)) 64 ≡ true = le-leb ((a - 48) * 10 + (b - 48)) 64 (omega arith) in
-      rw (low_a, high_a, low_b, high_b, few) refl
-]
+-- all of them are
+pub all_read : (ds : List ℕ) (i n : ℕ) → length ds ≤ i → AreRead ds i n → IsShort ds × (n ≡ digits_value 10 ds)
+all_read ds i n past read =
+    let none : drop i ds ≡ [] = drop_all i ds past in
+    let value : n ≡ digits_value 10 ds = ap (digits_value_after 10 n) (sym none) ∙ read.value in
+    ((read.digits (subst (AllDigits 10) (sym none) tt), omega (arith, value, read.short)), value)
 
-more_spell : (a b c session : ℕ) (digits : List ℕ) → Spell (a ∷ b ∷ c ∷ digits) session → ⊥
-more_spell a b c session digits spell = elim (session_digits session spell.0) [
-  | inl one ↦ omega (arith, ap length (spell.1 ∙ one.1))
-  | inr two ↦ omega (arith, ap length (spell.1 ∙ two.1))
-]
+-- another byte, and a number past 16 bits
+pub no_digit : (ds : List ℕ) (i : ℕ) → i < length ds → is_ascii_digit (get_or ds i 0) ≡ false → ¬ (IsShort ds)
+no_digit ds i below other short = let within = digit_at ds i short.0 below in grind (arith, nat_tests)
 
-first_digit_range : (a : ℕ) → is_first_digit a ≡ true → (49 ≤ a) × (a ≤ 57)
-first_digit_range a first =
-    let parts = and_parts (nat_le 49 a) (nat_le a 57) first in
-    (leb-true 49 a parts.0, leb-true a 57 parts.1)
+pub too_long : (ds : List ℕ) (i n : ℕ) → i < length ds → is_ascii_digit (get_or ds i 0) ≡ true → 2 ^ 16 ≤ n * 10 + (get_or ds i 0 - 48) → AreRead ds i n → ¬ (IsShort ds)
+too_long ds i n below digit long read short =
+    let c = get_or ds i 0 in
+    let step : drop i ds ≡ c ∷ drop (i + 1) ds = rw (add-one, drop-cons ds i 0) refl in
+    let whole : digits_value_after 10 (n * 10 + digit_value c) (drop (i + 1) ds) ≡ digits_value 10 ds = ap (digits_value_after 10 n) (sym step) ∙ read.value in
+    omega (arith, whole, value_grows (n * 10 + digit_value c) (drop (i + 1) ds), digit_is c digit, long, short.1)
 
-session_of_one : (a : ℕ) (first : Bool) → is_first_digit a ≡ first
-    → MatchOption (session_of (a ∷ [])) ((session : ℕ) → Spell (a ∷ []) session → ⊥) (Spell (a ∷ []))
-session_of_one a true is =
-    let range = first_digit_range a is in
-    rw is (one_digit a range.0 range.1)
-session_of_one a false is = rw is (λ session spell. true≢false (sym (one_spells a session spell) ∙ is))
+-- digits whose number is one of the sessions spell it, if the first is above zero
+pub spells_read : (sessions number : ℕ) (digits : List ℕ) → IsShort digits → number ≡ digits_value 10 digits → 48 < get_or digits 0 0 → IsSession number → number ≤ sessions → Spells sessions digits number
+spells_read sessions number [] short value above is_session among = absurd (omega (arith, above))
+spells_read sessions number (c ∷ cs) short value above is_session among =
+    let whole = decimal-digits_value numeral (c ∷ cs) short.0 (omega arith) (λ zero. absurd (omega (arith, zero, above))) (omega (arith, short.1)) in
+    (is_session, among, sym whole ∙ ap decimal (sym value))
+  where
+    numeral : IsNumeralModel (AllDigits 10) (digits_value 10)
+    numeral = numerals_by_value (AllDigits 10) tells_digits
 
-session_of_two : (a b : ℕ) (good : Bool) → (is_first_digit a && (is_ascii_digit b && nat_le ((a - 48) * 10 + (b - 48)) 64)) ≡ good
-    → MatchOption (session_of (a ∷ b ∷ [])) ((session : ℕ) → Spell (a ∷ b ∷ []) session → ⊥) (Spell (a ∷ b ∷ []))
-session_of_two a b true is =
-    let parts = and_parts (is_first_digit a) (is_ascii_digit b && nat_le ((a - 48) * 10 + (b - 48)) 64) is in
-    let more = and_parts (is_ascii_digit b) (nat_le ((a - 48) * 10 + (b - 48)) 64) parts.1 in
-    let digit = and_parts (nat_le 48 b) (nat_le b 57) more.0 in
-    let range = first_digit_range a parts.0 in
-    rw is (two_digits a b range.0 range.1 (leb-true 48 b digit.0) (leb-true b 57 digit.1) (leb-true ((a - 48) * 10 + (b - 48)) 64 more.1))
-session_of_two a b false is = rw is (λ session spell. true≢false (sym (two_spell a b session spell) ∙ is))
+-- what spells a session begins above zero, and its number is the session
+spelled_above : (sessions session : ℕ) (digits : List ℕ) → Spells sessions digits session → 48 < get_or digits 0 0
+spelled_above sessions session digits spells =
+    subst (λ (ds : List ℕ). 48 < get_or ds 0 0) (sym spells.2) (first_decimal session (omega (arith, spells.0.0)) (omega (arith, spells.0.1)))
 
--- a session that is found is spelled by the digits; if none is found, they spell none
-pub session_of_is : (digits : List ℕ) → MatchOption (session_of digits) ((session : ℕ) → Spell digits session → ⊥) (Spell digits)
-session_of_is [] = empty_spells
-session_of_is (a ∷ []) = session_of_one a (is_first_digit a) refl
-session_of_is (a ∷ b ∷ []) = session_of_two a b (is_first_digit a && (is_ascii_digit b && nat_le ((a - 48) * 10 + (b - 48)) 64)) refl
-session_of_is (a ∷ b ∷ c ∷ digits) = λ session. more_spell a b c session digits
+spelled_value : (sessions session : ℕ) (digits : List ℕ) → Spells sessions digits session → IsShort digits × (session ≡ digits_value 10 digits)
+spelled_value sessions session digits spells =
+    let numeral = decimal_is_IsNumeral session (omega (arith, spells.0.1)) in
+    let value : digits_value 10 digits ≡ session = ap (digits_value 10) spells.2 ∙ numeral.1 in
+    ((subst (AllDigits 10) (sym spells.2) numeral.0.1, omega (arith, value, spells.0.1)), sym value)
+
+-- what doesn't begin above zero spells none, and neither does what is no number of 16 bits, or none of the sessions
+pub none_begins : (sessions : ℕ) (digits : List ℕ) (above : Bool) → above ≡ nat_lt 48 (get_or digits 0 0) → above ≡ false → (session : ℕ) → Spells sessions digits session → ⊥
+none_begins sessions digits above is fails session spells =
+    let past = ltb-false 48 (get_or digits 0 0) (sym is ∙ fails) in
+    omega (arith, past, spelled_above sessions session digits spells)
+
+pub none_read : (sessions : ℕ) (digits : List ℕ) → ¬ (IsShort digits) → (session : ℕ) → Spells sessions digits session → ⊥
+none_read sessions digits long session spells = long (spelled_value sessions session digits spells).0
+
+-- the session that is found among them
+pub read_among : (sessions number : ℕ) (digits : List ℕ) (found : Option ℕ) → IsShort digits → number ≡ digits_value 10 digits → 48 < get_or digits 0 0
+    → MatchOption found (IsSession number → number ≤ sessions → ⊥) (λ session. IsSession number × (number ≤ sessions) × (session ≡ number))
+    → MatchOption found ((session : ℕ) → Spells sessions digits session → ⊥) (Spells sessions digits)
+read_among sessions number digits None short value above none = λ session spells.
+    let same : session ≡ number = (spelled_value sessions session digits spells).1 ∙ sym value in
+    none (subst IsSession same spells.0) (subst (λ n. n ≤ sessions) same spells.1)
+read_among sessions number digits (Some session) short value above some =
+    subst (Spells sessions digits) (sym some.2) (spells_read sessions number digits short value above some.0 some.1)
+
+pub if_some : (found : Option ℕ) (N : Type 0) (S : ℕ → Type 0) → MatchOption found N S → IfSome found S
+if_some None N S h = tt
+if_some (Some x) N S h = h
+
+pub if_none : (found : Option ℕ) (N : Type 0) (S : ℕ → Type 0) → MatchOption found N S → IfNone found N
+if_none None N S h = h
+if_none (Some x) N S h = tt
 
 -- WHAT A CONTENT IS
 
@@ -271,8 +273,8 @@ same_byte : (a b : ℕ) → Decides (nat_eq a b) (a ≡ b)
 same_byte a b = Decides-eqb a b
 
 -- nothing, or a comment
-pub is_nothing_made : (databases : ℕ) (content : List ℕ) → is_nothing content ≡ true → IsMadeOf databases content nothing
-is_nothing_made databases content is = elim (or_cases (length content == 0) (starts_with nat_eq content (codes "--")) is) [
+pub is_nothing_made : (databases sessions : ℕ) (content : List ℕ) → is_nothing content ≡ true → IsMadeOf databases sessions content nothing
+is_nothing_made databases sessions content is = elim (or_cases (length content == 0) (starts_with nat_eq content (codes "--")) is) [
   | inl none ↦ inl (nil_from_length content (eqb-true (length content) 0 none))
   | inr dashes ↦ inr (drop 2 content, (starts_is same_byte content (codes "--") (starts_with nat_eq content (codes "--")) refl).0 dashes)
 ]
@@ -299,15 +301,15 @@ join_is content made =
     (ap (list_all is_blank) blanks ∙ list_all-from_AllPass is_blank made.0 made.1)
 
 -- a content that is none of these is no line
-pub made_of_none : (databases : ℕ) (content : List ℕ) → is_nothing content ≡ false → is_join content ≡ false
+pub made_of_none : (databases sessions : ℕ) (content : List ℕ) → is_nothing content ≡ false → is_join content ≡ false
     → ((place : ℕ) → IsRestart databases content place → ⊥)
-    → ((place session : ℕ) (text : List ℕ) → IsStatement databases content place session text → ⊥)
-    → (reading : Reading) → IsMadeOf databases content reading → ⊥
-made_of_none databases content something no_join no_restarts no_statement nothing made = true≢false (sym (nothing_is content made) ∙ something)
-made_of_none databases content something no_join no_restarts no_statement join made = true≢false (sym (join_is content made) ∙ no_join)
-made_of_none databases content something no_join no_restarts no_statement (restart place) made = no_restarts place made
-made_of_none databases content something no_join no_restarts no_statement (statement place session text) made = no_statement place session text made
-made_of_none databases content something no_join no_restarts no_statement no_line made = made
+    → ((place session : ℕ) (text : List ℕ) → IsStatement databases sessions content place session text → ⊥)
+    → (reading : Reading) → IsMadeOf databases sessions content reading → ⊥
+made_of_none databases sessions content something no_join no_restarts no_statement nothing made = true≢false (sym (nothing_is content made) ∙ something)
+made_of_none databases sessions content something no_join no_restarts no_statement join made = true≢false (sym (join_is content made) ∙ no_join)
+made_of_none databases sessions content something no_join no_restarts no_statement (restart place) made = no_restarts place made
+made_of_none databases sessions content something no_join no_restarts no_statement (statement place session text) made = no_statement place session text made
+made_of_none databases sessions content something no_join no_restarts no_statement no_line made = made
 
 -- HOW A LINE IS READ
 
@@ -329,13 +331,6 @@ this_place databases name found place is some =
     (sym is ∙ some) (place_of_is databases name)
 
 -- if no session is found, the digits spell none
-pub no_session : (digits : List ℕ) (found : Option ℕ) → found ≡ session_of digits → found ≡ None → (session : ℕ) → Spell digits session → ⊥
-no_session digits found is none =
-    subst (λ (r : Option ℕ). MatchOption r ((session : ℕ) → Spell digits session → ⊥) (Spell digits)) (sym is ∙ none) (session_of_is digits)
-
-pub this_session : (digits : List ℕ) (found : Option ℕ) (session : ℕ) → found ≡ session_of digits → found ≡ Some session → Spell digits session
-this_session digits found session is some =
-    subst (λ (r : Option ℕ). MatchOption r ((session : ℕ) → Spell digits session → ⊥) (Spell digits)) (sym is ∙ some) (session_of_is digits)
 
 -- THE PARTS OF A RESTART
 
@@ -483,14 +478,14 @@ is_line : (place session : ℕ) (text : List ℕ) → statement place session te
 is_line place session text e = cc
 
 -- a statement's line names one of the databases
-pub names_one : (databases : ℕ) (bytes : List ℕ) (place session : ℕ) (text : List ℕ) → Reads databases bytes (statement place session text) → place < databases
-names_one databases bytes place session text (inl good) = good.1.within
-names_one databases bytes place session text (inr bad) = absurd (is_line place session text bad.1)
+pub names_one : (databases sessions : ℕ) (bytes : List ℕ) (place session : ℕ) (text : List ℕ) → Reads databases sessions bytes (statement place session text) → place < databases
+names_one databases sessions bytes place session text (inl good) = good.1.within
+names_one databases sessions bytes place session text (inr bad) = absurd (is_line place session text bad.1)
 
 -- so does the line of a restart
 is_restart : (place : ℕ) → restart place ≡ no_line → ⊥
 is_restart place e = cc
 
-pub restarts_one : (databases : ℕ) (bytes : List ℕ) (place : ℕ) → Reads databases bytes (restart place) → place < databases
-restarts_one databases bytes place (inl good) = good.1.within
-restarts_one databases bytes place (inr bad) = absurd (is_restart place bad.1)
+pub restarts_one : (databases sessions : ℕ) (bytes : List ℕ) (place : ℕ) → Reads databases sessions bytes (restart place) → place < databases
+restarts_one databases sessions bytes place (inl good) = good.1.within
+restarts_one databases sessions bytes place (inr bad) = absurd (is_restart place bad.1)

@@ -36,12 +36,12 @@ cut_once c front back front' back' lacks lacks' same = (
   sym (after_first-at c front back lacks) ∙ ap (after_first (λ b. b == c)) same ∙ after_first-at c front' back' lacks',
 )
 
-same_statement : (databases : ℕ) (content : List ℕ) (place session place' session' : ℕ) (text text' : List ℕ) → databases ≤ MAX_DATABASES
-    → IsStatement databases content place session text → IsStatement databases content place' session' text'
+same_statement : (databases sessions : ℕ) (content : List ℕ) (place session place' session' : ℕ) (text text' : List ℕ) → databases ≤ MAX_DATABASES
+    → IsStatement databases sessions content place session text → IsStatement databases sessions content place' session' text'
     → statement place session text ≡ statement place' session' text'
-same_statement databases content place session place' session' text text' few is is' =
-    let parts = parts_of databases content place session text few is in
-    let parts' = parts_of databases content place' session' text' few is' in
+same_statement databases sessions content place session place' session' text text' few is is' =
+    let parts = parts_of databases sessions content place session text few is in
+    let parts' = parts_of databases sessions content place' session' text' few is' in
     let at_point = cut_once 46 (database_name place) (decimal session ++ 58 ∷ text) (database_name place') (decimal session' ++ 58 ∷ text') parts.name_lacks parts'.name_lacks
     (sym parts.whole ∙ parts'.whole) in
     let at_colon = cut_once 58 (decimal session) text (decimal session') text' parts.number_lacks parts'.number_lacks at_point.1 in
@@ -84,70 +84,70 @@ name_first : (place : ℕ) (rest : List ℕ) → first_byte (database_name place
 name_first zero rest = refl
 name_first (suc place) rest = ap (λ (name : List ℕ). first_byte (name ++ rest)) (further_name place)
 
-statement_first : (databases : ℕ) (content : List ℕ) (place session : ℕ) (text : List ℕ) → databases ≤ MAX_DATABASES → IsStatement databases content place session text → first_byte content ≡ 98
-statement_first databases content place session text few is =
-    let parts = parts_of databases content place session text few is in
+statement_first : (databases sessions : ℕ) (content : List ℕ) (place session : ℕ) (text : List ℕ) → databases ≤ MAX_DATABASES → IsStatement databases sessions content place session text → first_byte content ≡ 98
+statement_first databases sessions content place session text few is =
+    let parts = parts_of databases sessions content place session text few is in
     ap first_byte parts.whole ∙ name_first place (46 ∷ (decimal session ++ 58 ∷ text))
 
 -- a content is composed in only one way
-made_once : (databases : ℕ) (content : List ℕ) (one other : Reading) → databases ≤ MAX_DATABASES → IsMadeOf databases content one → IsMadeOf databases content other → one ≡ other
-made_once databases content nothing nothing few is is' = refl
-made_once databases content nothing join few is is' = absurd (omega (arith, nothing_first content is, join_first content is'))
-made_once databases content nothing (statement place session text) few is is' =
-    absurd (omega (arith, nothing_first content is, statement_first databases content place session text few is'))
-made_once databases content nothing (restart place) few is is' = absurd (omega (arith, nothing_first content is, restart_first databases content place is'))
-made_once databases content (restart place) nothing few is is' = absurd (omega (arith, restart_first databases content place is, nothing_first content is'))
-made_once databases content (restart place) join few is is' = absurd (omega (arith, restart_second databases content place is, join_second content is'))
-made_once databases content (restart place) (restart place') few is is' = same_restart databases content place place' few is is'
-made_once databases content (restart place) (statement place' session text) few is is' =
-    absurd (omega (arith, restart_first databases content place is, statement_first databases content place' session text few is'))
-made_once databases content join (restart place) few is is' = absurd (omega (arith, join_second content is, restart_second databases content place is'))
-made_once databases content (statement place session text) (restart place') few is is' =
-    absurd (omega (arith, statement_first databases content place session text few is, restart_first databases content place' is'))
-made_once databases content join nothing few is is' = absurd (omega (arith, join_first content is, nothing_first content is'))
-made_once databases content join join few is is' = refl
-made_once databases content join (statement place session text) few is is' =
-    absurd (omega (arith, join_first content is, statement_first databases content place session text few is'))
-made_once databases content (statement place session text) nothing few is is' =
-    absurd (omega (arith, statement_first databases content place session text few is, nothing_first content is'))
-made_once databases content (statement place session text) join few is is' =
-    absurd (omega (arith, statement_first databases content place session text few is, join_first content is'))
-made_once databases content (statement place session text) (statement place' session' text') few is is' =
-    same_statement databases content place session place' session' text text' few is is'
-made_once databases content no_line other few is is' = absurd is
-made_once databases content one no_line few is is' = absurd is'
+made_once : (databases sessions : ℕ) (content : List ℕ) (one other : Reading) → databases ≤ MAX_DATABASES → IsMadeOf databases sessions content one → IsMadeOf databases sessions content other → one ≡ other
+made_once databases sessions content nothing nothing few is is' = refl
+made_once databases sessions content nothing join few is is' = absurd (omega (arith, nothing_first content is, join_first content is'))
+made_once databases sessions content nothing (statement place session text) few is is' =
+    absurd (omega (arith, nothing_first content is, statement_first databases sessions content place session text few is'))
+made_once databases sessions content nothing (restart place) few is is' = absurd (omega (arith, nothing_first content is, restart_first databases content place is'))
+made_once databases sessions content (restart place) nothing few is is' = absurd (omega (arith, restart_first databases content place is, nothing_first content is'))
+made_once databases sessions content (restart place) join few is is' = absurd (omega (arith, restart_second databases content place is, join_second content is'))
+made_once databases sessions content (restart place) (restart place') few is is' = same_restart databases content place place' few is is'
+made_once databases sessions content (restart place) (statement place' session text) few is is' =
+    absurd (omega (arith, restart_first databases content place is, statement_first databases sessions content place' session text few is'))
+made_once databases sessions content join (restart place) few is is' = absurd (omega (arith, join_second content is, restart_second databases content place is'))
+made_once databases sessions content (statement place session text) (restart place') few is is' =
+    absurd (omega (arith, statement_first databases sessions content place session text few is, restart_first databases content place' is'))
+made_once databases sessions content join nothing few is is' = absurd (omega (arith, join_first content is, nothing_first content is'))
+made_once databases sessions content join join few is is' = refl
+made_once databases sessions content join (statement place session text) few is is' =
+    absurd (omega (arith, join_first content is, statement_first databases sessions content place session text few is'))
+made_once databases sessions content (statement place session text) nothing few is is' =
+    absurd (omega (arith, statement_first databases sessions content place session text few is, nothing_first content is'))
+made_once databases sessions content (statement place session text) join few is is' =
+    absurd (omega (arith, statement_first databases sessions content place session text few is, join_first content is'))
+made_once databases sessions content (statement place session text) (statement place' session' text') few is is' =
+    same_statement databases sessions content place session place' session' text text' few is is'
+made_once databases sessions content no_line other few is is' = absurd is
+made_once databases sessions content one no_line few is is' = absurd is'
 
-content_once : (databases : ℕ) (content : List ℕ) (one other : Reading) → databases ≤ MAX_DATABASES → ReadsContent databases content one → ReadsContent databases content other → one ≡ other
-content_once databases content no_line no_line few is is' = refl
-content_once databases content no_line nothing few is is' = absurd (is nothing is')
-content_once databases content no_line join few is is' = absurd (is join is')
-content_once databases content no_line (statement place session text) few is is' = absurd (is (statement place session text) is')
-content_once databases content no_line (restart place) few is is' = absurd (is (restart place) is')
-content_once databases content (restart place) no_line few is is' = absurd (is' (restart place) is)
-content_once databases content (restart place) nothing few is is' = made_once databases content (restart place) nothing few is is'
-content_once databases content (restart place) join few is is' = made_once databases content (restart place) join few is is'
-content_once databases content (restart place) (restart place') few is is' = made_once databases content (restart place) (restart place') few is is'
-content_once databases content (restart place) (statement place' session text) few is is' = made_once databases content (restart place) (statement place' session text) few is is'
-content_once databases content nothing (restart place) few is is' = made_once databases content nothing (restart place) few is is'
-content_once databases content join (restart place) few is is' = made_once databases content join (restart place) few is is'
-content_once databases content (statement place session text) (restart place') few is is' = made_once databases content (statement place session text) (restart place') few is is'
-content_once databases content nothing no_line few is is' = absurd (is' nothing is)
-content_once databases content join no_line few is is' = absurd (is' join is)
-content_once databases content (statement place session text) no_line few is is' = absurd (is' (statement place session text) is)
-content_once databases content nothing nothing few is is' = refl
-content_once databases content nothing join few is is' = made_once databases content nothing join few is is'
-content_once databases content nothing (statement place session text) few is is' = made_once databases content nothing (statement place session text) few is is'
-content_once databases content join nothing few is is' = made_once databases content join nothing few is is'
-content_once databases content join join few is is' = refl
-content_once databases content join (statement place session text) few is is' = made_once databases content join (statement place session text) few is is'
-content_once databases content (statement place session text) nothing few is is' = made_once databases content (statement place session text) nothing few is is'
-content_once databases content (statement place session text) join few is is' = made_once databases content (statement place session text) join few is is'
-content_once databases content (statement place session text) (statement place' session' text') few is is' =
-    made_once databases content (statement place session text) (statement place' session' text') few is is'
+content_once : (databases sessions : ℕ) (content : List ℕ) (one other : Reading) → databases ≤ MAX_DATABASES → ReadsContent databases sessions content one → ReadsContent databases sessions content other → one ≡ other
+content_once databases sessions content no_line no_line few is is' = refl
+content_once databases sessions content no_line nothing few is is' = absurd (is nothing is')
+content_once databases sessions content no_line join few is is' = absurd (is join is')
+content_once databases sessions content no_line (statement place session text) few is is' = absurd (is (statement place session text) is')
+content_once databases sessions content no_line (restart place) few is is' = absurd (is (restart place) is')
+content_once databases sessions content (restart place) no_line few is is' = absurd (is' (restart place) is)
+content_once databases sessions content (restart place) nothing few is is' = made_once databases sessions content (restart place) nothing few is is'
+content_once databases sessions content (restart place) join few is is' = made_once databases sessions content (restart place) join few is is'
+content_once databases sessions content (restart place) (restart place') few is is' = made_once databases sessions content (restart place) (restart place') few is is'
+content_once databases sessions content (restart place) (statement place' session text) few is is' = made_once databases sessions content (restart place) (statement place' session text) few is is'
+content_once databases sessions content nothing (restart place) few is is' = made_once databases sessions content nothing (restart place) few is is'
+content_once databases sessions content join (restart place) few is is' = made_once databases sessions content join (restart place) few is is'
+content_once databases sessions content (statement place session text) (restart place') few is is' = made_once databases sessions content (statement place session text) (restart place') few is is'
+content_once databases sessions content nothing no_line few is is' = absurd (is' nothing is)
+content_once databases sessions content join no_line few is is' = absurd (is' join is)
+content_once databases sessions content (statement place session text) no_line few is is' = absurd (is' (statement place session text) is)
+content_once databases sessions content nothing nothing few is is' = refl
+content_once databases sessions content nothing join few is is' = made_once databases sessions content nothing join few is is'
+content_once databases sessions content nothing (statement place session text) few is is' = made_once databases sessions content nothing (statement place session text) few is is'
+content_once databases sessions content join nothing few is is' = made_once databases sessions content join nothing few is is'
+content_once databases sessions content join join few is is' = refl
+content_once databases sessions content join (statement place session text) few is is' = made_once databases sessions content join (statement place session text) few is is'
+content_once databases sessions content (statement place session text) nothing few is is' = made_once databases sessions content (statement place session text) nothing few is is'
+content_once databases sessions content (statement place session text) join few is is' = made_once databases sessions content (statement place session text) join few is is'
+content_once databases sessions content (statement place session text) (statement place' session' text') few is is' =
+    made_once databases sessions content (statement place session text) (statement place' session' text') few is is'
 
 -- a line has at most one reading
 pub has_one_reading : HasOneReading
-has_one_reading databases bytes one other few (inl good) (inl good') = content_once databases (content_of bytes) one other few good.1 good'.1
-has_one_reading databases bytes one other few (inl good) (inr bad) = absurd (bad.0 good.0)
-has_one_reading databases bytes one other few (inr bad) (inl good) = absurd (bad.0 good.0)
-has_one_reading databases bytes one other few (inr bad) (inr bad') = bad.1 ∙ sym bad'.1
+has_one_reading databases sessions bytes one other few (inl good) (inl good') = content_once databases sessions (content_of bytes) one other few good.1 good'.1
+has_one_reading databases sessions bytes one other few (inl good) (inr bad) = absurd (bad.0 good.0)
+has_one_reading databases sessions bytes one other few (inr bad) (inl good) = absurd (bad.0 good.0)
+has_one_reading databases sessions bytes one other few (inr bad) (inr bad') = bad.1 ∙ sym bad'.1

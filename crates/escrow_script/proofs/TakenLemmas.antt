@@ -9,15 +9,15 @@ use Rattle.escrow_script.specs.Line.{Reading, no_line, Reads, lines_of}
 use Rattle.escrow_script.specs.Script.{TakesLine, Spends, left}
 
 -- of a longer line, enough is kept to see that it is no line
-kept_long : (databases : ℕ) (line kept : List ℕ) (reading : Reading) → kept ≡ take (MAX_LINE + 1) line → MAX_LINE < length line → Reads databases kept reading → reading ≡ no_line
-kept_long databases line kept reading e long (inl good) = absurd (omega (arith, good.0.0, ap length e, length-take (MAX_LINE + 1) line))
-kept_long databases line kept reading e long (inr bad) = bad.1
+kept_long : (databases sessions : ℕ) (line kept : List ℕ) (reading : Reading) → kept ≡ take (MAX_LINE + 1) line → MAX_LINE < length line → Reads databases sessions kept reading → reading ≡ no_line
+kept_long databases sessions line kept reading e long (inl good) = absurd (omega (arith, good.0.0, ap length e, length-take (MAX_LINE + 1) line))
+kept_long databases sessions line kept reading e long (inr bad) = bad.1
 
 -- what is kept of a line is read as the line
-pub kept_line : (databases : ℕ) (line kept : List ℕ) (reading : Reading) → kept ≡ take (MAX_LINE + 1) line → Reads databases kept reading → Reads databases line reading
-kept_line databases line kept reading e reads = elim (cases_lt MAX_LINE (length line)) [
-  | inl long ↦ inr ((λ readable. omega (arith, readable.0)), kept_long databases line kept reading e long reads)
-  | inr short ↦ subst (λ (bytes : List ℕ). Reads databases bytes reading) (e ∙ take_all (MAX_LINE + 1) line (omega arith)) reads
+pub kept_line : (databases sessions : ℕ) (line kept : List ℕ) (reading : Reading) → kept ≡ take (MAX_LINE + 1) line → Reads databases sessions kept reading → Reads databases sessions line reading
+kept_line databases sessions line kept reading e reads = elim (cases_lt MAX_LINE (length line)) [
+  | inl long ↦ inr ((λ readable. omega (arith, readable.0)), kept_long databases sessions line kept reading e long reads)
+  | inr short ↦ subst (λ (bytes : List ℕ). Reads databases sessions bytes reading) (e ∙ take_all (MAX_LINE + 1) line (omega arith)) reads
 ]
 
 -- the lines that were served and those that remain are those of the script, if its bytes are known

@@ -69,30 +69,32 @@ pub record IsRestart (databases : ℕ) (content : List ℕ) (place : ℕ) : Type
   pub back_blank : AllPass is_blank back
   pub parts : content ≡ codes "@restart" ++ (front ++ (database_name place ++ back))
 
--- a statement: the name of one of this many databases, a point, a session in decimal, a colon, and the text
-pub record IsStatement (databases : ℕ) (content : List ℕ) (place session : ℕ) (text : List ℕ) : Type 0 where
+-- a statement: the name of one of this many databases, a point, one of this many sessions in decimal, a colon, and the
+-- text
+pub record IsStatement (databases sessions : ℕ) (content : List ℕ) (place session : ℕ) (text : List ℕ) : Type 0 where
   pub within : place < databases
   pub is_session : IsSession session
+  pub among : session ≤ sessions
   pub parts : content ≡ database_name place ++ codes "." ++ decimal session ++ codes ":" ++ text
 
 -- what the content of a line must be, for each reading
-abbrev pub IsMadeOf : ℕ → List ℕ → Reading → Type 0
-IsMadeOf databases content nothing = (content ≡ []) ⊎ IsComment content
-IsMadeOf databases content join = IsJoin content
-IsMadeOf databases content (restart place) = IsRestart databases content place
-IsMadeOf databases content (statement place session text) = IsStatement databases content place session text
-IsMadeOf databases content no_line = ⊥
+abbrev pub IsMadeOf : ℕ → ℕ → List ℕ → Reading → Type 0
+IsMadeOf databases sessions content nothing = (content ≡ []) ⊎ IsComment content
+IsMadeOf databases sessions content join = IsJoin content
+IsMadeOf databases sessions content (restart place) = IsRestart databases content place
+IsMadeOf databases sessions content (statement place session text) = IsStatement databases sessions content place session text
+IsMadeOf databases sessions content no_line = ⊥
 
 -- the content is as the reading demands, or it is no line because it is as no reading demands
-abbrev pub ReadsContent : ℕ → List ℕ → Reading → Type 0
-ReadsContent databases content no_line = (reading : Reading) → IsMadeOf databases content reading → ⊥
-ReadsContent databases content reading = IsMadeOf databases content reading
+abbrev pub ReadsContent : ℕ → ℕ → List ℕ → Reading → Type 0
+ReadsContent databases sessions content no_line = (reading : Reading) → IsMadeOf databases sessions content reading → ⊥
+ReadsContent databases sessions content reading = IsMadeOf databases sessions content reading
 
 -- a readable line has at most 4,096 bytes, and they are UTF-8
 abbrev pub IsReadable : List ℕ → Type 0
 IsReadable bytes = (length bytes ≤ MAX_LINE) × IsUtf8 bytes
 
--- WHAT A LINE IS, with this many databases: a readable line is what its content is, and any other is no line
-abbrev pub Reads : ℕ → List ℕ → Reading → Type 0
-Reads databases bytes reading =
-    (IsReadable bytes × ReadsContent databases (content_of bytes) reading) ⊎ ((IsReadable bytes → ⊥) × (reading ≡ no_line))
+-- WHAT A LINE IS, with this many databases and sessions: a readable line is what its content is, and any other is no line
+abbrev pub Reads : ℕ → ℕ → List ℕ → Reading → Type 0
+Reads databases sessions bytes reading =
+    (IsReadable bytes × ReadsContent databases sessions (content_of bytes) reading) ⊎ ((IsReadable bytes → ⊥) × (reading ≡ no_line))

@@ -1,7 +1,7 @@
 -- Helps: what a line is, found part by part.
-use Rattle.std.specs.Prelude.{ℕ, zero, suc, ◌+◌, ◌-◌, ◌*◌, ◌==◌, Bool, not, ◌&&◌, ◌||◌, nat_eq, nat_le, if◌then◌else◌, Option, Some, None, List, [], ◌∷◌, length, take, drop, bytes_eq, codes}
-use Rattle.std.specs.Char.{is_ascii_digit}
+use Rattle.std.specs.Prelude.{◌≡◌, ◌≤◌, ℕ, zero, suc, ◌==◌, Bool, not, ◌&&◌, ◌||◌, nat_eq, if◌then◌else◌, Option, Some, None, List, length, take, drop, bytes_eq, codes, decimal}
 use Rattle.std.specs.List.{starts_with, list_all, prefix_len}
+use Rattle.escrow_num.specs.Session.{IsSession}
 use Rattle.escrow_script.specs.Line.{Reading, nothing, join, restart, statement, no_line, is_blank, after_blanks, database_name}
 use Rattle.escrow_script.specs.declared.line.Line.{Line}
 use Rattle.escrow_script.specs.declared.line.Line.TheVariants as line
@@ -41,14 +41,6 @@ named_place databases bytes =
 abbrev pub restart_of : ℕ → List ℕ → Option ℕ
 restart_of databases content = if starts_with nat_eq content (codes "@restart") then named_place databases (drop 8 content) else None
 
--- whether a byte is a digit from 1 to 9
-abbrev pub is_first_digit : ℕ → Bool
-is_first_digit c = nat_le 49 c && nat_le c 57
-
--- the session, from 1 to 64, that digits without a leading zero spell
-abbrev pub session_of : List ℕ → Option ℕ
-session_of [] = None
-session_of (a ∷ []) = if is_first_digit a then Some (a - 48) else None
-session_of (a ∷ b ∷ []) =
-    if is_first_digit a && (is_ascii_digit b && nat_le ((a - 48) * 10 + (b - 48)) 64) then Some ((a - 48) * 10 + (b - 48)) else None
-session_of (a ∷ b ∷ c ∷ digits) = None
+-- digits spell one of this many sessions, without a leading zero
+abbrev pub Spells : ℕ → List ℕ → ℕ → Type 0
+Spells sessions digits session = IsSession session × (session ≤ sessions) × (digits ≡ decimal session)

@@ -1,7 +1,9 @@
-ghost use Rattle.std.specs.Prelude.{◌≡◌, ◌≤◌, List, ℕ, length, IfNone, IfSome};
+ghost use Rattle.std.specs.Prelude.{◌≡◌, ◌≤◌, ◌<◌, ◌^◌, List, ℕ, length, nat_lt, slice_index_or, IfNone, IfSome, MatchOption, SomeIff};
+ghost use Rattle.std.specs.Str.Parse.{AllDigits, digits_value};
+ghost use Rattle.escrow_num.specs.Session.{IsSession};
 ghost use Rattle.std.specs.List.{prefix_len, list_all};
 ghost use Rattle.escrow_script.specs.Line.{Reads, ReadsContent, IsMadeOf, IsStatement, without_return, after_blanks, content_of, is_blank};
-ghost use Rattle.escrow_script.specs.Reading.{seen, is_nothing, is_join, named_place, restart_of, session_of, word_len};
+ghost use Rattle.escrow_script.specs.Reading.{seen, is_nothing, is_join, named_place, restart_of, word_len, Spells};
 
 use crate::limits::{MAX_DATABASES, MAX_LINE};
 use crate::names::database_place;
@@ -33,18 +35,18 @@ pub enum Line<'a> {
     NoLine,
 }
 
-/// Returns what the bytes of a line are, without their line feed. There must be at most 16
-/// databases. More than [`MAX_LINE`] bytes are no line, so the first `MAX_LINE + 1` bytes decide
-/// what a line is.
-pub fn classify(databases: usize, line: &[u8]) -> Line<'_>
+/// Returns what the bytes of a line are, without their line feed, with this many databases, at most
+/// 16, and sessions. More than [`MAX_LINE`] bytes are no line, so the first `MAX_LINE + 1` bytes
+/// decide what a line is.
+pub fn classify(databases: usize, sessions: u16, line: &[u8]) -> Line<'_>
     requires { databases ≤ MAX_DATABASES }
-    ensures { Reads databases line.now (seen result) }
+    ensures { Reads databases sessions line.now (seen result) }
 {
     if line.len() > MAX_LINE {
         return Line::NoLine;
     }
     match str::from_utf8(line) {
-        Ok(text) => classify_content(databases, content_of(text)),
+        Ok(text) => classify_content(databases, sessions, content_of(text)),
         Err(_) => Line::NoLine,
     }
 }
@@ -94,9 +96,9 @@ fn after_blanks(line: &str) -> &str
 }
 
 /// Returns what the content of a line is.
-fn classify_content(databases: usize, content: &str) -> Line<'_>
+fn classify_content(databases: usize, sessions: u16, content: &str) -> Line<'_>
     requires { databases ≤ MAX_DATABASES }
-    ensures { ReadsContent databases content.now (seen result) }
+    ensures { ReadsContent databases sessions content.now (seen result) }
 {
     if is_nothing(content.as_bytes()) {
         return Line::Nothing;
@@ -107,7 +109,7 @@ fn classify_content(databases: usize, content: &str) -> Line<'_>
     if let Some(database) = restart_of(databases, content.as_bytes()) {
         return Line::Restart { database };
     }
-    match statement_of(databases, content) {
+    match statement_of(databases, sessions, content) {
         Some(statement) => statement,
         None => Line::NoLine,
     }
@@ -174,15 +176,15 @@ fn word_len(bytes: &[u8]) -> usize
 
 /// Returns a statement, if the content is one: a database's name, a point, a session, a colon, and
 /// the text.
-fn statement_of(databases: usize, content: &str) -> Option<Line<'_>>
+fn statement_of(databases: usize, sessions: u16, content: &str) -> Option<Line<'_>>
     requires { databases ≤ MAX_DATABASES }
-    ensures some { IfSome result (λ line. IsMadeOf databases content.now (seen line)) }
-    ensures none { IfNone result ((place session : ℕ) (text : List ℕ) → IsStatement databases content.now place session text → ⊥) }
+    ensures some { IfSome result (λ line. IsMadeOf databases sessions content.now (seen line)) }
+    ensures none { IfNone result ((place session : ℕ) (text : List ℕ) → IsStatement databases sessions content.now place session text → ⊥) }
 {
     let (name, rest) = content.split_once('.')?;
     let (number, text) = rest.split_once(':')?;
     let database = database_place(databases, name.as_bytes())?;
-    let session = session_of(number.as_bytes())?;
+    let session = session_of(sessions, number)?;
     Some(Line::Statement {
         database,
         session,
@@ -190,13 +192,54 @@ fn statement_of(databases: usize, content: &str) -> Option<Line<'_>>
     })
 }
 
-/// Returns the session of one or two digits, of which the first isn't zero.
-fn session_of(digits: &[u8]) -> Option<Session>
-    ensures { result ≡ session_of digits.now }
+/// Returns the session that a text spells in decimal, without a leading zero, if it is one of this
+/// many.
+fn session_of(sessions: u16, text: &str) -> Option<Session>
+    ensures some { IfSome result (λ session. Spells sessions text.now session) }
+    ensures none { IfNone result ((session : ℕ) → Spells sessions text.now session → ⊥) }
 {
-    match digits {
-        [a @ b'1'..=b'9'] => Session::new(*a - b'0'),
-        [a @ b'1'..=b'9', b @ b'0'..=b'9'] => Session::new((*a - b'0') * 10 + (*b - b'0')),
-        _ => None,
+    let digits = text.as_bytes();
+    if !begins_above_zero(digits) {
+        return None;
+    }
+    let number = number_of(digits)?;
+    session_among(sessions, number)
+}
+
+/// Returns the number that digits spell, if they are digits and it has at most 16 bits.
+fn number_of(digits: &[u8]) -> Option<u16>
+    ensures { SomeIff result (AllDigits 10 digits.now × (digits_value 10 digits.now < 2 ^ 16))
+        (digits_value 10 digits.now) }
+{
+    let mut number = 0u16;
+    for digit in digits {
+        if !digit.is_ascii_digit() {
+            return None;
+        }
+        number = number
+            .checked_mul(10)?
+            .checked_add(u16::from(*digit - b'0'))?;
+    }
+    Some(number)
+}
+
+/// Returns the session of a number, if it is one of this many.
+fn session_among(sessions: u16, number: u16) -> Option<Session>
+    ensures { MatchOption result (IsSession number → number ≤ sessions → ⊥) (λ session. IsSession number × (number ≤ sessions) × (session ≡ number)) }
+{
+    if number <= sessions {
+        Session::new(number)
+    } else {
+        None
+    }
+}
+
+/// Returns whether the first byte is above that of the digit 0.
+fn begins_above_zero(bytes: &[u8]) -> bool
+    ensures { result ≡ nat_lt 48 (slice_index_or bytes.now 0 0) }
+{
+    match bytes {
+        [first, ..] => *first > b'0',
+        [] => false,
     }
 }

@@ -23,21 +23,21 @@ kept_count (l ∷ lines) [] are = absurd are
 kept_count (l ∷ lines) (k ∷ kept) are = ap suc (kept_count lines kept are.1)
 
 -- serving the kept part of lines is serving the lines
-pub serves_kept : (sittings new : List Sitting) (lines kept : List (List ℕ)) (out : List ℕ) → AreKept lines kept → ServesLines sittings kept out new → ServesLines sittings lines out new
-serves_kept sittings new [] [] out are serves = serves
-serves_kept sittings new [] (k ∷ kept) out are serves = absurd are
-serves_kept sittings new (l ∷ lines) [] out are serves = absurd are
-serves_kept sittings new (l ∷ lines) (k ∷ kept) out are serves =
+pub serves_kept : (sessions : ℕ) → (sittings new : List Sitting) (lines kept : List (List ℕ)) (out : List ℕ) → AreKept lines kept → ServesLines sessions sittings kept out new → ServesLines sessions sittings lines out new
+serves_kept sessions sittings new [] [] out are serves = serves
+serves_kept sessions sittings new [] (k ∷ kept) out are serves = absurd are
+serves_kept sessions sittings new (l ∷ lines) [] out are serves = absurd are
+serves_kept sessions sittings new (l ∷ lines) (k ∷ kept) out are serves =
     let step = serves.3 in
-    (serves.0, serves.1, serves.2, (step.0, kept_line (length sittings) l k step.0 are.0 step.1, step.2), serves_kept serves.2 new lines kept serves.1 are.1 serves.4, serves.5)
+    (serves.0, serves.1, serves.2, (step.0, kept_line (length sittings) sessions l k step.0 are.0 step.1, step.2), serves_kept sessions serves.2 new lines kept serves.1 are.1 serves.4, serves.5)
 
 -- lines are served after others
-pub serves_behind : (sittings mid new : List Sitting) (served lines : List (List ℕ)) (out first : List ℕ) → ServesLines sittings served out mid
-    → ServesLines mid lines first new → ServesLines sittings (served ++ lines) (out ++ first) new
-serves_behind sittings mid new [] lines out first h step =
-    subst (λ (o : List ℕ). ServesLines sittings lines (o ++ first) new) (sym h.0) (subst (λ (m : List Sitting). ServesLines m lines first new) h.1 step)
-serves_behind sittings mid new (l ∷ ls) lines out first h step =
-    (h.0, h.1 ++ first, h.2, h.3, serves_behind h.2 mid new ls lines h.1 first h.4 step, ap (λ (o : List ℕ). o ++ first) h.5 ∙ append_assoc h.0 h.1 first)
+pub serves_behind : (sessions : ℕ) → (sittings mid new : List Sitting) (served lines : List (List ℕ)) (out first : List ℕ) → ServesLines sessions sittings served out mid
+    → ServesLines sessions mid lines first new → ServesLines sessions sittings (served ++ lines) (out ++ first) new
+serves_behind sessions sittings mid new [] lines out first h step =
+    subst (λ (o : List ℕ). ServesLines sessions sittings lines (o ++ first) new) (sym h.0) (subst (λ (m : List Sitting). ServesLines sessions m lines first new) h.1 step)
+serves_behind sessions sittings mid new (l ∷ ls) lines out first h step =
+    (h.0, h.1 ++ first, h.2, h.3, serves_behind sessions h.2 mid new ls lines h.1 first h.4 step, ap (λ (o : List ℕ). o ++ first) h.5 ∙ append_assoc h.0 h.1 first)
 
 -- the next lines of a script
 pub record Nexts (script rest new_rest : Option (List ℕ)) (kept served : List (List ℕ)) : Type 0 where
@@ -66,21 +66,21 @@ pub takes_more : (lines : List (List ℕ)) (kept : List ℕ) (bytes mid rest : O
 takes_more [] kept bytes mid rest same short taken = (rest, short, subst (λ (b : Option (List ℕ)). TakesLine true b rest kept) same taken, refl)
 takes_more (l ∷ lines) kept bytes mid rest before short taken = (before.0, before.1, before.2, takes_more lines kept before.0 mid rest before.3 short taken)
 
-one_line : (sittings new : List Sitting) (line out : List ℕ) → ServesBytes sittings line out new → ServesLines sittings (line ∷ []) out new
-one_line sittings new line out serves = (out, [], new, serves, (refl, refl), sym (append-nil out))
+one_line : (sessions : ℕ) → (sittings new : List Sitting) (line out : List ℕ) → ServesBytes sessions sittings line out new → ServesLines sessions sittings (line ∷ []) out new
+one_line sessions sittings new line out serves = (out, [], new, serves, (refl, refl), sym (append-nil out))
 
 -- no line is served, or one more line is
-pub lines_none : (states : List State) (totals : List Totals) → LinesServed states totals [] [] states totals
-lines_none states totals = λ sittings most all below.
+pub lines_none : (sessions : ℕ) → (states : List State) (totals : List Totals) → LinesServed sessions states totals [] [] states totals
+lines_none sessions states totals = λ sittings most all below.
     let same : most ≡ most + 0 = omega arith in
     (sittings, (refl, refl), subst (λ (n : ℕ). AllSit states totals sittings n) same all)
 
-pub lines_more : (states mid new : List State) (totals between counted : List Totals) (lines : List (List ℕ)) (line out first : List ℕ) → LinesServed states totals lines out mid between
-    → LineServed mid between line first new counted → LinesServed states totals (lines ++ line ∷ []) (out ++ first) new counted
-lines_more states mid new totals between counted lines line out first before step = λ sittings most all below.
+pub lines_more : (sessions : ℕ) → (states mid new : List State) (totals between counted : List Totals) (lines : List (List ℕ)) (line out first : List ℕ) → LinesServed sessions states totals lines out mid between
+    → LineServed sessions mid between line first new counted → LinesServed sessions states totals (lines ++ line ∷ []) (out ++ first) new counted
+lines_more sessions states mid new totals between counted lines line out first before step = λ sittings most all below.
     let count : length (lines ++ line ∷ []) ≡ length lines + 1 = omega (arith, length-append lines (line ∷ [])) in
     let start = before sittings most all (omega (arith, below, count)) in
     let next = step start.0 (most + length lines) start.2 (omega (arith, below, count)) in
-    let one = one_line start.0 next.0 line first next.1 in
+    let one = one_line sessions start.0 next.0 line first next.1 in
     let sum : (most + length lines) + 1 ≡ most + length (lines ++ line ∷ []) = omega (arith, count) in
-    (next.0, serves_behind sittings start.0 next.0 lines (line ∷ []) out first start.1 one, subst (λ (n : ℕ). AllSit new counted next.0 n) sum next.2)
+    (next.0, serves_behind sessions sittings start.0 next.0 lines (line ∷ []) out first start.1 one, subst (λ (n : ℕ). AllSit new counted next.0 n) sum next.2)

@@ -1,15 +1,18 @@
 -- Totals kept for databases, and the sittings that they belong to.
-use Rattle.std.proofs.Common.{◌≡◌, ◌≢◌, ℕ, zero, suc, ◌+◌, ◌-◌, ◌^◌, ◌<◌, ◌≤◌, List, [], ◌∷◌, ◌++◌, length, get_or, map, replicate, Some, arith, refl, sym, ap, subst, ◌∙◌, inl, inr}
-use Rattle.std.specs.Prelude.{◌==◌, filter, slice_get, slice_set}
-use Rattle.std.proofs.lemmas.Bool.{cases_eq, eq-eqb, ne_eqb}
-use Rattle.std.proofs.lemmas.List.{append-nil, length-append, length-map, map-append, get_or-replicate}
+use Rattle.std.proofs.Common.{◌≡◌, ◌≢◌, ℕ, zero, suc, ◌+◌, ◌-◌, ◌^◌, ◌<◌, ◌≤◌, List, [], ◌∷◌, ◌++◌, length, get_or, map, Some, Result, Ok, Err, true, false, arith, refl, sym, ap, subst, ◌∙◌, inl, inr}
+use Rattle.std.specs.Prelude.{◌==◌, filter, is_ok, slice_get, slice_set}
+use Rattle.std.specs.List.{AllByRecursion}
+use Rattle.std.proofs.lemmas.Bool.{cases_eq, eq-eqb, false≢true, ne_eqb, true≢false}
+use Rattle.std.proofs.lemmas.List.{append-nil, length-append, length-map, map-append, get_or_default, get_or_past, get_or-set_other, get_or-set_same}
 use Rattle.std.proofs.lemmas.List.Elements.{filter-append}
 use Rattle.std.proofs.lemmas.List.Sums.{length-filter, count_by-le-length}
-use Rattle.std.proofs.lemmas.Option.{slice_get-get_or, slice_get_within, get_or_from_slice_get}
+use Rattle.std.proofs.lemmas.Option.{slice_get_within}
 use Rattle.escrow_num.specs.Session.{IsSession}
 use Rattle.escrow_machine.specs.declared.event.Event.TheVariants as event
 use Rattle.escrow_machine.specs.declared.reply.Reply.{Reply}
 use Rattle.escrow_machine.specs.declared.reply.Reply.TheVariants as reply
+use Rattle.escrow_num.specs.declared.refusal.Refusal.{Refusal}
+use Rattle.escrow_machine.specs.Reply.{restart_reply}
 use Rattle.escrow_machine.specs.State.{State}
 use Rattle.escrow_machine.specs.Step as machine
 use Rattle.escrow_reply.specs.Text.{rendered, rendered_whole}
@@ -18,12 +21,11 @@ use Rattle.escrow_sql.specs.Parser.{Asks}
 use Rattle.escrow_stats.specs.declared.tally.Tally.{Tally}
 use Rattle.escrow_stats.specs.Tally.{tally_of}
 use Rattle.escrow_stats.specs.Text.{rendered_totals}
-use Rattle.escrow_serve.specs.declared.totals.TheConstants.{SESSIONS}
 use Rattle.escrow_serve.specs.declared.totals.Totals.{Totals}
 use Rattle.escrow_script.specs.Line.{Reading, restart, statement, database_name, Reads}
 use Rattle.escrow_serve.specs.Output.{Sitting, begun, replies_to, answered_after, Answers, PrintsText, ServesLine}
-use Rattle.escrow_serve.specs.Totals.{no_totals, totals_after, AreTotals, Sits, AllSit, TextServed, LineServed}
-use Rattle.escrow_serve.proofs.Elements.{get_set_same, get_set_other, get_within, set_same}
+use Rattle.escrow_serve.specs.Totals.{AreLeft, AreNone, AreTotals, Sits, AllSit, TextServed, LineServed}
+use Rattle.escrow_serve.proofs.Elements.{get_within, set_same}
 
 -- THE REPLIES TO A SESSION
 
@@ -56,62 +58,81 @@ few_replies session answered =
 
 -- THE TOTALS OF A DATABASE
 
-are_none : AreTotals no_totals [] 0
-are_none = record {
-  each = λ session is.
-      let within : session - 1 < length (replicate SESSIONS (tally_of [])) = omega arith in
-      slice_get-get_or (replicate SESSIONS (tally_of [])) (session - 1) (tally_of []) within ∙ ap Some (get_or-replicate SESSIONS (session - 1) (tally_of []) (tally_of []) (omega (arith, is.1)));
+are_none : (totals : Totals) → AreNone totals → AreTotals totals [] 0
+are_none totals none = record {
+  each = λ session is. ap (λ (ts : List Tally). get_or ts (session - 1) (tally_of [])) none ∙ get_or_past [] (session - 1) (tally_of []) (omega arith);
   few = omega arith;
 }
 
 totals_more : (totals : Totals) (answered : List (ℕ × Reply)) (most : ℕ) → AreTotals totals answered most → AreTotals totals answered (most + 1)
 totals_more totals answered most are = record { each = are.each; few = omega (arith, are.few) }
 
+-- one more tally of no replies is that of a session that has none of its own
+pub one_more_none : (ts : List Tally) (place : ℕ) (d : Tally) → get_or (ts ++ d ∷ []) place d ≡ get_or ts place d
+one_more_none [] zero d = refl
+one_more_none [] (suc place) d = refl
+one_more_none (t ∷ ts) zero d = refl
+one_more_none (t ∷ ts) (suc place) d = one_more_none ts place d
+
+pub totals_same : (old new : Totals) → ((place : ℕ) → get_or new.tallies.items place (tally_of []) ≡ get_or old.tallies.items place (tally_of []))
+    → (answered : List (ℕ × Reply)) (most : ℕ) → AreTotals old answered most → AreTotals new answered most
+totals_same old new same answered most are = record { each = λ session is. same (session - 1) ∙ are.each session is; few = are.few }
+
 -- the tally of a session
-pub own_tally : (totals : Totals) (session : ℕ) (d : Tally) → IsSession session → (answered : List (ℕ × Reply)) (most : ℕ) → AreTotals totals answered most
-    → get_or totals.tallies (session - 1) d ≡ tally_of (replies_to session answered)
-own_tally totals session d is_session answered most are =
-    get_or_from_slice_get totals.tallies (session - 1) (tally_of (replies_to session answered)) d (are.each session is_session)
+pub own_tally : (totals : Totals) (session place : ℕ) (tally d : Tally) → IsSession session → place ≡ session - 1 → place < length totals.tallies.items → tally ≡ get_or totals.tallies.items place d
+    → (answered : List (ℕ × Reply)) (most : ℕ) → AreTotals totals answered most → tally ≡ tally_of (replies_to session answered)
+own_tally totals session place tally d is_session is_place within found answered most are =
+    found ∙ get_or_default totals.tallies.items place d (tally_of []) within
+    ∙ ap (λ (n : ℕ). get_or totals.tallies.items n (tally_of [])) is_place ∙ are.each session is_session
+
+pub no_tally : (totals : Totals) (session place : ℕ) (tally : Tally) → IsSession session → place ≡ session - 1 → length totals.tallies.items ≤ place → tally ≡ tally_of []
+    → (answered : List (ℕ × Reply)) (most : ℕ) → AreTotals totals answered most → tally ≡ tally_of (replies_to session answered)
+no_tally totals session place tally is_session is_place past none answered most are =
+    none ∙ sym (get_or_past totals.tallies.items place (tally_of []) past)
+    ∙ ap (λ (n : ℕ). get_or totals.tallies.items n (tally_of [])) is_place ∙ are.each session is_session
 
 -- a reply to a session is counted
-totals_at : (old new : Totals) (session : ℕ) (r : Reply) (d now : Tally) → IsSession session → new.tallies ≡ slice_set old.tallies (session - 1) now
-    → ((replies : List Reply) → get_or old.tallies (session - 1) d ≡ tally_of replies → length replies < 2 ^ 64 - 1 → now ≡ tally_of (replies ++ r ∷ []))
+pub totals_with : (old new : Totals) (session place : ℕ) (r : Reply) (tally d now : Tally) → IsSession session → place ≡ session - 1 → place < length old.tallies.items → tally ≡ get_or old.tallies.items place d
+    → new.tallies.items ≡ slice_set old.tallies.items place now → ((replies : List Reply) → tally ≡ tally_of replies → length replies < 2 ^ 64 - 1 → now ≡ tally_of (replies ++ r ∷ []))
     → (answered : List (ℕ × Reply)) (most : ℕ) → AreTotals old answered most → most < 2 ^ 64 - 1 → AreTotals new (answered ++ (session, r) ∷ []) (most + 1)
-totals_at old new session r d now is_session set counts answered most are below =
-    let is_now = counts (replies_to session answered) (own_tally old session d is_session answered most are) (omega (arith, few_replies session answered, are.few, below)) in
-    let within = slice_get_within old.tallies (session - 1) (tally_of (replies_to session answered)) (are.each session is_session) in
+totals_with old new session place r tally d now is_session is_place within found set counts answered most are below =
+    let is_now = counts (replies_to session answered) (own_tally old session place tally d is_session is_place within found answered most are) (omega (arith, few_replies session answered, are.few, below)) in
     record {
       each = λ other is_other. elim (cases_eq session other) [
-        | inl same ↦ subst (λ (n : ℕ). slice_get new.tallies (n - 1) ≡ Some (tally_of (replies_to n (answered ++ (session, r) ∷ [])))) same
-            (ap (λ (ts : List Tally). slice_get ts (session - 1)) set ∙ get_set_same old.tallies (session - 1) now within
-            ∙ ap Some (is_now ∙ ap tally_of (sym (replies_with session answered r))))
+        | inl same ↦
+            let here : other - 1 ≡ place = omega (arith, is_place, same) in
+            ap (λ (ts : List Tally). get_or ts (other - 1) (tally_of [])) set ∙ ap (λ (n : ℕ). get_or (slice_set old.tallies.items place now) n (tally_of [])) here
+            ∙ get_or-set_same old.tallies.items place now (tally_of []) within ∙ is_now ∙ ap tally_of (sym (replies_with session answered r))
+            ∙ ap (λ (n : ℕ). tally_of (replies_to n (answered ++ (session, r) ∷ []))) same
         | inr apart ↦
-            let places : other - 1 ≢ session - 1 = omega (arith, is_session.0, is_other.0, apart) in
-            ap (λ (ts : List Tally). slice_get ts (other - 1)) set ∙ get_set_other old.tallies (session - 1) (other - 1) now places
-            ∙ are.each other is_other ∙ ap (λ (rs : List Reply). Some (tally_of rs)) (sym (replies_without session other answered r apart))
+            let places : other - 1 ≢ place = omega (arith, is_session.0, is_other.0, apart, is_place) in
+            ap (λ (ts : List Tally). get_or ts (other - 1) (tally_of [])) set ∙ get_or-set_other old.tallies.items place (other - 1) now (tally_of []) places
+            ∙ are.each other is_other ∙ ap tally_of (sym (replies_without session other answered r apart))
       ];
       few = omega (arith, are.few, length-append answered ((session, r) ∷ []));
     }
-
-pub totals_with : (old new : Totals) (session place : ℕ) (r : Reply) (d now : Tally) → IsSession session → place ≡ session - 1 → new.tallies ≡ slice_set old.tallies place now
-    → ((replies : List Reply) → get_or old.tallies place d ≡ tally_of replies → length replies < 2 ^ 64 - 1 → now ≡ tally_of (replies ++ r ∷ []))
-    → (answered : List (ℕ × Reply)) (most : ℕ) → AreTotals old answered most → most < 2 ^ 64 - 1 → AreTotals new (answered ++ (session, r) ∷ []) (most + 1)
-totals_with old new session place r d now is_session is_place set counts =
-    totals_at old new session r d now is_session (set ∙ ap (λ (n : ℕ). slice_set old.tallies n now) is_place)
-    (λ replies is few. counts replies (ap (λ (n : ℕ). get_or old.tallies n d) is_place ∙ is) few)
 
 -- THE SITTING OF A DATABASE
 
 sits_more : (state : State) (totals : Totals) (sitting : Sitting) (most : ℕ) → Sits state totals sitting most → Sits state totals sitting (most + 1)
 sits_more state totals sitting most sits = record { is_state = sits.is_state; are_totals = totals_more totals sitting.answered most sits.are_totals }
 
+-- what a restart leaves
+pub left_restarted : (outcome : Result (Unit {0}) Refusal) (answer : Reply) (old new : Totals) → answer ≡ restart_reply outcome → is_ok outcome ≡ true → AreNone new → AreLeft answer old new
+left_restarted (Ok done) answer old new is ok none = subst (λ (r : Reply). AreLeft r old new) (sym is) none
+left_restarted (Err refusal) answer old new is ok none = absurd (false≢true ok)
+
+pub left_refused : (outcome : Result (Unit {0}) Refusal) (answer : Reply) (old new : Totals) → answer ≡ restart_reply outcome → is_ok outcome ≡ false → new ≡ old → AreLeft answer old new
+left_refused (Ok done) answer old new is ok same = absurd (true≢false ok)
+left_refused (Err refusal) answer old new is ok same = subst (λ (r : Reply). AreLeft r old new) (sym is) same
+
 -- a restart
-sits_restarted : (old new : State) (totals : Totals) (sitting : Sitting) (most : ℕ) (answer : Reply) → Sits old totals sitting most
-    → Sits new (totals_after answer totals) (record { state = new; answered = answered_after answer sitting.answered }) (most + 1)
-sits_restarted old new totals sitting most reply.Restarted sits =
-    record { is_state = refl; are_totals = record { each = are_none.each; few = omega arith } }
-sits_restarted old new totals sitting most _ sits =
-    record { is_state = refl; are_totals = totals_more totals sitting.answered most sits.are_totals }
+sits_restarted : (old new : State) (totals counted : Totals) (sitting : Sitting) (most : ℕ) (answer : Reply) → AreLeft answer totals counted → Sits old totals sitting most
+    → Sits new counted (record { state = new; answered = answered_after answer sitting.answered }) (most + 1)
+sits_restarted old new totals counted sitting most reply.Restarted left sits =
+    record { is_state = refl; are_totals = record { each = (are_none counted left).each; few = omega arith } }
+sits_restarted old new totals counted sitting most _ left sits =
+    record { is_state = refl; are_totals = subst (λ (t : Totals). AreTotals t sitting.answered (most + 1)) (sym left) (totals_more totals sitting.answered most sits.are_totals) }
 
 -- a text that is answered
 pub text_answered : (name : List ℕ) (old new : State) (totals counted : Totals) (session : ℕ) (text : List ℕ) (answer : Reply) → Answers old session text answer new
@@ -160,9 +181,11 @@ all_states (s ∷ states) (t ∷ totals) (x ∷ sittings) most all =
     let head : s ≡ x.state = sym all.0.is_state in let tail = all_states states totals sittings most all.1 in cc
 
 -- at the beginning of a script
-pub all_begun : (states : List State) → AllSit states (replicate (length states) no_totals) (map begun states) 0
-all_begun [] = tt
-all_begun (s ∷ states) = (record { is_state = refl; are_totals = are_none }, all_begun states)
+pub all_begun : (states : List State) (totals : List Totals) → length totals ≡ length states → AllByRecursion AreNone totals → AllSit states totals (map begun states) 0
+all_begun [] [] count none = tt
+all_begun [] (t ∷ totals) count none = absurd (omega (arith, count))
+all_begun (s ∷ states) [] count none = absurd (omega (arith, count))
+all_begun (s ∷ states) (t ∷ totals) count none = (record { is_state = refl; are_totals = are_none t none.0 }, all_begun states totals (omega (arith, count)) none.1)
 
 -- the sitting of one database
 record IsAt (state : State) (totals : Totals) (sittings : List Sitting) (most place : ℕ) : Type 0 where
@@ -197,41 +220,41 @@ sits_set (s ∷ states) (t ∷ totals) (x ∷ sittings) most (suc place) state o
 -- A LINE
 
 -- how a line is read
-line_read : (states new : List State) (totals counted : List Totals) (bytes out : List ℕ) (reading : Reading) → Reads (length states) bytes reading
+line_read : (sessions : ℕ) → (states new : List State) (totals counted : List Totals) (bytes out : List ℕ) (reading : Reading) → Reads (length states) sessions bytes reading
     → ((sittings : List Sitting) (most : ℕ) → AllSit states totals sittings most → most < 2 ^ 64 - 1 → (after : List Sitting) × ServesLine sittings reading out after × AllSit new counted after (most + 1))
-    → LineServed states totals bytes out new counted
-line_read states new totals counted bytes out reading reads serves = λ sittings most all below.
+    → LineServed sessions states totals bytes out new counted
+line_read sessions states new totals counted bytes out reading reads serves = λ sittings most all below.
     let step = serves sittings most all below in
     let count = all_length states totals sittings most all in
-    (step.0, (reading, subst (λ (n : ℕ). Reads n bytes reading) (sym count) reads, step.1), step.2)
+    (step.0, (reading, subst (λ (n : ℕ). Reads n sessions bytes reading) (sym count) reads, step.1), step.2)
 
 -- a line that changes nothing
-pub line_of_none : (states : List State) (totals : List Totals) (bytes out : List ℕ) (reading : Reading) → Reads (length states) bytes reading
-    → ((sittings : List Sitting) → ServesLine sittings reading out sittings) → LineServed states totals bytes out states totals
-line_of_none states totals bytes out reading reads serves =
-    line_read states states totals totals bytes out reading reads (λ sittings most all below. (sittings, serves sittings, all_more states totals sittings most all))
+pub line_of_none : (sessions : ℕ) → (states : List State) (totals : List Totals) (bytes out : List ℕ) (reading : Reading) → Reads (length states) sessions bytes reading
+    → ((sittings : List Sitting) → ServesLine sittings reading out sittings) → LineServed sessions states totals bytes out states totals
+line_of_none sessions states totals bytes out reading reads serves =
+    line_read sessions states states totals totals bytes out reading reads (λ sittings most all below. (sittings, serves sittings, all_more states totals sittings most all))
 
 -- the line of a statement
-pub line_of_statement : (states : List State) (totals : List Totals) (place session : ℕ) (bytes text name out : List ℕ) (old new : State) (own counted : Totals)
-    → Reads (length states) bytes (statement place session text) → slice_get states place ≡ Some old → slice_get totals place ≡ Some own → name ≡ database_name place
-    → TextServed name old own session text out new counted → LineServed states totals bytes out (slice_set states place new) (slice_set totals place counted)
-line_of_statement states totals place session bytes text name out old new own counted reads found has is_name served =
-    line_read states (slice_set states place new) totals (slice_set totals place counted) bytes out (statement place session text) reads (λ sittings most all below.
+pub line_of_statement : (sessions : ℕ) → (states : List State) (totals : List Totals) (place session : ℕ) (bytes text name out : List ℕ) (old new : State) (own counted : Totals)
+    → Reads (length states) sessions bytes (statement place session text) → slice_get states place ≡ Some old → slice_get totals place ≡ Some own → name ≡ database_name place
+    → TextServed name old own session text out new counted → LineServed sessions states totals bytes out (slice_set states place new) (slice_set totals place counted)
+line_of_statement sessions states totals place session bytes text name out old new own counted reads found has is_name served =
+    line_read sessions states (slice_set states place new) totals (slice_set totals place counted) bytes out (statement place session text) reads (λ sittings most all below.
     let at = sits_at states totals sittings most place old own all found has in
     let step = served at.sitting most at.sits below in
     let prints = subst (λ (n : List ℕ). PrintsText n at.sitting session text out step.0) is_name step.1 in
     (slice_set sittings place step.0, rw at.found (step.0, prints, refl), sits_set states totals sittings most place new counted step.0 all step.2))
 
 -- the line of a restart
-pub line_of_restart : (states : List State) (totals : List Totals) (place : ℕ) (bytes name : List ℕ) (answer : Reply) (old new : State) (own counted : Totals)
-    → Reads (length states) bytes (restart place) → slice_get states place ≡ Some old → slice_get totals place ≡ Some own → name ≡ database_name place
-    → machine.IsServed old event.Restart answer new → counted ≡ totals_after answer own
-    → LineServed states totals bytes (rendered_whole name answer) (slice_set states place new) (slice_set totals place counted)
-line_of_restart states totals place bytes name answer old new own counted reads found has is_name served is_counted =
-    line_read states (slice_set states place new) totals (slice_set totals place counted) bytes (rendered_whole name answer) (restart place) reads (λ sittings most all below.
+pub line_of_restart : (sessions : ℕ) → (states : List State) (totals : List Totals) (place : ℕ) (bytes name : List ℕ) (answer : Reply) (old new : State) (own counted : Totals)
+    → Reads (length states) sessions bytes (restart place) → slice_get states place ≡ Some old → slice_get totals place ≡ Some own → name ≡ database_name place
+    → machine.IsServed old event.Restart answer new → AreLeft answer own counted
+    → LineServed sessions states totals bytes (rendered_whole name answer) (slice_set states place new) (slice_set totals place counted)
+line_of_restart sessions states totals place bytes name answer old new own counted reads found has is_name served left =
+    line_read sessions states (slice_set states place new) totals (slice_set totals place counted) bytes (rendered_whole name answer) (restart place) reads (λ sittings most all below.
     let at = sits_at states totals sittings most place old own all found has in
     let after : Sitting = record { state = new; answered = answered_after answer at.sitting.answered } in
-    let sits = subst (λ (t : Totals). Sits new t after (most + 1)) (sym is_counted) (sits_restarted old new own at.sitting most answer at.sits) in
+    let sits = sits_restarted old new own counted at.sitting most answer left at.sits in
     let restarted = subst (λ (s : State). machine.IsServed s event.Restart answer new) (sym at.sits.is_state) served in (
       slice_set sittings place after,
       rw at.found (after, (answer, new, restarted, ap (λ (n : List ℕ). rendered_whole n answer) is_name, refl), refl),
@@ -239,10 +262,10 @@ line_of_restart states totals place bytes name answer old new own counted reads 
     ))
 
 -- the line of a statement that leaves the state unchanged
-pub line_unchanged : (states : List State) (totals : List Totals) (place session : ℕ) (bytes text name out : List ℕ) (own counted : Totals)
-    → Reads (length states) bytes (statement place session text) → place < length states → slice_get totals place ≡ Some own → name ≡ database_name place
-    → ((kept : State) → TextServed name kept own session text out kept counted) → LineServed states totals bytes out states (slice_set totals place counted)
-line_unchanged states totals place session bytes text name out own counted reads within has is_name served =
+pub line_unchanged : (sessions : ℕ) → (states : List State) (totals : List Totals) (place session : ℕ) (bytes text name out : List ℕ) (own counted : Totals)
+    → Reads (length states) sessions bytes (statement place session text) → place < length states → slice_get totals place ≡ Some own → name ≡ database_name place
+    → ((kept : State) → TextServed name kept own session text out kept counted) → LineServed sessions states totals bytes out states (slice_set totals place counted)
+line_unchanged sessions states totals place session bytes text name out own counted reads within has is_name served =
     let at = get_within states place within in
-    subst (λ (after : List State). LineServed states totals bytes out after (slice_set totals place counted)) (set_same states place at.0 at.1)
-    (line_of_statement states totals place session bytes text name out at.0 at.0 own counted reads at.1 has is_name (served at.0))
+    subst (λ (after : List State). LineServed sessions states totals bytes out after (slice_set totals place counted)) (set_same states place at.0 at.1)
+    (line_of_statement sessions states totals place session bytes text name out at.0 at.0 own counted reads at.1 has is_name (served at.0))

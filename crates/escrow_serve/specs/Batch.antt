@@ -52,17 +52,17 @@ MayWait (task.Statistics place session) = ⊥
 MayWait _ = Unit {0}
 
 -- a line asks its task, which may wait
-abbrev pub IsItem : ℕ → Item → Type 0
-IsItem databases item = IsTask databases item.bytes item.task × MayWait item.task
+abbrev pub IsItem : ℕ → ℕ → Item → Type 0
+IsItem sessions databases item = IsTask sessions databases item.bytes item.task × MayWait item.task
 
 -- each part has the events that lines ask of its database
 abbrev pub AreAsked : List Part → List Item → Type 0
 AreAsked parts items = (place : ℕ) (part : Part) → slice_get parts place ≡ Some part → part.events.items ≡ events_at place items
 
 -- lines wait in a batch
-pub record Gathers (databases : ℕ) (held : List Waiting) (parts : List Part) (items : List Item) : Type 0 where
+pub record Gathers (sessions : ℕ) (databases : ℕ) (held : List Waiting) (parts : List Part) (items : List Item) : Type 0 where
   pub count : length parts ≡ databases
-  pub are : AllByRecursion (IsItem databases) items
+  pub are : AllByRecursion (IsItem sessions databases) items
   pub waits : held ≡ map (λ item. waiting_of item.task) items
   pub asked : AreAsked parts items
 
@@ -97,19 +97,19 @@ TakesLines [] bytes rest = rest ≡ bytes
 TakesLines (kept ∷ more) bytes rest = (mid : Option (List ℕ)) × (length kept ≤ MAX_LINE + 1) × TakesLine true bytes mid kept × TakesLines more mid rest
 
 -- the line that was taken last and may not wait, if there is one
-abbrev pub IsLast : ℕ → Option Task → List (List ℕ) → Type 0
-IsLast databases None last = last ≡ []
-IsLast databases (Some asked) last = (bytes : List ℕ) × (last ≡ bytes ∷ []) × IsTask databases bytes asked
+abbrev pub IsLast : ℕ → ℕ → Option Task → List (List ℕ) → Type 0
+IsLast sessions databases None last = last ≡ []
+IsLast sessions databases (Some asked) last = (bytes : List ℕ) × (last ≡ bytes ∷ []) × IsTask sessions databases bytes asked
 
 -- after a line that was taken, lines in hand were taken: they wait in a batch, except the last one if it may not wait
-pub record GathersLines (databases : ℕ) (first unread rest : List ℕ) (waits : List Waiting) (parts : List Part) (alone : Option Task) : Type 0 where
+pub record GathersLines (sessions : ℕ) (databases : ℕ) (first unread rest : List ℕ) (waits : List Waiting) (parts : List Part) (alone : Option Task) : Type 0 where
   pub short : length first ≤ MAX_LINE + 1
   pub items : List Item
   pub lines : List (List ℕ)
   pub last : List (List ℕ)
-  pub gathers : Gathers databases waits parts items
+  pub gathers : Gathers sessions databases waits parts items
   pub whole : first ∷ lines ≡ map (λ item. item.bytes) items ++ last
-  pub is_last : IsLast databases alone last
+  pub is_last : IsLast sessions databases alone last
   pub taken : (rem : Option (List ℕ)) → TakesLines lines (left unread rem) (left rest rem)
   pub fewer : length lines + length rest ≤ length unread
 

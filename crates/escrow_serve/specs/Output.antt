@@ -108,47 +108,47 @@ ServesLine sittings (statement place session text) out new =
     × (new ≡ slice_set sittings place after))
 
 -- what the bytes of a line write, and the sittings after it
-abbrev pub ServesBytes : List Sitting → List ℕ → List ℕ → List Sitting → Type 0
-ServesBytes sittings bytes out new = (reading : Reading) × Reads (length sittings) bytes reading × ServesLine sittings reading out new
+abbrev pub ServesBytes : ℕ → List Sitting → List ℕ → List ℕ → List Sitting → Type 0
+ServesBytes sessions sittings bytes out new = (reading : Reading) × Reads (length sittings) sessions bytes reading × ServesLine sittings reading out new
 
 -- what lines write, one after another, and the sittings after them
-abbrev pub ServesLines : List Sitting → List (List ℕ) → List ℕ → List Sitting → Type 0
-ServesLines sittings [] out new = (out ≡ []) × (new ≡ sittings)
-ServesLines sittings (line ∷ lines) out new =
-    (first rest : List ℕ) × (mid : List Sitting) × ServesBytes sittings line first mid
-    × ServesLines mid lines rest new × (out ≡ first ++ rest)
+abbrev pub ServesLines : ℕ → List Sitting → List (List ℕ) → List ℕ → List Sitting → Type 0
+ServesLines sessions sittings [] out new = (out ≡ []) × (new ≡ sittings)
+ServesLines sessions sittings (line ∷ lines) out new =
+    (first rest : List ℕ) × (mid : List Sitting) × ServesBytes sessions sittings line first mid
+    × ServesLines sessions mid lines rest new × (out ≡ first ++ rest)
 
 -- what a script's first lines write from the databases' states, and the states after them
-abbrev pub WritesLines : List State → List (List ℕ) → List ℕ → List State → Type 0
-WritesLines states lines out new =
-    (end : List Sitting) × ServesLines (map begun states) lines out end × (new ≡ map (λ sitting. sitting.state) end)
+abbrev pub WritesLines : ℕ → List State → List (List ℕ) → List ℕ → List State → Type 0
+WritesLines sessions states lines out new =
+    (end : List Sitting) × ServesLines sessions (map begun states) lines out end × (new ≡ map (λ sitting. sitting.state) end)
 
 -- THE OUTPUT OF A SCRIPT: what it writes from the databases' states, with no replies to any session yet, and the states
 -- after it
-abbrev pub Output : List ℕ → List State → List ℕ → List State → Type 0
-Output script states out new = WritesLines states (lines_of script) out new
+abbrev pub Output : ℕ → List ℕ → List State → List ℕ → List State → Type 0
+Output sessions script states out new = WritesLines sessions states (lines_of script) out new
 
 -- all of the lines were served, however many they are, and their output was written
-pub record ServesAll (script : List ℕ) (states new : List State) (old_bytes new_bytes : Option (List ℕ)) : Type 0 where
+pub record ServesAll (sessions : ℕ) (script : List ℕ) (states new : List State) (old_bytes new_bytes : Option (List ℕ)) : Type 0 where
   pub out : List ℕ
-  pub output : Output script states out new
+  pub output : Output sessions script states out new
   pub appends : Appends old_bytes new_bytes out
 
 -- the whole script was served: it is no longer than a script may be, and its output was written
-pub record ServesWhole (script : List ℕ) (states new : List State) (old_bytes new_bytes : Option (List ℕ)) : Type 0 where
+pub record ServesWhole (sessions : ℕ) (script : List ℕ) (states new : List State) (old_bytes new_bytes : Option (List ℕ)) : Type 0 where
   pub limit : length script ≤ MAX_SCRIPT
   pub out : List ℕ
-  pub output : Output script states out new
+  pub output : Output sessions script states out new
   pub appends : Appends old_bytes new_bytes out
 
 -- What a fault leaves: some lines of the script from its first on were served, and a prefix of their
 -- output was written.
-pub record StopsWithin (fault : ServeFault) (script : List ℕ) (states new : List State) (old_bytes new_bytes : Option (List ℕ)) : Type 0 where
+pub record StopsWithin (sessions : ℕ) (fault : ServeFault) (script : List ℕ) (states new : List State) (old_bytes new_bytes : Option (List ℕ)) : Type 0 where
   pub served : List (List ℕ)
   pub unserved : List (List ℕ)
   pub written : List ℕ
   pub unwritten : List ℕ
   pub lines : lines_of script ≡ served ++ unserved
-  pub serves : WritesLines states served (written ++ unwritten) new
+  pub serves : WritesLines sessions states served (written ++ unwritten) new
   pub appends : Appends old_bytes new_bytes written
   pub leaves : Leaves fault unwritten

@@ -9,7 +9,7 @@ ghost use Rattle.escrow_reply.specs.Text.{rendered};
 ghost use Rattle.escrow_stats.specs.Text.{rendered_totals};
 ghost use Rattle.escrow_serve.specs.Output.{states_of, HaveCleanDisks};
 ghost use Rattle.escrow_serve.specs.Task.{IsTask};
-ghost use Rattle.escrow_serve.specs.Totals.{totals_after, LineServed, TextServed};
+ghost use Rattle.escrow_serve.specs.Totals.{AreLeft, LineServed, TextServed};
 
 use crate::task::Task;
 use crate::totals::Totals;
@@ -36,10 +36,10 @@ pub(crate) fn serve_task<S: Alter>(
 )
     requires few { vec_len databases.old ≤ MAX_DATABASES }
     requires each { vec_len totals.old ≡ vec_len databases.old }
-    requires asked { (bytes : List ℕ) × IsTask (vec_len databases.old) bytes task }
+    requires asked { (sessions : ℕ) × (bytes : List ℕ) × IsTask sessions (vec_len databases.old) bytes task }
     requires room { vec_len replies.old + MAX_SHORT ≤ vec_capacity replies.old }
-    ensures served { (out : List ℕ) × (replies.new.items ≡ replies.old.items ++ out) × (HaveCleanDisks S.Store databases.new.items → (bytes : List ℕ)
-        → IsTask (vec_len databases.old) bytes task → LineServed (states_of databases.old.items) totals.old.items bytes out (states_of databases.new.items) totals.new.items) }
+    ensures served { (out : List ℕ) × (replies.new.items ≡ replies.old.items ++ out) × (HaveCleanDisks S.Store databases.new.items → (sessions : ℕ) (bytes : List ℕ)
+        → IsTask sessions (vec_len databases.old) bytes task → LineServed sessions (states_of databases.old.items) totals.old.items bytes out (states_of databases.new.items) totals.new.items) }
     ensures len { vec_len databases.new ≡ vec_len databases.old }
     ensures each { vec_len totals.new ≡ vec_len totals.old }
     ensures clean { HaveCleanDisks S.Store databases.new.items → HaveCleanDisks S.Store databases.old.items }
@@ -87,13 +87,13 @@ pub(crate) fn serve_task<S: Alter>(
 /// Restarts a database, and returns its reply.
 fn restart<S: Alter>(alloc: Global, database: &mut Database<S>, totals: &mut Totals) -> Reply
     ensures served { HasCleanDisk (state S.Store database.new.store) → IsServed database.old.state Event.Restart result database.new.state }
-    ensures totals { totals.new ≡ totals_after result totals.old }
+    ensures totals { AreLeft result totals.old totals.new }
     ensures short { holds_memory result ≡ false }
     ensures clean { HasCleanDisk (state S.Store database.new.store) → HasCleanDisk (state S.Store database.old.store) }
 {
     let outcome = database.restart(alloc);
     if outcome.is_ok() {
-        *totals = Totals::new();
+        totals.clear();
     }
     Reply::to_restart(outcome)
 }

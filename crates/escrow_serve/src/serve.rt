@@ -4,6 +4,7 @@ ghost use Rattle.std.specs.List.{AllByRecursion};
 ghost use Rattle.escrow_script.specs.Script.{left, has_line, most_bytes, HasEnded, Spends, TakesLine};
 ghost use Rattle.escrow_script.specs.Written.{Leaves};
 ghost use Rattle.escrow_script.specs.declared.limits.TheConstants.{MAX_LINE};
+ghost use Rattle.escrow_num.specs.declared.session.TheConstants.Session.{MAX_SHARED};
 ghost use Rattle.escrow_serve.specs.Batch.{Gathers, GathersLines, HasRoom, TakesLines};
 ghost use Rattle.escrow_serve.specs.Left.{LeavesItsRows};
 ghost use Rattle.escrow_serve.specs.Output.{states_of, HaveCleanDisks, ServesAll, ServesWhole, StopsWithin};
@@ -12,8 +13,9 @@ ghost use Rattle.escrow_serve.specs.Totals.{LineServed, LinesServed};
 use crate::alone::serve_task;
 use crate::batch::Batch;
 use crate::task::{Task, read_task};
-use crate::totals::{Totals, totals_of};
+use crate::totals::Totals;
 use escrow_core::Database;
+use escrow_num::Session;
 use escrow_reply::MAX_SHORT;
 use escrow_script::{
     Limit, MAX_DATABASES, MOST_GATHERED, Script, ServeFault, out_of_memory, write_gathered,
@@ -47,13 +49,13 @@ pub fn serve_script<S: Alter, R: Read, W: Write>(
     // If each disk returned what was written, the output and the states after it are those of the
     // script, all of which was read. This holds even if a fault has shut a store.
     ensures output { HaveCleanDisks S.Store databases.new.items → OnOk result (IfSome (R.remaining reader.old) (λ script.
-        ServesWhole script (states_of databases.old.items) (states_of databases.new.items) (W.contents writer.old) (W.contents writer.new))) }
+        ServesWhole MAX_SHARED script (states_of databases.old.items) (states_of databases.new.items) (W.contents writer.old) (W.contents writer.new))) }
     ensures end { OnOk result (IfSome (R.remaining reader.old) (λ script. IsAtEnd (R.remaining reader.new))) }
 
     // After a fault some lines were served, and their output was written, or a prefix of it if the
     // writer failed.
     ensures fault { HaveCleanDisks S.Store databases.new.items → IfErr result (λ fault. IfSome (R.remaining reader.old) (λ script.
-        StopsWithin fault script (states_of databases.old.items) (states_of databases.new.items) (W.contents writer.old) (W.contents writer.new))) }
+        StopsWithin MAX_SHARED fault script (states_of databases.old.items) (states_of databases.new.items) (W.contents writer.old) (W.contents writer.new))) }
 
     // If each disk has returned what was written by the end of the call, it had before the call
     // too.
@@ -63,14 +65,23 @@ pub fn serve_script<S: Alter, R: Read, W: Write>(
     // each store that can be used.
     ensures on_disk { AllByRecursion (LeavesItsRows S.Store) databases.new.items }
 {
-    let served = serve_from(alloc, Limit::Script, databases, reader, writer);
+    let served = serve_from(
+        alloc,
+        Limit::Script,
+        Session::MAX_SHARED,
+        databases,
+        reader,
+        writer,
+    );
     see_left(databases.as_slice());
     served
 }
 
-/// Serves lines as [`serve_script`] does, but until their reader ends, however many they are.
+/// Serves lines as [`serve_script`] does, but with this many sessions, and until their reader ends,
+/// however many they are.
 pub fn serve_lines<S: Alter, R: Read, W: Write>(
     alloc: Global,
+    sessions: u16,
     databases: &mut Vec<Database<S>>,
     reader: &mut R,
     writer: &mut W,
@@ -81,13 +92,13 @@ pub fn serve_lines<S: Alter, R: Read, W: Write>(
     // If each disk returned what was written, the output and the states after it are those of all
     // lines, all of which were read. This holds even if a fault has shut a store.
     ensures output { HaveCleanDisks S.Store databases.new.items → OnOk result (IfSome (R.remaining reader.old) (λ script.
-        ServesAll script (states_of databases.old.items) (states_of databases.new.items) (W.contents writer.old) (W.contents writer.new))) }
+        ServesAll sessions script (states_of databases.old.items) (states_of databases.new.items) (W.contents writer.old) (W.contents writer.new))) }
     ensures end { OnOk result (IfSome (R.remaining reader.old) (λ script. IsAtEnd (R.remaining reader.new))) }
 
     // After a fault some lines were served, and their output was written, or a prefix of it if the
     // writer failed.
     ensures fault { HaveCleanDisks S.Store databases.new.items → IfErr result (λ fault. IfSome (R.remaining reader.old) (λ script.
-        StopsWithin fault script (states_of databases.old.items) (states_of databases.new.items) (W.contents writer.old) (W.contents writer.new))) }
+        StopsWithin sessions fault script (states_of databases.old.items) (states_of databases.new.items) (W.contents writer.old) (W.contents writer.new))) }
 
     // If each disk has returned what was written by the end of the call, it had before the call
     // too.
@@ -97,7 +108,7 @@ pub fn serve_lines<S: Alter, R: Read, W: Write>(
     // each store that can be used.
     ensures on_disk { AllByRecursion (LeavesItsRows S.Store) databases.new.items }
 {
-    let served = serve_from(alloc, Limit::Stream, databases, reader, writer);
+    let served = serve_from(alloc, Limit::Stream, sessions, databases, reader, writer);
     see_left(databases.as_slice());
     served
 }
@@ -106,25 +117,27 @@ pub fn serve_lines<S: Alter, R: Read, W: Write>(
 fn serve_from<S: Alter, R: Read, W: Write>(
     alloc: Global,
     limit: Limit,
+    sessions: u16,
     databases: &mut Vec<Database<S>>,
     reader: &mut R,
     writer: &mut W,
 ) -> Result<(), ServeFault>
     requires few { vec_len databases.old ≤ MAX_DATABASES }
     ensures output { HaveCleanDisks S.Store databases.new.items → OnOk result (IfSome (R.remaining reader.old) (λ script. (length script ≤ most_bytes limit)
-        × ServesAll script (states_of databases.old.items) (states_of databases.new.items) (W.contents writer.old) (W.contents writer.new))) }
+        × ServesAll sessions script (states_of databases.old.items) (states_of databases.new.items) (W.contents writer.old) (W.contents writer.new))) }
     ensures end { OnOk result (IfSome (R.remaining reader.old) (λ script. IsAtEnd (R.remaining reader.new))) }
     ensures fault { HaveCleanDisks S.Store databases.new.items → IfErr result (λ fault. IfSome (R.remaining reader.old) (λ script.
-        StopsWithin fault script (states_of databases.old.items) (states_of databases.new.items) (W.contents writer.old) (W.contents writer.new))) }
+        StopsWithin sessions fault script (states_of databases.old.items) (states_of databases.new.items) (W.contents writer.old) (W.contents writer.new))) }
     ensures clean { HaveCleanDisks S.Store databases.new.items → HaveCleanDisks S.Store databases.old.items }
 {
     let mut script = Script::up_to(alloc, limit)?;
-    let mut totals = totals_of(alloc, databases.len())?;
+    let mut totals = Totals::of_databases(alloc, databases.len())?;
     let mut batch = Batch::new(alloc, databases.len())?;
     let mut replies = Vec::new(alloc);
     while take_line(&mut script, reader, writer, &mut replies)? {
         serve_in_hand(
             alloc,
+            sessions,
             databases,
             &mut totals,
             &mut script,
@@ -188,6 +201,7 @@ fn take_line<R: Read, W: Write>(
 /// gathers the lines of their replies. There must be room for a short reply to the first.
 fn serve_in_hand<S: Alter>(
     alloc: Global,
+    sessions: u16,
     databases: &mut Vec<Database<S>>,
     totals: &mut Vec<Totals>,
     script: &mut Script,
@@ -196,15 +210,15 @@ fn serve_in_hand<S: Alter>(
 )
     requires few { vec_len databases.old ≤ MAX_DATABASES }
     requires each { vec_len totals.old ≡ vec_len databases.old }
-    requires empty { Gathers (vec_len databases.old) batch.old.waiting.items batch.old.parts.items [] }
+    requires empty { Gathers sessions (vec_len databases.old) batch.old.waiting.items batch.old.parts.items [] }
     requires room { vec_len replies.old + MAX_SHORT ≤ vec_capacity replies.old }
     ensures served { (lines : List (List ℕ)) × (out : List ℕ)
         × ((rem : Option (List ℕ)) → TakesLines lines (left script.old.unread rem) (left script.new.unread rem))
         × (length lines + length script.new.unread ≤ length script.old.unread)
         × (replies.new.items ≡ replies.old.items ++ out) × (HaveCleanDisks S.Store databases.new.items →
-        LinesServed (states_of databases.old.items) totals.old.items (script.old.line.items ∷ lines) out (states_of databases.new.items) totals.new.items) }
+        LinesServed sessions (states_of databases.old.items) totals.old.items (script.old.line.items ∷ lines) out (states_of databases.new.items) totals.new.items) }
     ensures short { length script.old.line.items ≤ MAX_LINE + 1 }
-    ensures empty { Gathers (vec_len databases.new) batch.new.waiting.items batch.new.parts.items [] }
+    ensures empty { Gathers sessions (vec_len databases.new) batch.new.waiting.items batch.new.parts.items [] }
     ensures bytes { script.new.bytes_left ≡ script.old.bytes_left }
     ensures ended { script.new.has_ended ≡ script.old.has_ended }
     ensures len { vec_len databases.new ≡ vec_len databases.old }
@@ -212,10 +226,10 @@ fn serve_in_hand<S: Alter>(
     ensures clean { HaveCleanDisks S.Store databases.new.items → HaveCleanDisks S.Store databases.old.items }
 {
     if !script.has_line() {
-        serve_line(alloc, databases, totals, script.line(), replies);
+        serve_line(alloc, sessions, databases, totals, script.line(), replies);
         return;
     }
-    let alone = gather_lines(alloc, databases.len(), script, batch, replies);
+    let alone = gather_lines(alloc, databases.len(), sessions, script, batch, replies);
     batch.serve(alloc, databases, totals, replies);
     if let Some(task) = alone {
         serve_task(alloc, databases, totals, task, replies);
@@ -226,6 +240,7 @@ fn serve_in_hand<S: Alter>(
 /// one.
 fn serve_line<S: Alter>(
     alloc: Global,
+    sessions: u16,
     databases: &mut Vec<Database<S>>,
     totals: &mut Vec<Totals>,
     line: &[u8],
@@ -235,12 +250,12 @@ fn serve_line<S: Alter>(
     requires each { vec_len totals.old ≡ vec_len databases.old }
     requires room { vec_len replies.old + MAX_SHORT ≤ vec_capacity replies.old }
     ensures served { (out : List ℕ) × (replies.new.items ≡ replies.old.items ++ out) × (HaveCleanDisks S.Store databases.new.items →
-        LineServed (states_of databases.old.items) totals.old.items line.now out (states_of databases.new.items) totals.new.items) }
+        LineServed sessions (states_of databases.old.items) totals.old.items line.now out (states_of databases.new.items) totals.new.items) }
     ensures len { vec_len databases.new ≡ vec_len databases.old }
     ensures each { vec_len totals.new ≡ vec_len totals.old }
     ensures clean { HaveCleanDisks S.Store databases.new.items → HaveCleanDisks S.Store databases.old.items }
 {
-    let task = read_task(alloc, databases.len(), line);
+    let task = read_task(alloc, databases.len(), sessions, line);
     serve_task(alloc, databases, totals, task, replies);
 }
 
@@ -250,22 +265,23 @@ fn serve_line<S: Alter>(
 fn gather_lines(
     alloc: Global,
     databases: usize,
+    sessions: u16,
     script: &mut Script,
     batch: &mut Batch,
     replies: &mut Vec<u8>,
 ) -> Option<Task>
     requires few { databases ≤ MAX_DATABASES }
-    requires empty { Gathers databases batch.old.waiting.items batch.old.parts.items [] }
+    requires empty { Gathers sessions databases batch.old.waiting.items batch.old.parts.items [] }
     requires room { vec_len replies.old + MAX_SHORT ≤ vec_capacity replies.old }
-    ensures gathered { GathersLines databases script.old.line.items script.old.unread script.new.unread batch.new.waiting.items batch.new.parts.items result }
+    ensures gathered { GathersLines sessions databases script.old.line.items script.old.unread script.new.unread batch.new.waiting.items batch.new.parts.items result }
     ensures room { HasRoom result (vec_len batch.new.waiting) (vec_len replies.new) (vec_capacity replies.new) }
     ensures same { replies.new.items ≡ replies.old.items }
     ensures bytes { script.new.bytes_left ≡ script.old.bytes_left }
     ensures ended { script.new.has_ended ≡ script.old.has_ended }
 {
-    let mut alone = batch.admit(read_task(alloc, databases, script.line()));
+    let mut alone = batch.admit(read_task(alloc, databases, sessions, script.line()));
     while alone.is_none() && take_next(script, batch.len(), replies) {
-        alone = batch.admit(read_task(alloc, databases, script.line()));
+        alone = batch.admit(read_task(alloc, databases, sessions, script.line()));
     }
     alone
 }

@@ -37,12 +37,12 @@ pub(crate) enum Task {
     },
 }
 
-/// Parses a line, with this many databases.
-pub(crate) fn read_task(alloc: Global, databases: usize, line: &[u8]) -> Task
+/// Parses a line, with this many databases and sessions.
+pub(crate) fn read_task(alloc: Global, databases: usize, sessions: u16, line: &[u8]) -> Task
     requires { databases ≤ MAX_DATABASES }
-    ensures { IsTask databases line.now result }
+    ensures { IsTask sessions databases line.now result }
 {
-    match classify(databases, line) {
+    match classify(databases, sessions, line) {
         Line::Nothing | Line::Join => Task::Nothing,
         Line::NoLine => Task::NoLine,
         Line::Restart { database } => Task::Restart { database },

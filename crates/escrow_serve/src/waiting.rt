@@ -44,9 +44,9 @@ pub(crate) fn give_all(
     requires within { AllByRecursion (IsWithin (vec_len parts.old)) waiting.now }
     requires room { vec_len replies.old + MAX_SHORT * length waiting.now ≤ vec_capacity replies.old }
     ensures given { (out : List ℕ) × (replies.new.items ≡ replies.old.items ++ out)
-        × ((states new : List State) (items : List Item) → waiting.now ≡ map (λ item. waiting_of item.task) items
-        → AllByRecursion (IsItem (vec_len parts.old)) items → Runs states new items parts.old.items
-        → LinesServed states totals.old.items (map (λ item. item.bytes) items) out new totals.new.items) }
+        × ((sessions : ℕ) (states new : List State) (items : List Item) → waiting.now ≡ map (λ item. waiting_of item.task) items
+        → AllByRecursion (IsItem sessions (vec_len parts.old)) items → Runs states new items parts.old.items
+        → LinesServed sessions states totals.old.items (map (λ item. item.bytes) items) out new totals.new.items) }
     ensures len { vec_len replies.new ≤ vec_len replies.old + MAX_SHORT * length waiting.now }
     ensures capacity { vec_capacity replies.old ≤ vec_capacity replies.new }
     ensures each { vec_len totals.new ≡ vec_len totals.old }
@@ -65,9 +65,9 @@ fn give(waiting: Waiting, parts: &mut Vec<Part>, totals: &mut Vec<Totals>, repli
     requires within { IsWithin (vec_len parts.old) waiting }
     requires room { vec_len replies.old + MAX_SHORT ≤ vec_capacity replies.old }
     ensures given { (out : List ℕ) × (replies.new.items ≡ replies.old.items ++ out)
-        × ((states new : List State) (item : Item) (items : List Item) → waiting ≡ waiting_of item.task → IsItem (vec_len parts.old) item
+        × ((sessions : ℕ) (states new : List State) (item : Item) (items : List Item) → waiting ≡ waiting_of item.task → IsItem sessions (vec_len parts.old) item
         → Runs states new (item ∷ items) parts.old.items
-        → (mid : List State) × LineServed states totals.old.items item.bytes out mid totals.new.items × Runs mid new items parts.new.items) }
+        → (mid : List State) × LineServed sessions states totals.old.items item.bytes out mid totals.new.items × Runs mid new items parts.new.items) }
     ensures len { vec_len replies.new ≤ vec_len replies.old + MAX_SHORT }
     ensures capacity { vec_capacity replies.old ≤ vec_capacity replies.new }
     ensures each { vec_len totals.new ≡ vec_len totals.old }

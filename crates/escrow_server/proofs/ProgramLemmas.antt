@@ -8,6 +8,7 @@ use Rattle.std.specs.List.{flat_map}
 use Rattle.std.proofs.lemmas.List.{append-nil, map-append, take_all, take-append-le}
 use Rattle.std.proofs.lemmas.Bool.{true≢false}
 use Rattle.std.proofs.lemmas.Option.{IfSome_then}
+use Rattle.escrow_num.specs.declared.session.TheConstants.Session.{MAX_SHARED}
 use Rattle.escrow_machine.specs.State.{State}
 use Rattle.escrow_args.specs.declared.args.ArgFault.{ArgFault}
 use Rattle.escrow_args.specs.declared.args.Args.{Args}
@@ -88,14 +89,14 @@ lines_pushed (Err z) path old new more place are is same = tt
 -- NO LINE SERVED
 
 -- nothing was served if there was no memory to read the words
-pub ends_unserved : (asked : Mode) (count status : ℕ) (script rest old_bytes new_bytes : Option (List ℕ)) → status ≡ 1 → Appends old_bytes new_bytes []
-    → IfSome script (λ bytes. EndsInMemory asked count status bytes rest old_bytes new_bytes)
-ends_unserved asked count status None rest old_bytes new_bytes failed wrote = tt
-ends_unserved mode.Free count status (Some bytes) rest old_bytes new_bytes failed wrote = inr (inl failed)
-ends_unserved mode.Run count status (Some bytes) rest old_bytes new_bytes failed wrote =
-    inr (inl (failed, fault.Memory, empty_states count, stopped_unserved fault.Memory (empty_states count) bytes old_bytes new_bytes refl wrote))
-ends_unserved mode.Serve count status (Some bytes) rest old_bytes new_bytes failed wrote =
-    inr (inl (failed, fault.Memory, empty_states count, stopped_unserved fault.Memory (empty_states count) bytes old_bytes new_bytes refl wrote))
+pub ends_unserved : (asked : Mode) (sessions count status : ℕ) (script rest old_bytes new_bytes : Option (List ℕ)) → status ≡ 1 → Appends old_bytes new_bytes []
+    → IfSome script (λ bytes. EndsInMemory asked sessions count status bytes rest old_bytes new_bytes)
+ends_unserved asked sessions count status None rest old_bytes new_bytes failed wrote = tt
+ends_unserved mode.Free sessions count status (Some bytes) rest old_bytes new_bytes failed wrote = inr (inl failed)
+ends_unserved mode.Run sessions count status (Some bytes) rest old_bytes new_bytes failed wrote =
+    inr (inl (failed, fault.Memory, empty_states count, stopped_unserved MAX_SHARED fault.Memory (empty_states count) bytes old_bytes new_bytes refl wrote))
+ends_unserved mode.Serve sessions count status (Some bytes) rest old_bytes new_bytes failed wrote =
+    inr (inl (failed, fault.Memory, empty_states count, stopped_unserved sessions fault.Memory (empty_states count) bytes old_bytes new_bytes refl wrote))
 
 -- the exit status if the words are refused
 pub status_refused : (status expected : ℕ) (fault : ArgFault) → (status ≡ 1) ⊎ (status ≡ fault.status) → (fault ≡ no_memory) ⊎ (fault.status ≡ expected)
@@ -112,25 +113,25 @@ not_helped expected fault (inr is) some = λ helped. some (sym is ∙ helped)
 -- HOW A RUN ENDS
 
 -- in memory, one line after another
-at_stop : (Serves : List ℕ → List State → List State → Option (List ℕ) → Option (List ℕ) → Type 0) (why : RunFault) (status count : ℕ) (starts : List State → Type 0) (new : List State) (script rest old_bytes new_bytes : Option (List ℕ))
-    → ((old : List State) → starts old → old ≡ empty_states count) → status ≡ run_status why → IfSome script (λ s. Stops why starts new s rest old_bytes new_bytes)
-    → IfSome script (λ s. EndsInTurn Serves count status s rest old_bytes new_bytes)
-at_stop Serves (run_fault.Unopened database place cause) status count starts new script rest old_bytes new_bytes are_empty is stops =
+at_stop : (Serves : ℕ → List ℕ → List State → List State → Option (List ℕ) → Option (List ℕ) → Type 0) (sessions : ℕ) (why : RunFault) (status count : ℕ) (starts : List State → Type 0) (new : List State) (script rest old_bytes new_bytes : Option (List ℕ))
+    → ((old : List State) → starts old → old ≡ empty_states count) → status ≡ run_status why → IfSome script (λ s. Stops sessions why starts new s rest old_bytes new_bytes)
+    → IfSome script (λ s. EndsInTurn Serves sessions count status s rest old_bytes new_bytes)
+at_stop Serves sessions (run_fault.Unopened database place cause) status count starts new script rest old_bytes new_bytes are_empty is stops =
     IfSome_then script stops (λ s kept. inr (inr (is, kept.0, kept.1)))
-at_stop Serves (run_fault.Unserved why) status count starts new script rest old_bytes new_bytes are_empty is stops =
-    IfSome_then script stops (λ s from. inr (inl (is, why, new, subst (λ (ss : List State). StopsWithin why s ss new old_bytes new_bytes) (are_empty from.0 from.1) from.2)))
-at_stop Serves (run_fault.Unjoined why) status count starts new script rest old_bytes new_bytes are_empty is stops =
+at_stop Serves sessions (run_fault.Unserved why) status count starts new script rest old_bytes new_bytes are_empty is stops =
+    IfSome_then script stops (λ s from. inr (inl (is, why, new, subst (λ (ss : List State). StopsWithin sessions why s ss new old_bytes new_bytes) (are_empty from.0 from.1) from.2)))
+at_stop Serves sessions (run_fault.Unjoined why) status count starts new script rest old_bytes new_bytes are_empty is stops =
     IfSome_then script stops (λ s never. absurd never)
 
-ends_in_turn : {X : Type 0} (Serves : List ℕ → List State → List State → Option (List ℕ) → Option (List ℕ) → Type 0) (served : Result X RunFault) (status count : ℕ) (starts : List State → Type 0) (new : List State) (script rest old_bytes new_bytes : Option (List ℕ))
+ends_in_turn : {X : Type 0} (Serves : ℕ → List ℕ → List State → List State → Option (List ℕ) → Option (List ℕ) → Type 0) (sessions : ℕ) (served : Result X RunFault) (status count : ℕ) (starts : List State → Type 0) (new : List State) (script rest old_bytes new_bytes : Option (List ℕ))
     → ((old : List State) → starts old → old ≡ empty_states count) → OnOk served (status ≡ 0) → IfErr served (λ why. status ≡ run_status why)
-    → OnOk served (IfSome script (λ s. (from : List State) × starts from × Serves s from new old_bytes new_bytes))
-    → IfErr served (λ why. IfSome script (λ s. Stops why starts new s rest old_bytes new_bytes))
-    → IfSome script (λ s. EndsInTurn Serves count status s rest old_bytes new_bytes)
-ends_in_turn Serves (Ok x) status count starts new script rest old_bytes new_bytes are_empty ok err serves stops =
-    IfSome_then script serves (λ s from. inl (ok, new, subst (λ (ss : List State). Serves s ss new old_bytes new_bytes) (are_empty from.0 from.1) from.2))
-ends_in_turn Serves (Err why) status count starts new script rest old_bytes new_bytes are_empty ok err serves stops =
-    at_stop Serves why status count starts new script rest old_bytes new_bytes are_empty err stops
+    → OnOk served (IfSome script (λ s. (from : List State) × starts from × Serves sessions s from new old_bytes new_bytes))
+    → IfErr served (λ why. IfSome script (λ s. Stops sessions why starts new s rest old_bytes new_bytes))
+    → IfSome script (λ s. EndsInTurn Serves sessions count status s rest old_bytes new_bytes)
+ends_in_turn Serves sessions (Ok x) status count starts new script rest old_bytes new_bytes are_empty ok err serves stops =
+    IfSome_then script serves (λ s from. inl (ok, new, subst (λ (ss : List State). Serves sessions s ss new old_bytes new_bytes) (are_empty from.0 from.1) from.2))
+ends_in_turn Serves sessions (Err why) status count starts new script rest old_bytes new_bytes are_empty ok err serves stops =
+    at_stop Serves sessions why status count starts new script rest old_bytes new_bytes are_empty err stops
 
 at_free_stop : (why : RunFault) (status count : ℕ) (script rest old_bytes new_bytes : Option (List ℕ)) → status ≡ run_status why
     → (run_status why ≡ 3 → Keeps script rest × WritesNothing old_bytes new_bytes) → IfSome script (λ s. EndsFree count status s rest old_bytes new_bytes)
@@ -150,20 +151,20 @@ ends_free (Err why) status count starts script rest old_bytes new_bytes are_empt
     at_free_stop why status count script rest old_bytes new_bytes err unopened
 
 -- in memory, in the mode that was asked for
-pub ends_in_memory : {X : Type 0} (asked : Mode) (served : Result X RunFault) (status count : ℕ) (starts : List State → Type 0) (new : List State) (script rest old_bytes new_bytes : Option (List ℕ))
+pub ends_in_memory : {X : Type 0} (asked : Mode) (sessions : ℕ) (served : Result X RunFault) (status count : ℕ) (starts : List State → Type 0) (new : List State) (script rest old_bytes new_bytes : Option (List ℕ))
     → ((old : List State) → starts old → old ≡ empty_states count) → OnOk served (status ≡ 0) → IfErr served (λ why. status ≡ run_status why)
-    → (asked ≡ mode.Run → OnOk served (IfSome script (λ s. (from : List State) × starts from × ServesWhole s from new old_bytes new_bytes)))
-    → (asked ≡ mode.Run → IfErr served (λ why. IfSome script (λ s. Stops why starts new s rest old_bytes new_bytes)))
-    → (asked ≡ mode.Serve → OnOk served (IfSome script (λ s. (from : List State) × starts from × ServesAll s from new old_bytes new_bytes)))
-    → (asked ≡ mode.Serve → IfErr served (λ why. IfSome script (λ s. Stops why starts new s rest old_bytes new_bytes)))
+    → (asked ≡ mode.Run → OnOk served (IfSome script (λ s. (from : List State) × starts from × ServesWhole MAX_SHARED s from new old_bytes new_bytes)))
+    → (asked ≡ mode.Run → IfErr served (λ why. IfSome script (λ s. Stops MAX_SHARED why starts new s rest old_bytes new_bytes)))
+    → (asked ≡ mode.Serve → OnOk served (IfSome script (λ s. (from : List State) × starts from × ServesAll sessions s from new old_bytes new_bytes)))
+    → (asked ≡ mode.Serve → IfErr served (λ why. IfSome script (λ s. Stops sessions why starts new s rest old_bytes new_bytes)))
     → (asked ≡ mode.Free → OnOk served (IfSome script (λ s. (from : List State) × starts from × RunsFree s from old_bytes new_bytes)))
     → IfErr served (λ why. run_status why ≡ 3 → Keeps script rest × WritesNothing old_bytes new_bytes)
-    → IfSome script (λ s. EndsInMemory asked count status s rest old_bytes new_bytes)
-ends_in_memory mode.Run served status count starts new script rest old_bytes new_bytes are_empty ok err serves stops lines cut runs unopened =
-    ends_in_turn ServesWhole served status count starts new script rest old_bytes new_bytes are_empty ok err (serves refl) (stops refl)
-ends_in_memory mode.Serve served status count starts new script rest old_bytes new_bytes are_empty ok err serves stops lines cut runs unopened =
-    ends_in_turn ServesAll served status count starts new script rest old_bytes new_bytes are_empty ok err (lines refl) (cut refl)
-ends_in_memory mode.Free served status count starts new script rest old_bytes new_bytes are_empty ok err serves stops lines cut runs unopened =
+    → IfSome script (λ s. EndsInMemory asked sessions count status s rest old_bytes new_bytes)
+ends_in_memory mode.Run sessions served status count starts new script rest old_bytes new_bytes are_empty ok err serves stops lines cut runs unopened =
+    ends_in_turn ServesWhole MAX_SHARED served status count starts new script rest old_bytes new_bytes are_empty ok err (serves refl) (stops refl)
+ends_in_memory mode.Serve sessions served status count starts new script rest old_bytes new_bytes are_empty ok err serves stops lines cut runs unopened =
+    ends_in_turn ServesAll sessions served status count starts new script rest old_bytes new_bytes are_empty ok err (lines refl) (cut refl)
+ends_in_memory mode.Free sessions served status count starts new script rest old_bytes new_bytes are_empty ok err serves stops lines cut runs unopened =
     ends_free served status count starts script rest old_bytes new_bytes are_empty ok err (runs refl) unopened
 
 -- over files

@@ -8,6 +8,7 @@ use Rattle.sqlite.specs.Effect.{Database}
 use Rattle.escrow_cells.specs.Tables.{no_schema}
 use Rattle.escrow_recover.specs.Holds.{Holds}
 use Rattle.escrow_recover.specs.Migrated.{HoldsInFormat1}
+use Rattle.escrow_num.specs.declared.session.TheConstants.Session.{MAX_SHARED}
 use Rattle.escrow_machine.specs.State.{State, empty, opened}
 use Rattle.escrow_args.specs.declared.args.Mode.{Mode}
 use Rattle.escrow_args.specs.declared.args.Mode.TheVariants as mode
@@ -97,20 +98,21 @@ run_status (run_fault.Unopened database place cause) = 3
 run_status (run_fault.Unserved fault) = 1
 run_status (run_fault.Unjoined fault) = 1
 
--- what is true if a script isn't served to its end, line by line, from states of which `starts` is true to `new`. If a
--- store can't be opened, nothing was read or written. No fault is one of sessions at the same time
-abbrev pub Stops : RunFault → (List State → Type 0) → List State → List ℕ → Option (List ℕ) → Option (List ℕ) → Option (List ℕ) → Type 0
-Stops (run_fault.Unopened database place cause) starts new script rest old_bytes new_bytes = Keeps (Some script) rest × WritesNothing old_bytes new_bytes
-Stops (run_fault.Unserved fault) starts new script rest old_bytes new_bytes = (old : List State) × starts old × StopsWithin fault script old new old_bytes new_bytes
-Stops (run_fault.Unjoined fault) starts new script rest old_bytes new_bytes = ⊥
+-- what is true if a script of so many sessions isn't served to its end, line by line, from states of which `starts` is
+-- true to `new`. If a store can't be opened, nothing was read or written. No fault is one of sessions at the same time
+abbrev pub Stops : ℕ → RunFault → (List State → Type 0) → List State → List ℕ → Option (List ℕ) → Option (List ℕ) → Option (List ℕ) → Type 0
+Stops sessions (run_fault.Unopened database place cause) starts new script rest old_bytes new_bytes = Keeps (Some script) rest × WritesNothing old_bytes new_bytes
+Stops sessions (run_fault.Unserved fault) starts new script rest old_bytes new_bytes = (old : List State) × starts old × StopsWithin sessions fault script old new old_bytes new_bytes
+Stops sessions (run_fault.Unjoined fault) starts new script rest old_bytes new_bytes = ⊥
 
--- Line by line, in `count` databases that were empty: all of the script was served, with status 0; or serving ended at
--- a fault, with status 1; or a store couldn't be opened, with status 3, and nothing was read or written.
-abbrev pub EndsInTurn : (List ℕ → List State → List State → Option (List ℕ) → Option (List ℕ) → Type 0)
-    → ℕ → ℕ → List ℕ → Option (List ℕ) → Option (List ℕ) → Option (List ℕ) → Type 0
-EndsInTurn Serves count status script rest old_bytes new_bytes =
-    ((status ≡ 0) × (new : List State) × Serves script (empty_states count) new old_bytes new_bytes)
-    ⊎ ((status ≡ 1) × (fault : ServeFault) × (new : List State) × StopsWithin fault script (empty_states count) new old_bytes new_bytes)
+-- Line by line, with so many sessions, in `count` databases that were empty: all of the script was served, with status
+-- 0; or serving ended at a fault, with status 1; or a store couldn't be opened, with status 3, and nothing was read or
+-- written.
+abbrev pub EndsInTurn : (ℕ → List ℕ → List State → List State → Option (List ℕ) → Option (List ℕ) → Type 0)
+    → ℕ → ℕ → ℕ → List ℕ → Option (List ℕ) → Option (List ℕ) → Option (List ℕ) → Type 0
+EndsInTurn Serves sessions count status script rest old_bytes new_bytes =
+    ((status ≡ 0) × (new : List State) × Serves sessions script (empty_states count) new old_bytes new_bytes)
+    ⊎ ((status ≡ 1) × (fault : ServeFault) × (new : List State) × StopsWithin sessions fault script (empty_states count) new old_bytes new_bytes)
     ⊎ ((status ≡ 3) × Keeps (Some script) rest × WritesNothing old_bytes new_bytes)
 
 -- The sessions of each phase at the same time, in `count` databases that were empty: the script was served, with status
@@ -122,11 +124,11 @@ EndsFree count status script rest old_bytes new_bytes =
     ⊎ (status ≡ 1)
     ⊎ ((status ≡ 3) × Keeps (Some script) rest × WritesNothing old_bytes new_bytes)
 
--- In memory: as the mode says.
-abbrev pub EndsInMemory : Mode → ℕ → ℕ → List ℕ → Option (List ℕ) → Option (List ℕ) → Option (List ℕ) → Type 0
-EndsInMemory mode.Run count status script rest old_bytes new_bytes = EndsInTurn ServesWhole count status script rest old_bytes new_bytes
-EndsInMemory mode.Free count status script rest old_bytes new_bytes = EndsFree count status script rest old_bytes new_bytes
-EndsInMemory mode.Serve count status script rest old_bytes new_bytes = EndsInTurn ServesAll count status script rest old_bytes new_bytes
+-- In memory: as the mode says. `serve` has as many sessions as it is asked for.
+abbrev pub EndsInMemory : Mode → ℕ → ℕ → ℕ → List ℕ → Option (List ℕ) → Option (List ℕ) → Option (List ℕ) → Type 0
+EndsInMemory mode.Run sessions count status script rest old_bytes new_bytes = EndsInTurn ServesWhole MAX_SHARED count status script rest old_bytes new_bytes
+EndsInMemory mode.Free sessions count status script rest old_bytes new_bytes = EndsFree count status script rest old_bytes new_bytes
+EndsInMemory mode.Serve sessions count status script rest old_bytes new_bytes = EndsInTurn ServesAll sessions count status script rest old_bytes new_bytes
 
 -- Over files, of which no contract says what they hold: with status 0 the script was read to its end; with status 3 a
 -- store couldn't be opened, and nothing was read or written.

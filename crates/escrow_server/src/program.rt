@@ -1,6 +1,7 @@
 ghost use Rattle.std.specs.Prelude.{◌≡◌, ◌≢◌, ◌⊎◌, ◌≤◌, ◌<◌, ◌++◌, ℕ, List, Option, Some, None, map, codes, [], string_bytes, vec_len, IfErr, IfOk, IfSome, IsSome, OnOk};
 ghost use Rattle.std.specs.Io.KnownBytes.{Appends, IsAtEnd, Keeps};
 ghost use Rattle.std.specs.Process.{exit_status};
+ghost use Rattle.escrow_num.specs.declared.session.TheConstants.Session.{MAX_SHARED};
 ghost use Rattle.escrow_machine.specs.State.{State};
 ghost use Rattle.escrow_args.specs.declared.args.Args.{Args};
 ghost use Rattle.escrow_server.specs.Free.{HoldCleanDisks, RunsFree};
@@ -124,7 +125,7 @@ fn run_words<
     // If the words ask for a script to be served, it is served in as many databases as they ask
     // for, and in their mode: in memory, or in files.
     ensures asked { (args : Args) → asked_by (map S.text words.now) ≡ Some args → args.path ≡ None → IfSome (R.remaining input.old) (λ script.
-        EndsInMemory args.mode args.databases result script (R.remaining input.new) (W.contents output.old) (W.contents output.new)) }
+        EndsInMemory args.mode args.sessions args.databases result script (R.remaining input.new) (W.contents output.old) (W.contents output.new)) }
     ensures stored { (args : Args) → asked_by (map S.text words.now) ≡ Some args → IsSome args.path → IfSome (R.remaining input.old) (λ script.
         EndsOverFiles result script (R.remaining input.new) (W.contents output.old) (W.contents output.new)) }
 
@@ -164,7 +165,7 @@ fn run_args<
     requires least { 1 ≤ args.now.databases }
     requires most { args.now.databases ≤ MAX_DATABASES }
     ensures memory { args.now.path ≡ None → IfSome (R.remaining input.old) (λ script.
-        EndsInMemory args.now.mode args.now.databases result script (R.remaining input.new) (W.contents output.old) (W.contents output.new)) }
+        EndsInMemory args.now.mode args.now.sessions args.now.databases result script (R.remaining input.new) (W.contents output.old) (W.contents output.new)) }
     ensures files { IfSome (R.remaining input.old) (λ script.
         EndsOverFiles result script (R.remaining input.new) (W.contents output.old) (W.contents output.new)) }
     ensures silent { args.now.path ≡ None → result ≡ 0 → WritesNothing (F.contents errors.old) (F.contents errors.new) }
@@ -187,7 +188,7 @@ fn run_args<
                 threads,
                 alloc,
                 opened,
-                args.mode,
+                args,
                 &mut databases,
                 input,
                 output,
@@ -210,7 +211,7 @@ fn run_args<
                 threads,
                 alloc,
                 opened,
-                args.mode,
+                args,
                 &mut databases,
                 input,
                 output,
@@ -233,7 +234,7 @@ fn serve_opened<
     rt: &T,
     alloc: Global,
     opened: Result<(), RunFault>,
-    mode: Mode,
+    args: &Args,
     databases: &mut Vec<Database<S>>,
     input: &mut R,
     output: &mut W,
@@ -244,20 +245,20 @@ fn serve_opened<
     requires kind { IfErr opened (λ fault. run_status fault ≡ 3) }
     // Line by line: if each disk returned what was written, the script was served from the states
     // of the databases.
-    ensures served { mode ≡ Mode.Run → HaveCleanDisks S.Store databases.new.items → OnOk result (IfSome (R.remaining input.old) (λ script. (old : List State)
-        × IsOpened S.Store opened databases.old.items old × ServesWhole script old (states_of databases.new.items) (W.contents output.old) (W.contents output.new))) }
-    ensures stopped { mode ≡ Mode.Run → HaveCleanDisks S.Store databases.new.items → IfErr result (λ fault. IfSome (R.remaining input.old) (λ script.
-        Stops fault (IsOpened S.Store opened databases.old.items) (states_of databases.new.items) script (R.remaining input.new) (W.contents output.old) (W.contents output.new))) }
+    ensures served { args.now.mode ≡ Mode.Run → HaveCleanDisks S.Store databases.new.items → OnOk result (IfSome (R.remaining input.old) (λ script. (old : List State)
+        × IsOpened S.Store opened databases.old.items old × ServesWhole MAX_SHARED script old (states_of databases.new.items) (W.contents output.old) (W.contents output.new))) }
+    ensures stopped { args.now.mode ≡ Mode.Run → HaveCleanDisks S.Store databases.new.items → IfErr result (λ fault. IfSome (R.remaining input.old) (λ script.
+        Stops MAX_SHARED fault (IsOpened S.Store opened databases.old.items) (states_of databases.new.items) script (R.remaining input.new) (W.contents output.old) (W.contents output.new))) }
 
-    // The same, for lines that are served until they end.
-    ensures lines { mode ≡ Mode.Serve → HaveCleanDisks S.Store databases.new.items → OnOk result (IfSome (R.remaining input.old) (λ script. (old : List State)
-        × IsOpened S.Store opened databases.old.items old × ServesAll script old (states_of databases.new.items) (W.contents output.old) (W.contents output.new))) }
-    ensures cut { mode ≡ Mode.Serve → HaveCleanDisks S.Store databases.new.items → IfErr result (λ fault. IfSome (R.remaining input.old) (λ script.
-        Stops fault (IsOpened S.Store opened databases.old.items) (states_of databases.new.items) script (R.remaining input.new) (W.contents output.old) (W.contents output.new))) }
+    // The same, for lines that are served until they end, of as many sessions as are asked for.
+    ensures lines { args.now.mode ≡ Mode.Serve → HaveCleanDisks S.Store databases.new.items → OnOk result (IfSome (R.remaining input.old) (λ script. (old : List State)
+        × IsOpened S.Store opened databases.old.items old × ServesAll args.now.sessions script old (states_of databases.new.items) (W.contents output.old) (W.contents output.new))) }
+    ensures cut { args.now.mode ≡ Mode.Serve → HaveCleanDisks S.Store databases.new.items → IfErr result (λ fault. IfSome (R.remaining input.old) (λ script.
+        Stops args.now.sessions fault (IsOpened S.Store opened databases.old.items) (states_of databases.new.items) script (R.remaining input.new) (W.contents output.old) (W.contents output.new))) }
 
     // Sessions at the same time: the script was served like this if disks always return what was
     // written.
-    ensures free { mode ≡ Mode.Free → HoldCleanDisks S.Store → OnOk result (IfSome (R.remaining input.old) (λ script. (old : List State)
+    ensures free { args.now.mode ≡ Mode.Free → HoldCleanDisks S.Store → OnOk result (IfSome (R.remaining input.old) (λ script. (old : List State)
         × IsOpened S.Store opened databases.old.items old × RunsFree script old (W.contents output.old) (W.contents output.new))) }
 
     // Whatever the stores do, all of the script was read; or, if a store can't be opened, nothing
@@ -266,10 +267,10 @@ fn serve_opened<
     ensures unopened { IfErr result (λ fault. run_status fault ≡ 3 → Keeps (R.remaining input.old) (R.remaining input.new) × WritesNothing (W.contents output.old) (W.contents output.new)) }
 {
     opened?;
-    match mode {
+    match args.mode {
         Mode::Run => serve_script(alloc, databases, input, output)?,
         Mode::Free => serve_phases(rt, alloc, databases, input, output, screen)?,
-        Mode::Serve => serve_lines(alloc, databases, input, output)?,
+        Mode::Serve => serve_lines(alloc, args.sessions, databases, input, output)?,
     }
     Ok(())
 }

@@ -178,7 +178,7 @@ impl<S: Alter> Closed<S> {
     pub(crate) fn session_beyond(
         &self,
         database: usize,
-        sessions: u8,
+        sessions: u16,
         parts: &[Part<S>],
     ) -> Option<Session>
         ensures none { IfNone result (AllByRecursion (IsOfSessions sessions) (all_entries database parts.now self.now)) }

@@ -61,8 +61,8 @@ impl CommitQueue {
     ghost use Rattle.std.specs.Prelude.{◌≡◌, ◌⊎◌, ◌∷◌, ◌↔◌, IfOk, IsTrue};
     ghost use Rattle.escrow_shards.specs.CommitQueue.{answered, asking, at, turn_in, with_place};
 
-    /// The number of places: one for each session that a database can have.
-    pub const COUNT: usize = Session::MAX as usize;
+    /// The number of places: one for each session of a database that threads share.
+    pub const COUNT: usize = Session::MAX_SHARED as usize;
 
     /// Returns places in which no COMMIT waits. No call leads.
     pub(crate) fn new() -> Self {
@@ -83,7 +83,7 @@ impl CommitQueue {
             self.is_led = true;
             return Turn::Leads;
         }
-        if !matches!(self.places[place], CommitState::Free) {
+        if place >= Self::COUNT || !matches!(self.places[place], CommitState::Free) {
             return Turn::Alone;
         }
         self.places[place] = CommitState::Asked;
@@ -95,10 +95,8 @@ impl CommitQueue {
     pub(crate) fn waits(&self, session: Session) -> bool
         ensures { IsTrue result ↔ (at self.now session ≡ CommitState.Asked) }
     {
-        matches!(
-            self.places[usize::from(session.get()) - 1],
-            CommitState::Asked
-        )
+        let place = usize::from(session.get()) - 1;
+        place < Self::COUNT && matches!(self.places[place], CommitState::Asked)
     }
 
     /// Takes the outcome of a session's COMMIT out of its place.
@@ -107,9 +105,13 @@ impl CommitQueue {
         ensures free { self.new ≡ with_place self.old session CommitState.Free }
     {
         let place = usize::from(session.get()) - 1;
+        let left = self.count.saturating_sub(1);
+        if place >= Self::COUNT {
+            return Turn::Alone;
+        }
         let found = self.places[place];
         self.places[place] = CommitState::Free;
-        self.count = self.count.saturating_sub(1);
+        self.count = left;
         match found {
             CommitState::Answered(outcome) => Turn::Answered(outcome),
             CommitState::Leads => Turn::Leads,
@@ -132,7 +134,7 @@ impl CommitQueue {
     {
         let mut sessions = Vec::with_capacity(alloc, self.count.saturating_add(1))?;
         sessions.push(first)?;
-        for before in 0..Session::MAX {
+        for before in 0..Session::MAX_SHARED {
             let Some(session) = Session::new(before + 1) else {
                 unreachable!();
             };
@@ -148,7 +150,10 @@ impl CommitQueue {
         ensures { self.new ≡ answered sessions.now outcomes.now self.old }
     {
         for (session, outcome) in sessions.iter().zip(outcomes) {
-            self.places[usize::from(session.get()) - 1] = CommitState::Answered(*outcome);
+            let place = usize::from(session.get()) - 1;
+            if place < Self::COUNT {
+                self.places[place] = CommitState::Answered(*outcome);
+            }
         }
     }
 

@@ -1,7 +1,7 @@
 //! How databases are put under their locks: what is read and taken before, and why it may fail.
 ghost use Rattle.std.specs.Prelude.{◌≡◌, ◌↔◌, ◌≤◌, [], ◌++◌, true, false, length, map, vec_len, IfOk, IfErr, OnOk};
 ghost use Rattle.std.specs.Vec.{vec_capacity};
-ghost use Rattle.escrow_num.specs.Session.{IsSession};
+ghost use Rattle.escrow_num.specs.Session.{IsShared};
 ghost use Rattle.escrow_machine.specs.State.{has_open};
 ghost use Rattle.escrow_history.specs.Calls.{IsFailed, IsNotBegun};
 ghost use Rattle.escrow_shards.specs.Opened.{any_open, database_at, AreRead, IsRead};
@@ -59,9 +59,9 @@ pub(crate) struct Ready<S: Alter, L> {
 pub(crate) fn prepare<S: Alter + Drop, L>(
     alloc: Global,
     databases: &mut Vec<Database<S>>,
-    sessions: u8,
+    sessions: u16,
 ) -> Result<Ready<S, L>, Refusal>
-    requires { IsSession sessions }
+    requires { IsShared sessions }
     ensures read { AreRead S.Store databases.old.items databases.new.items }
     ensures starts { IfOk result (λ r. map database_at r.starts.items ≡ databases.new.items) }
     ensures passes { IfOk result (λ r. r.passes.items ≡ new_passes (length databases.old.items) sessions) }
@@ -206,8 +206,8 @@ impl<S: Alter> Start<S> {
 
 /// Returns new passes for this many databases and sessions: by database, then by session. Fails
 /// only if memory is refused.
-fn new_passes(alloc: Global, databases: usize, sessions: u8) -> Result<Vec<Pass>, AllocError>
-    requires { IsSession sessions }
+fn new_passes(alloc: Global, databases: usize, sessions: u16) -> Result<Vec<Pass>, AllocError>
+    requires { IsShared sessions }
     ensures { IfOk result (λ passes. passes.items ≡ new_passes databases sessions) }
 {
     let mut passes = Vec::new(alloc);
@@ -222,9 +222,9 @@ fn add_passes(
     alloc: Global,
     passes: &mut Vec<Pass>,
     database: usize,
-    sessions: u8,
+    sessions: u16,
 ) -> Result<(), AllocError>
-    requires { IsSession sessions }
+    requires { IsShared sessions }
     ensures { OnOk result (passes.new.items ≡ passes.old.items ++ new_passes_of database sessions) }
 {
     for before in 0..sessions {

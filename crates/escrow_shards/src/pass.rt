@@ -85,7 +85,7 @@ impl Pass {
 
     /// Returns whether the pass is for one of the first `databases` databases and one of the first
     /// `sessions` sessions.
-    pub(crate) fn is_pass_of(&self, databases: usize, sessions: u8) -> bool
+    pub(crate) fn is_pass_of(&self, databases: usize, sessions: u16) -> bool
         ensures { IsTrue result ↔ IsPassOf databases sessions self.now }
     {
         self.database < databases && self.session.get() <= sessions

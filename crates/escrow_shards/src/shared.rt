@@ -27,7 +27,7 @@ pub const MAX_DATABASES: usize = 16;
 #[derive(Drop)]
 pub struct Shared<S: Alter, L = Locked<S>> {
     shards: Vec<Shard<S, L>>,
-    sessions: u8,
+    sessions: u16,
     room: Mutex<Room<S>>,
 }
 
@@ -47,7 +47,7 @@ impl<S: Alter, L> Model for Shared<S, L> {
 
 impl<S: Alter + Drop> Shared<S> {
     ghost use Rattle.std.specs.Prelude.{◌≡◌, ◌↔◌, ◌≤◌, true, false, map, length, vec_len, All, IfOk, IfErr, OnOk};
-    ghost use Rattle.escrow_num.specs.Session.{IsSession};
+    ghost use Rattle.escrow_num.specs.Session.{IsShared};
     ghost use Rattle.escrow_shards.specs.declared.shared.TheConstants.{MAX_DATABASES};
     ghost use Rattle.escrow_shards.specs.Opened.{any_open, database_at, AreRead};
     ghost use Rattle.escrow_shards.specs.Pass.{new_passes};
@@ -66,10 +66,10 @@ impl<S: Alter + Drop> Shared<S> {
     pub fn make(
         alloc: Global,
         mut databases: Vec<Database<S>>,
-        sessions: u8,
+        sessions: u16,
     ) -> Result<(Self, Vec<Pass>), MakeFault<S>>
         requires databases { (1 ≤ vec_len databases) × (vec_len databases ≤ MAX_DATABASES) }
-        requires sessions { IsSession sessions }
+        requires sessions { IsShared sessions }
         ensures opened { IfOk result (λ r. AreRead S.Store databases.items (map database_at r.0.openings)) }
         ensures sessions { IfOk result (λ r. r.0.sessions ≡ sessions) }
         ensures passes { IfOk result (λ r. r.1.items ≡ new_passes (length databases.items) sessions) }
@@ -99,7 +99,7 @@ impl<S: Alter + Drop> Shared<S> {
 
 impl<S: Alter + Drop, R: Wait + Copy + Drop> Shared<S, Watched<S, R>> {
     ghost use Rattle.std.specs.Prelude.{◌≡◌, ◌↔◌, ◌≤◌, ◌<◌, true, false, map, length, vec_len, All, IfOk, IfErr, OnOk};
-    ghost use Rattle.escrow_num.specs.Session.{IsSession};
+    ghost use Rattle.escrow_num.specs.Session.{IsShared};
     ghost use Rattle.escrow_stats.specs.declared.board.TheConstants.{MAX_WATCHERS};
     ghost use Rattle.escrow_shards.specs.declared.shared.TheConstants.{MAX_DATABASES};
     ghost use Rattle.escrow_shards.specs.Opened.{any_open, database_at, AreRead};
@@ -122,11 +122,11 @@ impl<S: Alter + Drop, R: Wait + Copy + Drop> Shared<S, Watched<S, R>> {
         rt: R,
         alloc: Global,
         mut databases: Vec<Database<S>>,
-        sessions: u8,
+        sessions: u16,
         watchers: usize,
     ) -> Result<(Self, Vec<Pass>, Vec<Watcher<S>>), MakeFault<S>>
         requires databases { (1 ≤ vec_len databases) × (vec_len databases ≤ MAX_DATABASES) }
-        requires sessions { IsSession sessions }
+        requires sessions { IsShared sessions }
         ensures opened { IfOk result (λ r. AreRead S.Store databases.items (map database_at r.0.openings)) }
         ensures sessions { IfOk result (λ r. r.0.sessions ≡ sessions) }
         ensures passes { IfOk result (λ r. r.1.items ≡ new_passes (length databases.items) sessions) }
@@ -185,7 +185,7 @@ impl<S: Alter, L: UnderLock<S>> Shared<S, L> {
     }
 
     /// Returns how many sessions each database has. They are counted from 1.
-    pub fn sessions(&self) -> u8
+    pub fn sessions(&self) -> u16
         ensures { result ≡ self.now.sessions }
     {
         self.sessions

@@ -6,7 +6,8 @@ use Rattle.std.proofs.lemmas.List.{append-nil, append_assoc, length-map, drop_mo
 use Rattle.escrow_num.specs.Session.{IsSession}
 use Rattle.escrow_num.specs.declared.session.TheConstants.Session.{MAX}
 use Rattle.escrow_journal.specs.Journal.{Journal, IsJournal, empty_journal}
-use Rattle.escrow_txn.specs.Joined.{AreEmpty, AreJournals, AreNumbered, IsBelow, by_id, opened}
+use Rattle.escrow_txn.specs.Joined.{AreJournals, IsBelow, by_id, opened}
+use Rattle.escrow_txn.specs.Sessions.{AreEmpty, AreNumbered}
 use Rattle.escrow_journal.specs.Open.{nothing_open}
 use Rattle.escrow_txn.proofs.Places.{all_append}
 use Rattle.escrow_txn.proofs.Sessions.{reservations_of, savepoints_of, open_with}
@@ -43,14 +44,14 @@ each_emptied [] = tt
 each_emptied (journal ∷ logs) = (refl, each_emptied logs)
 
 -- journals that were emptied are empty
-pub emptied_empty : (logs : List Journal) (next : ℕ) → AreJournals logs next → AreEmpty MAX (map emptied logs)
-emptied_empty logs next journals = record {
-  count = length-map logs emptied ∙ journals.count;
-  numbered = numbered_emptied 1 logs journals.numbered;
+pub emptied_empty : (n : ℕ) (logs : List Journal) → length logs ≡ n → AreNumbered 1 logs → AreEmpty n (map emptied logs)
+emptied_empty n logs count numbered = record {
+  count = length-map logs emptied ∙ count;
+  numbered = numbered_emptied 1 logs numbered;
   each = each_emptied logs;
 }
 
-empty_is_journal : (journal : Journal) → IsSession journal.session → journal ≡ empty_journal journal.session → IsJournal journal
+pub empty_is_journal : (journal : Journal) → IsSession journal.session → journal ≡ empty_journal journal.session → IsJournal journal
 empty_is_journal journal session none = subst IsJournal (sym none) (record {
   session = session;
   reservations_own = tt;
@@ -60,7 +61,7 @@ empty_is_journal journal session none = subst IsJournal (sym none) (record {
   few_savepoints = omega arith;
 })
 
-are_journals : (first : ℕ) (logs : List Journal) → AreNumbered first logs → 1 ≤ first → first + length logs ≤ MAX + 1
+pub are_journals : (first : ℕ) (logs : List Journal) → AreNumbered first logs → 1 ≤ first → first + length logs ≤ MAX + 1
     → AllByRecursion (λ journal. journal ≡ empty_journal journal.session) logs → AllByRecursion IsJournal logs
 are_journals first [] numbered low high none = tt
 are_journals first (journal ∷ logs) numbered low high none =
@@ -82,9 +83,11 @@ no_savepoints (journal ∷ logs) none = ap (λ (l : Journal). l.savepoints ++ sa
 -- empty journals are those of a table
 pub empty_journals : (logs : List Journal) → AreEmpty MAX logs → AreJournals logs 1
 empty_journals logs empty = record {
-  count = empty.count;
-  numbered = empty.numbered;
-  each = are_journals 1 logs empty.numbered (omega arith) (omega (arith, empty.count)) empty.each;
+  of_sessions = record {
+    count = empty.count;
+    numbered = empty.numbered;
+    each = are_journals 1 logs empty.numbered (omega arith) (omega (arith, empty.count)) empty.each;
+  };
   below = nothing_below logs empty.each;
   first_id = omega arith;
   last_id = omega arith;

@@ -1,5 +1,5 @@
 -- What the calls keep of a journal, and therefore of all journals of the table.
-use Rattle.std.specs.Prelude.{◌≡◌, ℕ, ◌+◌, ◌≤◌, not, nat_lt, List, [], ◌∷◌, Option, Some, None, option_map, unwrap_or, Result, Ok, Err, OnOk, OnErr, IsTrue}
+use Rattle.std.specs.Prelude.{◌≡◌, ℕ, ◌+◌, ◌-◌, ◌≤◌, not, nat_lt, List, [], ◌∷◌, Option, Some, None, option_map, unwrap_or, Result, Ok, Err, OnOk, OnErr, IsTrue}
 use Rattle.std.specs.List.{AllByRecursion}
 use Rattle.std.proofs.Common.{refl, sym, ◌∙◌, subst, set, le_refl, arith}
 use Rattle.std.proofs.lemmas.Bool.{lt-ltb}
@@ -11,6 +11,7 @@ use Rattle.escrow_num.proofs.Items.{all_filter, all_at}
 use Rattle.escrow_journal.specs.Journal.{Journal, IsJournal, empty_journal, pushed, marked, cut_at, cut_journal}
 use Rattle.escrow_journal.specs.Reservations.{reservation_before}
 use Rattle.escrow_journal.specs.Savepoints.{savepoint_of, is_after}
+use Rattle.escrow_txn.specs.Sessions.{AreSessions, journal_at, with_journal}
 use Rattle.escrow_txn.specs.Joined.{AreJournals, IsBelow}
 use Rattle.escrow_txn.proofs.Places.{IsAt, below_more, all_append, journals_set}
 
@@ -62,13 +63,22 @@ pub below_next : (next : ℕ) (r : Reservation) (journal : Journal) → IsBelow 
 below_next next r journal below id = subst (λ n. IsBelow n journal) (sym id) below
 
 -- all journals, with this one replaced
-pub journals_kept : (logs : List Journal) (next new_next session i : ℕ) (new journal : Journal) → AreJournals logs next → IsAt session logs i journal
-    → IsJournal new → IsKept new_next new journal → next ≤ new_next → new_next ≤ MAX_ID + 1 → AreJournals (set logs i new) new_next
-journals_kept logs next new_next session i new journal journals at is_journal kept more last =
-    journals_set logs next new_next session i new journals at.is_session at.index is_journal (kept.session ∙ at.number) kept.below more last
+pub journals_kept : (logs : List Journal) (next new_next i : ℕ) (new journal : Journal) → AreJournals logs next → AreSessions (set logs i new)
+    → IsKept new_next new journal → next ≤ new_next → new_next ≤ MAX_ID + 1 → AreJournals (set logs i new) new_next
+journals_kept logs next new_next i new journal journals of_sessions kept more last =
+    journals_set logs next new_next i new journals of_sessions kept.below more last
 
 -- the same if the next id stays
 pub journals_stay : (logs : List Journal) (next session i : ℕ) (new journal : Journal) → AreJournals logs next → IsAt session logs i journal
-    → IsJournal new → (IsBelow next journal → IsKept next new journal) → AreJournals (set logs i new) next
-journals_stay logs next session i new journal journals at is_journal kept =
-    journals_kept logs next next session i new journal journals at is_journal (kept (below_at logs next session i journal journals at)) (le_refl next) journals.last_id
+    → AreSessions (set logs i new) → (IsBelow next journal → IsKept next new journal) → AreJournals (set logs i new) next
+journals_stay logs next session i new journal journals at of_sessions kept =
+    journals_kept logs next next i new journal journals of_sessions (kept (below_at logs next session i journal journals at)) (le_refl next) journals.last_id
+
+-- a savepoint was made in the journal of a session, or nothing changed
+pub marked_journals : (result : Result (Unit {0}) Refusal) (logs new : List Journal) (next session : ℕ) (name : List ℕ) → AreJournals logs next → IsAt session logs (session - 1) (journal_at logs session)
+    → OnOk result (new ≡ with_journal logs session (marked name next (journal_at logs session))) → OnErr result (new ≡ logs) → AreSessions new → AreJournals new next
+marked_journals (Ok x) logs new next session name journals at saved same of_sessions =
+    subst (λ (ls : List Journal). AreJournals ls next) (sym saved)
+    (journals_stay logs next session (session - 1) (marked name next (journal_at logs session)) (journal_at logs session) journals at (subst AreSessions saved of_sessions)
+    (λ below. record { session = refl; below = below }))
+marked_journals (Err e) logs new next session name journals at saved same of_sessions = subst (λ (ls : List Journal). AreJournals ls next) (sym same) journals

@@ -1,5 +1,6 @@
 mod AnyOpen
 mod ById
+mod EachSession
 mod Empty
 mod Kept
 mod Marks
@@ -8,3 +9,4 @@ mod Parts
 mod Places
 mod Refusals
 mod Sessions
+mod Shown

@@ -5,4 +5,4 @@ use Rattle.escrow_journal.specs.Open.{Open}
 
 -- what is open in the journals that the fields hold
 abbrev pub open_of : Inside → Open
-open_of t = opened t.journals.items t.next_id
+open_of t = opened t.journals t.next_id

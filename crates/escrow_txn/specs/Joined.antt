@@ -3,8 +3,8 @@ use Rattle.std.specs.Prelude.{◌≡◌, ℕ, ◌+◌, ◌≤◌, Bool, nat_lt, 
 use Rattle.std.specs.List.{AllByRecursion}
 use Rattle.escrow_num.specs.declared.reservation.Reservation.{Reservation}
 use Rattle.escrow_num.specs.declared.reservation.TheConstants.Reservation.{MAX_ID}
-use Rattle.escrow_num.specs.declared.session.TheConstants.Session.{MAX}
-use Rattle.escrow_journal.specs.Journal.{Journal, IsJournal, empty_journal}
+use Rattle.escrow_journal.specs.Journal.{Journal}
+use Rattle.escrow_txn.specs.Sessions.{AreSessions}
 use Rattle.escrow_journal.specs.Open.{Open}
 
 -- the reservations, in order of id, with one added
@@ -33,26 +33,13 @@ opened journals next = record {
 abbrev pub holds_any : Journal → Bool
 holds_any journal = nat_lt 0 (length journal.reservations) || nat_lt 0 (length journal.savepoints)
 
--- journals are of consecutive sessions, from the first on
-abbrev pub AreNumbered : ℕ → List Journal → Type 0
-AreNumbered first [] = Unit {0}
-AreNumbered first (journal ∷ journals) = (journal.session ≡ first) × AreNumbered (1 + first) journals
-
 -- every id of the journal is below the next one
 abbrev pub IsBelow : ℕ → Journal → Type 0
 IsBelow next journal = AllByRecursion (λ r. IsTrue (nat_lt r.id next)) journal.reservations
 
--- there is an empty journal for each of the first n sessions
-pub record AreEmpty (n : ℕ) (journals : List Journal) : Type 0 where
-  pub count : length journals ≡ n
-  pub numbered : AreNumbered 1 journals
-  pub each : AllByRecursion (λ journal. journal ≡ empty_journal journal.session) journals
-
 -- there is a valid journal for each session, and the ids in them are below the next one
 pub record AreJournals (journals : List Journal) (next : ℕ) : Type 0 where
-  pub count : length journals ≡ MAX
-  pub numbered : AreNumbered 1 journals
-  pub each : AllByRecursion IsJournal journals
+  pub of_sessions : AreSessions journals
   pub below : AllByRecursion (IsBelow next) journals
   pub first_id : 1 ≤ next
   pub last_id : next ≤ MAX_ID + 1

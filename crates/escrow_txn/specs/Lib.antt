@@ -1,2 +1,4 @@
+pub mod Fields
 pub mod Inside
 pub mod Joined
+pub mod Sessions

@@ -6,6 +6,7 @@
 //! Begin with [`TxnTable`].
 #![tactic(auto)]
 
+mod journals;
 mod merge;
 mod table;
 

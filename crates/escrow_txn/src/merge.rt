@@ -11,9 +11,12 @@ use std::alloc::{AllocError, Global};
 
 /// Returns the reservations of journals of different sessions, in order of id. It merges each half
 /// of the journals, then the two halves. Fails only if memory is refused.
-pub(crate) fn merged(alloc: Global, journals: &[Journal]) -> Result<Vec<&Reservation>, AllocError>
-    requires { AllByRecursion IsJournal journals.now }
-    ensures { IfOk result (λ all. map (λ r. r.now) all.items ≡ by_id (flat_map (λ log. log.reservations) journals.now)) }
+pub(crate) fn merged<'a>(
+    alloc: Global,
+    journals: &[&'a Journal],
+) -> Result<Vec<&'a Reservation>, AllocError>
+    requires { AllByRecursion IsJournal (map (λ log. log.now) journals.now) }
+    ensures { IfOk result (λ all. map (λ r. r.now) all.items ≡ by_id (flat_map (λ log. log.reservations) (map (λ log. log.now) journals.now))) }
 {
     match journals {
         [] => Ok(Vec::new(alloc)),

@@ -1,10 +1,7 @@
-ghost use Rattle.std.specs.Prelude.{◌≡◌, ◌+◌, IfOk, map};
-ghost use Rattle.std.specs.List.{list_any};
 ghost use Rattle.escrow_num.specs.Session.{IsSession};
-ghost use Rattle.escrow_num.specs.declared.session.TheConstants.Session.{MAX};
-ghost use Rattle.escrow_journal.specs.Journal.{IsJournal, empty_journal};
-ghost use Rattle.escrow_txn.specs.Joined.{AreEmpty, holds_any};
+ghost use Rattle.escrow_journal.specs.Journal.{IsJournal};
 
+use crate::journals::{Journals, holds_any};
 use crate::merge::merged;
 use escrow_journal::Journal;
 use escrow_num::{Changes, Name, Refusal, Reservation, RowName, Session};
@@ -12,12 +9,12 @@ use smallvec::SmallVec;
 use std::alloc::{AllocError, Global};
 use std::marker::Model;
 
-/// The open transactions of a database: a journal for each of its 64 sessions, and the id that the
-/// next reservation takes. Contracts see the journals as one list of reservations in order of
-/// grant, and one list of savepoints.
+/// The open transactions of a database: the journals of its sessions, and the id that the next
+/// reservation takes. Contracts see the journals as one list of reservations in order of grant, and
+/// one list of savepoints.
 #[derive(Debug)]
 pub struct TxnTable {
-    journals: Vec<Journal>,
+    journals: Journals,
     next_id: u64,
 }
 
@@ -40,11 +37,11 @@ impl Model for TxnTable {
 
     ghost view = { λ t. open_of t };
 
-    ghost invariant = { λ t. AreJournals t.journals.items t.next_id };
+    ghost invariant = { λ t. AreJournals t.journals t.next_id };
 }
 
 impl TxnTable {
-    ghost use Rattle.std.specs.Prelude.{◌≡◌, ◌⊎◌, IfOk, IfErr, IfSome, IsErrOf, OnOk, OnErr, Err, Some, None, length, map, option_copied, option_map};
+    ghost use Rattle.std.specs.Prelude.{◌≡◌, ◌≤◌, ◌⊎◌, [], IfOk, IfErr, IfSome, IsErrOf, OnOk, OnErr, Err, Some, None, length, map, option_copied, option_map, unwrap_or};
     ghost use Rattle.escrow_journal.specs.Reservations.{own, own_savepoints};
     ghost use Rattle.escrow_journal.specs.Savepoints.{savepoint_of, after};
     ghost use Rattle.escrow_journal.specs.Open.{nothing_open, is_open, has_open, id_left, grant_refusal, open_after_grant, savepoint_refusal, open_after_savepoint, released, open_after_rollback_to, open_after_end};
@@ -55,7 +52,7 @@ impl TxnTable {
         ensures { IfOk result (λ t. t ≡ nothing_open) }
     {
         Ok(TxnTable {
-            journals: empty_journals(alloc)?,
+            journals: Journals::new(alloc)?,
             next_id: 1,
         })
     }
@@ -64,24 +61,41 @@ impl TxnTable {
     pub fn is_open(&self, session: Session) -> bool
         ensures { result ≡ is_open session self.now }
     {
-        holds_any(self.journal(session))
+        match self.journal(session) {
+            Some(journal) => holds_any(journal),
+            None => false,
+        }
     }
 
     /// Returns whether anything is open: a reservation or a savepoint of any session.
     pub fn has_open(&self) -> bool
         ensures { result ≡ has_open self.now }
     {
-        any_holds(&self.journals)
+        self.journals.hold_any()
     }
 
-    /// Returns the journal of a session, which holds all that is open in this session.
-    pub fn journal(&self, session: Session) -> &Journal
-        ensures session { result.now.session ≡ session }
-        ensures reservations { result.now.reservations ≡ own session self.now.reservations }
-        ensures savepoints { result.now.savepoints ≡ own_savepoints session self.now.savepoints }
-        ensures valid { IsJournal result.now }
+    /// Returns the journal of a session, which holds all that is open in this session. Returns
+    /// `None` only if nothing is.
+    pub fn journal(&self, session: Session) -> Option<&Journal>
+        ensures session { IfSome result (λ journal. journal.now.session ≡ session) }
+        ensures reservations { unwrap_or (option_map (λ journal. journal.now.reservations) result) [] ≡ own session self.now.reservations }
+        ensures savepoints { unwrap_or (option_map (λ journal. journal.now.savepoints) result) [] ≡ own_savepoints session self.now.savepoints }
+        ensures valid { IfSome result (λ journal. IsJournal journal.now) }
+        ensures within { IsSession session }
     {
-        &self.journals[place_of_session(session)]
+        self.journals.get(session)
+    }
+
+    /// Returns the open reservations of a session, in order of grant.
+    pub fn reservations(&self, session: Session) -> &[Reservation]
+        ensures all { result.now ≡ own session self.now.reservations }
+        ensures few { length result.now ≤ Journal.MAX_RESERVATIONS }
+        ensures within { IsSession session }
+    {
+        match self.journal(session) {
+            Some(journal) => journal.all(),
+            None => &[],
+        }
     }
 
     /// Returns the id that the next reservation takes, or `None` if there are no more ids.
@@ -101,7 +115,7 @@ impl TxnTable {
         ensures refusal { result ≡ grant_refusal session self.now }
         ensures within { IsSession session }
     {
-        if self.journal(session).all().len() >= Journal::MAX_RESERVATIONS {
+        if self.reservations(session).len() >= Journal::MAX_RESERVATIONS {
             return Some(Refusal::TooManyReservations);
         }
         if self.next_id > Reservation::MAX_ID {
@@ -136,7 +150,7 @@ impl TxnTable {
             row,
             changes,
         };
-        self.journals[place_of_session(session)].push(reservation)?;
+        self.journals.push(reservation)?;
         self.next_id += 1;
         Ok(id)
     }
@@ -152,7 +166,7 @@ impl TxnTable {
         ensures within { IsSession session }
     {
         let id = self.next_id;
-        self.journals[place_of_session(session)].mark(name, id)
+        self.journals.mark(session, name, id)
     }
 
     /// Takes a session back to its savepoint of a name: drops what it reserved after it, and the
@@ -162,7 +176,7 @@ impl TxnTable {
         ensures count { result ≡ released session name self.old }
         ensures cut { self.new ≡ open_after_rollback_to session name self.old }
     {
-        self.journals[place_of_session(session)].cut(name)
+        self.journals.cut(session, name)
     }
 
     /// Returns the reservations of a session after its savepoint of a name, in order of grant:
@@ -171,7 +185,7 @@ impl TxnTable {
     pub fn after(&self, session: Session, name: Name) -> Option<&[Reservation]>
         ensures { option_copied result ≡ option_map (λ p. after p self.now.reservations) (savepoint_of session name self.now.savepoints) }
     {
-        self.journals[place_of_session(session)].after(name)
+        self.journals.get(session)?.after(name)
     }
 
     /// Ends a session's transaction: returns its reservations, in order of grant, and leaves it
@@ -180,14 +194,14 @@ impl TxnTable {
         ensures all { result.items ≡ own session self.old.reservations }
         ensures ended { self.new ≡ open_after_end session self.old }
     {
-        self.journals[place_of_session(session)].take_all()
+        self.journals.take_all(session)
     }
 
     /// Drops all reservations and savepoints, and sets the next id to 1. Takes no memory.
     pub fn clear(&mut self)
         ensures { self.new ≡ nothing_open }
     {
-        empty_all(&mut self.journals);
+        self.journals.clear();
         self.next_id = 1;
     }
 
@@ -196,50 +210,6 @@ impl TxnTable {
     pub fn all_in_order(&self, alloc: Global) -> Result<Vec<&Reservation>, AllocError>
         ensures { IfOk result (λ all. map (λ r. r.now) all.items ≡ self.now.reservations) }
     {
-        merged(alloc, &self.journals)
-    }
-}
-
-/// Returns the place of a session's journal among all.
-fn place_of_session(session: Session) -> usize
-    ensures place { result + 1 ≡ session }
-    ensures within { IsSession session }
-{
-    session.get() as usize - 1
-}
-
-/// Returns whether a journal holds a reservation or a savepoint.
-fn holds_any(journal: &Journal) -> bool
-    ensures { result ≡ holds_any journal.now }
-{
-    !journal.all().is_empty() || !journal.savepoints().is_empty()
-}
-
-/// Returns whether one of the journals holds a reservation or a savepoint.
-fn any_holds(journals: &[Journal]) -> bool
-    ensures { result ≡ list_any holds_any journals.now }
-{
-    journals.iter().any(|journal| holds_any(journal))
-}
-
-/// Returns an empty journal for each session, in order of their numbers.
-fn empty_journals(alloc: Global) -> Result<Vec<Journal>, AllocError>
-    ensures { IfOk result (λ journals. AreEmpty MAX journals.items) }
-{
-    let mut journals = Vec::with_capacity(alloc, Session::MAX as usize)?;
-    for below in 0..Session::MAX {
-        if let Some(session) = Session::new(below + 1) {
-            journals.push(Journal::new(alloc, session))?;
-        }
-    }
-    Ok(journals)
-}
-
-/// Empties the journals. Takes no memory.
-fn empty_all(journals: &mut Vec<Journal>)
-    ensures { journals.new.items ≡ map (λ log. empty_journal log.session) journals.old.items }
-{
-    for journal in journals.iter_mut() {
-        journal.take_all();
+        merged(alloc, &self.journals.all(alloc)?)
     }
 }

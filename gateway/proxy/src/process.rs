@@ -15,6 +15,7 @@ use tokio::sync::mpsc::{unbounded_channel, UnboundedReceiver, UnboundedSender};
 use tokio::time::sleep;
 
 use crate::hub::{Generation, Hub};
+use crate::server::SESSIONS;
 
 /// Starts the program so that it ignores what a terminal or a service manager sends to all processes of a group: the end
 /// of its input ends it.
@@ -84,7 +85,8 @@ fn spawn(program: &Path) -> io::Result<(Child, Lines)> {
     let child = Command::new("/bin/sh")
         .args(["-c", WITHOUT_KEYS, "sh"])
         .arg(program)
-        .arg("serve")
+        .args(["serve", "--sessions"])
+        .arg(SESSIONS.to_string())
         .stdin(Stdio::from(OwnedFd::from(input)))
         .stdout(Stdio::piped())
         .stderr(Stdio::piped())

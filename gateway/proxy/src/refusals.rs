@@ -57,8 +57,8 @@ pub fn words(table: &Table, answer: Answer, refusal: Option<Refusal>) -> Words {
         ),
         (Answer::Refused | Answer::TooMany, _) => plain(
             "54000",
-            "too many reservations in one transaction",
-            "A transaction has at most 256 reservations, and 64 subtransactions with some.",
+            "too many open reservations",
+            "A transaction has at most 256 reservations, and 64 subtransactions with some. A row has at most 16384.",
         ),
         (Answer::Locked, _) => plain(
             "55P03",

@@ -8,7 +8,7 @@ use std::collections::{HashMap, VecDeque};
 use std::sync::Arc;
 use std::time::{Duration, Instant};
 
-use escrowd_pg::limits::{ROWS, SESSIONS};
+use escrowd_pg::limits::ROWS;
 use escrowd_pg::reply::{self, Broken, Done, Outcome};
 
 use crate::catalog::{Column, Table};
@@ -22,7 +22,10 @@ pub const SEAT_WAIT: Duration = Duration::from_secs(1);
 const ROOM: usize = ROWS / 64;
 
 /// The session that makes tables and rows.
-const OWN: u8 = 1;
+const OWN: u16 = 1;
+
+/// How many sessions the server has. So one transaction less may have reservations at a time.
+pub const SESSIONS: u16 = 4_096;
 
 /// What the server was asked.
 #[derive(Clone, Debug, PartialEq, Eq)]
@@ -49,7 +52,7 @@ pub enum Refusal {
     },
     /// The type of a column: its name, and the type's.
     Range(String, String),
-    /// The session has too many reservations.
+    /// The session or the row has too many reservations.
     TooMany,
     /// No session was free in time.
     NoSession,
@@ -93,10 +96,10 @@ struct Waiting {
 
 /// What is known of the server, and what it is to be sent.
 pub struct Server {
-    asked: VecDeque<(u8, Asked)>,
+    asked: VecDeque<(u16, Asked)>,
     /// Free sessions.
-    free: Vec<u8>,
-    seats: HashMap<Connection, u8>,
+    free: Vec<u16>,
+    seats: HashMap<Connection, u16>,
     waiting: VecDeque<Waiting>,
     tables: HashMap<i32, Made>,
     /// Counts what is asked, as a clock of rows.
@@ -116,7 +119,7 @@ impl Server {
     pub fn new() -> Server {
         Server {
             asked: VecDeque::new(),
-            free: (OWN + 1..=SESSIONS as u8).rev().collect(),
+            free: (OWN + 1..=SESSIONS).rev().collect(),
             seats: HashMap::new(),
             waiting: VecDeque::new(),
             tables: HashMap::new(),
@@ -135,7 +138,7 @@ impl Server {
         self.tables.values().map(|made| made.rows.len()).sum()
     }
 
-    fn send(&mut self, session: u8, asked: Asked, statement: &str) {
+    fn send(&mut self, session: u16, asked: Asked, statement: &str) {
         self.asked.push_back((session, asked));
         let line = format!("bank.{}: {}\n", session, statement);
         self.lines.extend_from_slice(line.as_bytes());
@@ -164,7 +167,7 @@ impl Server {
     }
 
     /// Gives a session that is free to who waits longest.
-    fn freed(&mut self, seat: u8) {
+    fn freed(&mut self, seat: u16) {
         match self.waiting.pop_front() {
             Some(waiting) => {
                 self.seats.insert(waiting.connection, seat);

@@ -7,7 +7,6 @@ use std::time::{Duration, Instant};
 
 use escrowd_pg::budget::Pool;
 use escrowd_pg::connection::Settings;
-use escrowd_pg::limits::SESSIONS;
 use escrowd_pg::rows::spool;
 use escrowd_pg::statement::known::KnownStatements;
 use escrowd_pg::version::check_version;
@@ -40,7 +39,7 @@ impl Engine {
         let (signals, hang_up) = signals::watch(&poll).map_err(Failure::system("signals"))?;
         let most = Most {
             connections: args.connections.into(),
-            transactions: most_transactions(SESSIONS),
+            transactions: most_transactions(args.sessions),
         };
         let metrics = args.metrics.as_ref();
         let metrics = metrics
@@ -54,6 +53,7 @@ impl Engine {
             programs.push(Program::start(
                 &path,
                 database,
+                args.sessions,
                 poll.registry(),
                 token,
                 now,

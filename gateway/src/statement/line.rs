@@ -12,7 +12,7 @@ use crate::statement::served::{no_column, Insert, Keys, Served, Show, Update};
 use crate::value::Value;
 
 /// The most bytes of a line, without its prefix and its line feed: with both it is written to a pipe whole.
-pub const LONGEST_LINE: usize = limits::LINE - b"bank.64: \n".len();
+pub const LONGEST_LINE: usize = limits::LINE - b"bank.65535: \n".len();
 
 /// Returns whether a table's definition has to be known before its statement can be written: texts in quotes become
 /// what their columns want.

@@ -367,7 +367,7 @@ fn an_array_of_keys_is_a_line_for_each() {
 }
 
 #[test]
-fn a_line_has_at_most_4086_bytes() {
+fn a_line_has_at_most_4083_bytes() {
     let insert = |count: usize| format!("INSERT INTO t VALUES ('{}')", "x".repeat(count));
     let least = insert(0).len();
     let longest = insert(line::LONGEST_LINE - least);

@@ -9,7 +9,7 @@ ghost use Rattle.escrow_checks.specs.declared.coefficients.TheConstants.Coeffici
 ghost use Rattle.escrow_checks.specs.declared.spread.TheConstants.Spread.{MAX_OPEN};
 ghost use Rattle.escrow_bounds.specs.Altered.{TableGoes, IsWithout, ArePrepared, Adopts};
 ghost use Rattle.escrow_bounds.specs.Filling.{AreFilled};
-ghost use Rattle.escrow_bounds.specs.Held.{CountsAll, AllCount};
+ghost use Rattle.escrow_bounds.specs.Held.{of_row, CountsAll, AllCount};
 ghost use Rattle.escrow_bounds.specs.Place.{Place};
 ghost use Rattle.escrow_bounds.specs.Bounds.{place_at, OthersStay};
 
@@ -22,8 +22,8 @@ use std::alloc::AllocError;
 
 impl Bounds {
     /// Makes places for a table's reserved rows over all checks that the table will have, beside
-    /// the current places. They count the open reservations, which are given: at most 16,384, each
-    /// with at most 10 changes. Fails only if memory is refused (51).
+    /// the current places. They count the open reservations, which are given: of each row at most
+    /// 16,384, each with at most 10 changes. Fails only if memory is refused (51).
     pub fn prepare(
         &self,
         table: Name,
@@ -33,7 +33,7 @@ impl Bounds {
         requires counted { CountsAll self.now (map (λ r. r.now) reservations.now) }
         requires counting { AllCount self.now }
         requires short { AllByRecursion (λ r. length r.now.changes ≤ MAX_LEN) reservations.now }
-        requires many { length reservations.now ≤ MAX_OPEN }
+        requires many { (row : RowName) → length (of_row row (map (λ r. r.now) reservations.now)) ≤ MAX_OPEN }
         requires few { (row : RowName) (place : Place) → bytes_eq row.table table ≡ true → place_at self.now row ≡ Some place
             → length place.amounts ≤ MAX_LEN }
         requires covered { (row : RowName) (place : Place) → bytes_eq row.table table ≡ true → place_at self.now row ≡ Some place

@@ -65,7 +65,7 @@ impl<S: Alter> Database<S> {
         ensures count { result ≡ length (own session self.now.state.reservations) }
         ensures kept { IsKept S.Store self.now }
     {
-        self.reserved.txns().journal(session).all().len() as u32
+        self.reserved.txns().reservations(session).len() as u32
     }
 
     /// Serves a statement that commutes with the COMMITs of other sessions. Returns `None` if the

@@ -55,7 +55,7 @@ impl<S: Alter> Database<S> {
         ensures reads { OnlyReads S.Store self.old self.new }
         ensures open { HasCleanDisk (state S.Store self.new.store) → IsTrue result → IsTrue (state S.Store self.new.store).is_open }
     {
-        match self.reserved.txns().journal(session).all().first() {
+        match self.reserved.txns().reservations(session).first() {
             Some(reservation) => self.tables.answers(&reservation.row),
             None => false,
         }

@@ -62,7 +62,7 @@ impl<S: Alter> Database<S> {
         ensures held { OnErr result (0 < length (own session self.old.state.reservations)) }
         ensures stays { HasCleanDisk (state S.Store self.new.store) → OnOk result (IsTrue (state S.Store self.old.store).is_open → IsTrue (state S.Store self.new.store).is_open) }
     {
-        if self.reserved.txns().journal(session).all().is_empty() {
+        if self.reserved.txns().reservations(session).is_empty() {
             return Ok(self.reserved.end(session, End::Rollback));
         }
         self.commit_all(alloc, &[(session, End::Commit)])

@@ -30,8 +30,8 @@ impl HeldBack {
     ghost use Rattle.escrow_core.specs.Beside.{none_held, with_held};
     ghost use Rattle.escrow_core.specs.declared.database.held.TheConstants.HeldBack.{MAX};
 
-    /// The most COMMITs that are held back: one of each session.
-    pub const MAX: usize = Session::MAX as usize;
+    /// The most COMMITs that are held back.
+    pub const MAX: usize = 64;
 
     /// Returns a list that holds nothing back.
     pub fn new() -> Self

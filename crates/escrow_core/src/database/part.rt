@@ -22,7 +22,7 @@ impl<S: Alter> Database<S> {
         ensures run { 1 < result → IsGroup self.now.state.reservations (take result plan.now) }
     {
         let (first, _) = plan[0];
-        if self.reserved.txns().journal(first).all().is_empty() {
+        if self.reserved.txns().reservations(first).is_empty() {
             return 1;
         }
         self.run_len(plan).max(1)
@@ -36,7 +36,7 @@ impl<S: Alter> Database<S> {
     {
         let mut held: usize = 0;
         for (i, (session, end)) in plan.iter().enumerate() {
-            held = held.saturating_add(self.reserved.txns().journal(*session).all().len());
+            held = held.saturating_add(self.reserved.txns().reservations(*session).len());
             match end {
                 End::Commit if held <= MAX_TOGETHER && !is_named(&plan[..i], *session) => {}
                 _ => return i,

@@ -1,5 +1,4 @@
-ghost use Rattle.std.specs.Prelude.{◌≡◌, ◌+◌, ◌<◌, ◌≤◌, length};
-ghost use Rattle.escrow_checks.specs.declared.spread.TheConstants.Spread.{MAX_OPEN};
+ghost use Rattle.std.specs.Prelude.{◌≡◌, ◌+◌, ◌^◌, ◌<◌, length};
 ghost use Rattle.escrow_machine.specs.Walked.{counted_end};
 
 use crate::database::Database;
@@ -106,7 +105,7 @@ impl<S: Alter> Database<S> {
 
 /// Counts the reservations of one more transaction, by how it ended.
 fn add(done: &mut Settled, end: End, count: u32)
-    requires { done.old.committed + done.old.released + count ≤ MAX_OPEN }
+    requires { done.old.committed + done.old.released + count < 2 ^ 32 }
     ensures { done.new ≡ counted_end end count done.old }
 {
     match end {
@@ -117,7 +116,7 @@ fn add(done: &mut Settled, end: End, count: u32)
 
 /// Counts the reservations that a part of a plan ended.
 fn add_all(settled: &mut Settled, done: Settled)
-    requires { settled.old.committed + settled.old.released + done.committed + done.released ≤ MAX_OPEN }
+    requires { settled.old.committed + settled.old.released + done.committed + done.released < 2 ^ 32 }
     ensures committed { settled.new.committed ≡ settled.old.committed + done.committed }
     ensures released { settled.new.released ≡ settled.old.released + done.released }
 {

@@ -9,7 +9,7 @@ use escrow_sql::{Request, parse};
 use std::process::Abort;
 
 /// A session's number, its statement, and the lines of the reply.
-type Served = (u8, &'static str, &'static str);
+type Served = (u16, &'static str, &'static str);
 
 /// Three sessions each hold a reservation of an account with a balance of 100.
 const THREE_OPEN: [Served; 5] = [
@@ -120,14 +120,14 @@ const ALL_APPLIED: [Served; 1] = [(
     "ID | BALANCE\n1 | 62\nOK rows 1\n",
 )];
 
-const BACK: (u8, End) = (1, End::Rollback);
+const BACK: (u16, End) = (1, End::Rollback);
 
-const SECOND: (u8, End) = (2, End::Commit);
+const SECOND: (u16, End) = (2, End::Commit);
 
-const THIRD: (u8, End) = (3, End::Commit);
+const THIRD: (u16, End) = (3, End::Commit);
 
 /// Plans of ends: three sessions in each order.
-const ORDERS: [[(u8, End); 3]; 6] = [
+const ORDERS: [[(u16, End); 3]; 6] = [
     [BACK, SECOND, THIRD],
     [BACK, THIRD, SECOND],
     [SECOND, BACK, THIRD],
@@ -178,7 +178,7 @@ fn serve<R: Abort + AllocGlobal>(rt: &R, database: &mut Database<BlockStore>, ca
 fn settle<R: Abort + AllocGlobal>(
     rt: &R,
     database: &mut Database<BlockStore>,
-    plan: &[(u8, End)],
+    plan: &[(u16, End)],
     limit: Option<u64>,
 ) -> Result<Settled, Stop> {
     let mut ends = Vec::new(rt.alloc());

@@ -56,7 +56,7 @@ const TURNS: u64 = 10_000_000;
 #[derive(Drop)]
 struct Meeting {
     is_inside: bool,
-    other: (usize, u8),
+    other: (usize, u16),
     has_first: AtomicU64,
     has_other: AtomicU64,
     missed: AtomicU64,
@@ -104,7 +104,7 @@ impl Gate for Meeting {
 fn meet<R: Abort + AllocGlobal + Threads + Wait + Sync>(
     rt: &R,
     is_inside: bool,
-    other: (usize, u8),
+    other: (usize, u16),
     script: &str,
     replies: &str,
 ) {
@@ -173,7 +173,7 @@ fn phase_by_phase(rt: HostRuntime) {
 
 /// How many sessions of a database ask statements, how many phases there are, and how many
 /// statements each session asks in one.
-const SESSIONS: u8 = 4;
+const SESSIONS: u16 = 4;
 
 const PHASES: u16 = 3;
 

@@ -13,7 +13,7 @@ use escrow_transcript::Entry;
 use sqlite::Alter;
 
 /// Returns the session of the first entry that belongs to none of the first `sessions` sessions.
-fn beyond(sessions: u8, entries: &[Entry]) -> Option<Session>
+fn beyond(sessions: u16, entries: &[Entry]) -> Option<Session>
     ensures none { IfNone result (AllByRecursion (IsOfSessions sessions) entries.now) }
     ensures some { IfSome result (λ k. (sessions < k) × (receipts_of k entries.now ≡ [] → ⊥)) }
 {
@@ -27,7 +27,7 @@ fn beyond(sessions: u8, entries: &[Entry]) -> Option<Session>
 }
 
 /// Returns what [`beyond`] does, for the entries in the parts of a database.
-fn beyond_in_parts<S: Alter>(database: usize, sessions: u8, parts: &[Part<S>]) -> Option<Session>
+fn beyond_in_parts<S: Alter>(database: usize, sessions: u16, parts: &[Part<S>]) -> Option<Session>
     ensures none { IfNone result (AllByRecursion (IsOfSessions sessions) (entries_of (parts_of database parts.now))) }
     ensures some { IfSome result (λ k. (sessions < k) × (receipts_of k (entries_of (parts_of database parts.now)) ≡ [] → ⊥)) }
 {
@@ -46,7 +46,7 @@ fn beyond_in_parts<S: Alter>(database: usize, sessions: u8, parts: &[Part<S>]) -
 /// transcript.
 pub(crate) fn beyond_in_all<S: Alter>(
     database: usize,
-    sessions: u8,
+    sessions: u16,
     parts: &[Part<S>],
     last: &[Entry],
 ) -> Option<Session>
@@ -63,7 +63,7 @@ pub(crate) fn beyond_in_all<S: Alter>(
 /// Returns it with the session of that entry, as a cause.
 pub(crate) fn lacks_pass<S: Alter>(
     closed: &[Closed<S>],
-    sessions: u8,
+    sessions: u16,
     parts: &[Part<S>],
 ) -> Option<Cause>
     ensures none { IfNone result (AreOfSessions sessions parts.now closed.now) }

@@ -15,7 +15,7 @@ use sqlite::Alter;
 /// then parts, then receipts, and last the entries of sessions without a pass.
 pub(crate) fn cause_of<S: Alter>(
     closed: &[Closed<S>],
-    sessions: u8,
+    sessions: u16,
     passes: &[Pass],
     parts: &[Part<S>],
 ) -> Option<Cause>

@@ -7,14 +7,14 @@ ghost use Rattle.escrow_shards.specs.Counted.{AreOnce};
 use crate::pass::Pass;
 
 /// Returns whether each session of each database has one pass, and there are no others.
-pub(crate) fn are_all_passes(databases: usize, sessions: u8, passes: &[Pass]) -> bool
+pub(crate) fn are_all_passes(databases: usize, sessions: u16, passes: &[Pass]) -> bool
     ensures { IsTrue result ↔ AreAllPasses databases sessions passes.now }
 {
     are_passes_of(databases, sessions, passes) && are_each_once(databases, sessions, passes)
 }
 
 /// Returns whether each pass is for one of these databases and sessions.
-fn are_passes_of(databases: usize, sessions: u8, passes: &[Pass]) -> bool
+fn are_passes_of(databases: usize, sessions: u16, passes: &[Pass]) -> bool
     ensures { IsTrue result ↔ AllByRecursion (IsPassOf databases sessions) passes.now }
 {
     for pass in passes {
@@ -26,7 +26,7 @@ fn are_passes_of(databases: usize, sessions: u8, passes: &[Pass]) -> bool
 }
 
 /// Returns whether each session of each database has one pass.
-fn are_each_once(databases: usize, sessions: u8, passes: &[Pass]) -> bool
+fn are_each_once(databases: usize, sessions: u16, passes: &[Pass]) -> bool
     ensures { IsTrue result ↔ ((d : ℕ) → d < databases → AreOnce d sessions passes.now) }
 {
     for database in 0..databases {
@@ -38,7 +38,7 @@ fn are_each_once(databases: usize, sessions: u8, passes: &[Pass]) -> bool
 }
 
 /// Returns whether each session of a database has one pass.
-fn are_once(database: usize, sessions: u8, passes: &[Pass]) -> bool
+fn are_once(database: usize, sessions: u16, passes: &[Pass]) -> bool
     ensures { IsTrue result ↔ AreOnce database sessions passes.now }
 {
     for session in 1..usize::from(sessions) + 1 {

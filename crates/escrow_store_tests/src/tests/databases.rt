@@ -20,7 +20,7 @@ type Store = FileStore<Fuse<Memory>>;
 pub(super) type Asked = &'static [(&'static str, &'static str)];
 
 /// Statements that a database is given at once, each with the number of its session and its reply.
-pub(super) type AskedAtOnce = &'static [(u8, &'static str, &'static str)];
+pub(super) type AskedAtOnce = &'static [(u16, &'static str, &'static str)];
 
 /// The log and the database file of a store.
 #[derive(Drop)]
@@ -270,7 +270,7 @@ fn statement(alloc: Global, text: &str) -> Option<Statement> {
 pub(super) fn ask<R: Abort + AllocGlobal, B: Bank>(
     rt: &R,
     bank: &mut B,
-    number: u8,
+    number: u16,
     text: &str,
 ) -> Result<String, Fail> {
     let alloc = rt.alloc();
@@ -317,7 +317,7 @@ pub(super) fn ask_at_once<R: Abort + AllocGlobal, B: Bank>(
 pub(super) fn ask_all<R: Abort + AllocGlobal, B: Bank>(
     rt: &R,
     bank: &mut B,
-    number: u8,
+    number: u16,
     asked: &[(&str, &str)],
 ) -> Result<(), Fail> {
     for (text, reply) in asked {

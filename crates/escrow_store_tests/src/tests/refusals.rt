@@ -8,7 +8,7 @@ use std::test::Fail;
 /// Session 9 asks a statement that shows that it was refused, and one that shows that it was
 /// served. `is_refused` says whether the limits refuse it at all.
 struct Write {
-    session: u8,
+    session: u16,
     set_up: Asked,
     statement: &'static str,
     reply: &'static str,

@@ -6,7 +6,7 @@ use std::process::Abort;
 
 /// Sessions, each with a savepoint that it makes, and the id of the reservation that it is granted
 /// after it. Two of them make and hold more than are held in place.
-const STEPS: [(u8, &str, u64); 12] = [
+const STEPS: [(u16, &str, u64); 12] = [
     (7, "A", 1),
     (1, "A", 2),
     (64, "A", 3),
@@ -26,7 +26,7 @@ fn name(rt: &impl Abort, text: &str) -> Name {
 }
 
 /// Returns the row that a session changes. Its key is the session's number.
-fn row(rt: &impl Abort, number: u8) -> RowName {
+fn row(rt: &impl Abort, number: u16) -> RowName {
     RowName {
         table: name(rt, "ACCOUNT"),
         key: Value::Number(Amount::new(i64::from(number)).expect(rt, "a number")),
@@ -64,7 +64,7 @@ fn grant(rt: &impl Abort, table: &mut TxnTable, session: Session, id: u64, alloc
 }
 
 /// The open reservations are those of these steps, in order, each with its id, its session and its session's row.
-fn are_open(rt: &impl Abort, table: &TxnTable, steps: &[(u8, &str, u64)], alloc: Global) {
+fn are_open(rt: &impl Abort, table: &TxnTable, steps: &[(u16, &str, u64)], alloc: Global) {
     let all = table.all_in_order(alloc).expect(rt, "memory");
     assert_eq!(rt; all.len(), steps.len());
     for (r, (number, _, id)) in all.iter().zip(steps) {

@@ -167,7 +167,7 @@ fn meet<R: Threads + Wait + Sync + Abort + AllocGlobal>(
     rt: &R,
     meets: Meets,
     databases: usize,
-    sessions: u8,
+    sessions: u16,
 ) {
     for by in BOTH {
         let (shared, passes) = hall(rt, databases, sessions, &COUNTER);

@@ -9,7 +9,7 @@ use escrow_num::Session;
 use escrow_shards::NoGate;
 
 /// A session, its statement, and the reply as printed.
-type Asked = (u8, &'static str, &'static str);
+type Asked = (u16, &'static str, &'static str);
 
 /// A table with a plain column.
 const SHOP: &str =

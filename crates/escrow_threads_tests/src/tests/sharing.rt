@@ -20,12 +20,12 @@ pub type Sharing = (Shared<BlockStore>, Vec<Pass>);
 pub fn share<R: Abort + AllocGlobal>(
     rt: &R,
     databases: Vec<Database<BlockStore>>,
-    sessions: u8,
+    sessions: u16,
 ) -> Result<Sharing, MakeFault<BlockStore>> {
-    let sessions = Session::new(sessions).expect(rt, "sessions");
+    assert!(rt; 0 < sessions && sessions <= Session::MAX_SHARED);
     let count = databases.len();
     assert!(rt; 0 < count && count <= MAX_DATABASES);
-    let fault = match Shared::make(rt.alloc(), databases, sessions.get()) {
+    let fault = match Shared::make(rt.alloc(), databases, sessions) {
         Ok(sharing) => return Ok(sharing),
         Err(fault) => fault,
     };
@@ -34,11 +34,16 @@ pub fn share<R: Abort + AllocGlobal>(
     }
     let databases = fault.databases;
     assert!(rt; databases.len() == count && 0 < count && count <= MAX_DATABASES);
-    Shared::make(rt.alloc(), databases, sessions.get())
+    Shared::make(rt.alloc(), databases, sessions)
 }
 
 /// Shares new databases. In each of them session 1 has asked some statements.
-pub fn hall<R: Abort + AllocGlobal>(rt: &R, count: usize, sessions: u8, asked: &[&str]) -> Sharing {
+pub fn hall<R: Abort + AllocGlobal>(
+    rt: &R,
+    count: usize,
+    sessions: u16,
+    asked: &[&str],
+) -> Sharing {
     let opened = databases(rt, count, asked);
     made(rt, share(rt, opened, sessions), "shared")
 }

@@ -27,12 +27,12 @@ type Watching<'a, R> = (
 fn watch<'a, R: Wait + Abort + AllocGlobal>(
     rt: &'a R,
     databases: Vec<Database<BlockStore>>,
-    sessions: u8,
+    sessions: u16,
     watchers: usize,
 ) -> Result<Watching<'a, R>, MakeFault<BlockStore>> {
     let count = databases.len();
     assert!(rt; 0 < count && count <= MAX_DATABASES);
-    let sessions = Session::new(sessions).expect(rt, "sessions").get();
+    assert!(rt; 0 < sessions && sessions <= Session::MAX_SHARED);
     Shared::make_watched(rt, rt.alloc(), databases, sessions, watchers)
 }
 

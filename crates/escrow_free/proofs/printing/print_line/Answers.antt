@@ -36,7 +36,7 @@ returns-in-Totals-clause-printed c = at_ok _ _ c.render-in-Totals.result (λ out
     let tally = c.index.result.now in
     let has : HasItsDesk (vec_len c.args.desks.now) (planned.Totals place session) = subst (HasItsDesk (vec_len c.args.desks.now)) c.in-Totals.is c.requires.desk in
     let below : c.desk_of.result < length totals =
-    subst (λ n. c.desk_of.result < n) (sym c.requires.beside ∙ c.args.totals.now.ok.0) (subst (λ k. k < vec_len c.args.desks.now) (sym c.desk_of.ensures.place) has.1) in
+    subst (λ n. c.desk_of.result < n) (sym c.requires.beside ∙ c.args.totals.now.ok.0) (subst (λ k. k < vec_len c.args.desks.now) (sym c.desk_of.ensures.place) has.2) in
     let at : slice_get totals (desk_of place session) ≡ Some tally =
     subst (λ k. slice_get totals k ≡ Some tally) c.desk_of.ensures.place (there totals c.desk_of.result tally below c.index.ensures) in
     let text : rendered_totals c.database_name-in-Totals.result.now session tally ≡ rendered_totals (database_name place) session tally =
@@ -56,7 +56,7 @@ returns-in-Asked-clause-printed c = at_ok _ _ c.print_given.result (λ out e pla
     let tally = c.next_answer-given.new.totals in
     let is = c.desk_of-place.ensures.place in
     let has : HasItsDesk (vec_len c.args.desks.now) (planned.Asked place session) = subst (HasItsDesk (vec_len c.args.desks.now)) c.in-Asked.is c.requires.desk in
-    let within : c.desk_of-place.result < vec_len c.args.desks.now = subst (λ k. k < vec_len c.args.desks.now) (sym is) has.1 in
+    let within : c.desk_of-place.result < vec_len c.args.desks.now = subst (λ k. k < vec_len c.args.desks.now) (sym is) has.2 in
     let below : c.desk_of-place.result < length desks = subst (λ n. c.desk_of-place.result < n) c.args.desks.now.ok.0 within in
     let as_below : c.desk_of-place.result < length totals = subst (λ n. c.desk_of-place.result < n) (sym c.requires.beside ∙ c.args.totals.now.ok.0) within in
     let at : slice_get desks (desk_of place session) ≡ Some desk =
@@ -68,3 +68,9 @@ returns-in-Asked-clause-printed c = at_ok _ _ c.print_given.result (λ out e pla
     let text : given_text c.database_name-in-Asked.result.now session next ≡ given_text (database_name place) session next = ap (λ name. given_text name session next) c.database_name-in-Asked.ensures in
     prints_as c.args.line _ plan plan desks (set desks c.desk_of-place.result new) totals (set totals c.desk_of-place.result tally) out.items _ c.in-Asked.is (e ∙ text)
     (subst (λ (k : ℕ). PrintsTo (planned.Asked place session ∷ plan) desks totals (given_text (database_name place) session next) plan (set desks k new) (set totals k tally)) (sym is) prints)) c.print_given.ensures
+
+pub desk_of-requires-clause-shared : goal.desk_of-requires-clause-shared
+desk_of-requires-clause-shared c = (subst (HasItsDesk (vec_len c.args.desks.now)) c.in-Totals.is c.requires.desk).1
+
+pub desk_of-place-requires-clause-shared : goal.desk_of-place-requires-clause-shared
+desk_of-place-requires-clause-shared c = (subst (HasItsDesk (vec_len c.args.desks.now)) c.in-Asked.is c.requires.desk).1

@@ -2,7 +2,7 @@ use mir.Syntax.{ty_param}
 use denote.Exit.{yes}
 use denote.Param.Send.{arg_send, param_send}
 use Rattle.std.proofs.Common.{ap, sym, ◌∙◌, arith}
-use Rattle.escrow_num.specs.declared.session.TheConstants.Session.{MAX}
+use Rattle.escrow_num.specs.declared.session.TheConstants.Session.{MAX_SHARED}
 use Rattle.escrow_shards.specs.Pass.{new_passes}
 use Rattle.escrow_shards.proofs.Crossing.{locked_send}
 use Rattle.escrow_free.proofs.Closing.{openings_long}
@@ -21,7 +21,7 @@ serve_stage-requires-clause-few g c κs within =
 pub serve_stage-requires-clause-passes : goal.serve_stage-requires-clause-passes
 serve_stage-requires-clause-passes g c κs within =
     let long = openings_long g.S.Store c.args.databases.items c.in_ok-stage.stage.shared.openings c.in_ok-stage.ensures.read in
-    c.in_ok-stage.ensures.passes ∙ ap (λ n. new_passes n MAX) (sym long)
+    c.in_ok-stage.ensures.passes ∙ ap (λ n. new_passes n MAX_SHARED) (sym long)
 
 pub returns-clause-legal : goal.returns-clause-legal
 returns-clause-legal g c = c.in_ok-audit.ensures.legal c.args.databases.items c.in_ok-stage.ensures.read

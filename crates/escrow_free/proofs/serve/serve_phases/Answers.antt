@@ -3,7 +3,7 @@ use Rattle.std.proofs.lemmas.Bool.{false≢true}
 use Rattle.std.proofs.lemmas.List.{length-replicate}
 use Rattle.escrow_stats.specs.Tally.{tally_of}
 use Rattle.std.specs.List.{AllByRecursion}
-use Rattle.escrow_num.specs.declared.session.TheConstants.Session.{MAX}
+use Rattle.escrow_num.specs.declared.session.TheConstants.Session.{MAX_SHARED}
 use Rattle.escrow_script.specs.declared.limits.TheConstants.{MAX_SCRIPT}
 use Rattle.escrow_script.specs.Script.{left, Spends}
 use Rattle.escrow_script.proofs.ScriptLemmas.{spends_more, spends_none}
@@ -31,7 +31,7 @@ run_phase-requires-clause-places g c κs within =
 
 pub print_phase-requires-clause-beside : goal.print_phase-requires-clause-beside
 print_phase-requires-clause-beside g c =
-    let count : vec_len c.in_ok-desks.desks ≡ length c.args.shared.now.openings * MAX = c.in_ok-desks.desks.ok.0 ∙ c.in_ok-desks.ensures.count ∙ c.phases.invariant.count in
+    let count : vec_len c.in_ok-desks.desks ≡ length c.args.shared.now.openings * MAX_SHARED = c.in_ok-desks.desks.ok.0 ∙ c.in_ok-desks.ensures.count ∙ c.phases.invariant.count in
     c.phases.invariant.beside ∙ sym count
 
 pub print_phase-requires-clause-lines : goal.print_phase-requires-clause-lines
@@ -40,7 +40,7 @@ print_phase-requires-clause-lines g c =
     let plan = c.in_ok-plan.field-0.plan in
     let phase = subst (λ k. IsRead k (left c.phases.script.unread (g.R.Read.remaining c.phases.reader)) (left c.read_phase.new.script.unread (g.R.Read.remaining c.read_phase.new.reader)) plan)
     c.databases-databases.ensures c.in_ok-plan.ensures.read in
-    let count : vec_len c.in_ok-desks.desks ≡ n * MAX = c.in_ok-desks.desks.ok.0 ∙ c.in_ok-desks.ensures.count ∙ c.phases.invariant.count in
+    let count : vec_len c.in_ok-desks.desks ≡ n * MAX_SHARED = c.in_ok-desks.desks.ok.0 ∙ c.in_ok-desks.ensures.count ∙ c.phases.invariant.count in
     subst (λ k. AllByRecursion (HasItsDesk k) plan.lines.items) (sym count) (plan_desks n phase.lines plan.lines.items plan.items.items c.requires.few phase.plans)
 
 pub phases-preserved : goal.phases-preserved

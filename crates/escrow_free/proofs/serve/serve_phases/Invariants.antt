@@ -1,5 +1,5 @@
 use Rattle.std.proofs.Common.{◌≡◌, ◌+◌, ◌*◌, true, length, vec_len}
-use Rattle.escrow_num.specs.declared.session.TheConstants.Session.{MAX}
+use Rattle.escrow_num.specs.declared.session.TheConstants.Session.{MAX_SHARED}
 use Rattle.escrow_script.specs.declared.limits.TheConstants.{MAX_SCRIPT}
 use Rattle.escrow_script.specs.Script.{left, HasEnded, Spends}
 use Rattle.escrow_free.proofs.Phases.{Stands}
@@ -8,10 +8,10 @@ use Rattle.escrow_free.proofs.serve.serve_phases.Given as goal
 abbrev pub invariant-phases : goal.invariant-phases
 invariant-phases g l = record {
   drained : vec_len l.drains.last_drained ≡ length l.shared.openings;
-  count : length l.desks.items ≡ length l.shared.openings * MAX;
+  count : length l.desks.items ≡ length l.shared.openings * MAX_SHARED;
   stands : Stands (length l.shared.openings) (g.R.Read.remaining l.fn.reader) (left l.script.unread (g.R.Read.remaining l.reader))
       (g.W.Write.contents l.fn.writer) (g.W.Write.contents l.writer) l.desks.items l.totals.items;
-  beside : vec_len l.totals ≡ length l.shared.openings * MAX;
+  beside : vec_len l.totals ≡ length l.shared.openings * MAX_SHARED;
   ended : l.script.has_ended ≡ true → HasEnded l.script.unread (g.R.Read.remaining l.reader);
   spent : Spends (g.R.Read.remaining l.fn.reader) (g.R.Read.remaining l.reader) MAX_SCRIPT l.script.bytes_left;
 }

@@ -4,6 +4,7 @@ use Rattle.escrow_num.proofs.laws.limits.Goals as goal
 pub returns : goal.returns
 returns c = record {
   sessions = refl;
+  shared_sessions = refl;
   amounts = refl;
   wide_sums = refl;
   ids = refl;

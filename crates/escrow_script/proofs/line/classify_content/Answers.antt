@@ -5,7 +5,7 @@ use Rattle.escrow_script.proofs.line.classify_content.Goals as goal
 
 pub returns-then-is_nothing : goal.returns-then-is_nothing
 returns-then-is_nothing c =
-    is_nothing_made c.args.databases c.args.content.now
+    is_nothing_made c.args.databases c.args.sessions c.args.content.now
     (ap is_nothing (sym c.as_bytes.ensures.value) ∙ sym c.is_nothing.ensures ∙ c.if-is_nothing.true)
 
 pub returns-then-is_join : goal.returns-then-is_join
@@ -16,7 +16,7 @@ returns-then-is_join c =
 pub returns-in-None : goal.returns-in-None
 returns-in-None c =
     let none : c.restart_of.result ≡ None = search rules in
-    made_of_none c.args.databases c.args.content.now
+    made_of_none c.args.databases c.args.sessions c.args.content.now
     (ap is_nothing (sym c.as_bytes.ensures.value) ∙ sym c.is_nothing.ensures ∙ c.if-is_nothing.false)
     (ap is_join (sym c.as_bytes-2.ensures.value) ∙ sym c.is_join.ensures ∙ c.if-is_join.false)
     (no_restart c.args.databases c.args.content.now c.restart_of.result c.requires

@@ -20,8 +20,8 @@ use Rattle.escrow_serve.proofs.TotalsLemmas.{line_of_none, line_unchanged}
 use Rattle.escrow_serve.proofs.alone.serve_task.Goals as goal
 
 -- a task among this many databases
-among : (databases others : ℕ) (bytes : List ℕ) (asked is : Task) → databases ≡ others → asked ≡ is → IsTask databases bytes asked → IsTask others bytes is
-among databases others bytes asked is same found holds = subst (λ (n : ℕ). IsTask n bytes is) same (subst (λ (t : Task). IsTask databases bytes t) found holds)
+among : (sessions databases others : ℕ) (bytes : List ℕ) (asked is : Task) → databases ≡ others → asked ≡ is → IsTask sessions databases bytes asked → IsTask sessions others bytes is
+among sessions databases others bytes asked is same found holds = subst (λ (n : ℕ). IsTask sessions n bytes is) same (subst (λ (t : Task). IsTask sessions databases bytes t) found holds)
 
 -- the name of one of the databases is short
 front_fits : (databases place : ℕ) (name : List ℕ) → name ≡ database_name place → databases ≤ MAX_DATABASES → place < databases → length name ≤ MAX_FRONT
@@ -32,39 +32,39 @@ push_short_whole-requires-clause-front g c =
     let count = vec_len c.args.databases.now in
     let place = c.in-Restart.database in
     let asked = c.requires.asked in
-    let reads = among count count asked.0 c.args.task (task.Restart place) refl c.in-Restart.is asked.1 in
-    front_fits count place c.database_name.result.now c.database_name.ensures c.requires.few (restarts_one count asked.0 place reads)
+    let reads = among asked.0 count count asked.1 c.args.task (task.Restart place) refl c.in-Restart.is asked.2 in
+    front_fits count place c.database_name.result.now c.database_name.ensures c.requires.few (restarts_one count asked.0 asked.1 place reads)
 
 pub give_short-requires-clause-front : goal.give_short-requires-clause-front
 give_short-requires-clause-front g c =
     let count = vec_len c.args.databases.now in
     let at = c.in-Refuse in
-    let is = among count count c.requires.asked.0 c.args.task (task.Refuse at.database at.session at.refusal) refl at.is c.requires.asked.1 in
-    front_fits count at.database c.database_name-name.result.now c.database_name-name.ensures c.requires.few (names_one count c.requires.asked.0 at.database at.session is.0 is.2)
+    let is = among c.requires.asked.0 count count c.requires.asked.1 c.args.task (task.Refuse at.database at.session at.refusal) refl at.is c.requires.asked.2 in
+    front_fits count at.database c.database_name-name.result.now c.database_name-name.ensures c.requires.few (names_one count c.requires.asked.0 c.requires.asked.1 at.database at.session is.0 is.2)
 
 pub serve_statement-requires-clause-front : goal.serve_statement-requires-clause-front
 serve_statement-requires-clause-front g c =
     let count = vec_len c.args.databases.now in
     let at = c.in-Statement in
-    let is = among count count c.requires.asked.0 c.args.task (task.Statement at.database at.session at.statement) refl at.is c.requires.asked.1 in
+    let is = among c.requires.asked.0 count count c.requires.asked.1 c.args.task (task.Statement at.database at.session at.statement) refl at.is c.requires.asked.2 in
     let name = c.database_name-name-in-Statement in
-    front_fits count at.database name.result.now name.ensures c.requires.few (names_one count c.requires.asked.0 at.database at.session is.0 is.1)
+    front_fits count at.database name.result.now name.ensures c.requires.few (names_one count c.requires.asked.0 c.requires.asked.1 at.database at.session is.0 is.1)
 
 pub show_totals-requires-clause-front : goal.show_totals-requires-clause-front
 show_totals-requires-clause-front g c =
     let count = vec_len c.args.databases.now in
     let at = c.in-Statistics in
-    let is = among count count c.requires.asked.0 c.args.task (task.Statistics at.database at.session) refl at.is c.requires.asked.1 in
+    let is = among c.requires.asked.0 count count c.requires.asked.1 c.args.task (task.Statistics at.database at.session) refl at.is c.requires.asked.2 in
     let name = c.database_name-name-in-Statistics in
-    front_fits count at.database name.result.now name.ensures c.requires.few (names_one count c.requires.asked.0 at.database at.session is.0 is.1)
+    front_fits count at.database name.result.now name.ensures c.requires.few (names_one count c.requires.asked.0 c.requires.asked.1 at.database at.session is.0 is.1)
 
 pub returns-in-Nothing-clause-served : goal.returns-in-Nothing-clause-served
 returns-in-Nothing-clause-served g c =
     let databases = c.args.databases.now in (
       [],
       sym (append-nil c.args.replies.now.items),
-      λ used bytes is. nothing_served (states_of databases.items) c.args.totals.now.items bytes
-          (among (vec_len databases) (length (states_of databases.items)) bytes c.args.task task.Nothing (databases.ok.0 ∙ sym (length-map databases.items state_in)) c.in-Nothing.is is),
+      λ used sessions bytes is. nothing_served sessions (states_of databases.items) c.args.totals.now.items bytes
+          (among sessions (vec_len databases) (length (states_of databases.items)) bytes c.args.task task.Nothing (databases.ok.0 ∙ sym (length-map databases.items state_in)) c.in-Nothing.is is),
     )
 
 pub returns-in-NoLine-clause-served : goal.returns-in-NoLine-clause-served
@@ -72,8 +72,8 @@ returns-in-NoLine-clause-served g c =
     let databases = c.args.databases.now in (
       no_line_text,
       c.push_short_line.ensures.text,
-      λ used bytes is. line_of_none (states_of databases.items) c.args.totals.now.items bytes no_line_text no_line
-          (among (vec_len databases) (length (states_of databases.items)) bytes c.args.task task.NoLine (databases.ok.0 ∙ sym (length-map databases.items state_in)) c.in-NoLine.is is)
+      λ used sessions bytes is. line_of_none sessions (states_of databases.items) c.args.totals.now.items bytes no_line_text no_line
+          (among sessions (vec_len databases) (length (states_of databases.items)) bytes c.args.task task.NoLine (databases.ok.0 ∙ sym (length-map databases.items state_in)) c.in-NoLine.is is)
           (λ sittings. (refl, refl)),
     )
 
@@ -85,10 +85,10 @@ returns-in-Restart-clause-served g c =
     let after = c.restart-reply.new.database in (
       rendered_whole c.database_name.result.now c.restart-reply.result,
       c.push_short_whole.ensures,
-      λ used bytes is.
-          let reads = among (vec_len databases) (length databases.items) bytes c.args.task (task.Restart place) databases.ok.0 c.in-Restart.is is in
-          let clean = all_after (λ d. HasCleanDisk (state g.S.Store d.store)) databases.items place after (restarts_one (length databases.items) bytes place reads) used in
-          restarts_place databases.items c.args.totals.now.items place bytes c.database_name.result.now c.restart-reply.result c.index_mut.result.now after
+      λ used sessions bytes is.
+          let reads = among sessions (vec_len databases) (length databases.items) bytes c.args.task (task.Restart place) databases.ok.0 c.in-Restart.is is in
+          let clean = all_after (λ d. HasCleanDisk (state g.S.Store d.store)) databases.items place after (restarts_one (length databases.items) sessions bytes place reads) used in
+          restarts_place sessions databases.items c.args.totals.now.items place bytes c.database_name.result.now c.restart-reply.result c.index_mut.result.now after
           c.index_mut-in-Restart.result.now c.restart-reply.new.totals reads c.index_mut.ensures.value c.index_mut-in-Restart.ensures.value each c.database_name.ensures
           (c.restart-reply.ensures.served clean) c.restart-reply.ensures.totals,
     )
@@ -98,7 +98,7 @@ returns-in-Restart-clause-clean g c = λ used.
     let databases = c.args.databases.now in
     let place = c.in-Restart.database in
     let asked = c.requires.asked in
-    let within = restarts_one (length databases.items) asked.0 place (among (vec_len databases) (length databases.items) asked.0 c.args.task (task.Restart place) databases.ok.0 c.in-Restart.is asked.1) in
+    let within = restarts_one (length databases.items) asked.0 asked.1 place (among asked.0 (vec_len databases) (length databases.items) asked.1 c.args.task (task.Restart place) databases.ok.0 c.in-Restart.is asked.2) in
     all_back (λ d. HasCleanDisk (state g.S.Store d.store)) databases.items place c.index_mut.result.now c.restart-reply.new.database within c.index_mut.ensures.value c.restart-reply.ensures.clean used
 
 pub returns-in-Refuse-clause-served : goal.returns-in-Refuse-clause-served
@@ -110,9 +110,9 @@ returns-in-Refuse-clause-served g c =
     let given = c.give_short.ensures.given in (
       given.0,
       given.1,
-      λ used bytes is. refused_line (vec_len databases) (states_of databases.items) totals.items place c.in-Refuse.session c.in-Refuse.refusal bytes c.database_name-name.result.now given.0
+      λ used sessions bytes is. refused_line sessions (vec_len databases) (states_of databases.items) totals.items place c.in-Refuse.session c.in-Refuse.refusal bytes c.database_name-name.result.now given.0
           c.index_mut-in-Refuse.result.now c.give_short.new.totals (databases.ok.0 ∙ sym (length-map databases.items state_in)) (sym totals.ok.0 ∙ c.requires.each) c.index_mut-in-Refuse.ensures.value
-          c.database_name-name.ensures given.2 (among (vec_len databases) (vec_len databases) bytes c.args.task refused refl c.in-Refuse.is is),
+          c.database_name-name.ensures given.2 (among sessions (vec_len databases) (vec_len databases) bytes c.args.task refused refl c.in-Refuse.is is),
     )
 
 pub returns-in-Statement-clause-served : goal.returns-in-Statement-clause-served
@@ -126,10 +126,10 @@ returns-in-Statement-clause-served g c =
     let served = c.serve_statement.ensures.served in (
       served.0,
       served.1,
-      λ used bytes is.
-          let reads = among (vec_len databases) (length databases.items) bytes c.args.task asked databases.ok.0 c.in-Statement.is is in
-          let clean = all_after (λ d. HasCleanDisk (state g.S.Store d.store)) databases.items place after (names_one (length databases.items) bytes place session reads.0 reads.1) used in
-          serves_place databases.items c.args.totals.now.items place session bytes reads.0 c.database_name-name-in-Statement.result.now served.0
+      λ used sessions bytes is.
+          let reads = among sessions (vec_len databases) (length databases.items) bytes c.args.task asked databases.ok.0 c.in-Statement.is is in
+          let clean = all_after (λ d. HasCleanDisk (state g.S.Store d.store)) databases.items place after (names_one (length databases.items) sessions bytes place session reads.0 reads.1) used in
+          serves_place sessions databases.items c.args.totals.now.items place session bytes reads.0 c.database_name-name-in-Statement.result.now served.0
           c.index_mut-in-Statement.result.now after c.index_mut-totals.result.now c.serve_statement.new.totals reads.1 c.index_mut-in-Statement.ensures.value c.index_mut-totals.ensures.value each
           c.database_name-name-in-Statement.ensures (served.2 clean reads.0 reads.2),
     )
@@ -140,8 +140,8 @@ returns-in-Statement-clause-clean g c = λ used.
     let place = c.in-Statement.database in
     let session = c.in-Statement.session in
     let asked = c.requires.asked in
-    let reads = among (vec_len databases) (length databases.items) asked.0 c.args.task (task.Statement place session c.in-Statement.statement) databases.ok.0 c.in-Statement.is asked.1 in
-    let within = names_one (length databases.items) asked.0 place session reads.0 reads.1 in
+    let reads = among asked.0 (vec_len databases) (length databases.items) asked.1 c.args.task (task.Statement place session c.in-Statement.statement) databases.ok.0 c.in-Statement.is asked.2 in
+    let within = names_one (length databases.items) asked.0 asked.1 place session reads.0 reads.1 in
     all_back (λ d. HasCleanDisk (state g.S.Store d.store)) databases.items place c.index_mut-in-Statement.result.now c.serve_statement.new.database within c.index_mut-in-Statement.ensures.value c.serve_statement.ensures.clean used
 
 pub returns-in-Statistics-clause-served : goal.returns-in-Statistics-clause-served
@@ -154,11 +154,11 @@ returns-in-Statistics-clause-served g c =
     let served = c.show_totals.ensures.served in (
       served.0,
       served.1,
-      λ used bytes is.
-          let reads = among (vec_len databases) (vec_len databases) bytes c.args.task (task.Statistics place session) refl c.in-Statistics.is is in
-          let within = names_one (vec_len databases) bytes place session reads.0 reads.1 in
-          line_unchanged (states_of databases.items) totals.items place session bytes reads.0 c.database_name-name-in-Statistics.result.now served.0 c.index_mut-in-Statistics.result.now c.show_totals.new.totals
-          (subst (λ (n : ℕ). Reads n bytes (statement place session reads.0)) count reads.1) (omega (arith, within, count))
+      λ used sessions bytes is.
+          let reads = among sessions (vec_len databases) (vec_len databases) bytes c.args.task (task.Statistics place session) refl c.in-Statistics.is is in
+          let within = names_one (vec_len databases) sessions bytes place session reads.0 reads.1 in
+          line_unchanged sessions (states_of databases.items) totals.items place session bytes reads.0 c.database_name-name-in-Statistics.result.now served.0 c.index_mut-in-Statistics.result.now c.show_totals.new.totals
+          (subst (λ (n : ℕ). Reads n sessions bytes (statement place session reads.0)) count reads.1) (omega (arith, within, count))
           (slice_get_read totals.items (vec_len databases) place c.index_mut-in-Statistics.result.now (sym (sym totals.ok.0 ∙ c.requires.each)) within c.index_mut-in-Statistics.ensures.value)
           c.database_name-name-in-Statistics.ensures (λ kept. served.2 kept reads.0 reads.2),
     )

@@ -1,11 +1,9 @@
-use Rattle.std.proofs.Common.{◌≡◌, ◌≤◌, ℕ, ◌+◌, ◌-◌, ◌^◌, Option, List, [], true, length, replicate, vec_len, arith, rules, ap, subst, refl, sym, ◌∙◌}
-use Rattle.std.proofs.lemmas.List.{length-replicate}
+use Rattle.std.proofs.Common.{◌≡◌, ◌≤◌, ℕ, ◌+◌, ◌-◌, ◌^◌, Option, List, [], true, length, vec_len, arith, rules, ap, subst, refl, sym, ◌∙◌}
 use Rattle.std.proofs.lemmas.Bool.{true≢false}
 use Rattle.escrow_script.specs.declared.fault.ServeFault.TheVariants as fault
 use Rattle.escrow_serve.specs.Output.{states_of}
 use Rattle.escrow_script.specs.Script.{left, has_line, most_bytes, HasEnded, Spends}
 use Rattle.escrow_serve.specs.Batch.{Gathers}
-use Rattle.escrow_serve.specs.Totals.{no_totals}
 use Rattle.escrow_script.proofs.OutcomeLemmas.{at_fault}
 use Rattle.escrow_script.proofs.TakenLemmas.{ended, read_without}
 use Rattle.escrow_script.proofs.WrittenLemmas.{leaves_some, nothing_waits}
@@ -17,7 +15,7 @@ use Rattle.escrow_serve.proofs.serve.serve_from.Goals.{After-serve_in_hand}
 
 -- what a turn serves stands with what was served before
 served : (g : Over) (c : After-serve_in_hand g)
-    → Stands g.S.Store c.args.databases.now.items c.serve_in_hand.new.databases.items c.serve_in_hand.new.totals.items (g.R.Read.remaining c.args.reader.now)
+    → Stands c.args.sessions g.S.Store c.args.databases.now.items c.serve_in_hand.new.databases.items c.serve_in_hand.new.totals.items (g.R.Read.remaining c.args.reader.now)
     (left c.serve_in_hand.new.script.unread (g.R.Read.remaining c.take_line.new.reader)) (g.W.Write.contents c.args.writer.now) (g.W.Write.contents c.take_line.new.writer)
     c.serve_in_hand.new.replies.items (c.serve_in_hand.new.script.bytes_left + length c.serve_in_hand.new.script.unread)
 served g c =
@@ -29,11 +27,11 @@ served g c =
     let taken = c.take_line.new.script in
     let script = c.serve_in_hand.new.script in
     let remaining = g.R.Read.remaining c.take_line.new.reader in
-    let turn = turn_of g.S.Store c.in_ok-take_line.field-0 taken.line.items out.1 out.0 mid new c.loop-replies.totals.items c.serve_in_hand.new.totals.items
+    let turn = turn_of c.args.sessions g.S.Store c.in_ok-take_line.field-0 taken.line.items out.1 out.0 mid new c.loop-replies.totals.items c.serve_in_hand.new.totals.items
     (left c.loop-replies.script.unread (g.R.Read.remaining c.loop-replies.reader)) (left taken.unread remaining) (left script.unread remaining)
     (c.loop-replies.script.bytes_left + length c.loop-replies.script.unread) (taken.bytes_left + length taken.unread) (script.bytes_left + length script.unread)
     c.if-branch.true served.short next.taken next.less (out.2 remaining) (omega (arith, out.3, served.bytes)) out.5 served.clean in
-    turn_served g.S.Store c.args.databases.now.items mid new c.loop-replies.totals.items c.serve_in_hand.new.totals.items (g.R.Read.remaining c.args.reader.now)
+    turn_served c.args.sessions g.S.Store c.args.databases.now.items mid new c.loop-replies.totals.items c.serve_in_hand.new.totals.items (g.R.Read.remaining c.args.reader.now)
     (left c.loop-replies.script.unread (g.R.Read.remaining c.loop-replies.reader)) (left script.unread remaining)
     (g.W.Write.contents c.args.writer.now) (g.W.Write.contents c.loop-replies.writer) (g.W.Write.contents c.take_line.new.writer)
     c.loop-replies.replies.items c.take_line.new.replies.items out.1 c.serve_in_hand.new.replies.items
@@ -59,33 +57,31 @@ spent g c =
 pub returns-in_err-script-clause-fault : goal.returns-in_err-script-clause-fault
 returns-in_err-script-clause-fault g c = λ used.
     at_fault c.from_residual.result fault.Memory _ c.from_residual.ensures.1
-    (stopped_at_start fault.Memory (states_of c.args.databases.now.items) (g.R.Read.remaining c.args.reader.now) (g.W.Write.contents c.args.writer.now) refl)
+    (stopped_at_start c.args.sessions fault.Memory (states_of c.args.databases.now.items) (g.R.Read.remaining c.args.reader.now) (g.W.Write.contents c.args.writer.now) refl)
 
 pub returns-in_err-totals-clause-fault : goal.returns-in_err-totals-clause-fault
 returns-in_err-totals-clause-fault g c = λ used.
     at_fault c.from_residual-in_err-totals.result fault.Memory _ c.from_residual-in_err-totals.ensures.1
-    (stopped_at_start fault.Memory (states_of c.args.databases.now.items) (g.R.Read.remaining c.args.reader.now) (g.W.Write.contents c.args.writer.now) refl)
+    (stopped_at_start c.args.sessions fault.Memory (states_of c.args.databases.now.items) (g.R.Read.remaining c.args.reader.now) (g.W.Write.contents c.args.writer.now) refl)
 
 pub returns-in_err-batch-clause-fault : goal.returns-in_err-batch-clause-fault
 returns-in_err-batch-clause-fault g c = λ used.
     at_fault c.from_residual-in_err-batch.result fault.Memory _ c.from_residual-in_err-batch.ensures.1
-    (stopped_at_start fault.Memory (states_of c.args.databases.now.items) (g.R.Read.remaining c.args.reader.now) (g.W.Write.contents c.args.writer.now) refl)
+    (stopped_at_start c.args.sessions fault.Memory (states_of c.args.databases.now.items) (g.R.Read.remaining c.args.reader.now) (g.W.Write.contents c.args.writer.now) refl)
 
 pub loop-replies-init : goal.loop-replies-init
 loop-replies-init g c =
     let made = c.in_ok-script.ensures in
     let totals = c.in_ok-totals.totals in
     let count : c.len.result ≡ vec_len c.args.databases.now = search rules in
-    let some : totals.items ≡ replicate (length c.args.databases.now.items) no_totals =
-    c.in_ok-totals.ensures ∙ ap (λ (n : ℕ). replicate n no_totals) (count ∙ c.args.databases.now.ok.0) in
     let within : c.in_ok-script.script.bytes_left ≤ 2 ^ 64 - 1 = subst (λ (n : ℕ). n ≤ 2 ^ 64 - 1) (sym made.1) (most_bytes_fit c.args.limit) in
     let bytes = g.R.Read.remaining c.args.reader.now in
     record {
       count = refl;
-      each = omega (arith, count, totals.ok.0, ap length c.in_ok-totals.ensures, length-replicate c.len.result no_totals);
-      empty = subst (λ (n : ℕ). Gathers n c.in_ok-batch.batch.waiting.items c.in_ok-batch.batch.parts.items []) c.len-2.ensures c.in_ok-batch.ensures;
-      stands = stands_begun g.S.Store c.args.databases.now.items c.in_ok-totals.totals.items (g.R.Read.remaining c.args.reader.now) (g.W.Write.contents c.args.writer.now) c.in_ok-script.script.unread c.new-replies.result.items
-          c.in_ok-script.script.bytes_left some made.0 c.new-replies.ensures.items within;
+      each = omega (arith, count, c.in_ok-totals.ensures.len);
+      empty = subst (λ (n : ℕ). Gathers c.args.sessions n c.in_ok-batch.batch.waiting.items c.in_ok-batch.batch.parts.items []) c.len-2.ensures (c.in_ok-batch.ensures c.args.sessions);
+      stands = stands_begun c.args.sessions g.S.Store c.args.databases.now.items c.in_ok-totals.totals.items (g.R.Read.remaining c.args.reader.now) (g.W.Write.contents c.args.writer.now) c.in_ok-script.script.unread c.new-replies.result.items
+          c.in_ok-script.script.bytes_left (omega (arith, count, totals.ok.0, c.in_ok-totals.ensures.len, c.args.databases.now.ok.0)) c.in_ok-totals.ensures.none made.0 c.new-replies.ensures.items within;
       waits = λ _. c.new-replies.ensures.items;
       ended = λ over. absurd (true≢false (sym over ∙ made.2));
       spent = subst (λ (n : ℕ). Spends bytes bytes (most_bytes c.args.limit) n) (sym made.1) (spends_none bytes (most_bytes c.args.limit));
@@ -96,7 +92,7 @@ returns-in_err-take_line-clause-fault g c = λ used.
     let why = c.in_err-take_line.field-0.0 in
     let wrote = c.in_err-take_line.ensures.fault in
     at_fault c.from_residual-in_err-take_line.result why _ c.from_residual-in_err-take_line.ensures.1
-    (stopped_writing why (states_of c.args.databases.now.items) (states_of c.loop-replies.databases.items) c.loop-replies.totals.items (g.R.Read.remaining c.args.reader.now) _
+    (stopped_writing c.args.sessions why (states_of c.args.databases.now.items) (states_of c.loop-replies.databases.items) c.loop-replies.totals.items (g.R.Read.remaining c.args.reader.now) _
     (g.W.Write.contents c.args.writer.now) (g.W.Write.contents c.loop-replies.writer) (g.W.Write.contents c.take_line.new.writer) c.loop-replies.replies.items wrote.0
     (c.loop-replies.script.bytes_left + length c.loop-replies.script.unread) wrote.2 (c.loop-replies.invariant.stands.stood used) wrote.1)
 
@@ -107,7 +103,7 @@ returns-in_err-write_gathered-clause-fault g c = λ used.
     let new = c.serve_in_hand.new.databases.items in
     let script = c.serve_in_hand.new.script in
     at_fault c.from_residual-in_err-write_gathered.result why _ c.from_residual-in_err-write_gathered.ensures.1
-    (stopped_writing why (states_of c.args.databases.now.items) (states_of new) c.serve_in_hand.new.totals.items (g.R.Read.remaining c.args.reader.now) _
+    (stopped_writing c.args.sessions why (states_of c.args.databases.now.items) (states_of new) c.serve_in_hand.new.totals.items (g.R.Read.remaining c.args.reader.now) _
     (g.W.Write.contents c.args.writer.now) (g.W.Write.contents c.take_line.new.writer) (g.W.Write.contents c.write_gathered.new.writer) c.serve_in_hand.new.replies.items wrote.err.0
     (script.bytes_left + length script.unread)
     (leaves_some why c.serve_in_hand.new.replies.items wrote.err.0 wrote.kind wrote.err.1) ((served g (goal.at.returns-in_err-write_gathered-clause-fault g c).After-serve_in_hand).stood used) wrote.err.2)
@@ -120,7 +116,7 @@ loop-replies-preserved-in-loop-replies g c =
     record {
       count = turn.len ∙ c.loop-replies.invariant.count;
       each = turn.each ∙ c.loop-replies.invariant.each ∙ sym turn.len;
-      stands = stands_written g.S.Store c.args.databases.now.items c.serve_in_hand.new.databases.items c.serve_in_hand.new.totals.items (g.R.Read.remaining c.args.reader.now) _
+      stands = stands_written c.args.sessions g.S.Store c.args.databases.now.items c.serve_in_hand.new.databases.items c.serve_in_hand.new.totals.items (g.R.Read.remaining c.args.reader.now) _
           (g.W.Write.contents c.args.writer.now) (g.W.Write.contents c.take_line.new.writer) (g.W.Write.contents c.write_gathered.new.writer) c.serve_in_hand.new.replies.items c.write_gathered.new.replies.items
           (script.bytes_left + length script.unread) (served g (goal.at.loop-replies-preserved-in-loop-replies g c).After-serve_in_hand) wrote.ok wrote.none;
       waits = λ _. wrote.none;
@@ -148,15 +144,15 @@ returns-clause-output g c = λ used.
     let next = c.in_ok-take_line.ensures in
     let spent = spends_more _ _ _ (most_bytes c.args.limit) c.loop-replies.script.bytes_left c.take_line.new.script.bytes_left c.loop-replies.invariant.spent next.spent in
     let none = nothing_waits c.in_ok-take_line.field-0 (has_line c.loop-replies.script.reads_left c.loop-replies.script.unread) c.loop-replies.replies.items c.if-branch.false next.in_hand c.loop-replies.invariant.waits in
-    let stood = subst (λ (bytes : Option (List ℕ)). Stood (states_of c.args.databases.now.items) (states_of c.loop-replies.databases.items) c.loop-replies.totals.items (g.R.Read.remaining c.args.reader.now)
+    let stood = subst (λ (bytes : Option (List ℕ)). Stood c.args.sessions (states_of c.args.databases.now.items) (states_of c.loop-replies.databases.items) c.loop-replies.totals.items (g.R.Read.remaining c.args.reader.now)
     (left c.loop-replies.script.unread (g.R.Read.remaining c.loop-replies.reader)) (g.W.Write.contents c.args.writer.now) bytes []
     (c.loop-replies.script.bytes_left + length c.loop-replies.script.unread)) (sym next.unwritten)
-    (subst (λ (gathered : List ℕ). Stood (states_of c.args.databases.now.items) (states_of c.loop-replies.databases.items) c.loop-replies.totals.items (g.R.Read.remaining c.args.reader.now)
+    (subst (λ (gathered : List ℕ). Stood c.args.sessions (states_of c.args.databases.now.items) (states_of c.loop-replies.databases.items) c.loop-replies.totals.items (g.R.Read.remaining c.args.reader.now)
     (left c.loop-replies.script.unread (g.R.Read.remaining c.loop-replies.reader)) (g.W.Write.contents c.args.writer.now) (g.W.Write.contents c.loop-replies.writer) gathered
     (c.loop-replies.script.bytes_left + length c.loop-replies.script.unread)) none (c.loop-replies.invariant.stands.stood used)) in
     let at_end = ended _ _ _ c.in_ok-take_line.field-0 c.loop-replies.script.unread c.take_line.new.script.line.items c.take_line.new.script.unread (most_bytes c.args.limit) c.loop-replies.script.bytes_left
     c.if-branch.false c.loop-replies.invariant.spent next.taken in
-    finished _ _ _ _ _ _ _ _ c.in_ok-take_line.field-0 c.take_line.new.script.line.items c.take_line.new.script.unread (most_bytes c.args.limit) c.take_line.new.script.bytes_left
+    finished c.args.sessions _ _ _ _ _ _ _ _ c.in_ok-take_line.field-0 c.take_line.new.script.line.items c.take_line.new.script.unread (most_bytes c.args.limit) c.take_line.new.script.bytes_left
     (c.loop-replies.script.bytes_left + length c.loop-replies.script.unread) c.if-branch.false next.taken stood spent at_end
 
 pub returns-clause-end : goal.returns-clause-end

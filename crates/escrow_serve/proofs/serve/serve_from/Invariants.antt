@@ -11,8 +11,8 @@ abbrev pub invariant-loop-replies : goal.invariant-loop-replies
 invariant-loop-replies g l = record {
   count : vec_len l.databases ≡ vec_len l.fn.databases;
   each : vec_len l.totals ≡ vec_len l.databases;
-  empty : Gathers (vec_len l.databases) l.batch.waiting.items l.batch.parts.items [];
-  stands : Stands g.S.Store l.fn.databases.items l.databases.items l.totals.items (g.R.Read.remaining l.fn.reader) (left l.script.unread (g.R.Read.remaining l.reader))
+  empty : Gathers l.fn.sessions (vec_len l.databases) l.batch.waiting.items l.batch.parts.items [];
+  stands : Stands l.fn.sessions g.S.Store l.fn.databases.items l.databases.items l.totals.items (g.R.Read.remaining l.fn.reader) (left l.script.unread (g.R.Read.remaining l.reader))
       (g.W.Write.contents l.fn.writer) (g.W.Write.contents l.writer) l.replies.items (l.script.bytes_left + length l.script.unread);
   waits : has_line l.script.reads_left l.script.unread ≡ false → l.replies.items ≡ [];
   ended : l.script.has_ended ≡ true → HasEnded l.script.unread (g.R.Read.remaining l.reader);

@@ -30,7 +30,7 @@ returns-in-Nothing-clause-given c =
     let totals = c.args.totals.now.items in (
       [],
       sym (append-nil c.args.replies.now.items),
-      subst (λ (w : Waiting). Gives (vec_len parts) w totals [] totals parts.items parts.items) (sym c.in-Nothing.is) (gives_nothing (vec_len parts) totals parts.items parts.ok.0),
+      λ sessions. subst (λ (w : Waiting). Gives sessions (vec_len parts) w totals [] totals parts.items parts.items) (sym c.in-Nothing.is) (gives_nothing sessions (vec_len parts) totals parts.items parts.ok.0),
     )
 
 pub returns-in-NoLine-clause-given : goal.returns-in-NoLine-clause-given
@@ -39,7 +39,7 @@ returns-in-NoLine-clause-given c =
     let totals = c.args.totals.now.items in (
       no_line_text,
       c.push_short_line.ensures.text,
-      subst (λ (w : Waiting). Gives (vec_len parts) w totals no_line_text totals parts.items parts.items) (sym c.in-NoLine.is) (gives_no_line (vec_len parts) totals parts.items parts.ok.0),
+      λ sessions. subst (λ (w : Waiting). Gives sessions (vec_len parts) w totals no_line_text totals parts.items parts.items) (sym c.in-NoLine.is) (gives_no_line sessions (vec_len parts) totals parts.items parts.ok.0),
     )
 
 pub returns-in-Refused-clause-given : goal.returns-in-Refused-clause-given
@@ -51,8 +51,8 @@ returns-in-Refused-clause-given c =
     let counted = c.give_short.new.totals in (
       given.0,
       given.1,
-      subst (λ (w : Waiting). Gives (vec_len parts) w totals.items given.0 (slice_set totals.items place counted) parts.items parts.items) (sym c.in-Refused.is)
-          (gives_refused (vec_len parts) totals.items parts.items place c.in-Refused.session c.in-Refused.refusal c.database_name.result.now given.0 c.index_mut.result.now counted
+      λ sessions. subst (λ (w : Waiting). Gives sessions (vec_len parts) w totals.items given.0 (slice_set totals.items place counted) parts.items parts.items) (sym c.in-Refused.is)
+          (gives_refused sessions (vec_len parts) totals.items parts.items place c.in-Refused.session c.in-Refused.refusal c.database_name.result.now given.0 c.index_mut.result.now counted
           parts.ok.0 (sym totals.ok.0 ∙ c.requires.each) c.index_mut.ensures.value c.database_name.ensures given.2),
     )
 
@@ -66,8 +66,8 @@ returns-in-Some-clause-given c =
     let left = c.next.new.self in (
       given.0,
       given.1,
-      subst (λ (w : Waiting). Gives (vec_len parts) w totals.items given.0 (slice_set totals.items place counted) parts.items (slice_set parts.items place left)) (sym c.in-Asked.is)
-          (gives_asked (vec_len parts) totals.items parts.items place c.in-Asked.session c.database_name-in-Some.result.now given.0 c.index_mut-in-Some.result.now counted c.index_mut-in-Asked.result.now left
+      λ sessions. subst (λ (w : Waiting). Gives sessions (vec_len parts) w totals.items given.0 (slice_set totals.items place counted) parts.items (slice_set parts.items place left)) (sym c.in-Asked.is)
+          (gives_asked sessions (vec_len parts) totals.items parts.items place c.in-Asked.session c.database_name-in-Some.result.now given.0 c.index_mut-in-Some.result.now counted c.index_mut-in-Asked.result.now left
           c.in-Some.reply parts.ok.0 (sym totals.ok.0 ∙ c.requires.each) c.index_mut-in-Some.ensures.value c.index_mut-in-Asked.ensures.value c.in-Some.ensures.some c.database_name-in-Some.ensures given.2),
     )
 
@@ -91,8 +91,8 @@ returns-in-None-clause-given c =
     let lefts = slice_set parts.items place c.next.new.self in (
       [],
       sym (append-nil c.args.replies.now.items),
-      subst (λ (w : Waiting). Gives (vec_len parts) w totals [] totals parts.items lefts) (sym c.in-Asked.is)
-          (gives_none (vec_len parts) totals totals parts.items lefts place c.in-Asked.session [] c.index_mut-in-Asked.result.now parts.ok.0 c.index_mut-in-Asked.ensures.value c.in-None.ensures.none),
+      λ sessions. subst (λ (w : Waiting). Gives sessions (vec_len parts) w totals [] totals parts.items lefts) (sym c.in-Asked.is)
+          (gives_none sessions (vec_len parts) totals totals parts.items lefts place c.in-Asked.session [] c.index_mut-in-Asked.result.now parts.ok.0 c.index_mut-in-Asked.ensures.value c.in-None.ensures.none),
     )
 
 pub returns-in-None-clause-asked : goal.returns-in-None-clause-asked

@@ -14,7 +14,7 @@ loop-waits-init c = record {
   given = (
     [],
     sym (append-nil c.args.replies.now.items),
-    λ states new items is are runs. given_none (vec_len c.args.parts.now) states new c.args.totals.now.items items c.args.waiting.now c.args.parts.now.items is are runs,
+    λ sessions states new items is are runs. given_none sessions (vec_len c.args.parts.now) states new c.args.totals.now.items items c.args.waiting.now c.args.parts.now.items is are runs,
   );
 }
 
@@ -26,7 +26,7 @@ loop-waits-preserved c =
     let all = c.args.waiting.now in
     let waits = c.waits-item.result in
     let next = drop_more all place waits c.loop-waits-test.true ∙ ap (λ (w : Waiting). w ∷ drop (place + 1) all) (sym c.waits-item.is) in
-    let gives = subst (λ (n : ℕ). Gives n waits c.loop-waits.totals.items given.0 c.give.new.totals.items c.loop-waits.parts.items c.give.new.parts.items) so_far.parts given.2 in
+    let gives = λ (sessions : ℕ). subst (λ (n : ℕ). Gives sessions n waits c.loop-waits.totals.items given.0 c.give.new.totals.items c.loop-waits.parts.items c.give.new.parts.items) so_far.parts (given.2 sessions) in
     record {
       parts = c.give.ensures.parts ∙ so_far.parts;
       each = c.give.ensures.each ∙ so_far.each;
@@ -36,9 +36,9 @@ loop-waits-preserved c =
       given = (
         so_far.given.0 ++ given.0,
         given.1 ∙ ap (λ (l : List ℕ). l ++ given.0) so_far.given.1 ∙ append_assoc c.args.replies.now.items so_far.given.0 given.0,
-        λ states new items is are runs.
-            given_more (vec_len c.args.parts.now) states new c.args.totals.now.items c.loop-waits.totals.items c.give.new.totals.items items waits (drop place all) (drop (place + 1) all)
-            c.loop-waits.parts.items c.give.new.parts.items so_far.given.0 given.0 next gives (so_far.given.2 states new items is are runs),
+        λ sessions states new items is are runs.
+            given_more sessions (vec_len c.args.parts.now) states new c.args.totals.now.items c.loop-waits.totals.items c.give.new.totals.items items waits (drop place all) (drop (place + 1) all)
+            c.loop-waits.parts.items c.give.new.parts.items so_far.given.0 given.0 next (gives sessions) (so_far.given.2 sessions states new items is are runs),
       );
     }
 
@@ -48,7 +48,7 @@ returns-clause-given c =
     let place = c.loop-waits.waits-index in (
       given.0,
       given.1,
-      λ states new items is are runs.
-          given_all (vec_len c.args.parts.now) states new c.args.totals.now.items c.loop-waits.totals.items items (drop place c.args.waiting.now) c.loop-waits.parts.items given.0
-          (drop_all place c.args.waiting.now c.loop-waits-test.false) (given.2 states new items is are runs),
+      λ sessions states new items is are runs.
+          given_all sessions (vec_len c.args.parts.now) states new c.args.totals.now.items c.loop-waits.totals.items items (drop place c.args.waiting.now) c.loop-waits.parts.items given.0
+          (drop_all place c.args.waiting.now c.loop-waits-test.false) (given.2 sessions states new items is are runs),
     )

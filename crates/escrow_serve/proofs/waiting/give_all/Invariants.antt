@@ -15,7 +15,7 @@ invariant-loop-waits l = record {
   len : vec_len l.replies ≤ vec_len l.fn.replies + MAX_SHORT * l.waits-index;
   capacity : vec_capacity l.fn.replies ≤ vec_capacity l.replies;
   asked : (items : List Item) → AreAsked l.fn.parts.items items → AreAsked l.parts.items items;
-  given : (out : List ℕ) × (l.replies.items ≡ l.fn.replies.items ++ out) × ((states new : List State) (items : List Item) → l.waiting ≡ map (λ item. waiting_of item.task) items
-      → AllByRecursion (IsItem (vec_len l.fn.parts)) items → Runs states new items l.fn.parts.items
-      → Given (vec_len l.fn.parts) states new l.fn.totals.items l.totals.items items (drop l.waits-index l.waiting) l.parts.items out);
+  given : (out : List ℕ) × (l.replies.items ≡ l.fn.replies.items ++ out) × ((sessions : ℕ) (states new : List State) (items : List Item) → l.waiting ≡ map (λ item. waiting_of item.task) items
+      → AllByRecursion (IsItem sessions (vec_len l.fn.parts)) items → Runs states new items l.fn.parts.items
+      → Given sessions (vec_len l.fn.parts) states new l.fn.totals.items l.totals.items items (drop l.waits-index l.waiting) l.parts.items out);
 }

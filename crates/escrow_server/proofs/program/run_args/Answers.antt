@@ -18,7 +18,7 @@ returns-in-None-clause-memory g c = λ none.
     let old = c.open_databases-opened.new.databases.items in
     let new = c.serve_opened-served.new.databases.items in
     let served = c.serve_opened-served.ensures in
-    ends_in_memory c.args.args.now.mode c.serve_opened-served.result c.status_in_memory.result count (IsOpened over_blocks opened old) (states_of new)
+    ends_in_memory c.args.args.now.mode c.args.args.now.sessions c.serve_opened-served.result c.status_in_memory.result count (IsOpened over_blocks opened old) (states_of new)
     (g.R.Read.remaining c.args.input.now) (g.R.Read.remaining c.serve_opened-served.new.input) (g.W.Write.contents c.args.output.now) (g.W.Write.contents c.serve_opened-served.new.output)
     (opened_empty over_blocks opened old count c.open_databases-opened.ensures.found) c.status_in_memory.ensures.ok c.status_in_memory.ensures.err
     (λ run. served.served run (memory_are_clean new)) (λ run. served.stopped run (memory_are_clean new))

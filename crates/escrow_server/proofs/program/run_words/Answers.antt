@@ -11,7 +11,7 @@ pub returns-in-Err-clause-asked : goal.returns-in-Err-clause-asked
 returns-in-Err-clause-asked g c = λ args asked _.
     let memory : c.in-Err.fault.status ≡ 1 = ap (λ (f : ArgFault). f.status) (c.in-Err.ensures.asked args asked) in
     let failed : c.refuse.result ≡ 1 = elim c.refuse.ensures.status [ inl one ↦ one | inr same ↦ same ∙ memory ] in
-    ends_unserved args.mode args.databases c.refuse.result (g.R.Read.remaining c.args.input.now) (g.R.Read.remaining c.args.input.now) (g.W.Write.contents c.args.output.now) (g.W.Write.contents c.refuse.new.output) failed
+    ends_unserved args.mode args.sessions args.databases c.refuse.result (g.R.Read.remaining c.args.input.now) (g.R.Read.remaining c.args.input.now) (g.W.Write.contents c.args.output.now) (g.W.Write.contents c.refuse.new.output) failed
     (c.refuse.ensures.unserved (λ helped. omega (arith, memory, helped)))
 
 pub returns-in-Err-clause-stored : goal.returns-in-Err-clause-stored

@@ -1,7 +1,6 @@
 use Rattle.std.specs.Borrow.{Bor}
 use Rattle.std.proofs.Common.{List, ◌≤◌, length, map, sym, subst, arith}
 use Rattle.escrow_num.specs.declared.reservation.Reservation.{Reservation}
-use Rattle.escrow_checks.specs.declared.spread.TheConstants.Spread.{MAX_OPEN}
 use Rattle.escrow_bounds.specs.Altered.{ArePrepared}
 use Rattle.escrow_bounds.specs.Bounds.{Bounds}
 use Rattle.escrow_bounds.proofs.Filling.{shown_at, length-shown, open_there, filled_room, filled_next, prepared}
@@ -22,8 +21,7 @@ take_over-requires-clause-room c =
     let held = shown c.args.reservations.now in
     let i = c.loop-r.r-index in
     let at = shown_at c.args.reservations.now i c.r-item.result c.loop-r-test.true c.r-item.is in
-    let many : length held ≤ MAX_OPEN = omega (arith, length-shown c.args.reservations.now, c.requires.many) in
-    filled_room c.args.table c.args.checks.now held i c.args.self.now c.loop-r.filled c.r-item.result.now.row at.0 many c.loop-r.invariant
+    filled_room c.args.table c.args.checks.now held i c.args.self.now c.loop-r.filled c.r-item.result.now at.0 at.1 (c.requires.many c.r-item.result.now.row) c.loop-r.invariant
 
 pub loop-r-preserved : goal.loop-r-preserved
 loop-r-preserved c =

@@ -1,5 +1,5 @@
 use Rattle.std.specs.Prelude.{◌≡◌, Some, None}
-use Rattle.std.proofs.Common.{inr, refl, sym, subst, ◌∙◌}
+use Rattle.std.proofs.Common.{inr, refl, sym, subst, arith, ◌∙◌}
 use Rattle.sqlite.specs.Held.{state}
 use Rattle.sqlite.specs.State.{HasCleanDisk}
 use Rattle.escrow_num.specs.declared.failure.Failure.TheVariants as failure
@@ -13,7 +13,8 @@ use Rattle.escrow_schema.specs.declared.table.TableDef.{TableDef}
 use Rattle.escrow_machine.specs.Altered.{added_violation}
 use Rattle.escrow_machine.specs.State.{State}
 use Rattle.escrow_machine.specs.declared.reply.Reply.TheVariants as reply
-use Rattle.escrow_machine.proofs.Shapes.{few_reservations, is_table_found}
+use Rattle.escrow_machine.proofs.Shapes.{is_table_found}
+use Rattle.escrow_reserved.proofs.Counting.{on_row_counts}
 use Rattle.escrow_core.specs.Altering.{Adds, adds}
 use Rattle.escrow_core.specs.Inside.{database_of}
 use Rattle.escrow_core.proofs.Altering.{MayAlter, add_refused, alter_fails, alter_holds, alter_serves, altered_place, alters_like, amounts_cover, can_judge, few_amounts, judges_old, may_add_check, read_holds, read_only_reads, rows_judged, some_is, with_named}
@@ -48,7 +49,7 @@ pub prepare-requires-clause-placed : goal.prepare-requires-clause-placed
 prepare-requires-clause-placed g c = c.self.invariant.keeps.placed
 
 pub prepare-requires-clause-many : goal.prepare-requires-clause-many
-prepare-requires-clause-many g c = few_reservations (database_of c.self.inside.tables c.self.inside.reserved.txns).state c.self.invariant.keeps.kept.orderly
+prepare-requires-clause-many g c = λ row. omega (arith, on_row_counts row c.self.inside.reserved.txns.reservations, c.self.invariant.keeps.kept.orderly.few_on_rows row)
 
 pub prepare-requires-clause-few : goal.prepare-requires-clause-few
 prepare-requires-clause-few g c =

@@ -10,8 +10,8 @@ use Rattle.escrow_core.proofs.database.Database.apply.Goals as goal
 use Rattle.escrow_core.proofs.database.Database.apply.Goals.{After-is_empty}
 
 -- the applied reservations are those of the session
-mine : (g : given.Over) (c : After-is_empty g) → c.all.result.now ≡ own c.args.session c.self.inside.reserved.txns.reservations
-mine g c = c.all.ensures ∙ c.journal.ensures.reservations ∙ ap (λ (o : Open). own c.args.session o.reservations) c.txns.ensures
+mine : (g : given.Over) (c : After-is_empty g) → c.reservations.result.now ≡ own c.args.session c.self.inside.reserved.txns.reservations
+mine g c = c.reservations.ensures.all ∙ ap (λ (o : Open). own c.args.session o.reservations) c.txns.ensures
 
 pub invariant_of-self : goal.invariant_of-self
 invariant_of-self g c =
@@ -21,13 +21,13 @@ invariant_of-self g c =
 pub returns-then-is_empty-clause-done : goal.returns-then-is_empty-clause-done
 returns-then-is_empty-clause-done g c =
     let at = (goal.at.returns-then-is_empty-clause-done g c).After-is_empty in
-    let none = holds_none c.all.result.now (own c.args.session c.self.inside.reserved.txns.reservations) (mine g at) (sym c.if-is_empty.true ∙ c.is_empty.ensures) in
+    let none = holds_none c.reservations.result.now (own c.args.session c.self.inside.reserved.txns.reservations) (mine g at) (sym c.if-is_empty.true ∙ c.is_empty.ensures) in
     rw (← c.self.view_is, c.end.ensures.count, c.end.ensures.txns) (just_ended g.S.Store c.args.session c.self.inside.tables c.self.inside.reserved.txns none)
 
 -- the session holds a reservation
 holds : (g : given.Over) (c : After-is_empty g) → false ≡ c.is_empty.result → nat_lt 0 (length (own c.args.session c.args.self.now.state.reservations)) ≡ true
 holds g c some =
-    holds_some c.all.result.now (own c.args.session c.args.self.now.state.reservations)
+    holds_some c.reservations.result.now (own c.args.session c.args.self.now.state.reservations)
     (mine g c ∙ ap (λ (d : Database _). own c.args.session d.state.reservations) c.self.view_is) (some ∙ c.is_empty.ensures)
 
 pub returns-clause-count : goal.returns-clause-count

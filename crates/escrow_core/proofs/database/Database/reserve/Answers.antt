@@ -7,7 +7,7 @@ use Rattle.escrow_machine.specs.State.{State}
 use Rattle.escrow_core.specs.Inside.{database_of}
 use Rattle.escrow_reserved.proofs.Places.{from_some, reserved_placed}
 use Rattle.escrow_core.proofs.Serving.{left_by}
-use Rattle.escrow_core.proofs.Updating.{IsPlanned, beside_granted, beside_refused, grant_keeps, room_for_one, short_plan}
+use Rattle.escrow_core.proofs.Updating.{IsPlanned, beside_granted, beside_refused, grant_keeps, short_plan}
 use Rattle.escrow_core.proofs.database.Database.reserve.Given as given
 use Rattle.escrow_core.proofs.database.Database.reserve.Goals as goal
 use Rattle.escrow_core.proofs.database.Database.reserve.Goals.{After-grant}
@@ -36,11 +36,6 @@ pub grant-requires-clause-short : goal.grant-requires-clause-short
 grant-requires-clause-short g c =
     let s : State = (database_of c.self.inside.tables c.self.inside.reserved.txns).state in
     short_plan s c.args.text.now c.args.key c.args.changes c.self.invariant.keeps.kept.orderly (rw (← c.self.view_is) at c.requires.plan)
-
-pub grant-requires-clause-room : goal.grant-requires-clause-room
-grant-requires-clause-room g c =
-    let s : State = (database_of c.self.inside.tables c.self.inside.reserved.txns).state in
-    λ of_session. room_for_one s c.args.session c.args.text.now c.args.key c.args.changes c.self.invariant.keeps.kept.orderly of_session (rw (← c.self.view_is) at c.requires.plan)
 
 pub returns-in_err-id : goal.returns-in_err-id
 returns-in_err-id g c =

@@ -14,7 +14,7 @@ use Rattle.escrow_core.specs.Inside.{database_of}
 use Rattle.escrow_core.specs.Database.{Database}
 use Rattle.escrow_core.specs.Serving.{OnlyReads}
 use Rattle.escrow_core.proofs.Serving.{left_by}
-use Rattle.escrow_core.proofs.Updating.{IsPlanned, first_fails, first_granted, first_keeps, first_lacks, first_refused, room_for_one, same_keeps, short_plan, still_planned}
+use Rattle.escrow_core.proofs.Updating.{IsPlanned, first_fails, first_granted, first_keeps, first_lacks, first_refused, same_keeps, short_plan, still_planned}
 use Rattle.escrow_core.proofs.database.Database.reserve_first.Given as given
 use Rattle.escrow_core.proofs.database.Database.reserve_first.Goals as goal
 use Rattle.escrow_core.proofs.database.Database.reserve_first.Goals.{After-as_slice}
@@ -64,11 +64,6 @@ read g c clean =
 pub grant_first-requires-clause-short : goal.grant_first-requires-clause-short
 grant_first-requires-clause-short g c =
     short_plan (database_of c.self.inside.tables c.self.inside.reserved.txns).state c.args.text.now c.args.name.key c.args.changes c.self.invariant.keeps.kept.orderly (planned g c).plan
-
-pub grant_first-requires-clause-room : goal.grant_first-requires-clause-room
-grant_first-requires-clause-room g c =
-    λ of_session.
-    room_for_one (database_of c.self.inside.tables c.self.inside.reserved.txns).state c.args.session c.args.text.now c.args.name.key c.args.changes c.self.invariant.keeps.kept.orderly of_session (planned g c).plan
 
 -- after a refusal, each row has the same place as before
 pub invariant_of-self : goal.invariant_of-self

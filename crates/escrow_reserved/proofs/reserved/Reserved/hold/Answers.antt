@@ -1,12 +1,13 @@
 use Rattle.std.specs.Prelude.{◌≡◌, length}
-use Rattle.std.proofs.Common.{ap, subst, arith}
+use Rattle.std.proofs.Common.{◌∙◌, ap, sym, subst, arith}
 use Rattle.escrow_num.specs.Reservation.{deltas}
 use Rattle.escrow_bounds.specs.Counts.{TakesIn}
 use Rattle.escrow_bounds.specs.Held.{CountsJust, of_row}
 use Rattle.escrow_bounds.specs.Bounds.{Becomes, place_at}
 use Rattle.escrow_bounds.proofs.LawLemmas.{release_counts}
 use Rattle.escrow_reserved.specs.Reserved.{Reserved}
-use Rattle.escrow_reserved.proofs.Counting.{few_counted, granted_counts, released_is}
+use Rattle.escrow_reserved.proofs.Counting.{granted_counts, released_is}
+use Rattle.escrow_reserved.proofs.Places.{some_same}
 use Rattle.escrow_reserved.proofs.reserved.Reserved.hold.Goals as goal
 
 pub add_at-requires-clause-placed : goal.add_at-requires-clause-placed
@@ -15,10 +16,12 @@ add_at-requires-clause-placed c = (c.args.row, rw (← c.self.view_is) at c.requ
 pub add_at-requires-clause-room : goal.add_at-requires-clause-room
 add_at-requires-clause-room c = λ row place at found.
     let reservations = c.self.inside.txns.reservations in
-    let few = few_counted row reservations place (subst (λ p. CountsJust p (of_row row reservations)) found (c.self.invariant.counts row)) in
-    let same : length reservations ≡ length c.args.self.now.txns.reservations = ap (λ (r : Reserved). length r.txns.reservations) c.self.view_is in
+    let is : row ≡ c.args.row = some_same (sym at ∙ (rw (← c.self.view_is) at c.requires.at)) in
+    let counted = subst (λ p. CountsJust p (of_row row reservations)) found (c.self.invariant.counts row) in
+    let same : length (of_row c.args.row reservations) ≡ length (of_row c.args.row c.args.self.now.txns.reservations) =
+    ap (λ (r : Reserved). length (of_row c.args.row r.txns.reservations)) c.self.view_is in
     let room = c.requires.room in
-    omega (arith, few, room, same)
+    omega (arith, counted.0, ap (λ n. length (of_row n reservations)) is, room, same)
 
 pub invariant_of-self : goal.invariant_of-self
 invariant_of-self c =

@@ -36,8 +36,8 @@ returns-in-Ok-clause-waits c =
     let old = c.index_mut.result.now in
     let after = c.ask.new.self in
     let given = c.requires in
-    let is = subst (λ (t : Task). IsTask (vec_len parts) given.0 t) c.in-Statement.is given.1 in
-    let found = slice_get_read parts.items (vec_len parts) place old parts.ok.0 (names_one (vec_len parts) given.0 place session is.0 is.1) c.index_mut.ensures.value in
+    let is = subst (λ (t : Task). IsTask given.0 (vec_len parts) given.1 t) c.in-Statement.is given.2 in
+    let found = slice_get_read parts.items (vec_len parts) place old parts.ok.0 (names_one (vec_len parts) given.0 given.1 place session is.0 is.1) c.index_mut.ensures.value in
     subst (λ (t : Task). Waits t (waiting.Asked place session) parts.items (slice_set parts.items place after)) (sym c.in-Statement.is)
     (refl, tt, λ bytes items. asked_more parts.items items bytes place session c.in-Statement.statement old after found c.in-Ok.ensures.asked)
 
@@ -48,6 +48,6 @@ returns-in-Err-clause-alone c =
     let session = c.in-Statement.session in
     let old = c.index_mut.result.now in
     let given = c.requires in
-    let is = subst (λ (t : Task). IsTask (vec_len parts) given.0 t) c.in-Statement.is given.1 in
-    let found = slice_get_read parts.items (vec_len parts) place old parts.ok.0 (names_one (vec_len parts) given.0 place session is.0 is.1) c.index_mut.ensures.value in
+    let is = subst (λ (t : Task). IsTask given.0 (vec_len parts) given.1 t) c.in-Statement.is given.2 in
+    let found = slice_get_read parts.items (vec_len parts) place old parts.ok.0 (names_one (vec_len parts) given.0 given.1 place session is.0 is.1) c.index_mut.ensures.value in
     (ap (task.Statement place session) c.in-Err.ensures.back ∙ sym c.in-Statement.is, λ items. asked_still parts.items items place old c.ask.new.self found c.in-Err.ensures.same)

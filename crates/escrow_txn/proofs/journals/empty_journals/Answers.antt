@@ -1,8 +1,8 @@
 use Rattle.std.proofs.Common.{ap, ◌∙◌, Vec, Global, arith}
 use Rattle.escrow_journal.specs.Journal.{Journal}
 use Rattle.escrow_txn.proofs.Empty.{empty_push}
-use Rattle.escrow_txn.proofs.table.empty_journals.Goals as goal
-use Rattle.escrow_txn.proofs.table.empty_journals.Goals.{in-Some+in_ok-push, in_default}
+use Rattle.escrow_txn.proofs.journals.empty_journals.Goals as goal
+use Rattle.escrow_txn.proofs.journals.empty_journals.Goals.{in-Some+in_ok-push, in_default}
 
 pub loop-below-preserved : goal.loop-below-preserved
 loop-below-preserved c = elim c.match-new.branch [

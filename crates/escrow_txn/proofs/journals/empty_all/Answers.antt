@@ -1,7 +1,7 @@
 use Rattle.std.proofs.Common.{◌∙◌, map, length, drop, arith}
 use Rattle.std.proofs.lemmas.List.{take_at}
 use Rattle.escrow_txn.proofs.Empty.{emptied, changed_more, changed_all}
-use Rattle.escrow_txn.proofs.table.empty_all.Goals as goal
+use Rattle.escrow_txn.proofs.journals.empty_all.Goals as goal
 
 pub loop-journal-preserved : goal.loop-journal-preserved
 loop-journal-preserved c =
