@@ -248,7 +248,7 @@ def as_many_sessions_as_are_asked_for() -> None:
     """Hundreds of connections hold a piece each, and others sell meanwhile. Each hold ends as its client says."""
     count = 800
     resource.setrlimit(resource.RLIMIT_NOFILE, (4 * count, resource.getrlimit(resource.RLIMIT_NOFILE)[1]))
-    with Gateway({"bank": None}, "--sessions", str(count + SESSIONS - TRANSACTIONS)) as gateway:
+    with Gateway({"bank": None}, ["--sessions", str(count + SESSIONS - TRANSACTIONS)]) as gateway:
         seller = with_stock(gateway, count + 1)
         many = holders(gateway, count)
         expect(seller.ask(TAKE.format(1)), ["complete UPDATE 1", "ready I"])
@@ -454,8 +454,9 @@ BESIDE = 96
 def many_served(holders: int, *options: str) -> Gateway:
     """Returns a gateway with room for so many holders and some more."""
     sessions, connections = holders + BESIDE, 2 * holders + BESIDE
-    resource.setrlimit(resource.RLIMIT_NOFILE, (3 * connections, resource.getrlimit(resource.RLIMIT_NOFILE)[1]))
-    return Gateway({"bank": None}, "--sessions", str(sessions), "--connections", str(connections), *options)
+    most = resource.getrlimit(resource.RLIMIT_NOFILE)[1]
+    resource.setrlimit(resource.RLIMIT_NOFILE, (min(3 * connections, most), most))
+    return Gateway({"bank": None}, ["--sessions", str(sessions), "--connections", str(connections), *options])
 
 
 def sold(sellers: List[Connection], seconds: float) -> float:

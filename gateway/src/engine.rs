@@ -431,7 +431,10 @@ impl Engine {
             if is_full && count >= REPLACED {
                 return true;
             }
-            let oldest = self.clients.oldest_in_startup().filter(|_| is_full);
+            let oldest = match is_full && door.may_accept(self.now) {
+                true => self.clients.oldest_in_startup(),
+                false => None,
+            };
             if is_full && oldest.is_none() {
                 return false;
             }

@@ -56,7 +56,7 @@ impl Clients {
         })
     }
 
-    /// Returns the place of the client that has taken longest for its startup, if one hasn't done it.
+    /// Returns the place of the client that has taken longest for its startup, if one hasn't done it. Looks at all.
     pub fn oldest_in_startup(&self) -> Option<usize> {
         self.iter()
             .filter_map(|(place, client)| Some((client.connection.in_startup_since()?, place)))

@@ -58,6 +58,11 @@ impl Door {
         self.paused_until
     }
 
+    /// Returns whether a client may have arrived, and may be accepted now.
+    pub fn may_accept(&self, now: Instant) -> bool {
+        self.is_ready && self.paused_until.map_or(true, |until| until <= now)
+    }
+
     /// Accepts the next client, if one has arrived.
     pub fn accept(&mut self, now: Instant) -> Option<UnixStream> {
         if matches!(self.paused_until, Some(until) if until <= now) {
