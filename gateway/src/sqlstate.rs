@@ -434,6 +434,11 @@ fn broken_check(broken: Broken<'_>, refused: Refused<'_>) -> Failure {
     };
     let detail = match refused.verb {
         "INSERT" => format!("The value is {}, {} {}.", broken.worst, side, broken.limit),
+        // The row may have this value already, whatever is open.
+        "ALTER TABLE" => format!(
+            "In one row the value is or could become {}, {} {}.",
+            broken.worst, side, broken.limit
+        ),
         _ => format!(
             "The value could become {}, {} {}, if some of the open transactions commit.",
             broken.worst, side, broken.limit
