@@ -27,7 +27,8 @@ import sys
 import threading
 import time
 from collections import Counter, defaultdict
-from contextlib import ExitStack, suppress
+from contextlib import suppress
+from pathlib import Path
 from typing import AbstractSet, Callable, Dict, Iterable, List, Mapping, NamedTuple, Optional, Sequence
 
 import psycopg
@@ -41,7 +42,7 @@ from proxy.test.truth import GOES_ON, Lines, Said, Scene, Watch, shown
 
 PART = Part("proxy_machines")
 # The seconds in which others notice a failure, and in which orders go on behind it.
-LIMIT = 180.0
+LIMIT = 300.0
 # How a client notices within some seconds that a machine is silent.
 PATIENT = "connect_timeout=2 keepalives_idle=2 keepalives_interval=1 keepalives_count=3 tcp_user_timeout=5000"
 # Which PostgreSQL wrote an order: each that is promoted begins another timeline.
@@ -72,6 +73,12 @@ class Machines(Scene):
     def __enter__(self) -> "Machines":
         super().__enter__()
         return self
+
+    def keep_logs(self, folder: Path) -> None:
+        """Keeps what all servers have said."""
+        folder.mkdir(parents=True, exist_ok=True)
+        for it in (*self.etcds, *self.nodes, *self.machines):
+            (folder / it.host.name).write_text(it.said(), encoding="utf-8")
 
     def open(self) -> None:
         if self.network:
@@ -125,8 +132,7 @@ class Machines(Scene):
 
     def is_whole(self) -> bool:
         """Returns whether one PostgreSQL leads, and the other follows: if replication is synchronous, COMMITs wait for it."""
-        roles = ("primary", "replica?lag=1MB" if self.is_lazy else "synchronous")
-        return all(any(it.plays(role) for it in self.nodes) for role in roles)
+        return any(it.has_standby() for it in self.nodes) and (self.is_lazy or any(it.plays("synchronous") for it in self.nodes))
 
     def part(self, some: Iterable[str], others: Iterable[str] = ()) -> None:
         """Cuts machines off from others: if none are named, from all others and the clients."""
@@ -471,23 +477,33 @@ def an_order_that_is_lost_amid_a_timeline_is_found() -> None:
         expect(holes(set(all_there), found), wrong, f"without {gone}")
 
 
-def run(scene: Machines, seed: int, count: int, names: Sequence[str], each: int, end: float) -> str:
-    """Has so many things fail, drawn so that each comes as often as the others. Returns what was done."""
-    draw = random.Random(seed)
-    pauses: Dict[str, List[float]] = defaultdict(list)
-    sums: "Counter[str]" = Counter()
-    left: List[str] = []
-    while len(left) < count:
-        left += draw.sample(names, len(names))
-    left = left[:count]
-    while left and time.monotonic() < end:
-        now, left = left[:each], left[each:]
-        it = section(scene, seed, now)
-        for name, seconds in it.pauses.items():
-            pauses[name] += seconds
-        sums += Counter(answered=it.answered, lost=it.lost)
-    told = "\n".join(f"  {name}: {len(it)} times, {statistics.median(it):.0f} s without service (worst {max(it):.0f})" for name, it in pauses.items())
-    return f"{sum(map(len, pauses.values()))} failures, {sums['answered']} orders answered, {sums['lost']} of them lost\n{told}"
+class Run:
+    """A run by hand: what it has done so far."""
+
+    def __init__(self, scene: Machines, seed: int) -> None:
+        self.scene, self.seed = scene, seed
+        self.pauses: Dict[str, List[float]] = defaultdict(list)
+        self.sums: "Counter[str]" = Counter()
+
+    def fail(self, count: int, names: Sequence[str], each: int, end: float) -> None:
+        """Has so many things fail, drawn so that each comes as often as the others."""
+        draw = random.Random(self.seed)
+        left: List[str] = []
+        while len(left) < count:
+            left += draw.sample(names, len(names))
+        left = left[:count]
+        while left and time.monotonic() < end:
+            now, left = left[:each], left[each:]
+            it = section(self.scene, self.seed, now)
+            for name, seconds in it.pauses.items():
+                self.pauses[name] += seconds
+            self.sums += Counter(answered=it.answered, lost=it.lost)
+
+    def told(self) -> str:
+        """Returns what was done, in words."""
+        head = f"{sum(map(len, self.pauses.values()))} failures, {self.sums['answered']} orders answered, {self.sums['lost']} of them lost"
+        return "\n".join([head, *(f"  {name}: {len(it)} times, {statistics.median(it):.0f} s without service (worst {max(it):.0f})"
+                                  for name, it in self.pauses.items())])
 
 
 def keep(scene: Machines) -> None:
@@ -495,7 +511,8 @@ def keep(scene: Machines) -> None:
     enter = f"nsenter --net=/proc/{os.getpid()}/ns/net " if scene.network else ""
     print(f"PostgreSQL: {enter}psql '{scene.cluster.dsn()}'", f"the proxies: {enter}psql '{scene.dsns()[0]}'",
           *(f"{it.host.name}: {it.folder}, http://{it.rest}/cluster" for it in scene.nodes), sep="\n", flush=True)
-    signal.sigwait({signal.SIGINT, signal.SIGTERM})
+    with suppress(KeyboardInterrupt, SystemExit):
+        signal.pause()
 
 
 def by_hand() -> None:
@@ -508,12 +525,14 @@ def by_hand() -> None:
     parser.add_argument("--each", type=int, default=5)
     parser.add_argument("--seconds", type=float, default=1e9)
     parser.add_argument("--seed", type=int, default=random.randrange(1_000_000))
+    parser.add_argument("--logs", type=Path, help="a folder that gets what all servers have said")
     parser.add_argument("--keep", action="store_true")
     parser.add_argument("--in-namespace", action="store_true", help=argparse.SUPPRESS)
     asked = parser.parse_args()
     if not asked.on_ports and not asked.in_namespace:
         # The network ends with this process and those that it starts.
         os.execvp("unshare", ["unshare", "--net", "--mount", "--", sys.executable, "-B", "-m", "proxy.test.machines", "--in-namespace", *sys.argv[1:]])
+    signal.signal(signal.SIGTERM, lambda *_: sys.exit(1))
     end = time.monotonic() + asked.seconds
     print(f"seed {asked.seed}", flush=True)
     random.seed(asked.seed)
@@ -522,8 +541,13 @@ def by_hand() -> None:
         if asked.keep:
             keep(scene)
             return
-        names = asked.only or list(FAILURES if asked.on_ports else all_failures())
-        print(run(scene, asked.seed, asked.failures, names, asked.each, end))
+        run = Run(scene, asked.seed)
+        try:
+            run.fail(asked.failures, asked.only or list(FAILURES if asked.on_ports else all_failures()), asked.each, end)
+        finally:
+            print(run.told(), flush=True)
+            if asked.logs:
+                scene.keep_logs(asked.logs)
 
 
 if __name__ == "__main__":

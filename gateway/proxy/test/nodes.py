@@ -3,16 +3,17 @@ where it can be cut off."""
 from __future__ import annotations
 
 import contextlib
+import json
 import os
 import pwd
 import random
 import signal
 import socket
 import subprocess
-import urllib.error
 import urllib.request
 from pathlib import Path
-from typing import Any, Dict, List, Optional, Sequence, Tuple
+from types import TracebackType
+from typing import Any, Dict, List, Optional, Sequence, Tuple, Type
 
 import psycopg
 
@@ -23,7 +24,7 @@ from proxy.test.standin import Cluster
 SETTINGS = TOP.parent / "packaging"
 PASSWORD = "secret"
 # The seconds in which a machine serves.
-READY = 180.0
+READY = 300.0
 # What `state` gives of a process that has ended.
 ENDED = ("", "postgres Z")
 # Where the clients are in a network of namespaces, and an address of Ethernet that nobody has.
@@ -166,14 +167,25 @@ class Node(OnHost):
         text = (SETTINGS / "patroni.yml").read_text(encoding="utf-8")
         if not self.is_synchronous:
             text = text.replace("synchronous_mode: true", "synchronous_mode: false")
-        # All that PostgreSQL has is in its folder, so that nothing is left of one that was killed.
-        text += f"  parameters:\n    unix_socket_directories: {home}\n    dynamic_shared_memory_type: mmap\n"
+        # All that PostgreSQL has is in its folder, so that nothing is left of one that was killed. It says nothing of refused statements. What was
+        # written outlives processes without a flush.
+        own = {"unix_socket_directories": home, "dynamic_shared_memory_type": "mmap", "log_min_messages": "log", "fsync": "off"}
+        text += "\n".join(["  parameters:", *(f"    {name}: {value}" for name, value in own.items()), ""])
         (self.folder / "patroni.yml").write_text(text, encoding="utf-8")
         self.launch(["patroni", self.folder / "patroni.yml"], user=user, env={**os.environ, **self.env, "HOME": str(home)})
 
     def plays(self, role: str) -> bool:
         """Returns whether Patroni says that its PostgreSQL has a role."""
         return is_ok(f"http://{self.rest}/{role}")
+
+    def has_standby(self) -> bool:
+        """Returns whether its PostgreSQL leads, and sends its log to a standby."""
+        try:
+            with DIRECT.open(f"http://{self.rest}/patroni", timeout=2) as it:
+                said = json.load(it)
+        except (OSError, ValueError):
+            return False
+        return said.get("role") in ("master", "primary") and any(it.get("state") == "streaming" for it in said.get("replication", ()))
 
     def locked(self) -> List[str]:
         """Returns the lines of PostgreSQL's file of its first process, if there is one."""
@@ -193,6 +205,7 @@ class Node(OnHost):
         if process is not None:
             with contextlib.suppress(ProcessLookupError):
                 os.kill(process, by)
+                os.kill(process, signal.SIGCONT)  # if it stands still
             wait_until("PostgreSQL has ended", lambda: state(process) in ENDED)
 
     def end_patroni(self) -> None:
@@ -204,13 +217,13 @@ class Node(OnHost):
         self.end_patroni()
         self.fail()
 
-    def __exit__(self, *fault: object) -> None:
+    def __exit__(self, kind: Optional[Type[BaseException]], value: Optional[BaseException], trace: Optional[TracebackType]) -> None:
         self.end_patroni()
         self.fail(signal.SIGQUIT)  # it leaves no shared memory
         lines = self.locked()
         if len(lines) > 6:  # it was killed before, and left some
             subprocess.run(["ipcrm", "-m", lines[6].split()[-1]], stderr=subprocess.DEVNULL, check=False)
-        super().__exit__(None, None, None)
+        super().__exit__(kind, value, trace)
 
 
 class Elected(Cluster):
@@ -276,7 +289,7 @@ def is_ok(url: str) -> bool:
     try:
         with DIRECT.open(url, timeout=2) as it:
             return bool(it.status == 200)
-    except (OSError, urllib.error.URLError):
+    except OSError:
         return False
 
 
