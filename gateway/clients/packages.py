@@ -49,6 +49,8 @@ SHOWS: Dict[str, Sequence[str]] = {
     "prometheus": ["/usr/bin/promtool"],
     "gnuplot-nox": ["/usr/bin/gnuplot"],
     "openssl": ["/usr/bin/openssl"],
+    "patroni": ["/usr/bin/patroni"],
+    "etcd-server": ["/usr/bin/etcd"],
 }
 
 

@@ -470,7 +470,9 @@ class Buyer(threading.Thread):
         """Returns the connection, and opens it if there is none."""
         while self.connection is None or self.connection.closed:
             try:
-                self.connection = psycopg.connect(self.draw.choice(self.dsns), autocommit=True, connect_timeout=30, prepare_threshold=None)
+                # A string of its own may have a shorter one.
+                dsn = f"connect_timeout=30 {self.draw.choice(self.dsns)}"
+                self.connection = psycopg.connect(dsn, autocommit=True, prepare_threshold=None)
                 for name, statement in PREPARED.items():
                     result = self.connection.pgconn.prepare(name, statement)
                     if result.status != ExecStatus.COMMAND_OK:

@@ -1,299 +1,561 @@
 #!/usr/bin/env python3
-"""A cluster of Debian's parts on ports of this machine: etcd, two PostgreSQL under Patroni, two escrowd-proxies. Forty buyers order while machines die.
+"""A cluster of Debian's parts: etcd, two PostgreSQL under Patroni, two escrowd-proxies. Forty buyers order while machines die or are cut off.
 
-    python3 -m proxy.test.machines [--rounds N] [--seed N] [--only WORD ..]
-    python3 -m proxy.test.machines --keep
+    python3 -m proxy.test.machines [CASE ..]
+    python3 -m proxy.test.machines --failures N [--asynchronous] [--on-ports] [--only WORD ..] [--each N] [--seconds N] [--seed N]
+    python3 -m proxy.test.machines --keep [--asynchronous] [--on-ports]
 
-Run it in the folder gateway; it needs Debian's packages patroni and etcd-server. The settings are packaging/patroni.yml and patroni.env. In each round
-this fails, one after another: `postgres` alone, the proxy that grants, and both; then `machine`, which is Patroni with its PostgreSQL, and that with the
-proxy. What died is started again once orders have gone on. A figure is the longest time in which no order was answered. Behind each failure the buyers
-end, and then each order whose COMMIT was answered is there, and the sums are right, as `proxy.test.truth` examines. --keep starts the cluster, prints how
-to connect, and waits.
+Run it in the folder gateway; it needs Debian's packages patroni and etcd-server. The settings are packaging/etcd.env, patroni.yml and patroni.env.
+
+The case is short, and all parts are on ports of this machine. By hand each machine is a network namespace with an address of its own, which needs root,
+unless --on-ports is given. --failures draws what fails: what dies, and who is cut off from whom; --only names some. Behind each failure the others notice
+it, orders go on, what failed is mended, and the cluster becomes whole. A figure is the longest time in all of that in which no order was answered. Behind
+as many failures as --each says the buyers end, and then each order whose COMMIT was answered is there, and the sums are right, as `proxy.test.truth`
+examines. --asynchronous takes synchronous replication away; then a failover may lose the last orders of the PostgreSQL that led, and nothing else. --keep
+starts the cluster, prints how to connect, and waits.
 """
 from __future__ import annotations
 
 import argparse
-import contextlib
 import os
-import pwd
 import random
 import shutil
 import signal
 import statistics
 import subprocess
 import sys
+import threading
 import time
-import urllib.error
-import urllib.request
+from collections import Counter, defaultdict
+from contextlib import suppress
 from pathlib import Path
-from typing import Callable, Dict, List, Optional, Sequence
+from typing import AbstractSet, Callable, Dict, Iterable, List, Mapping, NamedTuple, Optional, Sequence
 
 import psycopg
 
-from clients.servers import Server, free_port, unprivileged, wait_until
+from clients.servers import children, heard, wait_until
+from clients.suite import Part, expect, main
 from proxy.test.buyers import TABLES
-from proxy.test.harness import PROXY, TOP, Proxy
-from proxy.test.standin import Cluster
-from proxy.test.truth import GOES_ON, Lines, Said, Scene, Watch
+from proxy.test.harness import PROXY
+from proxy.test.nodes import PASSWORD, READY, Elected, Etcd, Front, Host, Namespace, Network, Node
+from proxy.test.truth import GOES_ON, Lines, Said, Scene, Watch, shown
 
-SETTINGS = TOP.parent / "packaging"
-PASSWORD = "secret"
-# The seconds in which a cluster is ready, and in which orders go on behind a failure.
-READY, LIMIT = 180.0, 180.0
-
-
-class Etcd(Server):
-    """Where Patroni keeps who leads. It is one process here, where a cluster has three machines of it."""
-
-    def __init__(self) -> None:
-        super().__init__()
-        self.address = f"127.0.0.1:{free_port()}"
-
-    def start(self) -> None:
-        peer = f"http://127.0.0.1:{free_port()}"
-        self.launch(["etcd", "--data-dir", self.folder / "data", "--listen-client-urls", f"http://{self.address}",
-                     "--advertise-client-urls", f"http://{self.address}", "--listen-peer-urls", peer, "--initial-advertise-peer-urls", peer,
-                     "--initial-cluster", f"default={peer}"])
-        wait_until("etcd serves", lambda: is_ok(f"http://{self.address}/health"))
-
-
-class Node(Server):
-    """A machine with Patroni and the PostgreSQL that it starts."""
-
-    def __init__(self, name: str, etcd: Etcd) -> None:
-        super().__init__()
-        self.name = name
-        self.port, self.rest = free_port(), f"127.0.0.1:{free_port()}"
-        self.data = self.folder / "home/data"
-        address = f"127.0.0.1:{self.port}"
-        self.env = {**settings(SETTINGS / "patroni.env"), **{f"PATRONI_{key}": value for key, value in {
-            "NAME": name, "ETCD3_HOSTS": etcd.address, "RESTAPI_LISTEN": self.rest, "RESTAPI_CONNECT_ADDRESS": self.rest, "POSTGRESQL_LISTEN": address,
-            "POSTGRESQL_CONNECT_ADDRESS": address, "POSTGRESQL_DATA_DIR": str(self.data), "POSTGRESQL_PGPASS": str(self.folder / "home/pgpass"),
-            "SUPERUSER_USERNAME": "clerk", "SUPERUSER_PASSWORD": PASSWORD}.items()}}
-
-    def start(self) -> None:
-        user = unprivileged()
-        home = self.folder / "home"
-        os.chmod(self.folder, 0o755)
-        home.mkdir(exist_ok=True)
-        if user:
-            os.chown(home, pwd.getpwnam(user).pw_uid, pwd.getpwnam(user).pw_gid)
-        # The settings name the folder of sockets that PostgreSQL makes by itself, where only Debian's user may write.
-        text = (SETTINGS / "patroni.yml").read_text(encoding="utf-8")
-        (self.folder / "patroni.yml").write_text(f"{text}  parameters:\n    unix_socket_directories: {home}\n", encoding="utf-8")
-        self.launch(["patroni", self.folder / "patroni.yml"], user=user, env={**os.environ, **self.env, "HOME": str(home)})
-
-    def plays(self, role: str) -> bool:
-        """Returns whether Patroni says that its PostgreSQL has a role."""
-        return is_ok(f"http://{self.rest}/{role}")
-
-    def serves(self) -> bool:
-        """Returns whether its PostgreSQL serves."""
-        return self.plays("primary") or self.plays("replica")
-
-    def postmaster(self) -> Optional[int]:
-        """Returns PostgreSQL's first process, if it runs."""
-        with contextlib.suppress(OSError, ValueError, IndexError):
-            process = int((self.data / "postmaster.pid").read_text(encoding="utf-8").split()[0])
-            if "postgres" in Path(f"/proc/{process}/comm").read_text(encoding="utf-8"):
-                return process
-        return None
-
-    def fail(self, by: int = signal.SIGKILL) -> None:
-        """Ends PostgreSQL at once; Patroni goes on."""
-        process = self.postmaster()
-        if process is not None:
-            with contextlib.suppress(ProcessLookupError):
-                os.kill(process, by)
-            wait_until("PostgreSQL has ended", lambda: not Path(f"/proc/{process}").exists())
-
-    def kill(self) -> None:
-        """Ends the machine: Patroni and PostgreSQL at once."""
-        super().kill()
-        self.fail()
-
-    def __exit__(self, *fault: object) -> None:
-        super().kill()
-        self.fail(signal.SIGQUIT)  # it leaves no shared memory
-        super().__exit__(None, None, None)
-
-
-class Elected(Cluster):
-    """Whichever PostgreSQL takes writes."""
-
-    def __init__(self, nodes: Sequence[Node]) -> None:
-        super().__init__()
-        self.nodes = nodes
-
-    def start(self) -> None:
-        """Nothing: Patroni starts it."""
-
-    def dsn(self, database: str = "bank") -> str:
-        hosts, ports = ",".join("127.0.0.1" for _ in self.nodes), ",".join(str(it.port) for it in self.nodes)
-        return (f"host={hosts} port={ports} dbname={database} user=clerk password={PASSWORD} target_session_attrs=read-write "
-                "connect_timeout=2")
+PART = Part("proxy_machines")
+# The seconds in which others notice a failure, and in which orders go on behind it.
+LIMIT = 300.0
+# How a client notices within some seconds that a machine is silent.
+PATIENT = "connect_timeout=2 keepalives_idle=2 keepalives_interval=1 keepalives_count=3 tcp_user_timeout=5000"
+# Which PostgreSQL wrote an order: each that is promoted begins another timeline.
+TIMELINE = "ALTER TABLE orders ADD COLUMN timeline text DEFAULT substr(pg_walfile_name(pg_current_wal_lsn()), 1, 8)"
+# The machines, with the last parts of their addresses.
+MACHINES = {"db1": 11, "db2": 12, "etcd1": 21, "etcd2": 22, "etcd3": 23, "proxy1": 31, "proxy2": 32}
 
 
 class Machines(Scene):
     """The cluster, with the tables and the proxies."""
 
-    def __init__(self) -> None:
-        super().__init__(2)
+    def __init__(self, is_synchronous: bool = True, has_network: bool = False) -> None:
+        super().__init__(2, is_lazy=not is_synchronous)
         shutil.rmtree(self.cluster.folder, ignore_errors=True)  # of a PostgreSQL that is not started
-        self.etcd = Etcd()
-        self.nodes = [Node(name, self.etcd) for name in ("db1", "db2")]
-        self.cluster = Elected(self.nodes)
+        spaces = [Namespace(name, f"10.0.0.{number}") for name, number in MACHINES.items()] if has_network else []
+        self.network = Network(spaces) if has_network else None
+        own: Sequence[Host] = spaces or [Host(it) for it in MACHINES if it not in ("etcd2", "etcd3")]
+        self.etcds = [Etcd(it) for it in own if it.name.startswith("etcd")]
+        for etcd in self.etcds:
+            etcd.members = self.etcds
+        self.nodes = [Node(it, self.etcds, is_synchronous) for it in own if it.name.startswith("db")]
+        self.behind = [it for it in own if it.name.startswith("proxy")]
+        self.cluster = self.elected = Elected(self.nodes)
+        self.machines: List[Front] = []
         self.limit = LIMIT
+        self.mends: List[Callable[[], object]] = []
 
     def __enter__(self) -> "Machines":
         super().__enter__()
         return self
 
+    def keep_logs(self, folder: Path) -> None:
+        """Keeps what all servers have said."""
+        folder.mkdir(parents=True, exist_ok=True)
+        for it in (*self.etcds, *self.nodes, *self.machines):
+            (folder / it.host.name).write_text(it.said(), encoding="utf-8")
+
     def open(self) -> None:
-        self.stack.enter_context(self.etcd)
-        self.stack.enter_context(self.cluster)
-        for node in self.nodes:
-            self.stack.enter_context(node)
-            wait_until(f"PostgreSQL of {node.name} serves", node.serves, READY)
-        self.await_whole()
-        with psycopg.connect(self.cluster.dsn("postgres"), autocommit=True) as it:
-            it.execute("CREATE DATABASE bank")
+        if self.network:
+            self.stack.enter_context(self.network)
+        for it in (self.cluster, *self.etcds, *self.nodes):
+            self.stack.enter_context(it)
+        self.leader()
+        with psycopg.connect(self.elected.dsn("postgres"), autocommit=True) as superuser:
+            superuser.execute("CREATE DATABASE bank")
         subprocess.run([PROXY, "install", "--apply", "--postgres", self.cluster.dsn()], check=True, stdout=subprocess.DEVNULL)
-        self.cluster.run(f"CREATE ROLE escrowd LOGIN PASSWORD '{PASSWORD}'", "GRANT escrow_proxy TO escrowd", *TABLES,
+        self.cluster.run(f"CREATE ROLE escrowd LOGIN PASSWORD '{PASSWORD}'", "GRANT escrow_proxy TO escrowd", *TABLES, TIMELINE,
                          "CREATE TABLE base (id integer PRIMARY KEY, pieces integer NOT NULL)", "SELECT escrow.reservable('stock', 'pieces')")
         target = self.cluster.dsn().replace("user=clerk", "user=escrowd")
-        for _ in self.nodes:
-            self.proxies.append(self.stack.enter_context(Proxy(self.cluster, f"127.0.0.1:{free_port()}", postgres=target)))
+        self.machines = [self.stack.enter_context(Front(it, self.cluster, target)) for it in self.behind]
+        self.proxies = list(self.machines)
         self.logs = [Lines(it.folder / "said") for it in self.proxies]
+        self.await_whole()
         self.connect().close()
 
     def dsns(self) -> List[str]:
-        ports = [it.address.split(":")[1] for it in self.proxies]
-        return [f"host=127.0.0.1,127.0.0.1 port={ports[at]},{ports[1 - at]} dbname=bank user=clerk password={PASSWORD}" for at in (0, 1)]
+        places = [it.address.split(":") for it in self.proxies]
+        return [f"host={one[0]},{other[0]} port={one[1]},{other[1]} dbname=bank user=clerk password={PASSWORD} {PATIENT}"
+                for one, other in (places, places[::-1])]
 
     def leader(self) -> Node:
-        """Returns the machine whose PostgreSQL takes writes."""
-        return next(it for it in self.nodes if it.plays("primary"))
+        """Returns the machine whose PostgreSQL takes writes, as soon as there is one."""
+        found: List[Node] = []
 
-    def owner(self) -> Proxy:
-        """Returns the proxy that grants."""
-        with self.cluster.connect() as it:
-            found = it.execute("SELECT last_value FROM escrow.epoch").fetchone()
-        number = found[0] if found else 0
-        return next(it for it in self.proxies if f"epoch {number}" in it.said())
+        def is_found() -> bool:
+            found.extend(it for it in self.nodes if it.plays("primary"))
+            return bool(found)
+
+        wait_until("a PostgreSQL leads", is_found, READY)
+        return found[0]
+
+    def owner(self) -> Front:
+        """Returns the proxy that grants, as soon as there is one."""
+        found: List[Front] = []
+
+        def is_found() -> bool:
+            number, = self.ask("SELECT last_value FROM escrow.epoch")[0]
+            found.extend(it for it in self.machines if f"owner of epoch {number}" in it.said())
+            return bool(found)
+
+        wait_until("a proxy grants", is_found, READY)
+        return found[0]
 
     def await_whole(self) -> None:
-        """Waits until one PostgreSQL leads, and COMMITs wait for the other."""
-        wait_until("a standby is synchronous", self.is_whole, READY)
+        """Waits until one PostgreSQL leads, and the other follows it."""
+        wait_until("a standby follows", self.is_whole, READY)
 
     def is_whole(self) -> bool:
-        """Returns whether one PostgreSQL leads, and the other is its synchronous standby."""
-        return all(any(it.plays(role) for it in self.nodes) for role in ("primary", "synchronous"))
+        """Returns whether one PostgreSQL leads, and the other follows: if replication is synchronous, COMMITs wait for it."""
+        return any(it.has_standby() for it in self.nodes) and (self.is_lazy or any(it.plays("synchronous") for it in self.nodes))
+
+    def part(self, some: Iterable[str], others: Iterable[str] = ()) -> None:
+        """Cuts machines off from others: if none are named, from all others and the clients."""
+        assert self.network
+        every = {it.name: it for it in (*self.network.hosts, self.network.clients)}
+        self.network.part([every[it] for it in some], [every[it] for it in set(others) or set(every) - set(some)])
+        self.mends.append(self.network.heal)
 
     def revive(self) -> None:
-        """Starts again what has died."""
-        for it in (*self.nodes, *self.proxies):
+        """Mends what has failed, and starts again what has died."""
+        for mend in self.mends:
+            mend()
+        self.mends = []
+        for it in (*self.etcds, *self.nodes, *self.machines):
             if it.running().poll() is not None:
                 it.start()
-        self.await_whole()
+
+    def examine(self, said: Said) -> List[str]:
+        wrong = super().examine(said)
+        return wrong + holes(said.answered, dict(self.ask("SELECT key, timeline FROM orders")))
 
 
-# What fails: PostgreSQL alone, the proxy that grants, both; the machine of PostgreSQL, and both.
-FAILURES: Dict[str, Callable[[Machines], List[Callable[[], None]]]] = {
-    "postgres": lambda scene: [scene.leader().fail],
-    "proxy": lambda scene: [scene.owner().kill],
-    "postgres_and_proxy": lambda scene: [scene.leader().fail, scene.owner().kill],
-    "machine": lambda scene: [scene.leader().kill],
-    "machine_and_proxy": lambda scene: [scene.leader().kill, scene.owner().kill],
-}
-# Those that don't wait until Patroni gives a machine up.
-SHORT = ("postgres", "proxy", "postgres_and_proxy")
+def holes(answered: AbstractSet[str], timelines: Mapping[str, str]) -> List[str]:
+    """Returns what a failover may not lose of answered orders, which have one timeline each: a part of one, and one that the same buyer wrote before
+    another of its timeline. What it may lose is the end of a timeline."""
+    lines_of: Dict[str, List[str]] = defaultdict(list)
+    for key in answered:
+        lines_of[key.split("/")[0]].append(key)
+    wrong: List[str] = []
+    last: Dict[str, str] = {}
+    missing: Dict[str, str] = {}
+    for order in sorted(lines_of, key=lambda it: int(it.rsplit(".", 1)[1])):
+        buyer = order.rsplit(".", 1)[0]
+        found = [timelines[it] for it in lines_of[order] if it in timelines]
+        if not found:
+            missing.setdefault(buyer, order)
+            continue
+        if len(found) < len(lines_of[order]):
+            wrong.append(f"a part of an answered order is there: {order}")
+        if buyer in missing and found[0] == last.get(buyer):
+            wrong.append(f"an answered order is missing amid timeline {found[0]}: {missing[buyer]}")
+        missing.pop(buyer, None)
+        last[buyer] = found[0]
+    return wrong
 
 
-def longest_pause(said: Said, begin: float) -> float:
-    """Waits until further orders are answered. Returns the seconds in which none was, at the longest."""
-    count = said.now().count()
-    goal, last, longest = count + GOES_ON, begin, 0.0
-    while count < goal:
-        now = time.monotonic()
-        if now - begin > LIMIT:
-            raise AssertionError(f"not within {LIMIT} s: orders go on")
-        if said.now().count() > count:
-            longest, last, count = max(longest, now - last), now, said.count()
-        time.sleep(0.01)
-    return longest
+# Says whether others have noticed a failure.
+Noticed = Callable[[], bool]
+# What fails, by name; some need a network.
+FAILURES: Dict[str, Callable[[Machines], Noticed]] = {}
+PARTITIONS: Dict[str, Callable[[Machines], Noticed]] = {}
+Act = Callable[[Machines], Noticed]
 
 
-def survive(scene: Machines, seed: int, name: str) -> float:
-    """Has something fail while buyers order, and examines. Returns the seconds without service."""
-    watch = Watch(scene.cluster, scene.table)
-    with scene.buying(seed) as said:
-        watch.start()
-        longest_pause(said, time.monotonic())
-        kills = FAILURES[name](scene)
-        begin = time.monotonic()
-        for kill in kills:
-            kill()
-        pause = longest_pause(said, begin)
+def failure(act: Act) -> Act:
+    """Adds a failure."""
+    FAILURES[act.__name__] = act
+    return act
+
+
+def partition(act: Act) -> Act:
+    """Adds a failure of the network."""
+    PARTITIONS[act.__name__] = act
+    return act
+
+
+def another(scene: Machines, was: Node) -> Noticed:
+    """Waits for another PostgreSQL that leads."""
+    return lambda: any(it.plays("primary") for it in scene.nodes if it is not was)
+
+
+def another_owner(scene: Machines, was: Front) -> Noticed:
+    """Waits for another proxy that grants."""
+    return lambda: scene.owner() is not was
+
+
+@failure
+def postgres(scene: Machines) -> Noticed:
+    """PostgreSQL that leads dies, and its machine goes on."""
+    leader = scene.leader()
+    leader.fail()
+    return another(scene, leader)
+
+
+@failure
+def proxy(scene: Machines) -> Noticed:
+    """The proxy that grants dies."""
+    owner = scene.owner()
+    owner.kill()
+    return another_owner(scene, owner)
+
+
+@failure
+def postgres_and_proxy(scene: Machines) -> Noticed:
+    """Both die at once."""
+    leader, owner = scene.leader(), scene.owner()
+    leader.fail()
+    owner.kill()
+    return another(scene, leader)
+
+
+@failure
+def machine(scene: Machines) -> Noticed:
+    """The machine of PostgreSQL that leads dies, with Patroni."""
+    leader = scene.leader()
+    leader.kill()
+    return another(scene, leader)
+
+
+@failure
+def machine_and_proxy(scene: Machines) -> Noticed:
+    """That machine and the proxy that grants die at once."""
+    leader, owner = scene.leader(), scene.owner()
+    leader.kill()
+    owner.kill()
+    return another(scene, leader)
+
+
+@failure
+def standby(scene: Machines) -> Noticed:
+    """The machine of the standby dies."""
+    leader = scene.leader()
+    follower, = (it for it in scene.nodes if it is not leader)
+    follower.kill()
+    return lambda: not scene.is_whole()
+
+
+@failure
+def etcd(scene: Machines) -> Noticed:
+    """A machine of etcd dies, and comes back if it is the only one."""
+    one = random.choice(scene.etcds)
+    one.kill()
+    if len(scene.etcds) == 1:
+        one.start()
+    return lambda: True
+
+
+@failure
+def paused(scene: Machines) -> Noticed:
+    """The machine of PostgreSQL that leads stands still, until the other leads, and goes on then with what was in its sockets."""
+    leader = scene.leader()
+    first = leader.postmaster()
+    stopped = [leader.running().pid, *([first, *children(first)] if first else [])]
+    send(stopped, signal.SIGSTOP)
+    scene.mends.append(lambda: send(stopped, signal.SIGCONT))
+    return another(scene, leader)
+
+
+@failure
+def patroni(scene: Machines) -> Noticed:
+    """Patroni dies, its PostgreSQL goes on, and Patroni comes back once the other PostgreSQL leads too."""
+    leader = scene.leader()
+    leader.end_patroni()
+    is_other = another(scene, leader)
+
+    def is_noticed() -> bool:
+        if not is_other():
+            return False
+        leader.start()
+        return True
+
+    return is_noticed
+
+
+@partition
+def postgres_cut_off(scene: Machines) -> Noticed:
+    """PostgreSQL that leads is cut off from all."""
+    leader = scene.leader()
+    scene.part([leader.host.name])
+    return another(scene, leader)
+
+
+@partition
+def postgres_cut_off_from_etcd(scene: Machines) -> Noticed:
+    """PostgreSQL that leads is cut off from etcd alone."""
+    leader = scene.leader()
+    scene.part([leader.host.name], [it.host.name for it in scene.etcds])
+    return another(scene, leader)
+
+
+@partition
+def postgres_and_proxy_cut_off(scene: Machines) -> Noticed:
+    """PostgreSQL that leads and the proxy that grants are cut off together. Clients reach both sides."""
+    leader, owner = scene.leader(), scene.owner()
+    scene.part([leader.host.name, owner.host.name], {it for it in MACHINES} - {leader.host.name, owner.host.name})
+    return another(scene, leader)
+
+
+@partition
+def standby_cut_off(scene: Machines) -> Noticed:
+    """The standby is cut off from all."""
+    leader = scene.leader()
+    scene.part([it.host.name for it in scene.nodes if it is not leader])
+    return lambda: not scene.is_whole()
+
+
+@partition
+def replication_cut(scene: Machines) -> Noticed:
+    """The two PostgreSQL are cut off from each other alone."""
+    scene.part(["db1"], ["db2"])
+    return lambda: scene.is_lazy or not scene.is_whole()
+
+
+@partition
+def proxy_cut_off(scene: Machines) -> Noticed:
+    """The proxy that grants is cut off from PostgreSQL. Clients reach it."""
+    owner = scene.owner()
+    scene.part([owner.host.name], [it.host.name for it in scene.nodes])
+    return another_owner(scene, owner)
+
+
+@partition
+def proxy_cut_off_from_all(scene: Machines) -> Noticed:
+    """The proxy that grants is cut off from all."""
+    owner = scene.owner()
+    scene.part([owner.host.name])
+    return another_owner(scene, owner)
+
+
+@partition
+def one_way(scene: Machines) -> Noticed:
+    """What PostgreSQL that leads sends is lost, and not what it is sent; or the other way round."""
+    assert scene.network
+    leader, network = scene.leader(), scene.network
+    its = next(it for it in network.hosts if it.name == leader.host.name)
+    sends = random.random() < 0.5
+    for it in (*network.hosts, network.clients):
+        if it is not its:
+            network.lose(*((its, it) if sends else (it, its)))
+    scene.mends.append(network.heal)
+    return another(scene, leader)
+
+
+def send(processes: Iterable[int], number: int) -> None:
+    """Sends a signal to those that still run."""
+    for it in processes:
+        with suppress(ProcessLookupError):
+            os.kill(it, number)
+
+
+class Pace(threading.Thread):
+    """Hears what buyers say, and measures the longest time in which no order was answered."""
+
+    def __init__(self, said: Said) -> None:
+        super().__init__(daemon=True)
+        self.said, self.count = said, 0
+        self.longest, self.last = 0.0, time.monotonic()
+        self.is_off = threading.Event()
+
+    def __enter__(self) -> "Pace":
+        self.start()
+        return self
+
+    def __exit__(self, *fault: object) -> None:
+        self.is_off.set()
+        self.join()
+
+    def run(self) -> None:
+        while not self.is_off.wait(0.01):
+            now, count = time.monotonic(), self.said.now().count()
+            if count > self.count:
+                self.longest, self.last, self.count = max(self.longest, now - self.last), now, count
+
+    def begin(self) -> None:
+        """Measures anew."""
+        self.longest, self.last = 0.0, time.monotonic()
+
+    def await_more(self, what: str) -> None:
+        """Waits until further orders are answered."""
+        goal = self.count + GOES_ON
+        wait_until(f"orders go on {what}", lambda: self.count >= goal or self.said.faults, LIMIT)
+
+
+def all_failures() -> Dict[str, Act]:
+    """Returns all of them."""
+    return {**FAILURES, **PARTITIONS}
+
+
+def fail(scene: Machines, pace: Pace, name: str, is_last: bool = False) -> float:
+    """Has something fail while buyers order, and mends it unless it is the last. Returns the seconds without service."""
+    pace.await_more(f"before {name}")
+    pace.begin()
+    scene.crashes += 1
+    is_noticed = all_failures()[name](scene)
+    wait_until(f"{name} is noticed", is_noticed, LIMIT)
+    pace.await_more(f"behind {name}")
+    if not is_last:
         scene.revive()
-        longest_pause(said, time.monotonic())
+        scene.await_whole()
+        pace.await_more(f"behind the end of {name}")
+    return pace.longest
+
+
+class Outcome(NamedTuple):
+    """What became of some failures: the seconds without service, and how many orders were answered and are not there."""
+
+    pauses: Dict[str, List[float]]
+    answered: int
+    lost: int
+
+
+def section(scene: Machines, seed: int, names: Sequence[str], is_last: bool = False) -> Outcome:
+    """Has some things fail one after another while buyers order, and examines."""
+    watch = Watch(scene.cluster, scene.table)
+    pauses: Dict[str, List[float]] = defaultdict(list)
+    with scene.buying(seed) as said, Pace(said) as pace:
+        watch.start()
+        for at, name in enumerate(names, 1):
+            pauses[name].append(fail(scene, pace, name, is_last and at == len(names)))
+            shown(f"  {name}: {pauses[name][-1]:.1f} s without service")
     watch.is_off.set()
     watch.join()
     wrong = scene.examine(said) + ([watch.wrong] if watch.wrong else [])
     if wrong:
-        raise AssertionError(f"{name}, seed {seed}:\n  " + "\n  ".join(wrong[:20]))
-    return pause
+        raise AssertionError(f"seed {seed}, {names}:\n  " + "\n  ".join(wrong[:20]))
+    return Outcome(pauses, said.count(), len(said.answered - set(scene.found().orders)))
 
 
-def run(rounds: int, seed: int, names: Sequence[str]) -> str:
-    """Runs rounds. Returns what was done."""
-    pauses: Dict[str, List[float]] = {name: [] for name in names}
+@PART.alone
+def nothing_is_lost_when_machines_die() -> None:
     begin = time.monotonic()
     with Machines() as scene:
-        print(f"the cluster serves behind {time.monotonic() - begin:.0f} s", file=sys.stderr, flush=True)
-        for _ in range(rounds):
-            for name in names:
-                pauses[name].append(survive(scene, seed, name))
-                print(f"{name}: {pauses[name][-1]:.1f} s without service", file=sys.stderr, flush=True)
-    told = "; ".join(f"{name} {statistics.median(it):.1f} (worst {max(it):.1f})" for name, it in pauses.items())
-    return f"{rounds * len(names)} failures in {time.monotonic() - begin:.0f} s, nothing lost; seconds without service: {told}"
+        shown(f"  the cluster serves behind {time.monotonic() - begin:.0f} s")
+        it = section(scene, 1, ("postgres", "proxy", "postgres_and_proxy"), is_last=True)
+    expect(it.lost, 0, "answered orders that are not there")
+    shown(f"  {it.answered} orders were answered")
 
 
-def keep() -> None:
-    """Starts the cluster, prints how to connect, and waits for a signal."""
-    with Machines() as scene:
-        print(f"PostgreSQL: psql '{scene.cluster.dsn()}'", f"the proxies: psql '{scene.dsns()[0]}'",
-              *(f"{it.name}: {it.folder}, http://{it.rest}/cluster" for it in scene.nodes), sep="\n", flush=True)
-        signal.sigwait({signal.SIGINT, signal.SIGTERM})
+@PART.alone
+def an_order_that_is_lost_amid_a_timeline_is_found() -> None:
+    all_there = dict.fromkeys(("1.2.1/0", "1.2.2/0", "1.2.10/0", "1.2.10/1", "1.3.1/0"), "1")
+    promoted = {**all_there, "1.2.10/0": "2", "1.2.10/1": "2"}
+    amid, part = "an answered order is missing amid timeline 1: 1.2.2", "a part of an answered order is there: 1.2.10"
+    for timelines, gone, wrong in (
+        (all_there, (), []),
+        (all_there, ("1.2.10/0", "1.2.10/1", "1.3.1/0"), []),
+        (promoted, ("1.2.2/0",), []),
+        (all_there, ("1.2.2/0",), [amid]),
+        (all_there, ("1.2.10/1",), [part]),
+    ):
+        found = {key: it for key, it in timelines.items() if key not in gone}
+        expect(holes(set(all_there), found), wrong, f"without {gone}")
 
 
-def settings(path: Path) -> Dict[str, str]:
-    """Returns the variables of a file."""
-    lines = path.read_text(encoding="utf-8").splitlines()
-    return dict(line.split("=", 1) for line in lines if line and not line.startswith("#"))
+class Run:
+    """A run by hand: what it has done so far."""
+
+    def __init__(self, scene: Machines, seed: int) -> None:
+        self.scene, self.seed = scene, seed
+        self.pauses: Dict[str, List[float]] = defaultdict(list)
+        self.sums: "Counter[str]" = Counter()
+
+    def fail(self, count: int, names: Sequence[str], each: int, end: float) -> None:
+        """Has so many things fail, drawn so that each comes as often as the others."""
+        draw = random.Random(self.seed)
+        left: List[str] = []
+        while len(left) < count:
+            left += draw.sample(names, len(names))
+        left = left[:count]
+        while left and time.monotonic() < end:
+            now, left = left[:each], left[each:]
+            it = section(self.scene, self.seed, now)
+            for name, seconds in it.pauses.items():
+                self.pauses[name] += seconds
+            self.sums += Counter(answered=it.answered, lost=it.lost)
+
+    def told(self) -> str:
+        """Returns what was done, in words."""
+        head = f"{sum(map(len, self.pauses.values()))} failures, {self.sums['answered']} orders answered, {self.sums['lost']} of them lost"
+        return "\n".join([head, *(f"  {name}: {len(it)} times, {statistics.median(it):.0f} s without service (worst {max(it):.0f})"
+                                  for name, it in self.pauses.items())])
 
 
-def is_ok(url: str) -> bool:
-    """Returns whether a URL is answered with status 200."""
-    try:
-        with urllib.request.urlopen(url, timeout=2) as it:
-            return bool(it.status == 200)
-    except (OSError, urllib.error.URLError):
-        return False
+def keep(scene: Machines) -> None:
+    """Prints how to connect, and waits for a signal."""
+    enter = f"nsenter --net=/proc/{os.getpid()}/ns/net " if scene.network else ""
+    print(f"PostgreSQL: {enter}psql '{scene.cluster.dsn()}'", f"the proxies: {enter}psql '{scene.dsns()[0]}'",
+          *(f"{it.host.name}: {it.folder}, http://{it.rest}/cluster" for it in scene.nodes), sep="\n", flush=True)
+    with suppress(KeyboardInterrupt, SystemExit):
+        signal.pause()
 
 
-def main() -> None:
-    parser = argparse.ArgumentParser(description=__doc__, formatter_class=argparse.RawDescriptionHelpFormatter)
-    parser.add_argument("--rounds", type=int, default=1)
+def by_hand() -> None:
+    parser = argparse.ArgumentParser(description=__doc__, formatter_class=argparse.RawDescriptionHelpFormatter,
+                                     epilog="\n".join(f"  {name:28}{act.__doc__}" for name, act in all_failures().items()))
+    parser.add_argument("--failures", type=int, default=1)
+    parser.add_argument("--asynchronous", action="store_true")
+    parser.add_argument("--on-ports", action="store_true")
+    parser.add_argument("--only", nargs="+", choices=list(all_failures()))
+    parser.add_argument("--each", type=int, default=5)
+    parser.add_argument("--seconds", type=float, default=1e9)
     parser.add_argument("--seed", type=int, default=random.randrange(1_000_000))
-    parser.add_argument("--only", nargs="+", choices=list(FAILURES), default=list(FAILURES))
+    parser.add_argument("--logs", type=Path, help="a folder that gets what all servers have said")
     parser.add_argument("--keep", action="store_true")
+    parser.add_argument("--in-namespace", action="store_true", help=argparse.SUPPRESS)
     asked = parser.parse_args()
-    if asked.keep:
-        keep()
-    else:
-        print(run(asked.rounds, asked.seed, asked.only))
+    if not asked.on_ports and not asked.in_namespace:
+        # The network ends with this process and those that it starts.
+        os.execvp("unshare", ["unshare", "--net", "--mount", "--", sys.executable, "-B", "-m", "proxy.test.machines", "--in-namespace", *sys.argv[1:]])
+    signal.signal(signal.SIGTERM, lambda *_: sys.exit(1))
+    end = time.monotonic() + asked.seconds
+    print(f"seed {asked.seed}", flush=True)
+    random.seed(asked.seed)
+    with Machines(not asked.asynchronous, has_network=asked.in_namespace) as scene:
+        shown("the cluster serves")
+        if asked.keep:
+            keep(scene)
+            return
+        run = Run(scene, asked.seed)
+        try:
+            run.fail(asked.failures, asked.only or list(FAILURES if asked.on_ports else all_failures()), asked.each, end)
+        finally:
+            print(run.told(), flush=True)
+            if asked.logs:
+                scene.keep_logs(asked.logs)
 
 
 if __name__ == "__main__":
-    main()
+    if any(it.startswith("-") for it in sys.argv[1:]):
+        try:
+            by_hand()
+        except AssertionError as fault:
+            print(*heard(fault), sep="\n")
+            raise
+    else:
+        main(PART)
