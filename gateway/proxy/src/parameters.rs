@@ -4,7 +4,7 @@
 
 use escrowd_pg::decimal::Decimal;
 use escrowd_pg::statement::constant::{self, Datum, Input};
-use escrowd_pg::statement::query::{Expression, ExpressionKind, TypeName};
+use escrowd_pg::statement::query::{Expression, ExpressionKind, Operator, Span, TypeName};
 use tokio_postgres::types::Type;
 
 use crate::catalog::KeyType;
@@ -184,9 +184,13 @@ fn number_literal(text: &str) -> Option<ExpressionKind> {
     if sign.is_empty() {
         return Some(number);
     }
-    let span = escrowd_pg::statement::query::Span::default();
+    let span = Span::default();
     let number = Expression { kind: number, span };
-    Some(ExpressionKind::Unary("-".into(), Box::new(number)))
+    let name = "-".into();
+    Some(ExpressionKind::Unary(
+        Operator { name, span },
+        Box::new(number),
+    ))
 }
 
 /// Reads a value of a type in binary.
