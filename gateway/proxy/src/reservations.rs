@@ -15,7 +15,7 @@ use crate::hub::Mail;
 use crate::note::{Grant, Secret};
 use crate::own::{self, Value};
 use crate::parameters::Parameters;
-use crate::protocol::{Answer, Event, Id, Status};
+use crate::protocol::{Answer, Event, Id, Line, Status};
 use crate::refusals::{words, Words};
 use crate::relay::Error;
 use crate::requests::{End, How, OwnReply, Requests, Rest};
@@ -584,7 +584,12 @@ impl Requests<'_> {
         match &reply {
             OwnReply::Row(Some(row)) => {
                 let id = noted_id(row, &secret, &grant).ok_or(Error::Forged)?;
-                self.hub.handle(Event::Noted { connection, id });
+                let line = Line { epoch, number };
+                self.hub.handle(Event::Noted {
+                    connection,
+                    id,
+                    line,
+                });
                 if is_true(row.get(2)) {
                     self.hub.handle(Event::OwnFolded { connection });
                 }

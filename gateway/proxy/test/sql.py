@@ -793,10 +793,10 @@ def nobody_calls_what_is_not_theirs(cluster: Cluster) -> None:
     cluster.run("DROP ROLE IF EXISTS buyer2", "CREATE ROLE buyer2")
     query = """SELECT proname FROM pg_proc WHERE pronamespace = 'escrow'::regnamespace AND has_function_privilege('buyer2', oid, 'EXECUTE') AND prosecdef ORDER BY proname"""
     same([name for name, in owner.keeper.execute(query.encode())],
-         sorted(["greet", "reservable", "ordinary", "keep_declared", f"note_{n}", f"direct_{n}", f"here_{n}", f"own_{n}", f"guard_{n}", f"own_guard_{n}", f"keep_{n}"]))
+         sorted(["greet", "reservable", "ordinary", "hold", "take", "take", "release", "prolong", "keep_declared", f"note_{n}", f"direct_{n}", f"here_{n}", f"own_{n}", f"guard_{n}", f"own_guard_{n}", f"keep_{n}"]))
     query = """SELECT relname FROM pg_class WHERE relnamespace = 'escrow'::regnamespace AND relkind IN ('r', 'v', 'S') AND (has_any_column_privilege('buyer2', oid, 'SELECT')
         OR has_table_privilege('buyer2', oid, 'INSERT, UPDATE, DELETE, TRUNCATE'))"""
-    same([name for name, in owner.keeper.execute(query.encode())], ["declared"])
+    same(sorted(name for name, in owner.keeper.execute(query.encode())), ["declared", "holds"])
     without_path = """SELECT proname FROM pg_proc WHERE pronamespace = 'escrow'::regnamespace AND prosecdef AND NOT coalesce(proconfig, '{}') && ARRAY['search_path=pg_catalog, pg_temp']"""
     same([name for name, in owner.keeper.execute(without_path.encode())], [f"move_{n}"])
     cluster.run("DROP ROLE buyer2")

@@ -67,10 +67,15 @@ impl<K: Clone + Ord> Folds<K> {
             self.pending.insert(key.clone(), self.turn);
         }
         if let Some(connection) = waiting {
-            let turn = self.turn;
-            let keys = keys.into_iter().map(|key| (key, turn)).collect();
-            self.waiting.insert(connection, keys);
+            self.wait(keys, connection);
         }
+    }
+
+    /// Lets a connection wait for the folds of keys that have committed.
+    pub(super) fn wait(&mut self, keys: Vec<K>, connection: Connection) {
+        let turn = self.turn;
+        let keys = keys.into_iter().map(|key| (key, turn)).collect();
+        self.waiting.insert(connection, keys);
     }
 
     /// Begins a fold. Returns its keys, or none if one is under way or nothing is pending. `all` tries the skipped ones
