@@ -1089,7 +1089,7 @@ BEGIN
 					USING ERRCODE = 'object_in_use', SCHEMA = TG_TABLE_SCHEMA, TABLE = TG_TABLE_NAME,
 						DETAIL = format('The key is %%s.', OLD.%2$I), HINT = 'Connect to escrowd-proxy, and add or subtract by the key: UPDATE t SET c = c - 3 WHERE key = 5.';
 			END IF;
-			PERFORM set_config('escrow.here', pg_current_xact_id()::text, true); -- for escrow.hold
+			PERFORM set_config('escrow.inserted', pg_current_xact_id()::text, true); -- for escrow.hold
 			RETURN NULL;
 		END
 		$body$
@@ -1215,9 +1215,11 @@ BEGIN
 			HINT = 'If a function calls it, name it in a comment: SELECT checkout() /* escrow.hold */.';
 	ELSIF (octet_length(name) BETWEEN 1 AND 200) IS NOT TRUE THEN
 		RAISE EXCEPTION 'the name of a hold has 1 to 200 bytes' USING ERRCODE = 'invalid_parameter_value';
+	ELSIF current_setting('escrow.inserted', true) = pg_current_xact_id_if_assigned()::text THEN
+		RAISE EXCEPTION 'this transaction has changed a row that it has inserted, and that cannot be held' USING ERRCODE = 'feature_not_supported';
 	ELSIF current_setting('escrow.here', true) = pg_current_xact_id_if_assigned()::text THEN
-		RAISE EXCEPTION 'this transaction has changed a row without a reservation, and that cannot be held' USING ERRCODE = 'feature_not_supported',
-			DETAIL = 'It has inserted the row or locked it.', HINT = 'Reserve before you lock the row.';
+		RAISE EXCEPTION 'this transaction has changed a row without a reservation, and that cannot be held' USING ERRCODE = 'serialization_failure',
+			DETAIL = 'The row was locked, by this transaction or by another.', HINT = 'Repeat the transaction. Reserve before you lock the row.';
 	END IF;
 	PERFORM escrow.forbid_prepare();
 	INSERT INTO escrow.hold_names (name, maker, since, until) VALUES (hold.name, escrow.caller(), clock_timestamp(), ends)
