@@ -1050,9 +1050,13 @@ impl<K: Clone + Ord, C: Clone> Protocol<K, C> {
             } else if is_ours {
                 return self.alarm(Alarm::HoldUnseen, actions);
             } else if !self.loading.contains_key(&key) {
-                // The row's load has not shown the line. What was taken is in its journal or its value.
+                // The row's load has not shown the line: what was taken may be in its journal still.
                 self.holds.forget([line]);
-                unheld.insert(key);
+                if !self.loaded.contains(&key) {
+                    unheld.insert(key);
+                } else if matches!(fate, Fate::Taken(_)) {
+                    taken.insert(key);
+                }
             }
         }
         let is_more = ends.len() >= MANY;
@@ -1060,7 +1064,7 @@ impl<K: Clone + Ord, C: Clone> Protocol<K, C> {
             actions.push(Action::End(ends));
         }
         for key in unheld {
-            if !self.loaded.contains(&key) && !self.leaving.contains_key(&key) {
+            if !self.leaving.contains_key(&key) {
                 // Its journal is folded, and its mark goes with its last hold.
                 self.leaving.insert(key.clone(), None);
                 actions.push(Action::Leave(key));

@@ -497,6 +497,13 @@ fn what_a_row_holds_is_reserved_before_anything_else() {
     assert_eq!(it.handle(Event::Tick), [look(&[], &[])]);
     let ended = [Action::End(vec![(line(3), None)])];
     assert_eq!(looked(&mut it, vec![news(3, Fate::Free, false)]), ended);
+    // What was taken before the load showed the row's lines may be in its journal.
+    assert_eq!(it.handle(Event::Tick), [look(&[3], &[])]);
+    let folded = [Action::Fold(vec!["a"])];
+    assert_eq!(
+        looked(&mut it, vec![news(5, Fate::Taken(1), false)]),
+        folded
+    );
 }
 
 #[test]
