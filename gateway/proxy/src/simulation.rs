@@ -42,8 +42,6 @@ pub(crate) enum Without {
     Epoch,
     /// Rule 11: a fold takes one row of the journal.
     WholeFolds,
-    /// Rule 24: a row is read by the fold's snapshot, and its lines by a later one.
-    OneSnapshot,
 }
 
 /// Counts what a run has seen.
@@ -232,7 +230,6 @@ fn a_rule_that_is_taken_away_is_missed() {
         Without::PostgresFirst,
         Without::Epoch,
         Without::WholeFolds,
-        Without::OneSnapshot,
     ];
     for without in rules {
         // What comes at rest may be a fault of the relay that was changed.

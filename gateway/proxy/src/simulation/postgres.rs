@@ -345,7 +345,9 @@ impl Postgres {
     pub(super) fn is_quiet(&self) -> bool {
         let is_resting =
             |it: &Backend| it.inbox.is_empty() && it.outbox.is_empty() && it.levels.is_empty();
-        self.backends.values().all(is_resting)
+        // The owner has looked at what became of holds, and is done with it.
+        let mut lines = self.visible.lines.values();
+        self.backends.values().all(is_resting) && lines.all(|it| it.fate == Fate::Stands)
     }
 
     pub(super) fn journal_is_empty(&self) -> bool {
@@ -453,10 +455,6 @@ impl Postgres {
 
     pub(super) fn is_locked(&self, key: Key) -> bool {
         self.locks[key]
-    }
-
-    pub(super) fn value(&self, key: Key) -> i64 {
-        self.visible.rows[key]
     }
 
     // Connections.

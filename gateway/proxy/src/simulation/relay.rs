@@ -461,11 +461,7 @@ impl Relay {
             Job::WaitOver(connection) => Event::WaitOver { connection },
             Job::Load(key, Some(folding)) if postgres.folded(&folding) => {
                 // One snapshot shows what is pending since the fold's, and which lines stand.
-                let value = match self.without {
-                    Some(Without::OneSnapshot) => postgres.value(key),
-                    _ => postgres.now(key),
-                };
-                let lines = standing(postgres, key);
+                let (value, lines) = (postgres.now(key), standing(postgres, key));
                 self.jobs[LOADER].push_front(Job::Loaded(key, value, lines));
                 return Ok(());
             }
