@@ -18,7 +18,7 @@ use std::collections::{BTreeMap, BTreeSet};
 
 use clients::{Client, Kept, Looks, Stage};
 use folds::Folds;
-use holds::{Holds, MANY};
+use holds::{Holds, LEAVES, MANY};
 
 /// The most savepoints that the server keeps of a session.
 pub const MARKS: u32 = 64;
@@ -1133,8 +1133,9 @@ impl<K: Row, C: Clone> Protocol<K, C> {
             actions.push(Action::End(ends));
         }
         for key in unheld {
-            if !self.leaving.contains_key(&key) && !self.is_stopped(&key) {
-                // Its journal is folded, and its mark goes with its last hold. A table that is stopped is swept when it goes on.
+            // Its journal is folded, and its mark goes with its last hold. A table that is stopped is swept when it goes on.
+            let may_leave = self.leaving.len() < LEAVES && !self.is_stopped(&key);
+            if may_leave && !self.leaving.contains_key(&key) {
                 self.leaving.insert(key.clone(), None);
                 actions.push(Action::Leave(key));
             }

@@ -7,6 +7,9 @@ use super::{Connection, Line};
 /// If so many lines have ended, there may be more, so that the next look begins at once.
 pub(super) const MANY: usize = 100;
 
+/// So many rows are left at a time because their holds have ended. A sweep does the others, and loads need not wait for them.
+pub(super) const LEAVES: usize = 64;
+
 /// The lines of holds that the server has. At most one look is under way.
 pub(super) struct Holds<K, C> {
     kept: BTreeMap<Line, (K, C)>,

@@ -410,7 +410,8 @@ fn a_fold_that_is_refused_stops_its_table_alone() {
     ];
     assert_eq!(it.handle(Event::FoldRefused { table: 'a' }), stopped);
     assert_eq!(it.handle(Event::Folded { keys: vec![] }), []);
-    assert_eq!(it.handle(Event::Tick), [], "its folds stand still");
+    let ticked = it.handle(Event::Tick);
+    assert_eq!(ticked, [look(&[], &[])], "its folds stand still");
     assert_eq!((it.counts().stopped, it.counts().pending), (1, 1));
     let refused = [Action::Answer(ONE, Answer::TableStopped)];
     assert_eq!(reserve(&mut it, "a", false), refused);
