@@ -1,4 +1,4 @@
--- Installs schema escrow, version 1, or brings an older version to it. A superuser runs it, in one transaction, since it
+-- Installs schema escrow, version 2, or brings an older version to it. A superuser runs it, in one transaction, since it
 -- creates event triggers. Rules are those of PROTOCOL.md.
 
 DO $do$
@@ -7,11 +7,11 @@ BEGIN
 		RAISE EXCEPTION 'escrowd-proxy needs PostgreSQL 15 or later' USING ERRCODE = 'feature_not_supported';
 	END IF;
 	IF to_regprocedure('escrow.version()') IS NOT NULL THEN
-		IF escrow.version() > 1 THEN
-			RAISE EXCEPTION 'schema escrow has version %, which is newer than 1', escrow.version()
+		IF escrow.version() > 2 THEN
+			RAISE EXCEPTION 'schema escrow has version %, which is newer than 2', escrow.version()
 				USING ERRCODE = 'object_not_in_prerequisite_state';
 		END IF;
-		IF escrow.version() < 1 AND escrow.is_live((SELECT nullif(last_value, 0) FROM escrow.epoch)) THEN
+		IF escrow.version() < 2 AND escrow.is_live((SELECT nullif(last_value, 0) FROM escrow.epoch)) THEN
 			RAISE EXCEPTION 'an escrowd-proxy is running' USING ERRCODE = 'object_in_use', HINT = 'Stop it first.';
 		END IF;
 	END IF;
@@ -31,7 +31,7 @@ CREATE SCHEMA IF NOT EXISTS escrow;
 GRANT USAGE ON SCHEMA escrow TO PUBLIC;
 GRANT CREATE ON SCHEMA escrow TO escrow_journal;
 
-CREATE OR REPLACE FUNCTION escrow.version() RETURNS integer LANGUAGE sql IMMUTABLE AS 'SELECT 1';
+CREATE OR REPLACE FUNCTION escrow.version() RETURNS integer LANGUAGE sql IMMUTABLE AS 'SELECT 2';
 
 -- Rule 8. Unlogged, so that it is 0 after a crash, a promotion and a restore.
 CREATE UNLOGGED SEQUENCE IF NOT EXISTS escrow.epoch MINVALUE 0 START 0;
@@ -69,6 +69,39 @@ CREATE TABLE IF NOT EXISTS escrow.declared (
 );
 ALTER TABLE escrow.declared OWNER TO escrow_journal;
 GRANT SELECT ON escrow.declared TO PUBLIC;
+
+-- Holds, and the notes that each has.
+CREATE TABLE IF NOT EXISTS escrow.hold_names (
+	number bigint GENERATED ALWAYS AS IDENTITY PRIMARY KEY,
+	name text NOT NULL,
+	maker regrole NOT NULL,
+	since timestamptz NOT NULL,
+	until timestamptz NOT NULL,
+	state text NOT NULL DEFAULT 'standing' CHECK (state IN ('standing', 'taken', 'released', 'expired')),
+	ended timestamptz
+);
+CREATE UNIQUE INDEX IF NOT EXISTS hold_names_standing ON escrow.hold_names (name) WHERE state = 'standing';
+CREATE INDEX IF NOT EXISTS hold_names_until ON escrow.hold_names (until) WHERE state = 'standing';
+CREATE INDEX IF NOT EXISTS hold_names_name ON escrow.hold_names (name, number) WHERE state <> 'standing';
+CREATE INDEX IF NOT EXISTS hold_names_ended ON escrow.hold_names (ended) WHERE state <> 'standing';
+
+-- `epoch` and `number` are the note's. `taken` is what of `changes` was committed.
+CREATE TABLE IF NOT EXISTS escrow.hold_lines (
+	epoch bigint NOT NULL,
+	number bigint NOT NULL,
+	hold bigint NOT NULL,
+	"table" integer NOT NULL,
+	key text NOT NULL,
+	changes numeric[] NOT NULL,
+	taken numeric[],
+	stands boolean NOT NULL DEFAULT true,
+	PRIMARY KEY (number, epoch)
+);
+CREATE INDEX IF NOT EXISTS hold_lines_hold ON escrow.hold_lines (hold);
+CREATE INDEX IF NOT EXISTS hold_lines_key ON escrow.hold_lines ("table", key) WHERE stands;
+CREATE INDEX IF NOT EXISTS hold_lines_ended ON escrow.hold_lines (number) WHERE NOT stands;
+ALTER TABLE escrow.hold_names OWNER TO escrow_journal;
+ALTER TABLE escrow.hold_lines OWNER TO escrow_journal;
 
 -- The MAC of words: the first half. Only functions of escrow_journal call it and the next, which have set their path of search.
 CREATE OR REPLACE FUNCTION escrow.mac(VARIADIC words text[]) RETURNS bytea LANGUAGE plpgsql STABLE AS $$
@@ -684,6 +717,11 @@ BEGIN
 END
 $$;
 
+-- Returns what makes a key's one text of a key: numbers have no zeros at their end.
+CREATE OR REPLACE FUNCTION escrow.key_text(key_type text, key text) RETURNS text LANGUAGE sql IMMUTABLE SET search_path = pg_catalog, pg_temp AS $$
+	SELECT format(CASE WHEN key_type LIKE 'numeric%' THEN 'trim_scale(%s)::text' ELSE '(%s)::text' END, key)
+$$;
+
 -- Creates or replaces what a declared table has: functions, triggers and the view. Journal and marks stay.
 CREATE OR REPLACE FUNCTION escrow.generate(it escrow.declared) RETURNS void
 LANGUAGE plpgsql SET search_path = pg_catalog, pg_temp AS $$
@@ -921,8 +959,10 @@ BEGIN
 			END LOOP;
 			IF escrow.lock_%1$s(which, true) IS NULL THEN
 				RETURN false;
+			ELSIF here_%1$s.epoch IS DISTINCT FROM (SELECT last_value FROM escrow.epoch) THEN
+				PERFORM escrow.refuse_stale();
 			ELSIF current_setting('transaction_isolation') = 'read committed' THEN
-				IF EXISTS (SELECT FROM escrow.held_%1$s AS h WHERE h.key = which AND h.epoch = (SELECT last_value FROM escrow.epoch)) THEN
+				IF EXISTS (SELECT FROM escrow.held_%1$s AS h WHERE h.key = which AND h.epoch = here_%1$s.epoch) OR escrow.is_held(%1$s, %6$s) THEN
 					RETURN false;
 				END IF;
 			ELSIF EXISTS (SELECT FROM escrow.held_%1$s AS h WHERE h.key = which) OR EXISTS (SELECT FROM escrow.journal_%1$s AS j WHERE j.key = which) THEN
@@ -930,10 +970,11 @@ BEGIN
 			END IF;
 			INSERT INTO escrow.journal_%1$s (epoch, tag, number, key, %5$s) VALUES (here_%1$s.epoch, here_%1$s.number, here_%1$s.number, which, %3$s);
 			PERFORM escrow.row_%1$s(which, true);
+			PERFORM set_config('escrow.here', pg_current_xact_id()::text, true); -- for escrow.hold
 			RETURN true;
 		END
 		$body$
-	$f$, n, it.key_type, texts[1], (SELECT relname FROM pg_class WHERE oid = it.relation), texts[10]);
+	$f$, n, it.key_type, texts[1], (SELECT relname FROM pg_class WHERE oid = it.relation), texts[10], escrow.key_text(it.key_type, 'which'));
 	EXECUTE format('ALTER FUNCTION escrow.here_%s OWNER TO escrow_journal', n);
 	-- Rule 14. Returns the row's values, or nothing if there is no such row.
 	EXECUTE format($f$
@@ -973,17 +1014,22 @@ BEGIN
 			IF sweep_%1$s.epoch IS DISTINCT FROM (SELECT last_value FROM escrow.epoch) THEN
 				PERFORM escrow.refuse_stale();
 			END IF;
-			FOR which IN SELECT h.key FROM escrow.held_%1$s AS h WHERE h.epoch <> sweep_%1$s.epoch ORDER BY h.key LIMIT most LOOP
+			-- A mark stays while a hold of its row stands.
+			FOR which IN SELECT h.key FROM escrow.held_%1$s AS h WHERE h.epoch <> sweep_%1$s.epoch
+				AND (NOT EXISTS (SELECT FROM escrow.hold_lines AS l WHERE l."table" = %1$s AND l.key = %3$s AND l.stands)
+					OR EXISTS (SELECT FROM escrow.journal_%1$s AS j WHERE j.key = h.key))
+				ORDER BY h.key LIMIT most
+			LOOP
 				IF escrow.row_%1$s(which, true) IS NOT NULL THEN
-					DELETE FROM escrow.held_%1$s AS h WHERE h.key = which AND h.epoch <> sweep_%1$s.epoch;
+					DELETE FROM escrow.held_%1$s AS h WHERE h.key = which AND h.epoch <> sweep_%1$s.epoch AND NOT escrow.is_held(%1$s, %3$s);
 					done := done + 1;
 				END IF;
 			END LOOP;
 			RETURN done;
 		END
 		$body$
-	$f$, n, it.key_type);
-	-- The key is no longer held. The caller knows that nothing of it is open.
+	$f$, n, it.key_type, escrow.key_text(it.key_type, 'h.key'));
+	-- The key is no longer held. The caller knows that nothing of it is open, but for holds: their mark stays.
 	EXECUTE format($f$
 		CREATE OR REPLACE FUNCTION escrow.leave_%1$s(which text) RETURNS boolean
 		LANGUAGE plpgsql SECURITY DEFINER SET search_path = pg_catalog, pg_temp AS $body$
@@ -991,11 +1037,11 @@ BEGIN
 			IF escrow.row_%1$s(which::%2$s, true) IS NULL THEN
 				RETURN false;
 			END IF;
-			DELETE FROM escrow.held_%1$s WHERE key = which::%2$s;
+			DELETE FROM escrow.held_%1$s AS h WHERE h.key = which::%2$s AND NOT escrow.is_held(%1$s, %3$s);
 			RETURN true;
 		END
 		$body$
-	$f$, n, it.key_type);
+	$f$, n, it.key_type, escrow.key_text(it.key_type, 'h.key'));
 	FOREACH kind IN ARRAY ARRAY['fold', 'load', 'leave', 'sweep'] LOOP
 		EXECUTE format('ALTER FUNCTION escrow.%1$s_%2$s OWNER TO escrow_journal; REVOKE ALL ON FUNCTION escrow.%1$s_%2$s FROM PUBLIC', kind, n);
 	END LOOP;
@@ -1030,6 +1076,7 @@ BEGIN
 						DETAIL = pg_catalog.format('The key is %%s.', OLD.%2$I), HINT = CASE WHEN %3$s THEN 'Connect to escrowd-proxy, which leaves a row that nobody has reserved.'
 							ELSE escrow.form() END;
 			END IF;
+			PERFORM pg_catalog.set_config('escrow.inserted', pg_catalog.pg_current_xact_id()::pg_catalog.text, true); -- for escrow.hold
 			RETURN NEW;
 		END
 		$body$
@@ -1069,7 +1116,322 @@ BEGIN
 		LEFT JOIN LATERAL (SELECT %4$s FROM escrow.journal_%5$s AS j WHERE j.key = t.%6$I) AS j ON true
 	$f$, view_name, texts[7], relation, texts[8], n, k);
 	EXECUTE format('ALTER VIEW %1$s OWNER TO %2$s; COMMENT ON VIEW %1$s IS %3$L', view_name, proprietor, n);
+	PERFORM escrow.generate_holds(it);
 	UPDATE escrow.declared AS d SET definition = (escrow.describe(it.relation, names)).definition WHERE d.number = n;
+END
+$$;
+
+-- HOLDS. A transaction moves its own rows of the journals into lines of a hold, and a later one moves them back. So a
+-- journal has just what is committed, and a line what somebody may still commit. A line that has ended stays until the
+-- owner has seen it: by it the owner knows what became of a note.
+
+-- The role that a client acts as: that of SET ROLE, or the one it logged in as. A function of the client's with rights of
+-- its own changes nothing of it.
+CREATE OR REPLACE FUNCTION escrow.caller() RETURNS regrole LANGUAGE sql STABLE SET search_path = pg_catalog, pg_temp AS $$
+	SELECT quote_ident(coalesce(nullif(current_setting('role'), 'none'), session_user))::regrole
+$$;
+
+-- Whether a standing hold has a line of a row.
+CREATE OR REPLACE FUNCTION escrow.is_held(table_number integer, which text) RETURNS boolean
+LANGUAGE sql STABLE SET search_path = pg_catalog, pg_temp AS $$
+	SELECT EXISTS (SELECT FROM escrow.hold_lines AS l WHERE l."table" = table_number AND l.key = which AND l.stands)
+$$;
+ALTER FUNCTION escrow.is_held OWNER TO escrow_journal;
+REVOKE ALL ON FUNCTION escrow.is_held FROM PUBLIC;
+
+-- Refuses a time that does not lie ahead.
+CREATE OR REPLACE FUNCTION escrow.end_of_hold(lasting interval) RETURNS timestamptz LANGUAGE plpgsql SET search_path = pg_catalog, pg_temp AS $$
+BEGIN
+	IF (lasting > '0') IS NOT TRUE THEN
+		RAISE EXCEPTION 'a hold needs a time above 0' USING ERRCODE = 'invalid_parameter_value';
+	END IF;
+	RETURN clock_timestamp() + lasting;
+END
+$$;
+
+-- Turns what its transaction has reserved so far into a hold. Returns until when it stands. The proxy asks for lines at the
+-- end of a transaction only if this connection has sent the function's name.
+CREATE OR REPLACE FUNCTION escrow.hold(name text, lasting interval) RETURNS timestamptz
+LANGUAGE plpgsql SECURITY DEFINER SET search_path = pg_catalog, pg_temp AS $$
+DECLARE
+	made bigint;
+	ends timestamptz := escrow.end_of_hold(lasting);
+	n integer;
+	moved integer;
+	count integer := 0;
+BEGIN
+	IF (position('escrow.hold' IN lower(current_query() COLLATE "C")) > 0) IS NOT TRUE THEN
+		RAISE EXCEPTION 'escrow.hold is not named in the statement of the client' USING ERRCODE = 'feature_not_supported',
+			HINT = 'If a function calls it, name it in a comment: SELECT checkout() /* escrow.hold */.';
+	ELSIF (octet_length(name) BETWEEN 1 AND 200) IS NOT TRUE THEN
+		RAISE EXCEPTION 'the name of a hold has 1 to 200 bytes' USING ERRCODE = 'invalid_parameter_value';
+	ELSIF current_setting('escrow.inserted', true) = pg_current_xact_id_if_assigned()::text THEN
+		RAISE EXCEPTION 'this transaction has changed a row that it has inserted, and that cannot be held' USING ERRCODE = 'feature_not_supported';
+	ELSIF current_setting('escrow.here', true) = pg_current_xact_id_if_assigned()::text THEN
+		RAISE EXCEPTION 'this transaction has changed a row without a reservation, and that cannot be held' USING ERRCODE = 'serialization_failure',
+			DETAIL = 'The row was locked, by this transaction or by another.', HINT = 'Repeat the transaction. Reserve before you lock the row.';
+	END IF;
+	PERFORM escrow.forbid_prepare();
+	INSERT INTO escrow.hold_names (name, maker, since, until) VALUES (hold.name, escrow.caller(), clock_timestamp(), ends)
+	ON CONFLICT DO NOTHING RETURNING number INTO made;
+	IF made IS NULL THEN
+		RAISE EXCEPTION 'hold "%" stands already', name USING ERRCODE = 'unique_violation';
+	END IF;
+	FOR n IN SELECT d.number FROM escrow.declared AS d ORDER BY d.number LOOP
+		EXECUTE format('SELECT escrow.hold_%s($1)', n) INTO moved USING made;
+		count := count + moved;
+	END LOOP;
+	IF count = 0 THEN
+		RAISE EXCEPTION 'this transaction has reserved nothing that could be held' USING ERRCODE = 'object_not_in_prerequisite_state';
+	END IF;
+	RETURN ends;
+END
+$$;
+
+-- Locks a standing hold, and returns it. Raises unless it stands and the caller may use it: as its maker, or as the owner
+-- of a table of its if that is enough. A hold that has ended is told by codes of their own.
+CREATE OR REPLACE FUNCTION escrow.standing(name text, may_own boolean) RETURNS escrow.hold_names
+LANGUAGE plpgsql SET search_path = pg_catalog, pg_temp AS $$
+DECLARE
+	it escrow.hold_names;
+BEGIN
+	SELECT * INTO it FROM escrow.hold_names AS h WHERE h.name = standing.name AND h.state = 'standing' FOR UPDATE;
+	IF it.number IS NULL THEN
+		SELECT * INTO it FROM escrow.hold_names AS h WHERE h.name = standing.name AND h.state <> 'standing' ORDER BY h.number DESC LIMIT 1;
+	END IF;
+	IF it.number IS NULL THEN
+		RAISE EXCEPTION 'hold "%" does not exist', name USING ERRCODE = 'undefined_object';
+	ELSIF NOT pg_has_role(escrow.caller(), it.maker, 'USAGE') AND NOT (may_own AND EXISTS (
+			SELECT FROM escrow.hold_lines AS l JOIN escrow.declared AS d ON d.number = l."table" JOIN pg_class AS c ON c.oid = d.relation
+			WHERE l.hold = it.number AND pg_has_role(escrow.caller(), c.relowner, 'USAGE'))) THEN
+		RAISE EXCEPTION 'permission denied for hold "%"', name USING ERRCODE = 'insufficient_privilege', DETAIL = format('It is of the role %s.', it.maker);
+	ELSIF it.state = 'taken' THEN
+		RAISE EXCEPTION 'hold "%" was taken already', name USING ERRCODE = '55H01';
+	ELSIF it.state = 'released' THEN
+		RAISE EXCEPTION 'hold "%" was released', name USING ERRCODE = '55H02';
+	ELSIF it.state = 'expired' OR it.until <= clock_timestamp() THEN
+		RAISE EXCEPTION 'the time of hold "%" is over', name USING ERRCODE = '55H03';
+	END IF;
+	RETURN it;
+END
+$$;
+ALTER FUNCTION escrow.standing OWNER TO escrow_journal;
+REVOKE ALL ON FUNCTION escrow.standing FROM PUBLIC;
+
+-- Ends the lines of a hold, and applies of each change so much, or all of it. Returns how many lines it were.
+CREATE OR REPLACE FUNCTION escrow.take_hold(name text, part numeric) RETURNS integer
+LANGUAGE plpgsql SET search_path = pg_catalog, pg_temp AS $$
+DECLARE
+	it escrow.hold_names := escrow.standing(name, false);
+	refused regclass;
+	sizes integer;
+	size numeric;
+	digits integer;
+	n integer;
+	count integer;
+BEGIN
+	PERFORM escrow.forbid_prepare();
+	SELECT min(d.relation::oid)::regclass INTO refused
+	FROM escrow.hold_lines AS l JOIN escrow.declared AS d ON d.number = l."table"
+	CROSS JOIN LATERAL jsonb_array_elements(d.columns) WITH ORDINALITY AS c (it, place)
+	WHERE l.hold = it.number AND l.changes[c.place] <> 0
+		AND NOT has_column_privilege(escrow.caller(), d.relation, (c.it->>'place')::smallint, 'UPDATE');
+	IF refused IS NOT NULL THEN
+		RAISE EXCEPTION 'permission denied for table %', refused USING ERRCODE = 'insufficient_privilege';
+	END IF;
+	IF part IS NOT NULL THEN
+		SELECT count(DISTINCT abs(l.changes[c.place])), max(abs(l.changes[c.place])), min((c.it->>'scale')::integer) INTO sizes, size, digits
+		FROM escrow.hold_lines AS l JOIN escrow.declared AS d ON d.number = l."table"
+		CROSS JOIN LATERAL jsonb_array_elements(d.columns) WITH ORDINALITY AS c (it, place)
+		WHERE l.hold = it.number AND l.changes[c.place] <> 0;
+		IF sizes <> 1 THEN
+			RAISE EXCEPTION 'hold "%" has changes of several sizes, so no part of it can be taken', name USING ERRCODE = 'invalid_parameter_value';
+		ELSIF NOT (part > 0 AND part <= size) OR scale(trim_scale(part)) > digits THEN
+			RAISE EXCEPTION '% is no part of hold "%"', part, name USING ERRCODE = 'invalid_parameter_value',
+				DETAIL = format('A part of it is above 0, at most %s, and has at most %s digits behind its point.', size, digits);
+		END IF;
+	END IF;
+	UPDATE escrow.hold_names AS h SET state = 'taken', ended = clock_timestamp() WHERE h.number = it.number;
+	UPDATE escrow.hold_lines AS l SET stands = false, taken = CASE WHEN part IS NULL THEN l.changes
+		ELSE ARRAY(SELECT sign(c) * part FROM unnest(l.changes) WITH ORDINALITY AS u (c, place) ORDER BY place) END
+	WHERE l.hold = it.number;
+	GET DIAGNOSTICS count = ROW_COUNT;
+	FOR n IN SELECT DISTINCT l."table" FROM escrow.hold_lines AS l WHERE l.hold = it.number ORDER BY 1 LOOP
+		EXECUTE format('SELECT escrow.apply_%s($1)', n) USING it.number;
+	END LOOP;
+	RETURN count;
+END
+$$;
+ALTER FUNCTION escrow.take_hold OWNER TO escrow_journal;
+REVOKE ALL ON FUNCTION escrow.take_hold FROM PUBLIC;
+
+-- Applies a hold with this transaction's COMMIT. Returns how many reservations it had.
+CREATE OR REPLACE FUNCTION escrow.take(name text) RETURNS integer
+LANGUAGE plpgsql SECURITY DEFINER SET search_path = pg_catalog, pg_temp AS $$
+BEGIN
+	RETURN escrow.take_hold(name, NULL);
+END
+$$;
+
+-- Applies so much of each change of a hold, whose changes have one size. The rest is free at the COMMIT.
+CREATE OR REPLACE FUNCTION escrow.take(name text, part numeric) RETURNS integer
+LANGUAGE plpgsql SECURITY DEFINER SET search_path = pg_catalog, pg_temp AS $$
+BEGIN
+	IF part IS NULL THEN
+		RAISE EXCEPTION 'the part of a hold is NULL' USING ERRCODE = 'null_value_not_allowed';
+	END IF;
+	RETURN escrow.take_hold(name, part);
+END
+$$;
+
+-- Drops a hold. Returns false if it was released before, or its time was over.
+CREATE OR REPLACE FUNCTION escrow.release(name text) RETURNS boolean
+LANGUAGE plpgsql SECURITY DEFINER SET search_path = pg_catalog, pg_temp AS $$
+DECLARE
+	it escrow.hold_names;
+BEGIN
+	it := escrow.standing(name, true);
+	UPDATE escrow.hold_names AS h SET state = 'released', ended = clock_timestamp() WHERE h.number = it.number;
+	UPDATE escrow.hold_lines AS l SET stands = false WHERE l.hold = it.number;
+	RETURN true;
+EXCEPTION WHEN SQLSTATE '55H02' OR SQLSTATE '55H03' THEN
+	RETURN false;
+END
+$$;
+
+-- Lets a hold stand for so long from now, if it does not stand longer. Returns until when it stands.
+CREATE OR REPLACE FUNCTION escrow.prolong(name text, lasting interval) RETURNS timestamptz
+LANGUAGE plpgsql SECURITY DEFINER SET search_path = pg_catalog, pg_temp AS $$
+DECLARE
+	it escrow.hold_names := escrow.standing(name, false);
+BEGIN
+	UPDATE escrow.hold_names AS h SET until = greatest(h.until, escrow.end_of_hold(lasting)) WHERE h.number = it.number RETURNING h.until INTO it.until;
+	RETURN it.until;
+END
+$$;
+ALTER FUNCTION escrow.hold OWNER TO escrow_journal;
+ALTER FUNCTION escrow.take(text) OWNER TO escrow_journal;
+ALTER FUNCTION escrow.take(text, numeric) OWNER TO escrow_journal;
+ALTER FUNCTION escrow.release OWNER TO escrow_journal;
+ALTER FUNCTION escrow.prolong OWNER TO escrow_journal;
+
+-- Holds that stand, one row for each change of a column: those of the caller's roles, or all for members of pg_monitor.
+CREATE OR REPLACE VIEW escrow.holds WITH (security_barrier) AS
+	SELECT h.name, d.relation, l.key, (c.it->>'name')::name AS "column", l.changes[c.place] AS change, h.since, h.until, h.maker
+	FROM escrow.hold_names AS h JOIN escrow.hold_lines AS l ON l.hold = h.number JOIN escrow.declared AS d ON d.number = l."table"
+	CROSS JOIN LATERAL jsonb_array_elements(d.columns) WITH ORDINALITY AS c (it, place)
+	WHERE h.state = 'standing' AND l.changes[c.place] <> 0
+		AND (pg_has_role(h.maker, 'USAGE') OR pg_has_role('pg_monitor', 'USAGE') OR pg_has_role('escrow_proxy', 'USAGE'));
+ALTER VIEW escrow.holds OWNER TO escrow_journal;
+GRANT SELECT ON escrow.holds TO PUBLIC;
+
+-- What the owner looks at. It forgets these lines, which have ended, and ends holds whose time is over, as many as take little
+-- time. Returns the lines of the notes of its epoch with these numbers, all of them, and others that have ended. It waits for
+-- no lock for long (rule 21).
+CREATE OR REPLACE FUNCTION escrow.look(owner bigint, epochs bigint[], forgotten bigint[], numbers bigint[])
+RETURNS TABLE (epoch bigint, number bigint, "table" integer, key text, stands boolean, taken text[])
+LANGUAGE plpgsql SECURITY DEFINER SET search_path = pg_catalog, pg_temp SET lock_timeout = '100ms' AS $$
+DECLARE
+	clock timestamptz := clock_timestamp(); -- no index serves a comparison with the function
+BEGIN
+	IF owner IS DISTINCT FROM (SELECT last_value FROM escrow.epoch) THEN
+		PERFORM escrow.refuse_stale();
+	END IF;
+	-- If one of these commits is lost, so is whatever came behind it.
+	PERFORM set_config('synchronous_commit', 'off', true);
+	IF cardinality(forgotten) > 0 THEN
+		DELETE FROM escrow.hold_lines AS l USING unnest(epochs, forgotten) AS f (epoch, number)
+		WHERE l.number = f.number AND l.epoch = f.epoch AND NOT l.stands;
+	END IF;
+	WITH over AS (
+		SELECT h.number FROM escrow.hold_names AS h WHERE h.state = 'standing' AND h.until <= clock
+		ORDER BY h.until LIMIT 500 FOR UPDATE SKIP LOCKED
+	), ended AS (
+		UPDATE escrow.hold_names AS h SET state = 'expired', ended = clock FROM over AS o WHERE h.number = o.number
+	)
+	UPDATE escrow.hold_lines AS l SET stands = false FROM over AS o WHERE l.hold = o.number;
+	DELETE FROM escrow.hold_names AS h WHERE h.number IN (
+		SELECT i.number FROM escrow.hold_names AS i WHERE i.state <> 'standing' AND i.ended < clock - interval '1 day' LIMIT 500);
+	RETURN QUERY SELECT l.epoch, l.number, l."table", l.key, l.stands, l.taken::text[] FROM escrow.hold_lines AS l
+		WHERE l.number = ANY (numbers) AND l.epoch = owner
+		UNION ALL (SELECT l.epoch, l.number, l."table", l.key, l.stands, l.taken::text[] FROM escrow.hold_lines AS l
+			WHERE NOT l.stands AND (l.epoch <> owner OR l.number <> ALL (numbers)) ORDER BY l.number LIMIT 2000);
+END
+$$;
+ALTER FUNCTION escrow.look OWNER TO escrow_journal;
+REVOKE ALL ON FUNCTION escrow.look FROM PUBLIC;
+GRANT EXECUTE ON FUNCTION escrow.look TO escrow_proxy;
+
+-- Creates or replaces what a declared table has for holds.
+CREATE OR REPLACE FUNCTION escrow.generate_holds(it escrow.declared) RETURNS void
+LANGUAGE plpgsql SET search_path = pg_catalog, pg_temp AS $$
+DECLARE
+	n integer := it.number;
+	places integer[] := ARRAY(SELECT generate_series(1, jsonb_array_length(it.columns)));
+	kind text;
+BEGIN
+	-- Moves the transaction's own rows of the journal into lines. Returns how many. A line that the transaction has taken
+	-- gets the new hold.
+	EXECUTE format($f$
+		CREATE OR REPLACE FUNCTION escrow.hold_%1$s(hold bigint) RETURNS integer
+		LANGUAGE plpgsql SECURITY DEFINER SET search_path = pg_catalog, pg_temp AS $body$
+		DECLARE
+			gone integer;
+			held integer;
+		BEGIN
+			WITH gone AS (
+				DELETE FROM escrow.journal_%1$s AS j WHERE age(j.xmin) <= 0 AND escrow.is_own(j.xmin) AND (%2$s)
+				RETURNING j.epoch, j.number, %3$s AS key, ARRAY[%4$s] AS changes
+			), held AS (
+				INSERT INTO escrow.hold_lines AS l (epoch, number, hold, "table", key, changes)
+				SELECT g.epoch, g.number, hold_%1$s.hold, %1$s, g.key, g.changes FROM gone AS g
+				ON CONFLICT ON CONSTRAINT hold_lines_pkey DO UPDATE SET hold = excluded.hold, stands = true, taken = NULL
+					WHERE l.changes = excluded.changes
+				RETURNING 1
+			)
+			SELECT (SELECT count(*) FROM gone), (SELECT count(*) FROM held) INTO gone, held;
+			IF gone <> held THEN
+				RAISE EXCEPTION 'what this transaction has taken in part cannot be held again' USING ERRCODE = 'feature_not_supported';
+			END IF;
+			RETURN held;
+		END
+		$body$
+	$f$, n, (SELECT string_agg(format('j.change_%s <> 0', i), ' OR ') FROM unnest(places) AS i), escrow.key_text(it.key_type, 'j.key'),
+		(SELECT string_agg('j.change_' || i, ', ') FROM unnest(places) AS i));
+	-- Moves what is taken of a hold into the journal.
+	EXECUTE format($f$
+		CREATE OR REPLACE FUNCTION escrow.apply_%1$s(hold bigint) RETURNS void
+		LANGUAGE plpgsql SECURITY DEFINER SET search_path = pg_catalog, pg_temp AS $body$
+		BEGIN
+			INSERT INTO escrow.journal_%1$s (epoch, tag, number, key, %2$s)
+			SELECT l.epoch, l.number, l.number, l.key::%3$s, %4$s FROM escrow.hold_lines AS l WHERE l.hold = apply_%1$s.hold AND l."table" = %1$s;
+		END
+		$body$
+	$f$, n, (SELECT string_agg('change_' || i, ', ') FROM unnest(places) AS i), it.key_type,
+		(SELECT string_agg(format('l.taken[%s]', i), ', ') FROM unnest(places) AS i));
+	-- Loads a row with the lines of it that stand. What is in the journal by the snapshot that shows the lines counts in the
+	-- row's values: so a hold that somebody takes meanwhile is a line or a part of the values, and never both.
+	EXECUTE format($f$
+		CREATE OR REPLACE FUNCTION escrow.open_%1$s(epoch bigint, which text, OUT loaded text[], OUT epochs bigint[], OUT numbers bigint[], OUT changes text[])
+		LANGUAGE plpgsql SECURITY DEFINER SET search_path = pg_catalog, pg_temp AS $body$
+		BEGIN
+			loaded := escrow.load_%1$s(epoch, which);
+			IF loaded IS NULL THEN
+				RETURN;
+			END IF;
+			SELECT j.loaded, l.epochs, l.numbers, l.changes INTO loaded, epochs, numbers, changes
+			FROM (SELECT ARRAY[%2$s] AS loaded FROM escrow.journal_%1$s AS j WHERE j.key = which::%3$s) AS j
+			CROSS JOIN (SELECT array_agg(l.epoch ORDER BY l.number, l.epoch) AS epochs, array_agg(l.number ORDER BY l.number, l.epoch) AS numbers,
+					array_agg(array_to_string(l.changes, ',') ORDER BY l.number, l.epoch) AS changes
+				FROM escrow.hold_lines AS l WHERE l."table" = %1$s AND l.key = %4$s AND l.stands) AS l;
+		END
+		$body$
+	$f$, n, (SELECT string_agg(format('(loaded[%1$s]::numeric + coalesce(sum(j.change_%1$s), 0))::%2$s::text', i, it.columns->(i - 1)->>'type'), ', ')
+			FROM unnest(places) AS i), it.key_type, escrow.key_text(it.key_type, format('which::%s', it.key_type)));
+	FOREACH kind IN ARRAY ARRAY['hold', 'apply', 'open'] LOOP
+		EXECUTE format('ALTER FUNCTION escrow.%1$s_%2$s OWNER TO escrow_journal; REVOKE ALL ON FUNCTION escrow.%1$s_%2$s FROM PUBLIC', kind, n);
+	END LOOP;
+	EXECUTE format('GRANT EXECUTE ON FUNCTION escrow.open_%s TO escrow_proxy', n);
 END
 $$;
 
@@ -1129,6 +1491,9 @@ BEGIN
 		RAISE EXCEPTION 'escrow.ordinary needs READ COMMITTED' USING ERRCODE = 'invalid_transaction_state';
 	END IF;
 	EXECUTE format('LOCK TABLE escrow.journal_%s IN ACCESS EXCLUSIVE MODE', n);
+	IF EXISTS (SELECT FROM escrow.hold_lines AS l WHERE l."table" = n AND l.stands) THEN
+		RAISE EXCEPTION 'holds of % stand', relation USING ERRCODE = 'object_in_use', HINT = 'Release them first: escrow.holds shows them.';
+	END IF;
 	FOR which IN EXECUTE format('SELECT DISTINCT key::text FROM escrow.journal_%s', n) LOOP
 		EXECUTE format('SELECT escrow.row_%s($1::%s, false)', n, (SELECT key_type FROM escrow.declared WHERE number = n)) USING which;
 	END LOOP;

@@ -16,9 +16,9 @@ use tokio_postgres::{Error, Statement};
 
 use crate::catalog::Catalog;
 use crate::hub::{FolderTask, Generation, Hub, HubEvent, Left, LoaderTask};
-use crate::protocol::Event;
+use crate::protocol::{Event, Line};
 use crate::target::{Session, Target};
-use crate::update::Key;
+use crate::update::{self, Change, Key};
 
 /// How long PostgreSQL may take to answer: many rows with slow triggers take long, and on a connection that the network has
 /// forgotten it never does.
@@ -419,7 +419,10 @@ pub async fn load(
             }
             None => return,
         };
-        let text = format!("SELECT escrow.load_{}($1, $2)", key.table);
+        let text = format!(
+            "SELECT loaded, epochs, numbers, changes FROM escrow.open_{}($1, $2)",
+            key.table
+        );
         let epoch = hub.epoch();
         let loaded = own.query(&text, &[&epoch, &&*key.text]).await;
         let values: Option<Vec<String>> = match &loaded {
@@ -427,7 +430,10 @@ pub async fn load(
             Err(_) => None,
         };
         match (loaded, values) {
-            (Ok(_), Some(values)) => hub.loaded(generation, key, &values),
+            (Ok(rows), Some(values)) => {
+                let lines = rows.first().map_or_else(Vec::new, lines);
+                hub.loaded(generation, key, &values, lines);
+            }
             (loaded, _) => {
                 let missing = match loaded {
                     Ok(_) => true,
@@ -444,6 +450,23 @@ pub async fn load(
             }
         }
     }
+}
+
+/// Reads the lines of holds that a row has.
+fn lines(row: &tokio_postgres::Row) -> Vec<(Line, Change)> {
+    let epochs: Option<Vec<i64>> = row.get(1);
+    let numbers: Option<Vec<i64>> = row.get(2);
+    let changes: Option<Vec<&str>> = row.get(3);
+    let lines = epochs.into_iter().flatten();
+    let lines = lines.zip(numbers.into_iter().flatten());
+    let changes = changes.into_iter().flatten();
+    lines
+        .zip(changes)
+        .map(|((epoch, number), changes)| {
+            let changes = changes.split(',').map(|it| Some(it.to_owned()));
+            (Line { epoch, number }, update::changes(changes))
+        })
+        .collect()
 }
 
 /// Removes the mark of a row that the server cannot have.

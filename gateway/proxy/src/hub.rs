@@ -15,8 +15,8 @@ use crate::json;
 use crate::metrics::{Metrics, Now};
 use crate::note::Secret;
 use crate::process::Lines;
-use crate::protocol::{Action, Answer, Connection, Event, Ownership, Protocol, Told};
-use crate::server::{Refusal, Said, Server};
+use crate::protocol::{Action, Answer, Connection, Event, Line, Ownership, Protocol, Told};
+use crate::server::{Lacks, Refusal, Said, Server};
 use crate::target::Address;
 use crate::update::{Change, Key};
 
@@ -129,6 +129,8 @@ struct State {
     /// Takes the server's lines. None: it is not started yet.
     lines: Option<Lines>,
     refusals: HashMap<Connection, Refusal>,
+    /// The lines of holds that rows have which the server is given.
+    arriving: HashMap<Key, Vec<(Line, Change)>>,
     /// When each transaction with reservations got its first one.
     since: HashMap<Connection, Instant>,
     /// The tables that alarms have stopped, by their numbers.
@@ -172,6 +174,7 @@ impl Hub {
                 generation: 1,
                 lines: None,
                 refusals: HashMap::new(),
+                arriving: HashMap::new(),
                 since: HashMap::new(),
                 stopped: BTreeMap::new(),
                 commits: 0,
@@ -430,8 +433,14 @@ impl Hub {
         self.take(&mut state, Event::Tick);
     }
 
-    /// Gives the server the row that was loaded.
-    pub fn loaded(&self, generation: Generation, key: Key, values: &[String]) {
+    /// Gives the server the row that was loaded, and remembers its lines of holds until the server has it.
+    pub fn loaded(
+        &self,
+        generation: Generation,
+        key: Key,
+        values: &[String],
+        lines: Vec<(Line, Change)>,
+    ) {
         let mut state = lock(&self.state);
         if state.generation != generation {
             return;
@@ -450,7 +459,10 @@ impl Hub {
             self.take(&mut state, Event::Leave { connection, key });
         }
         match refused {
-            None => state.write(),
+            None => {
+                state.arriving.insert(key, lines);
+                state.write();
+            }
             Some(why) => self.not_loaded(&state, key, &why),
         }
     }
@@ -485,9 +497,20 @@ impl Hub {
             }
             Said::Inserted(key) => {
                 self.metrics.loaded();
-                self.take(&mut state, Event::Loaded { key });
+                let lines = state.arriving.remove(&key).unwrap_or_default();
+                match state.server.has_room(lines.len()) {
+                    true => self.take(&mut state, Event::Loaded { key, lines }),
+                    false => {
+                        state.server.delete(&key);
+                        self.not_loaded(&state, key, "too many holds for its sessions");
+                        state.write();
+                    }
+                }
             }
-            Said::NotInserted(key, why) => self.not_loaded(&state, key, &why),
+            Said::NotInserted(key, why) => {
+                state.arriving.remove(&key);
+                self.not_loaded(&state, key, &why);
+            }
             Said::Nothing => {}
             Said::Broke(what) => {
                 tracing::error!("{}", what);
@@ -513,9 +536,21 @@ impl Hub {
         state.write();
     }
 
+    /// Alarms if the server lacks what it must have.
+    fn expect_all(&self, state: &mut State, done: Result<(), Lacks>) {
+        if let Err(lacks) = done {
+            tracing::error!("{}", lacks);
+            self.take(state, Event::ServerBroke);
+        }
+    }
+
     fn carry_out(&self, state: &mut State, action: Action<Key, Change>) {
         match action {
-            Action::TakeOwner | Action::SetEpoch | Action::EndHolders | Action::Ask(..) => {
+            Action::TakeOwner
+            | Action::SetEpoch
+            | Action::EndHolders
+            | Action::Ask(..)
+            | Action::Look { .. } => {
                 let _ = self.workers.keeper.send(KeeperTask::Do(action));
             }
             Action::RestartServer => {
@@ -523,6 +558,7 @@ impl Hub {
                 state.server = Server::new();
                 state.lines = None;
                 state.refusals.clear();
+                state.arriving.clear();
                 state.since.clear();
                 let _ = self.workers.starter.send(state.generation);
                 self.generations.send_replace(state.generation);
@@ -551,6 +587,25 @@ impl Hub {
                     self.metrics.ended(told == Told::Commit);
                 }
                 state.server.tell(connection, told);
+            }
+            Action::Keep {
+                connection,
+                committed,
+                kept,
+            } => {
+                if state.since.remove(&connection).is_some() {
+                    self.metrics.ended(true);
+                }
+                let done = state.server.keep(connection, &committed, kept);
+                self.expect_all(state, done);
+            }
+            Action::Reserve(lines) => {
+                let done = state.server.reserve(lines);
+                self.expect_all(state, done);
+            }
+            Action::End(lines) => {
+                let done = state.server.end_lines(lines);
+                self.expect_all(state, done);
             }
             Action::Grant(connection, key, change) => {
                 if !state.server.grant(connection, &key, &change) {

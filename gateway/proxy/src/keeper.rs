@@ -8,13 +8,14 @@ use std::time::Duration;
 use rand::Rng;
 use tokio::sync::mpsc::UnboundedReceiver;
 use tokio::time::{interval, timeout, MissedTickBehavior};
+use tokio_postgres::error::SqlState;
 
 use crate::hub::{Hub, KeeperTask};
 use crate::install::{self, WrongVersion};
 use crate::note::Secret;
-use crate::protocol::{Action, Event, Id, Verdict};
+use crate::protocol::{Action, Event, Fate, Id, Line, News, Verdict};
 use crate::target::{Address, LoginError, Session, Target};
-use crate::update::{Change, Key};
+use crate::update::{self, Change, Key};
 
 /// How often what was not done is tried again. The owner says something as often.
 pub const TICK: Duration = Duration::from_millis(200);
@@ -52,6 +53,13 @@ pub enum Error {
     /// What granted under this epoch is gone.
     #[error("the server has ended")]
     ServerEnded,
+}
+
+impl Error {
+    /// Returns whether a lock could not be had in time.
+    fn is_lock(&self) -> bool {
+        matches!(self, Error::Postgres(error) if error.code() == Some(&SqlState::LOCK_NOT_AVAILABLE))
+    }
 }
 
 /// Who may still commit a note of an older epoch.
@@ -155,6 +163,41 @@ impl Keeper {
         rows.iter()
             .map(|row| verdict(row.get::<_, Option<&str>>(0)))
             .collect()
+    }
+
+    /// Looks what has become of holds. `done` is forgotten, and `asked` are notes of its epoch that may be lines of holds.
+    pub async fn look(
+        &self,
+        done: &[Line],
+        asked: &[Line],
+    ) -> Result<Vec<News<Key, Change>>, Error> {
+        let query =
+            "SELECT epoch, number, \"table\", key, stands, taken FROM escrow.look($1, $2, $3, $4)";
+        let epochs: Vec<i64> = done.iter().map(|line| line.epoch).collect();
+        let numbers: Vec<i64> = done.iter().map(|line| line.number).collect();
+        let asked: Vec<i64> = asked.iter().map(|line| line.number).collect();
+        let values: [&(dyn tokio_postgres::types::ToSql + Sync); 4] =
+            [&self.epoch, &epochs, &numbers, &asked];
+        let rows = in_time(self.client.query(query, &values)).await?;
+        let news = rows.into_iter().map(|row| {
+            let epoch: i64 = row.get(0);
+            let number = row.get(1);
+            let taken: Option<Vec<Option<String>>> = row.get(5);
+            News {
+                line: Line { epoch, number },
+                key: Key {
+                    table: row.get(2),
+                    text: row.get::<_, &str>(3).into(),
+                },
+                fate: match (row.get(4), taken) {
+                    (true, _) => Fate::Stands,
+                    (false, Some(taken)) => Fate::Taken(update::changes(taken)),
+                    (false, None) => Fate::Free,
+                },
+                is_ours: epoch == self.epoch,
+            }
+        });
+        Ok(news.collect())
     }
 
     /// Says something, so that it is not taken for silent.
@@ -295,6 +338,14 @@ async fn carry_out(
                 verdicts,
             });
         }
+        Action::Look { done, asked } => match open.look(&done, &asked).await {
+            Ok(news) => hub.handle(Event::Looked { news }),
+            Err(error) if error.is_lock() => {
+                tracing::debug!("holds cannot be looked at: {error}");
+                hub.handle(Event::LookFailed);
+            }
+            Err(error) => return Err(error),
+        },
         _ => {}
     }
     Ok(())

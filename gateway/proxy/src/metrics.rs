@@ -57,6 +57,7 @@ pub struct Metrics {
     is_owner: IntGauge,
     connections: IntGauge,
     open: IntGauge,
+    holds: IntGauge,
     held: IntGauge,
     pending: IntGauge,
     stopped: IntGauge,
@@ -117,6 +118,10 @@ impl Metrics {
             open: gauge(
                 "escrowd_proxy_reservations",
                 "Reservations of open transactions.",
+            )?,
+            holds: gauge(
+                "escrowd_proxy_holds",
+                "Reservations of holds, of rows that the proxy has loaded.",
             )?,
             held: gauge("escrowd_proxy_rows_held", "Rows that the proxy has loaded.")?,
             pending: gauge(
@@ -223,6 +228,7 @@ impl Metrics {
             Alarm::FoldRefused => "fold_refused",
             Alarm::NoPrefix => "no_prefix",
             Alarm::ServerBroke => "server_broke",
+            Alarm::HoldUnseen => "hold_unseen",
         };
         self.alarms.with_label_values(&[kind]).inc();
     }
@@ -234,6 +240,7 @@ impl Metrics {
             .set((now.ownership == Ownership::Serving).into());
         self.connections.set(whole(now.connections));
         self.open.set(whole(now.counts.reservations));
+        self.holds.set(whole(now.counts.holds));
         self.held.set(whole(now.counts.rows));
         self.pending.set(whole(now.counts.pending));
         self.stopped.set(whole(now.counts.stopped));
@@ -367,6 +374,7 @@ mod tests {
             rows: 5,
             pending: 2,
             reservations: 7,
+            holds: 4,
             commits: 0,
             stopped: 1,
         },
@@ -397,6 +405,7 @@ mod tests {
             "escrowd_proxy_owner 1",
             "escrowd_proxy_connections 3",
             "escrowd_proxy_reservations 7",
+            "escrowd_proxy_holds 4",
             "escrowd_proxy_rows_held 5",
             "escrowd_proxy_rows_pending 2",
             "escrowd_proxy_tables_stopped 1",

@@ -10,13 +10,15 @@
 
 mod clients;
 mod folds;
+mod holds;
 #[cfg(test)]
 mod tests;
 
 use std::collections::{BTreeMap, BTreeSet};
 
-use clients::{Client, Stage};
+use clients::{Client, Kept, Looks, Stage};
 use folds::Folds;
+use holds::{Holds, LEAVES, MANY};
 
 /// The most savepoints that the server keeps of a session.
 pub const MARKS: u32 = 64;
@@ -41,6 +43,40 @@ pub struct Id(pub u64);
 /// A savepoint of the proxy's own in a session of the server, from 1. One of the same number replaces it.
 #[derive(Clone, Copy, Debug, PartialEq, Eq, PartialOrd, Ord, Hash)]
 pub struct Mark(pub u32);
+
+/// A note, by the epoch in which it was granted and by its number there. If its transaction has left it as a part of a hold,
+/// a line of that hold in PostgreSQL has both.
+#[derive(Clone, Copy, Debug, PartialEq, Eq, PartialOrd, Ord, Hash)]
+pub struct Line {
+    /// The epoch.
+    pub epoch: i64,
+    /// The number of the note.
+    pub number: i64,
+}
+
+/// What has become of a line of a hold.
+#[derive(Clone, Copy, Debug, PartialEq, Eq, Hash)]
+pub enum Fate<C> {
+    /// It stands: somebody may take it.
+    Stands,
+    /// It was taken, and so much of it is committed.
+    Taken(C),
+    /// It was released, or its time is over.
+    Free,
+}
+
+/// What a look has found out about a line.
+#[derive(Clone, Debug, PartialEq, Eq)]
+pub struct News<K, C> {
+    /// The line.
+    pub line: Line,
+    /// Its row.
+    pub key: K,
+    /// What has become of it.
+    pub fate: Fate<C>,
+    /// Whether it was granted in this epoch.
+    pub is_ours: bool,
+}
 
 /// What `pg_xact_status` says of an id.
 #[derive(Clone, Copy, Debug, PartialEq, Eq, Hash)]
@@ -118,6 +154,8 @@ pub enum Event<K: Row, C> {
     Loaded {
         /// Its key.
         key: K,
+        /// The lines of holds that stand, by the snapshot in which it was read.
+        lines: Vec<(Line, C)>,
     },
     /// There is no such row, or it cannot be locked in time.
     NotLoaded {
@@ -198,7 +236,23 @@ pub enum Event<K: Row, C> {
         connection: Connection,
         /// What wrote its row.
         id: Id,
+        /// By which it is known if it becomes a part of a hold.
+        line: Line,
     },
+    /// The client's message names the functions of holds.
+    Names {
+        /// Whose.
+        connection: Connection,
+        /// Whether they may run by it.
+        runs: bool,
+    },
+    /// The answer to [`Action::Look`].
+    Looked {
+        /// What was found.
+        news: Vec<News<K, C>>,
+    },
+    /// A look was not possible, since somebody has locked what it needs. The next [`Event::Tick`] tries again.
+    LookFailed,
     /// PostgreSQL has answered the note by an error.
     NoteFailed {
         /// Whose.
@@ -274,6 +328,8 @@ pub enum Alarm {
     NoPrefix,
     /// The server has refused what it must do.
     ServerBroke,
+    /// A transaction has left a hold, and was taken for committed.
+    HoldUnseen,
 }
 
 /// What a session of the server is told, beside reservations. It never refuses these.
@@ -296,8 +352,10 @@ pub struct Counts {
     pub rows: usize,
     /// Rows with committed changes that are not folded yet.
     pub pending: usize,
-    /// Open reservations.
+    /// Open reservations of transactions.
     pub reservations: usize,
+    /// Open reservations of holds.
+    pub holds: usize,
     /// Transactions with reservations that were committed and left to the folder in this epoch.
     pub commits: u64,
     /// Tables that an alarm has stopped.
@@ -329,6 +387,26 @@ pub enum Action<K: Row, C> {
     Note(Connection, K, C),
     /// Ask for the outcome of these ids on the keeper.
     Ask(Connection, Vec<Id>),
+    /// Look on the keeper what has become of holds, once these lines are forgotten, which have ended.
+    Look {
+        /// What is forgotten.
+        done: Vec<Line>,
+        /// Notes that may have become lines of a hold.
+        asked: Vec<Line>,
+    },
+    /// End a transaction in the server: commit these changes, keep those reserved, and give back the rest.
+    Keep {
+        /// Whose session it is.
+        connection: Connection,
+        /// What is committed.
+        committed: Vec<(K, C)>,
+        /// What is kept.
+        kept: Vec<(Line, K, C)>,
+    },
+    /// Reserve lines of holds, whose row was loaded. The server never refuses one.
+    Reserve(Vec<(Line, K, C)>),
+    /// End lines of holds in the server, and commit so much of each, or nothing.
+    End(Vec<(Line, Option<C>)>),
     /// Answer the client's UPDATE, and relay on; send the Sync if the UPDATE is a transaction by itself (rule 3).
     Answer(Connection, Answer),
     /// Give the client the ReadyForQuery that was kept back.
@@ -369,6 +447,7 @@ pub struct Protocol<K: Row, C> {
     folds: Folds<K>,
     /// The tables that an alarm has stopped, until an operator lets them go on.
     stopped: BTreeSet<K::Table>,
+    holds: Holds<K, C>,
     #[cfg(test)]
     pub(crate) fault: Option<Fault>,
 }
@@ -385,6 +464,10 @@ pub(crate) enum Fault {
     RollbackUnseen,
     /// Rule 9: nobody is waited for.
     NoWait,
+    /// Rule 23: what has committed is told the server, also if it was left as a hold.
+    HoldUnseen,
+    /// Rule 24: a row's holds are not reserved when it is loaded.
+    HoldsForgotten,
 }
 
 impl<K: Row, C: Clone> Default for Protocol<K, C> {
@@ -404,6 +487,7 @@ impl<K: Row, C: Clone> Protocol<K, C> {
             leaving: BTreeMap::new(),
             folds: Folds::new(),
             stopped: BTreeSet::new(),
+            holds: Holds::new(),
             #[cfg(test)]
             fault: None,
         }
@@ -420,6 +504,7 @@ impl<K: Row, C: Clone> Protocol<K, C> {
             rows: self.loaded.len(),
             pending: self.folds.len(),
             reservations: self.clients.values().map(Client::reservations).sum(),
+            holds: self.holds.len(),
             commits: self.folds.commits(),
             stopped: self.stopped.len(),
         }
@@ -432,7 +517,7 @@ impl<K: Row, C: Clone> Protocol<K, C> {
 
     /// Returns whether nothing is open: no request, no reservation, no outcome and no fold.
     pub fn is_quiet(&self) -> bool {
-        self.clients.values().all(Client::is_idle) && self.folds.is_empty()
+        self.clients.values().all(Client::is_idle) && self.folds.is_empty() && self.holds.is_quiet()
     }
 
     /// Returns all that is reserved, and by whom.
@@ -506,9 +591,10 @@ impl<K: Row, C: Clone> Protocol<K, C> {
             Event::Holders { any } => self.look(any, &mut actions),
             Event::KeeperLost => self.reset(&mut actions),
             Event::Tick => self.tick(&mut actions),
-            Event::Loaded { key } => {
+            Event::Loaded { key, lines } => {
                 if self.loading.contains_key(&key) {
                     self.loaded.insert(key.clone());
+                    self.reserve_holds(&key, lines, &mut actions);
                     self.loads_end(&key, None, &mut actions);
                 }
             }
@@ -566,7 +652,17 @@ impl<K: Row, C: Clone> Protocol<K, C> {
             Event::Refused { connection } => {
                 self.refused(connection, Answer::Refused, &mut actions);
             }
-            Event::Noted { connection, id } => self.noted(connection, id, &mut actions),
+            Event::Noted {
+                connection,
+                id,
+                line,
+            } => self.noted(connection, id, line, &mut actions),
+            Event::Names { connection, runs } => {
+                let client = self.clients.entry(connection).or_insert_with(Client::new);
+                client.names(runs);
+            }
+            Event::Looked { news } => self.looked(news, &mut actions),
+            Event::LookFailed => self.holds.give_up_look(),
             Event::NoteFailed { connection } => self.note_failed(connection, &mut actions),
             Event::Completed { connection, tag } => self.completed(connection, tag),
             Event::Failed { connection } => self.completed(connection, Tag::Other),
@@ -608,7 +704,12 @@ impl<K: Row, C: Clone> Protocol<K, C> {
                 actions.push(Action::Close(connection));
             }
         }
-        self.clients.clear();
+        // What a connection has named holds for it to its end.
+        self.clients.retain(|_, client| {
+            client.take_looks();
+            !client.is_lost && client.is_idle() && client.may_hold()
+        });
+        self.holds = Holds::new();
         self.loaded.clear();
         self.loading.clear();
         for connection in std::mem::take(&mut self.leaving).into_values().flatten() {
@@ -628,7 +729,10 @@ impl<K: Row, C: Clone> Protocol<K, C> {
             Ownership::Standby | Ownership::Elsewhere => actions.push(Action::TakeOwner),
             Ownership::Raised => actions.push(Action::EndHolders),
             Ownership::Owning | Ownership::Stopped => {}
-            Ownership::Serving => self.fold(true, actions),
+            Ownership::Serving => {
+                self.fold(true, actions);
+                self.look_at_holds(true, actions);
+            }
         }
         for (&connection, client) in &mut self.clients {
             if let Some(ids) = client.ask_again() {
@@ -701,7 +805,7 @@ impl<K: Row, C: Clone> Protocol<K, C> {
             Ownership::Standby | Ownership::Owning | Ownership::Raised => return,
         }
         // Rule 5: the server must hold what is alive.
-        if client.is_ending() {
+        if client.is_ending() || client.must_look() {
             return;
         }
         if client.is_unsure() {
@@ -739,7 +843,8 @@ impl<K: Row, C: Clone> Protocol<K, C> {
 
     /// Holds a row no longer, if nobody has reserved it, asks for it, or may still commit a change of it (event 16).
     fn leave(&mut self, connection: Option<Connection>, key: K, actions: &mut Vec<Action<K, C>>) {
-        let is_wanted = self.clients.values().any(|client| client.wants(&key));
+        let is_wanted =
+            self.holds.has_row(&key) || self.clients.values().any(|client| client.wants(&key));
         let may_leave =
             self.ownership == Ownership::Serving && !is_wanted && !self.is_stopped(&key);
         if may_leave && self.loaded.remove(&key) {
@@ -800,12 +905,18 @@ impl<K: Row, C: Clone> Protocol<K, C> {
     }
 
     /// Rule 3: only now may something be sent that commits it.
-    fn noted(&mut self, connection: Connection, id: Id, actions: &mut Vec<Action<K, C>>) {
+    fn noted(
+        &mut self,
+        connection: Connection,
+        id: Id,
+        line: Line,
+        actions: &mut Vec<Action<K, C>>,
+    ) {
         let client = match self.clients.get_mut(&connection) {
             Some(client) if client.is_at(Stage::Noting) => client,
             _ => return,
         };
-        if client.hold(id) {
+        if client.hold(id, line) {
             actions.push(Action::Answer(connection, Answer::Reserved));
         } else {
             // A subtransaction that no tag has told of: its fate may differ from that of its mark.
@@ -859,8 +970,16 @@ impl<K: Row, C: Clone> Protocol<K, C> {
         #[cfg(test)]
         let is_plain = is_plain || self.fault == Some(Fault::EndByTag) && client.ends_with_commit();
         client.next_cycle();
+        let has_run = status == Status::Idle && client.take_run();
         match status {
-            Status::Idle if client.is_free() => self.deliver(connection, actions),
+            Status::Idle if client.is_free() => {
+                if has_run && self.ownership == Ownership::Serving && client.look_for(Looks::News) {
+                    self.holds.wait(connection);
+                    self.look_at_holds(false, actions);
+                } else {
+                    self.deliver(connection, actions);
+                }
+            }
             Status::Idle => {
                 client.end();
                 if is_plain {
@@ -938,12 +1057,131 @@ impl<K: Row, C: Clone> Protocol<K, C> {
         self.advance(connection, actions);
     }
 
+    /// Begins a look for what has become of holds, if it is due or somebody waits for it.
+    fn look_at_holds(&mut self, is_due: bool, actions: &mut Vec<Action<K, C>>) {
+        if self.ownership != Ownership::Serving {
+            return;
+        }
+        if let Some((done, who)) = self.holds.begin(is_due) {
+            let clients = who.iter().filter_map(|it| self.clients.get(it));
+            let asked = clients.flat_map(Client::lines).collect();
+            actions.push(Action::Look { done, asked });
+        }
+    }
+
+    /// Reserves the lines of a row that was loaded, before anything else of it is granted (rule 24).
+    fn reserve_holds(&mut self, key: &K, lines: Vec<(Line, C)>, actions: &mut Vec<Action<K, C>>) {
+        #[cfg(test)]
+        if self.fault == Some(Fault::HoldsForgotten) {
+            return;
+        }
+        if lines.is_empty() {
+            return;
+        }
+        let mut all = Vec::with_capacity(lines.len());
+        for (line, change) in lines {
+            self.holds.keep(line, key.clone(), change.clone());
+            all.push((line, key.clone(), change));
+        }
+        actions.push(Action::Reserve(all));
+    }
+
+    /// Takes what a look has found. Lines of transactions that have ended tell what became of these; lines that the server
+    /// has kept end there (rules 23 and 25).
+    fn looked(&mut self, news: Vec<News<K, C>>, actions: &mut Vec<Action<K, C>>) {
+        let who = self.holds.looked();
+        let undecided: BTreeSet<Line> = self.clients.values().flat_map(Client::lines).collect();
+        let mut ends = Vec::new();
+        let mut fates = BTreeMap::new();
+        let mut taken = BTreeSet::new();
+        let mut unheld = BTreeSet::new();
+        for News {
+            line,
+            key,
+            fate,
+            is_ours,
+        } in news
+        {
+            if undecided.contains(&line) {
+                fates.insert(line, fate);
+            } else if self.holds.has(&line) {
+                let change = match fate {
+                    Fate::Stands => continue,
+                    Fate::Taken(change) => Some(change),
+                    Fate::Free => None,
+                };
+                if change.is_some() {
+                    taken.insert(key);
+                }
+                self.holds.end(&line);
+                self.holds.forget([line]);
+                ends.push((line, change));
+            } else if is_ours {
+                return self.alarm(Alarm::HoldUnseen, actions);
+            } else if !self.loading.contains_key(&key) {
+                // The row's load has not shown the line: what was taken may be in its journal still.
+                self.holds.forget([line]);
+                if !self.loaded.contains(&key) {
+                    unheld.insert(key);
+                } else if matches!(fate, Fate::Taken(_)) {
+                    taken.insert(key);
+                }
+            }
+        }
+        let is_more = ends.len() >= MANY;
+        if !ends.is_empty() {
+            actions.push(Action::End(ends));
+        }
+        for key in unheld {
+            // Its journal is folded, and its mark goes with its last hold. A table that is stopped is swept when it goes on.
+            let may_leave = self.leaving.len() < LEAVES && !self.is_stopped(&key);
+            if may_leave && !self.leaving.contains_key(&key) {
+                self.leaving.insert(key.clone(), None);
+                actions.push(Action::Leave(key));
+            }
+        }
+        let taken: Vec<K> = taken.into_iter().collect();
+        let stopped = &self.stopped;
+        let may_be_folded = |key: &K| !stopped.contains(&key.table());
+        if !taken.is_empty() {
+            self.folds.committed(taken.clone(), None, may_be_folded);
+        }
+        for connection in who {
+            match self.clients.get_mut(&connection).map(Client::take_looks) {
+                Some(Looks::Fates) => {
+                    if let Some(client) = self.clients.get_mut(&connection) {
+                        client.tell_fates(&mut fates);
+                    }
+                    self.settle(connection, actions);
+                    self.advance(connection, actions);
+                }
+                Some(Looks::News) => {
+                    // What it has taken itself is among these.
+                    let stopped = &self.stopped;
+                    let may_be_folded = |key: &K| !stopped.contains(&key.table());
+                    if !self.folds.wait(taken.clone(), connection, may_be_folded) {
+                        self.deliver(connection, actions);
+                    }
+                    self.settle(connection, actions);
+                }
+                Some(Looks::Nothing) | None => {}
+            }
+        }
+        self.fold(false, actions);
+        self.holds.end_look();
+        self.look_at_holds(is_more, actions);
+    }
+
     /// Tells the server what is decided: what is dead goes, and an ended transaction whose outcomes are all known ends.
     fn settle(&mut self, connection: Connection, actions: &mut Vec<Action<K, C>>) {
         let client = match self.clients.get_mut(&connection) {
             Some(client) => client,
             None => return,
         };
+        #[cfg(test)]
+        if self.fault == Some(Fault::HoldUnseen) {
+            client.tell_fates(&mut BTreeMap::new());
+        }
         match client.settle() {
             Ok(settled) => {
                 actions.extend(
@@ -952,6 +1190,22 @@ impl<K: Row, C: Clone> Protocol<K, C> {
                         .into_iter()
                         .map(|told| Action::Tell(connection, told)),
                 );
+                if settled.needs_look {
+                    self.holds.wait(connection);
+                    self.look_at_holds(false, actions);
+                    return;
+                }
+                if let Some(Kept { committed, lines }) = settled.kept {
+                    for (line, key, change) in &lines {
+                        self.holds.keep(*line, key.clone(), change.clone());
+                    }
+                    actions.push(Action::Keep {
+                        connection,
+                        committed,
+                        kept: lines,
+                    });
+                }
+                self.holds.forget(settled.done);
                 let is_lost = client.is_lost;
                 let is_gone = is_lost && client.is_idle();
                 if !settled.folded.is_empty() {

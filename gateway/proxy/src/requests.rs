@@ -17,7 +17,7 @@ use crate::frames::{self, Frames};
 use crate::hub::{Hub, Mail};
 use crate::own::{self, Value};
 use crate::parameters::Parameters;
-use crate::protocol::Connection;
+use crate::protocol::{Connection, Event};
 use crate::relay::{Shared, CHUNK};
 use crate::script::{self, Piece};
 use crate::stream::{Reader, Writer};
@@ -194,8 +194,12 @@ impl<'a> Requests<'a> {
         if is_first {
             let nameless = String::new;
             match bytes.first() {
-                Some(b'Q') => self.expect(Expect::Query),
+                Some(b'Q') => {
+                    self.names_holds(false);
+                    self.expect(Expect::Query);
+                }
                 Some(b'P') => {
+                    self.names_holds(false);
                     self.shared.track().forget_statements();
                     self.expect(Expect::Parse(nameless(), None));
                 }
@@ -234,7 +238,11 @@ impl<'a> Requests<'a> {
                 if contains(parse.text, b"escrow.reservations") {
                     self.show().await?;
                 }
-                let statement = self.statement(parse.text);
+                let mut statement = self.statement(parse.text);
+                if names_holds(parse.text) {
+                    self.names_holds(false);
+                    statement = statement.or(Some(Statement::Holds));
+                }
                 let types = parse.types;
                 let prepared = statement.map(|statement| Arc::new(Prepared { statement, types }));
                 self.pass(&bytes, Expect::Parse(parse.name.to_owned(), prepared));
@@ -296,6 +304,10 @@ impl<'a> Requests<'a> {
                         self.pass(&bytes, Expect::Execute);
                     }
                     Some((_, Statement::Commit)) => self.commit(Sent::Execute(&bytes)).await?,
+                    Some((_, Statement::Holds)) => {
+                        self.names_holds(true);
+                        self.pass(&bytes, Expect::Execute);
+                    }
                     None => self.pass(&bytes, Expect::Execute),
                 }
             }
@@ -315,6 +327,7 @@ impl<'a> Requests<'a> {
     /// Passes a message that is laid out wrongly. PostgreSQL answers it by an error.
     fn unknown(&mut self, kind: u8, bytes: &[u8]) -> Result<(), Error> {
         self.shared.track().forget_statements();
+        self.names_holds(false);
         let name = String::new();
         match kind {
             b'Q' => self.expect(Expect::Query),
@@ -365,6 +378,16 @@ impl<'a> Requests<'a> {
         Ok(())
     }
 
+    /// Tells the hub that the client names the functions of holds, or may do so, and whether they may run by that. From then
+    /// on each of its transactions may leave a hold (rule 23).
+    fn names_holds(&self, runs: bool) {
+        let connection = self.connection;
+        self.hub.handle(Event::Names { connection, runs });
+        if runs {
+            self.shared.engage();
+        }
+    }
+
     /// Reads a text that the proxy looks at.
     fn statement(&self, text: &[u8]) -> Option<Statement> {
         Statement::read(self.known_text(text)?)
@@ -383,6 +406,9 @@ impl<'a> Requests<'a> {
         self.check_text(text)?;
         if let Some(wait) = asks_to_wait(text) {
             self.shared.set_wait(wait);
+        }
+        if names_holds(text) {
+            self.names_holds(true);
         }
         if let Some(pieces) = self.pieces(text) {
             return self.string(&pieces).await;
@@ -404,7 +430,7 @@ impl<'a> Requests<'a> {
                 Ok(())
             }
             Some(Statement::Commit) => self.commit(Sent::Query(bytes)).await,
-            None => {
+            Some(Statement::Holds) | None => {
                 if contains(text, b"escrow.reservations") {
                     self.show().await?;
                     if self.shared.track().is_skipping() {
@@ -638,6 +664,14 @@ impl<'a> Requests<'a> {
 fn contains(text: &[u8], word: &[u8]) -> bool {
     text.windows(word.len())
         .any(|it| it.eq_ignore_ascii_case(word))
+}
+
+/// Returns whether a text names the functions of holds, as `escrow.hold` looks for its own name in it.
+fn names_holds(text: &[u8]) -> bool {
+    contains(text, b"escrow.")
+        && ["hold", "take", "release", "prolong"]
+            .iter()
+            .any(|name| contains(text, format!("escrow.{name}").as_bytes()))
 }
 
 /// Reads `SET escrow.wait = off` and its like. None: it is another text.

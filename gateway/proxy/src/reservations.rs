@@ -16,7 +16,7 @@ use crate::hub::Mail;
 use crate::note::{Grant, Noted, Secret};
 use crate::own::{self, Value};
 use crate::parameters::Parameters;
-use crate::protocol::{Answer, Event, Status};
+use crate::protocol::{Answer, Event, Line, Status};
 use crate::refusals::{words, Words};
 use crate::requests::{End, OwnReply, Requests, Rest, Sent};
 use crate::server::Refusal;
@@ -603,7 +603,12 @@ impl Requests<'_> {
                 let noted = row.first().and_then(Option::as_deref);
                 let noted = noted.and_then(|bytes| Noted::read(bytes, &proved.answer));
                 let Noted { id, has_folded } = noted.ok_or(Error::Forged)?;
-                self.hub.handle(Event::Noted { connection, id });
+                let line = Line { epoch, number };
+                self.hub.handle(Event::Noted {
+                    connection,
+                    id,
+                    line,
+                });
                 if has_folded {
                     self.hub.handle(Event::OwnFolded { connection });
                 }

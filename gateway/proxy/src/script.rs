@@ -96,6 +96,6 @@ fn is_about(statement: &Statement, catalog: &Catalog) -> bool {
             tables.any(|table| form.plan(table).is_some())
         }
         Statement::Delete(deletion) => catalog.named(deletion.table_name()).next().is_some(),
-        Statement::Deallocate(_) | Statement::Commit => false,
+        Statement::Deallocate(_) | Statement::Commit | Statement::Holds => false,
     }
 }

@@ -4,15 +4,15 @@
 //! transaction at its first reservation, and free again as soon as its end is on the way.
 
 use std::collections::hash_map::Entry;
-use std::collections::{HashMap, VecDeque};
+use std::collections::{BTreeMap, BTreeSet, HashMap, VecDeque};
 use std::sync::Arc;
 use std::time::{Duration, Instant};
 
-use escrowd_pg::limits::ROWS;
+use escrowd_pg::limits::{RESERVATIONS, ROWS};
 use escrowd_pg::reply::{self, Broken, Done, Outcome};
 
 use crate::catalog::{Column, Table};
-use crate::protocol::{Connection, Told};
+use crate::protocol::{Connection, Line, Told};
 use crate::update::{Change, Key};
 
 /// How long a transaction waits for a session, since it may hold locks (rule 21).
@@ -27,12 +27,17 @@ const OWN: u16 = 1;
 /// How many sessions the server has. So one transaction less may have reservations at a time.
 pub const SESSIONS: u16 = 4_096;
 
+/// How many bins there are before holds share one, if there is room.
+const BINS: usize = SESSIONS as usize / 2;
+
 /// What the server was asked.
 #[derive(Clone, Debug, PartialEq, Eq)]
 enum Asked {
     /// A change of a row of the table of this number.
     Grant(Connection, i32),
     Told(Told),
+    /// What is reserved in another session than before, which it cannot refuse.
+    Again,
     Create(i32),
     Insert(Key),
     Delete(Key),
@@ -87,6 +92,22 @@ struct Made {
     is_refused: bool,
 }
 
+/// What a session keeps of holds.
+type Bin = Vec<Kept>;
+
+/// A line of a hold.
+struct Kept {
+    line: Line,
+    key: Key,
+    /// What reserves it.
+    statement: String,
+}
+
+/// A row that is to be reserved, and that it does not have.
+#[derive(Clone, Debug, PartialEq, Eq, thiserror::Error)]
+#[error("the server lacks what a hold needs (table {}, key {})", .0.table, .0.text)]
+pub struct Lacks(pub Key);
+
 /// A transaction that waits for a session.
 struct Waiting {
     connection: Connection,
@@ -101,6 +122,12 @@ pub struct Server {
     free: Vec<u16>,
     seats: HashMap<Connection, u16>,
     waiting: VecDeque<Waiting>,
+    /// The sessions that keep lines of holds.
+    bins: BTreeMap<u16, Bin>,
+    /// The bins by how many lines they have.
+    sizes: BTreeSet<(usize, u16)>,
+    /// In which bin each line is.
+    places: HashMap<Line, u16>,
     tables: HashMap<i32, Made>,
     /// Counts what is asked, as a clock of rows.
     clock: u64,
@@ -122,6 +149,9 @@ impl Server {
             free: (OWN + 1..=SESSIONS).rev().collect(),
             seats: HashMap::new(),
             waiting: VecDeque::new(),
+            bins: BTreeMap::new(),
+            sizes: BTreeSet::new(),
+            places: HashMap::new(),
             tables: HashMap::new(),
             clock: 0,
             lines: Vec::new(),
@@ -181,6 +211,9 @@ impl Server {
 
     /// Sends the first line of a transaction, as soon as there is a session.
     fn begin(&mut self, connection: Connection, asked: Asked, statement: String) {
+        if self.free.is_empty() {
+            self.merge();
+        }
         match self.free.pop() {
             Some(seat) => {
                 self.seats.insert(connection, seat);
@@ -194,24 +227,26 @@ impl Server {
         }
     }
 
+    /// Returns the statement that changes a row. None: it has no such row.
+    fn update(&mut self, key: &Key, change: &Change) -> Option<String> {
+        self.clock += 1;
+        let made = self.tables.get_mut(&key.table)?;
+        let (row, used) = made.rows.get_mut(&key.text)?;
+        *used = self.clock;
+        let changes = assignments(change);
+        Some(format!(
+            "UPDATE T{} SET {changes} WHERE K = {row}",
+            key.table
+        ))
+    }
+
     /// Asks for a change of a row that it has. Returns false if it has no such row.
     #[must_use]
     pub fn grant(&mut self, connection: Connection, key: &Key, change: &Change) -> bool {
-        self.clock += 1;
-        let made = self.tables.get_mut(&key.table);
-        let row = match made.and_then(|made| made.rows.get_mut(&key.text)) {
-            Some((row, used)) => {
-                *used = self.clock;
-                *row
-            }
+        let statement = match self.update(key, change) {
+            Some(statement) => statement,
             None => return false,
         };
-        let statement = format!(
-            "UPDATE T{} SET {} WHERE K = {}",
-            key.table,
-            assignments(change),
-            row
-        );
         let asked = Asked::Grant(connection, key.table);
         match self.seats.get(&connection) {
             Some(&seat) => self.send(seat, asked, &statement),
@@ -224,6 +259,155 @@ impl Server {
             }
         }
         true
+    }
+
+    /// Ends a transaction: commits these changes, and keeps these lines. All of it was reserved, so it is granted again: nothing
+    /// comes between these lines of the server's.
+    pub fn keep(
+        &mut self,
+        connection: Connection,
+        committed: &[(Key, Change)],
+        kept: Vec<(Line, Key, Change)>,
+    ) -> Result<(), Lacks> {
+        let seat = match self.seats.remove(&connection) {
+            Some(seat) => seat,
+            // Nothing of it was granted.
+            None => {
+                let all = committed.iter().map(|it| &it.0);
+                let mut all = all.chain(kept.iter().map(|it| &it.1));
+                return all.next().map_or(Ok(()), |key| Err(Lacks(key.clone())));
+            }
+        };
+        let kept = self.lines(kept)?;
+        let changes = committed.iter().map(|(key, change)| (key, change));
+        self.end_and_commit(seat, changes)?;
+        let bin = match kept.is_empty() {
+            true => None,
+            false => self.choose(kept.len(), Some(seat)),
+        };
+        if let Some(bin) = bin {
+            self.fill(bin, kept);
+        }
+        if bin != Some(seat) {
+            self.freed(seat);
+        }
+        Ok(())
+    }
+
+    /// Returns whether there is room for so many lines of holds more.
+    pub fn has_room(&self, count: usize) -> bool {
+        let left = self.sizes.iter().map(|(size, _)| RESERVATIONS - size);
+        left.sum::<usize>() + self.free.len() * RESERVATIONS >= count
+    }
+
+    /// Reserves lines of holds.
+    pub fn reserve(&mut self, lines: Vec<(Line, Key, Change)>) -> Result<(), Lacks> {
+        for line in self.lines(lines)? {
+            let bin = self.choose(1, None);
+            let bin = bin.ok_or_else(|| Lacks(line.key.clone()))?;
+            self.fill(bin, vec![line]);
+        }
+        Ok(())
+    }
+
+    /// Returns lines as a bin keeps them.
+    fn lines(&mut self, lines: Vec<(Line, Key, Change)>) -> Result<Bin, Lacks> {
+        let kept = lines
+            .into_iter()
+            .map(|(line, key, change)| match self.update(&key, &change) {
+                Some(statement) => Ok(Kept {
+                    line,
+                    key,
+                    statement,
+                }),
+                None => Err(Lacks(key)),
+            });
+        kept.collect()
+    }
+
+    /// Ends lines of holds, and commits so much of each, or nothing. The others of a bin are reserved again: nothing comes
+    /// between.
+    pub fn end_lines(&mut self, ends: Vec<(Line, Option<Change>)>) -> Result<(), Lacks> {
+        let mut bins: BTreeMap<u16, HashMap<Line, Option<Change>>> = BTreeMap::new();
+        for (line, change) in ends {
+            if let Some(bin) = self.places.remove(&line) {
+                bins.entry(bin).or_default().insert(line, change);
+            }
+        }
+        for (seat, ended) in bins {
+            let bin = self.bins.remove(&seat).unwrap_or_default();
+            self.sizes.remove(&(bin.len(), seat));
+            let (gone, kept): (Bin, Bin) =
+                bin.into_iter().partition(|it| ended.contains_key(&it.line));
+            let taken = gone.iter().filter_map(|it| {
+                let change = ended.get(&it.line)?.as_ref()?;
+                Some((&it.key, change))
+            });
+            self.end_and_commit(seat, taken)?;
+            match kept.is_empty() {
+                true => self.freed(seat),
+                false => self.fill(seat, kept),
+            }
+        }
+        Ok(())
+    }
+
+    /// Gives back all that a session has reserved, and commits these changes in it.
+    fn end_and_commit<'a>(
+        &mut self,
+        seat: u16,
+        changes: impl Iterator<Item = (&'a Key, &'a Change)>,
+    ) -> Result<(), Lacks> {
+        self.send(seat, Asked::Told(Told::Rollback), "ROLLBACK");
+        let mut has_changes = false;
+        for (key, change) in changes {
+            let statement = self.update(key, change).ok_or_else(|| Lacks(key.clone()))?;
+            self.send(seat, Asked::Again, &statement);
+            has_changes = true;
+        }
+        if has_changes {
+            self.send(seat, Asked::Told(Told::Commit), "COMMIT");
+        }
+        Ok(())
+    }
+
+    /// Chooses the bin of so many lines: a session of its own while there are few, then the emptiest bin. `own` is a session
+    /// that has just become free.
+    fn choose(&mut self, count: usize, own: Option<u16>) -> Option<u16> {
+        let room = self.sizes.iter().next().copied();
+        let shared = room.filter(|(size, _)| size + count <= RESERVATIONS);
+        match shared {
+            Some((_, seat)) if self.bins.len() >= BINS => Some(seat),
+            _ => own
+                .or_else(|| self.free.pop())
+                .or_else(|| shared.map(|(_, seat)| seat)),
+        }
+    }
+
+    /// Puts the lines of the emptiest bin into the next one, if they fit, so that a session is free.
+    fn merge(&mut self) {
+        let mut sizes = self.sizes.iter().copied();
+        if let (Some((few, from)), Some((more, to))) = (sizes.next(), sizes.next()) {
+            if few + more <= RESERVATIONS {
+                let lines = self.bins.remove(&from).unwrap_or_default();
+                self.sizes.remove(&(few, from));
+                self.send(from, Asked::Told(Told::Rollback), "ROLLBACK");
+                self.fill(to, lines);
+                self.free.push(from);
+            }
+        }
+    }
+
+    /// Reserves lines in a bin.
+    fn fill(&mut self, seat: u16, lines: Bin) {
+        for it in &lines {
+            self.send(seat, Asked::Again, &it.statement);
+            self.places.insert(it.line, seat);
+        }
+        let bin = self.bins.entry(seat).or_default();
+        self.sizes.remove(&(bin.len(), seat));
+        bin.extend(lines);
+        self.sizes.insert((bin.len(), seat));
     }
 
     /// Returns who has waited too long for a session, and lets them wait no longer.
@@ -324,6 +508,7 @@ impl Server {
                     None => Said::Broke(format!("a reservation was answered {:?}", line)),
                 }
             }
+            (Asked::Again, Some(Outcome::Done(Done::Reserved))) => Said::Nothing,
             (Asked::Told(told), Some(Outcome::Done(done))) if is_done(told, done) => Said::Nothing,
             (Asked::Create(_), Some(Outcome::Done(Done::Created))) => Said::Nothing,
             (Asked::Create(number), Some(Outcome::Refused(_))) => {

@@ -49,6 +49,8 @@ pub(crate) enum Without {
     Epoch,
     /// Rule 11: a fold takes one row of the journal.
     WholeFolds,
+    /// Rule 24: a row's value and its holds are read by two snapshots.
+    OneSnapshot,
 }
 
 /// Counts what a run has seen.
@@ -63,6 +65,9 @@ struct Seen {
     lost_commits: u64,
     takeovers: u64,
     stale_notes: u64,
+    holds: u64,
+    taken: u64,
+    reserved_again: u64,
 }
 
 impl std::ops::AddAssign for Seen {
@@ -76,6 +81,9 @@ impl std::ops::AddAssign for Seen {
         self.lost_commits += other.lost_commits;
         self.takeovers += other.takeovers;
         self.stale_notes += other.stale_notes;
+        self.holds += other.holds;
+        self.taken += other.taken;
+        self.reserved_again += other.reserved_again;
     }
 }
 
@@ -176,7 +184,8 @@ impl World {
         if serving != 1 {
             return Err(format!("{} proxies serve", serving));
         }
-        self.proxies.iter().try_for_each(|it| it.server.rested())
+        let mut proxies = self.proxies.iter();
+        proxies.try_for_each(|it| it.server.rested(&self.postgres))
     }
 }
 
@@ -214,6 +223,7 @@ fn no_step_breaks_the_invariant() {
     println!("{} steps: {:?}", runs * RUN, seen);
     assert!(seen.committed > runs && seen.lost_commits > 0 && seen.stale_notes > 0);
     assert!(seen.questions > runs && seen.takeovers > runs && seen.folds > runs);
+    assert!(seen.holds > runs && 4 * seen.taken > runs && 8 * seen.reserved_again > runs);
 }
 
 #[test]
@@ -223,10 +233,13 @@ fn a_rule_that_is_taken_away_is_missed() {
         Without::Rule(Fault::EndByTag),
         Without::Rule(Fault::RollbackUnseen),
         Without::Rule(Fault::NoWait),
+        Without::Rule(Fault::HoldUnseen),
+        Without::Rule(Fault::HoldsForgotten),
         Without::AnsweredNotes,
         Without::PostgresFirst,
         Without::Epoch,
         Without::WholeFolds,
+        Without::OneSnapshot,
     ];
     for without in rules {
         // What comes at rest may be a fault of the relay that was changed.

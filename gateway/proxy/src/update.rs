@@ -39,6 +39,14 @@ impl Row for Key {
 /// What each reservable column changes by, as text. None: it does not change.
 pub type Change = Arc<[Option<String>]>;
 
+/// Reads changes as PostgreSQL has them in a hold: 0 is none.
+pub fn changes(all: impl IntoIterator<Item = Option<String>>) -> Change {
+    let is_none = |text: &String| text.bytes().all(|byte| matches!(byte, b'0' | b'.' | b'-'));
+    all.into_iter()
+        .map(|it| it.filter(|text| !is_none(text)))
+        .collect()
+}
+
 /// A text that the proxy looks at.
 #[derive(Clone, Debug, PartialEq, Eq)]
 pub enum Statement {
@@ -50,6 +58,8 @@ pub enum Statement {
     Deallocate(String),
     /// COMMIT, and nothing else.
     Commit,
+    /// One that names the functions of holds.
+    Holds,
 }
 
 /// A DELETE of rows by their key. PostgreSQL serves it, once the row is no longer held.

@@ -32,6 +32,8 @@ TABLES = (
     "CREATE TABLE stock (id integer PRIMARY KEY, title text NOT NULL, pieces integer NOT NULL CONSTRAINT in_stock CHECK (pieces >= 0))",
     "CREATE TABLE orders (key text PRIMARY KEY, item integer NOT NULL REFERENCES stock, pieces integer NOT NULL)",
     "CREATE TABLE receipts (of_order text NOT NULL REFERENCES orders DEFERRABLE INITIALLY DEFERRED)",
+    "CREATE TABLE carts (key text PRIMARY KEY, item integer NOT NULL REFERENCES stock, pieces integer NOT NULL)",
+    "CREATE FUNCTION pay(name text) RETURNS integer LANGUAGE plpgsql AS 'BEGIN RETURN escrow.take(name); END'",
     "CREATE PROCEDURE finish(fails boolean) LANGUAGE plpgsql AS 'BEGIN COMMIT; IF fails THEN PERFORM 1 / 0; END IF; END'",
     *(f"INSERT INTO stock VALUES ({key}, 'item {key}', {pieces})" for key, pieces in START.items()),
 )
@@ -432,6 +434,82 @@ def further_forms(till: Till) -> None:
         till.insert(till.order.kept[-1])
         if till.run("UPDATE stock SET pieces = pieces - %s WHERE id IN (%s, %s)", line.pieces, line.item, other.item).rowcount != 2:
             raise NotRefused("not two rows")
+    till.commit()
+
+
+# The kinds of transaction that need schema escrow.
+WITH_ESCROW = ("held",)
+# How long a hold stands: the first are over before anybody takes it.
+SHORT, LONG = "20 milliseconds", "5 seconds"
+TIME_IS_OVER = "55H03"
+
+
+def hold(till: Till, name: str, lasting: str) -> None:
+    """Makes a hold of what the transaction has reserved."""
+    if till.draw.random() < 0.5:
+        till.run(f"SELECT escrow.hold('{name}', interval '{lasting}')")
+    else:
+        till.run("SELECT escrow.hold(%s, %s::interval)", name, lasting)
+
+
+def fill_cart(till: Till, line: Line, lasting: str) -> None:
+    """Writes a cart and holds its pieces, in one transaction. Other pieces of it may be taken back, or taken and given again."""
+    till.begin()
+    till.run("INSERT INTO carts VALUES (%s, %s, %s)", *line)
+    way = till.draw.randrange(4)
+    if way == 0:
+        till.run("SAVEPOINT a")
+        till.take(line.item, 1)
+        hold(till, line.key, lasting)
+        till.run("ROLLBACK TO a")
+    till.take(line.item, line.pieces)
+    hold(till, line.key, lasting)
+    if way == 1:
+        till.take(line.item, 1)
+        till.take(line.item, -1)
+    elif way == 2:
+        till.run("SELECT escrow.take(%s)", line.key)
+        hold(till, line.key, lasting)
+    till.commit()
+
+
+@kind(15)
+def held(till: Till) -> None:
+    """A cart is held in one transaction, and bought in another one, by whoever: whole or in part. Or it is released, or its time is over."""
+    line = till.order.line(till.draw)
+    if not till.order.is_first:
+        till.begin()
+        till.insert(line)  # an earlier try has ended, and has not bought it
+        till.run("ROLLBACK")
+    try:
+        hold_and_buy(till, line)
+    except psycopg.Error as error:
+        if error.sqlstate != TIME_IS_OVER:
+            raise
+        till.run("ROLLBACK")
+        take_back(till.order)
+
+
+def hold_and_buy(till: Till, line: Line) -> None:
+    """Fills a cart, and releases or buys it."""
+    try:
+        fill_cart(till, line, till.draw.choice((SHORT, LONG, LONG, LONG)))
+    except errors.UniqueViolation:
+        till.run("ROLLBACK")  # an earlier try has left it
+    till.order.is_sent = False
+    way = till.draw.randrange(10)
+    if way == 0:
+        take_back(till.order)
+        till.run("SELECT escrow.release(%s)", line.key)
+        return
+    part = 1 if way < 4 and abs(line.pieces) == 2 else 0
+    till.order.kept = [Line(line.key, line.item, line.pieces // 2 if part else line.pieces)]
+    till.begin()
+    till.insert(till.order.kept[0])
+    if part:
+        till.run("SELECT escrow.take(%s, %s)", line.key, part)
+    else:
+        till.run(till.draw.choice(("SELECT escrow.take(%s)", "SELECT pay(%s)")), line.key)
     till.commit()
 
 

@@ -29,6 +29,22 @@ def bare() -> Iterator[Tuple[Cluster]]:
 
 
 PART = SharedPart("proxy_install", bare)
+VERSION = 2
+
+# What version 1 lacks.
+WITHOUT_HOLDS = """DO $do$
+DECLARE
+	function regprocedure;
+BEGIN
+	UPDATE escrow.declared SET definition = '{}'; -- the event trigger lets it alone
+	DROP TABLE escrow.hold_names, escrow.hold_lines CASCADE;
+	FOR function IN SELECT oid FROM pg_proc WHERE pronamespace = 'escrow'::regnamespace
+		AND proname ~ '^(hold|apply|open)_[0-9]+$|^(hold|take|take_hold|release|prolong|look|is_held|caller|end_of_hold|generate_holds|key_text)$' LOOP
+		EXECUTE format('DROP FUNCTION %s', function);
+	END LOOP;
+	CREATE OR REPLACE FUNCTION escrow.version() RETURNS integer LANGUAGE sql IMMUTABLE AS 'SELECT 1';
+END
+$do$"""
 
 
 def run(*words: str) -> Tuple[int, str, str]:
@@ -70,23 +86,27 @@ def scripts_are_printed(cluster: Cluster) -> None:
 @PART.case
 def a_version_is_installed_kept_and_brought_up(cluster: Cluster) -> None:
     expect(apply(cluster, "uninstall"), 0, "schema escrow is not installed\n")
-    assert apply(cluster, "install") == (0, "schema escrow is installed, version 1\n")
+    assert apply(cluster, "install") == (0, f"schema escrow is installed, version {VERSION}\n")
     cluster.run("CREATE TABLE stock (id int PRIMARY KEY, pieces int NOT NULL CHECK (pieces >= 0))", "INSERT INTO stock VALUES (1, 10)",
                 "SELECT escrow.reservable('stock', 'pieces')")
     secret = one(cluster, "SELECT key FROM escrow.secret")
     before = one(cluster, OBJECTS)
-    expect(apply(cluster, "install"), 0, "schema escrow had version 1, its functions are made anew\n")
-    cluster.run("CREATE OR REPLACE FUNCTION escrow.version() RETURNS integer LANGUAGE sql IMMUTABLE AS 'SELECT 0'")
-    expect(apply(cluster, "install"), 0, "schema escrow is brought from version 0 to version 1\n")
+    expect(apply(cluster, "install"), 0, f"schema escrow had version {VERSION}, its functions are made anew\n")
+    functions = "SELECT array_agg(oid::regprocedure::text ORDER BY oid::regprocedure::text) FROM pg_proc WHERE pronamespace = 'escrow'::regnamespace"
+    made = one(cluster, functions)
+    cluster.run(WITHOUT_HOLDS)
+    expect(apply(cluster, "install"), 0, f"schema escrow is brought from version 1 to version {VERSION}\n")
     assert (one(cluster, "SELECT key FROM escrow.secret"), one(cluster, OBJECTS)) == (secret, before)
-    cluster.run("CREATE OR REPLACE FUNCTION escrow.version() RETURNS integer LANGUAGE sql IMMUTABLE AS 'SELECT 2'")
-    expect(apply(cluster, "install"), 1, "schema escrow has version 2, which is newer than 1")
+    assert one(cluster, functions) == made
+    assert one(cluster, "SELECT count(*) FROM escrow.holds") == (0,)
+    cluster.run(f"CREATE OR REPLACE FUNCTION escrow.version() RETURNS integer LANGUAGE sql IMMUTABLE AS 'SELECT {VERSION + 1}'")
+    expect(apply(cluster, "install"), 1, f"schema escrow has version {VERSION + 1}, which is newer than {VERSION}")
     assert one(cluster, OBJECTS) == before
 
 
 @PART.case
 def what_fails_changes_nothing(cluster: Cluster) -> None:
-    cluster.run("CREATE OR REPLACE FUNCTION escrow.version() RETURNS integer LANGUAGE sql IMMUTABLE AS 'SELECT 1'", "CREATE ROLE buyer LOGIN")
+    cluster.run(f"CREATE OR REPLACE FUNCTION escrow.version() RETURNS integer LANGUAGE sql IMMUTABLE AS 'SELECT {VERSION}'", "CREATE ROLE buyer LOGIN")
     before = one(cluster, OBJECTS)
     for act in ("install", "uninstall"):
         status, said = apply(cluster, act, "buyer")
@@ -107,7 +127,7 @@ def a_running_proxy_keeps_the_schema(cluster: Cluster) -> None:
         cluster.run("CREATE OR REPLACE FUNCTION escrow.version() RETURNS integer LANGUAGE sql IMMUTABLE AS 'SELECT 0'")
         expect(apply(cluster, "install"), 1, "an escrowd-proxy is running\nHINT: Stop it first.")
     with Proxy(cluster) as proxy:
-        wait_until("the proxy tells", lambda: "schema escrow has version 0, and this program needs 1" in proxy.said())
+        wait_until("the proxy tells", lambda: f"schema escrow has version 0, and this program needs {VERSION}" in proxy.said())
     assert apply(cluster, "install")[0] == 0
 
 

@@ -1,5 +1,5 @@
 #!/usr/bin/env python3
-"""Types what docs/proxy.md shows of psql into two psqls at a proxy, and compares what their terminals show."""
+"""Types what docs/proxy.md shows of psql into two psqls at a proxy, and compares what their terminals show. Runs what docs/proxy-holds.md shows."""
 from __future__ import annotations
 
 import difflib
@@ -12,13 +12,14 @@ import psycopg
 from clients.servers import wait_until
 from clients.suite import Part, main
 from clients.with_pages import DATABASE, Terminal
-from proxy.test.harness import TOP, Proxy
+from proxy.test.harness import TOP, Proxy, installed
 from proxy.test.standin import ROLE, SQL, Cluster, of_proxy
 
 PART = Part("proxy_page")
-PAGE = TOP.parent / "docs/proxy.md"
+PAGE, HOLDS = TOP.parent / "docs/proxy.md", TOP.parent / "docs/proxy-holds.md"
 # A block of a page behind the number of its psql.
 BLOCK = re.compile(r"<!-- psql (\d) -->\n```\n(.*?)```\n", re.DOTALL)
+SQL_BLOCK = re.compile(r"```sql\n(.*?)```\n", re.DOTALL)
 TYPED = re.compile(rf"{DATABASE}[=-][*!]?> (.*)")
 
 
@@ -83,6 +84,28 @@ def is_known(proxy: Proxy) -> bool:
         except psycopg.errors.FeatureNotSupported:
             return False
     return True
+
+
+@PART.alone
+def what_the_page_on_holds_shows_runs() -> None:
+    """A transaction holds two pieces, and one of another connection buys them, over the page's tables."""
+    with installed() as (cluster,), Proxy(cluster) as proxy:
+        cluster.run("CREATE TABLE carts (id integer PRIMARY KEY, person text, pieces integer)", "CREATE TABLE orders (LIKE carts INCLUDING ALL)",
+                    "CREATE TABLE stock (id integer PRIMARY KEY, pieces integer NOT NULL CHECK (pieces >= 0))", "INSERT INTO stock VALUES (5, 10)",
+                    "SELECT escrow.reservable('stock', 'pieces')")
+        held, bought = SQL_BLOCK.findall(HOLDS.read_text())
+        with proxy.connect() as it:
+            for statement in held.rstrip(";\n").split(";"):
+                it.execute(statement.encode())
+        with cluster.connect() as it:
+            found = it.execute('SELECT name, relation::text, key, "column", change FROM escrow.holds').fetchall()
+            assert found == [("cart-17", "stock", "5", "pieces", -2)], found
+        with proxy.connect() as it:
+            for statement in bought.rstrip(";\n").split(";"):
+                it.execute(statement.encode())
+        with cluster.connect() as it:
+            found = it.execute("SELECT s.pieces, o.person, o.pieces, (SELECT count(*) FROM escrow.holds) FROM stock AS s, orders AS o").fetchall()
+            assert found == [(8, "ada", 2, 0)], found
 
 
 if __name__ == "__main__":

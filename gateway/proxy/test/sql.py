@@ -789,12 +789,12 @@ def nobody_calls_what_is_not_theirs(cluster: Cluster) -> None:
     query = """SELECT proname FROM pg_proc WHERE pronamespace = 'escrow'::regnamespace AND has_function_privilege('buyer2', oid, 'EXECUTE') AND prosecdef
                ORDER BY proname"""
     same([name for name, in owner.keeper.execute(query.encode())],
-         sorted(["greet", "reservable", "ordinary", "keep_declared",
+         sorted(["greet", "reservable", "ordinary", "hold", "take", "take", "release", "prolong", "keep_declared",
                  *(f"{it}_{n}" for it in ("note", "direct", "here", "own", "guard", "keep"))]))
     query = """SELECT relname FROM pg_class WHERE relnamespace = 'escrow'::regnamespace AND relkind IN ('r', 'v', 'S')
                AND (has_any_column_privilege('buyer2', oid, 'SELECT')
         OR has_table_privilege('buyer2', oid, 'INSERT, UPDATE, DELETE, TRUNCATE'))"""
-    same([name for name, in owner.keeper.execute(query.encode())], ["declared"])
+    same(sorted(name for name, in owner.keeper.execute(query.encode())), ["declared", "holds"])
     without_path = """SELECT proname FROM pg_proc WHERE pronamespace = 'escrow'::regnamespace AND prosecdef
                       AND NOT coalesce(proconfig, '{}') && ARRAY['search_path=pg_catalog, pg_temp'] ORDER BY proname"""
     same([name for name, in owner.keeper.execute(without_path.encode())], [f"{name}_{n}" for name in PATHLESS])

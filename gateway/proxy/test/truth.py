@@ -35,7 +35,7 @@ from psycopg import errors
 
 from clients.servers import PATIENCE, PORT, children, wait_until
 from clients.suite import Part, expect, main
-from proxy.test.buyers import ALONE, KINDS, TABLES, Line
+from proxy.test.buyers import ALONE, KINDS, TABLES, WITH_ESCROW, Line
 from proxy.test.harness import TOP, Forwarder, Proxy, Standby
 from proxy.test.standin import Cluster
 
@@ -292,8 +292,10 @@ class Scene:
     def buying(self, seed: int, kinds: Sequence[str] = (), is_careless: bool = False) -> Iterator["Said"]:
         """Starts the buyers over empty orders. At its end they have ended."""
         self.section += 1
-        self.cluster.run("TRUNCATE receipts, orders, base", "INSERT INTO base SELECT id, pieces FROM stock")
+        self.cluster.run("TRUNCATE receipts, orders, carts, base", "INSERT INTO base SELECT id, pieces FROM stock")
         said = Said(Lines(self.cluster.folder / f"said-{self.section}"))
+        if not self.wanted and not kinds:
+            kinds = [it for it in KINDS if it not in WITH_ESCROW]
         more = [*(["--careless"] if is_careless else []), *(["--kinds", *kinds] if kinds else []), "--"]
         words = [sys.executable, "-B", "-m", "proxy.test.buyers"]
         buyers = [
@@ -315,6 +317,7 @@ class Scene:
     def examine(self, said: Said) -> List[str]:
         """Returns what is wrong, once the buyers have ended."""
         if self.wanted:
+            self.wait("no hold stands", lambda: self.alarms() or not self.ask("SELECT FROM escrow.hold_lines LIMIT 1"))
             self.wait("the journals are empty, and nothing is reserved", lambda: self.alarms() or self.is_folded() and self.is_decided())
         found = self.found()
         wrong = wrongs(said, found, may_lose=self.is_lazy and self.crashes > 0) + self.alarms()

@@ -1,8 +1,8 @@
 //! What a proxy knows of one client's transaction.
 
-use std::collections::BTreeSet;
+use std::collections::{BTreeMap, BTreeSet};
 
-use super::{Alarm, Id, Mark, Tag, Told, Verdict, MARKS};
+use super::{Alarm, Fate, Id, Line, Mark, Tag, Told, Verdict, MARKS};
 
 /// Where a request is.
 #[derive(Clone, Copy, Debug, PartialEq, Eq)]
@@ -33,8 +33,29 @@ struct Reservation<K, C> {
     key: K,
     change: C,
     id: Id,
+    line: Line,
     mark: Mark,
     verdict: Verdict,
+}
+
+/// For which look at holds a connection waits.
+#[derive(Clone, Copy, Debug, Default, PartialEq, Eq)]
+pub(super) enum Looks {
+    /// For none.
+    #[default]
+    Nothing,
+    /// For one that shows what it may have taken or released.
+    News,
+    /// For one that shows which of its notes have become lines of holds.
+    Fates,
+}
+
+/// What becomes of a transaction that has left holds.
+pub(super) struct Kept<K, C> {
+    /// The changes that are committed.
+    pub(super) committed: Vec<(K, C)>,
+    /// What stays reserved.
+    pub(super) lines: Vec<(Line, K, C)>,
 }
 
 /// What the replies since the last ReadyForQuery said.
@@ -55,7 +76,7 @@ struct Question {
 }
 
 /// What the server is told of a transaction.
-pub(super) struct Settled<K> {
+pub(super) struct Settled<K, C> {
     pub(super) told: Vec<Told>,
     /// The keys whose changes have committed, without those that the transaction has folded itself.
     pub(super) committed: Vec<K>,
@@ -63,6 +84,12 @@ pub(super) struct Settled<K> {
     pub(super) folded: Vec<K>,
     /// Whether a transaction that had ended is over in the server too.
     pub(super) is_over: bool,
+    /// Whether it has committed, and a look has to show whether it has left holds.
+    pub(super) needs_look: bool,
+    /// What it has left as holds, if it has.
+    pub(super) kept: Option<Kept<K, C>>,
+    /// Its lines that have ended already.
+    pub(super) done: Vec<Line>,
 }
 
 /// A client's connection.
@@ -87,6 +114,13 @@ pub(super) struct Client<K, C> {
     is_kept: bool,
     /// Whether the transaction has folded all that it holds.
     has_folded: bool,
+    /// Whether the client has ever named the functions of holds.
+    may_hold: bool,
+    /// Whether it has run them since the last end of a transaction.
+    has_run: bool,
+    looks: Looks,
+    /// What a look has found out about `held`: it is no line of a hold if it is not in it.
+    fates: Option<BTreeMap<Line, Fate<C>>>,
 }
 
 impl<K: Clone + Ord, C> Client<K, C> {
@@ -109,7 +143,59 @@ impl<K: Clone + Ord, C> Client<K, C> {
             question: None,
             is_kept: false,
             has_folded: false,
+            may_hold: false,
+            has_run: false,
+            looks: Looks::Nothing,
+            fates: None,
         }
+    }
+
+    /// The client names the functions of holds, and runs them or not.
+    pub(super) fn names(&mut self, runs: bool) {
+        self.may_hold = true;
+        self.has_run |= runs;
+    }
+
+    pub(super) fn may_hold(&self) -> bool {
+        self.may_hold
+    }
+
+    /// Returns whether functions of holds may have run in the transaction, which has ended.
+    pub(super) fn take_run(&mut self) -> bool {
+        std::mem::take(&mut self.has_run)
+    }
+
+    /// Lets it wait for a look. Returns false if it waits for one already.
+    pub(super) fn look_for(&mut self, looks: Looks) -> bool {
+        let is_new = self.looks == Looks::Nothing;
+        if is_new {
+            self.looks = looks;
+        }
+        is_new
+    }
+
+    /// Returns whether a look has to show what the transaction has left as holds: all that it holds has committed.
+    pub(super) fn must_look(&self) -> bool {
+        let has_committed = |it: &Reservation<K, C>| it.verdict == Verdict::Committed;
+        let is_committed = !self.held.is_empty() && self.held.iter().all(has_committed);
+        is_committed && self.may_hold && self.fates.is_none()
+    }
+
+    /// Ends its wait for a look. Returns for which it was.
+    pub(super) fn take_looks(&mut self) -> Looks {
+        std::mem::take(&mut self.looks)
+    }
+
+    /// Returns the notes that it holds.
+    pub(super) fn lines(&self) -> impl Iterator<Item = Line> + '_ {
+        self.held.iter().map(|it| it.line)
+    }
+
+    /// Takes what a look has found out about them.
+    pub(super) fn tell_fates(&mut self, all: &mut BTreeMap<Line, Fate<C>>) {
+        let lines = self.held.iter().map(|it| it.line);
+        let fates = lines.filter_map(|line| Some((line, all.remove(&line)?)));
+        self.fates = Some(fates.collect());
     }
 
     /// Returns the keys that it holds, if all that is held is alive and its transaction goes on.
@@ -197,7 +283,7 @@ impl<K: Clone + Ord, C> Client<K, C> {
     }
 
     /// Holds the request's reservation. Returns false if its id is not that of its mark.
-    pub(super) fn hold(&mut self, id: Id) -> bool {
+    pub(super) fn hold(&mut self, id: Id, line: Line) -> bool {
         let request = match self.request.take() {
             Some(request) => request,
             None => return false,
@@ -217,6 +303,7 @@ impl<K: Clone + Ord, C> Client<K, C> {
             key: request.key,
             change: request.change,
             id,
+            line,
             mark: request.mark,
             verdict: Verdict::InProgress,
         });
@@ -343,12 +430,15 @@ impl<K: Clone + Ord, C> Client<K, C> {
     }
 
     /// Returns what the server is to be told by the outcomes that are known, and forgets what is over.
-    pub(super) fn settle(&mut self) -> Result<Settled<K>, Alarm> {
+    pub(super) fn settle(&mut self) -> Result<Settled<K, C>, Alarm> {
         let mut settled = Settled {
             told: Vec::new(),
             committed: Vec::new(),
             folded: Vec::new(),
             is_over: false,
+            needs_look: false,
+            kept: None,
+            done: Vec::new(),
         };
         let is_dead = |it: &Reservation<K, C>| it.verdict == Verdict::Aborted;
         let alive = self
@@ -376,13 +466,11 @@ impl<K: Clone + Ord, C> Client<K, C> {
         }
         let has_committed = |it: &Reservation<K, C>| it.verdict == Verdict::Committed;
         if !self.held.is_empty() && self.held.iter().all(has_committed) {
-            settled.told.push(Told::Commit);
-            let keys = self.held.drain(..).map(|it| it.key);
-            if self.has_folded {
-                settled.folded = keys.collect();
-            } else {
-                settled.committed = keys.collect();
+            if self.must_look() {
+                settled.needs_look = self.look_for(Looks::Fates);
+                return Ok(settled);
             }
+            self.commit(&mut settled);
             settled.is_over = true;
             self.needs_mark = true;
         } else if !self.has_ended && self.held.iter().any(has_committed) {
@@ -396,6 +484,38 @@ impl<K: Clone + Ord, C> Client<K, C> {
             self.is_unsure = false;
         }
         Ok(settled)
+    }
+
+    /// Ends a transaction that has committed: what it has left as a hold stays reserved (rule 23).
+    fn commit(&mut self, settled: &mut Settled<K, C>) {
+        let mut fates = self.fates.take().unwrap_or_default();
+        let has_holds = !fates.is_empty();
+        let mut kept = Kept {
+            committed: Vec::new(),
+            lines: Vec::new(),
+        };
+        for it in self.held.drain(..) {
+            match fates.remove(&it.line) {
+                None => {
+                    match self.has_folded {
+                        true => settled.folded.push(it.key.clone()),
+                        false => settled.committed.push(it.key.clone()),
+                    }
+                    kept.committed.push((it.key, it.change));
+                }
+                Some(Fate::Stands) => kept.lines.push((it.line, it.key, it.change)),
+                Some(Fate::Taken(change)) => {
+                    settled.done.push(it.line);
+                    settled.committed.push(it.key.clone());
+                    kept.committed.push((it.key, change));
+                }
+                Some(Fate::Free) => settled.done.push(it.line),
+            }
+        }
+        match has_holds {
+            true => settled.kept = Some(kept),
+            false => settled.told.push(Told::Commit),
+        }
     }
 
     /// Keeps a ReadyForQuery back.

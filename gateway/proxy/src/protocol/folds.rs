@@ -71,16 +71,27 @@ impl<K: Clone + Ord> Folds<K> {
             self.skipped.remove(key);
             self.pending.insert(key.clone(), self.turn);
         }
+        match waiting {
+            Some(connection) => self.wait(keys, connection, may_be_folded),
+            None => false,
+        }
+    }
+
+    /// Lets a connection wait for those keys that have committed and may be folded. Returns whether it does.
+    pub(super) fn wait(
+        &mut self,
+        keys: Vec<K>,
+        connection: Connection,
+        may_be_folded: impl Fn(&K) -> bool,
+    ) -> bool {
         let turn = self.turn;
         let keys = keys.into_iter().filter(|key| may_be_folded(key));
         let keys: Vec<(K, Turn)> = keys.map(|key| (key, turn)).collect();
-        match waiting {
-            Some(connection) if !keys.is_empty() => {
-                self.waiting.insert(connection, keys);
-                true
-            }
-            _ => false,
+        let waits = !keys.is_empty();
+        if waits {
+            self.waiting.insert(connection, keys);
         }
+        waits
     }
 
     /// Begins a fold of what may be folded. Returns its keys, or none if one is under way or nothing is pending. `all` tries

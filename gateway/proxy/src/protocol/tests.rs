@@ -36,7 +36,8 @@ fn serving() -> Machine {
         Action::Tell(ONE, Told::Mark(Mark(1))),
         Action::Grant(ONE, "a", 1),
     ];
-    assert_eq!(it.handle(Event::Loaded { key: "a" }), granted);
+    let lines = Vec::new();
+    assert_eq!(it.handle(Event::Loaded { key: "a", lines }), granted);
     let refused = [
         Action::Tell(ONE, Told::Rollback),
         Action::Answer(ONE, Answer::Refused),
@@ -54,6 +55,12 @@ fn reserve(it: &mut Machine, key: &'static str, alone: bool) -> Vec<Action<&'sta
     })
 }
 
+/// Returns the line of a note, which has the number of its id here.
+fn line(id: u64) -> Line {
+    let number = id as i64;
+    Line { epoch: 1, number }
+}
+
 /// Reserves of the row `a`, and notes it under an id.
 fn hold(it: &mut Machine, alone: bool, id: u64) {
     let asked = reserve(it, "a", alone);
@@ -69,7 +76,8 @@ fn hold(it: &mut Machine, alone: bool, id: u64) {
     assert_eq!(
         it.handle(Event::Noted {
             connection: ONE,
-            id: Id(id)
+            id: Id(id),
+            line: line(id),
         }),
         answered
     );
@@ -147,7 +155,8 @@ fn a_client_waits_no_longer_than_it_wants_for_a_locked_row() {
         [Action::Deliver(ONE)]
     );
     assert_eq!(it.handle(Event::WaitOver { connection: ONE }), []);
-    assert_eq!(it.handle(Event::Tick), [Action::Fold(vec!["a"])]);
+    let tried = [Action::Fold(vec!["a"]), look(&[], &[])];
+    assert_eq!(it.handle(Event::Tick), tried);
     assert_eq!(it.handle(Event::Folded { keys: vec!["a"] }), []);
     assert!(it.is_quiet());
 }
@@ -279,7 +288,8 @@ fn a_loss_is_asked_until_it_is_known() {
         [],
         "it is prepared"
     );
-    assert_eq!(it.handle(Event::Tick), [Action::Ask(ONE, vec![Id(7)])]);
+    let asked = [look(&[], &[]), Action::Ask(ONE, vec![Id(7)])];
+    assert_eq!(it.handle(Event::Tick), asked);
     let told = [Action::Tell(ONE, Told::Commit), Action::Fold(vec!["a"])];
     assert_eq!(verdicts(&mut it, &[Verdict::Committed]), told);
     it.handle(Event::Folded { keys: vec!["a"] });
@@ -312,7 +322,8 @@ fn a_subtransaction_that_no_tag_has_told_of_ends_the_connection() {
     assert_eq!(
         it.handle(Event::Noted {
             connection: ONE,
-            id: Id(8)
+            id: Id(8),
+            line: line(8),
         }),
         closed
     );
@@ -399,12 +410,14 @@ fn a_fold_that_is_refused_stops_its_table_alone() {
     ];
     assert_eq!(it.handle(Event::FoldRefused { table: 'a' }), stopped);
     assert_eq!(it.handle(Event::Folded { keys: vec![] }), []);
-    assert_eq!(it.handle(Event::Tick), [], "its folds stand still");
+    let ticked = it.handle(Event::Tick);
+    assert_eq!(ticked, [look(&[], &[])], "its folds stand still");
     assert_eq!((it.counts().stopped, it.counts().pending), (1, 1));
     let refused = [Action::Answer(ONE, Answer::TableStopped)];
     assert_eq!(reserve(&mut it, "a", false), refused);
     assert_eq!(reserve(&mut it, "b", false), [Action::Load("b")]);
-    it.handle(Event::Loaded { key: "b" });
+    let (key, lines) = ("b", Vec::new());
+    it.handle(Event::Loaded { key, lines });
     it.handle(Event::Refused { connection: ONE });
     // It is tried again, and granted, once an operator lets it go on.
     let resumed = it.handle(Event::Resumed { table: 'a' });
@@ -436,4 +449,244 @@ fn a_row_that_the_server_lacks_stops_its_table_alone() {
         alone: false,
     };
     assert_eq!(it.handle(other), [Action::Load("b")]);
+}
+
+fn names(it: &mut Machine) {
+    let event = Event::Names {
+        connection: ONE,
+        runs: true,
+    };
+    assert_eq!(it.handle(event), []);
+}
+
+fn news(id: u64, fate: Fate<i64>, is_ours: bool) -> News<&'static str, i64> {
+    News {
+        line: line(id),
+        key: "a",
+        fate,
+        is_ours,
+    }
+}
+
+fn looked(it: &mut Machine, news: Vec<News<&'static str, i64>>) -> Vec<Action<&'static str, i64>> {
+    it.handle(Event::Looked { news })
+}
+
+fn look(done: &[u64], asked: &[u64]) -> Action<&'static str, i64> {
+    let lines = |ids: &[u64]| ids.iter().map(|&id| line(id)).collect();
+    Action::Look {
+        done: lines(done),
+        asked: lines(asked),
+    }
+}
+
+#[test]
+fn a_hold_is_kept_and_the_rest_is_committed() {
+    let mut it = serving();
+    names(&mut it);
+    hold(&mut it, false, 7);
+    completed(&mut it, "SAVEPOINT");
+    let asked = reserve(&mut it, "a", false);
+    assert_eq!(asked.last(), Some(&Action::Grant(ONE, "a", 1)));
+    it.handle(Event::Granted { connection: ONE });
+    it.handle(Event::Noted {
+        connection: ONE,
+        id: Id(8),
+        line: line(8),
+    });
+    completed(&mut it, "COMMIT");
+    assert_eq!(ready(&mut it, Status::Idle), [look(&[], &[7, 8])]);
+    // Another look does not begin, and nothing is granted to the connection before.
+    assert_eq!(it.handle(Event::Tick), []);
+    assert_eq!(reserve(&mut it, "a", true), []);
+    let found = looked(&mut it, vec![news(7, Fate::Stands, true)]);
+    let kept = Action::Keep {
+        connection: ONE,
+        committed: vec![("a", 1)],
+        kept: vec![(line(7), "a", 1)],
+    };
+    assert_eq!(found[0], kept);
+    assert!(
+        found.contains(&Action::Fold(vec!["a"])) && found.contains(&Action::Grant(ONE, "a", 1))
+    );
+    // Nobody leaves the row. The hold ends by a look, which the next one lets PostgreSQL forget.
+    let (connection, key) = (None, "a");
+    assert_eq!(it.handle(Event::Leave { connection, key }), []);
+    assert_eq!(it.handle(Event::Tick), [look(&[], &[])]);
+    let ended = [Action::End(vec![(line(7), Some(1))])];
+    assert_eq!(looked(&mut it, vec![news(7, Fate::Taken(1), true)]), ended);
+    assert_eq!(it.handle(Event::Tick), [look(&[7], &[])]);
+    assert_eq!(it.counts().holds, 0);
+}
+
+#[test]
+fn a_hold_that_has_ended_before_it_is_known_is_no_hold() {
+    for (fate, committed) in [(Fate::Taken(1), vec![("a", 1)]), (Fate::Free, vec![])] {
+        let mut it = serving();
+        names(&mut it);
+        hold(&mut it, false, 7);
+        completed(&mut it, "COMMIT");
+        // An earlier look has shown its end, which is of no matter before the transaction is decided.
+        assert_eq!(ready(&mut it, Status::Idle), [look(&[], &[7])]);
+        let kept = Action::Keep {
+            connection: ONE,
+            committed,
+            kept: vec![],
+        };
+        assert_eq!(looked(&mut it, vec![news(7, fate, true)])[0], kept);
+        assert_eq!(it.handle(Event::Tick).last(), Some(&look(&[7], &[])));
+    }
+}
+
+#[test]
+fn what_a_row_holds_is_reserved_before_anything_else() {
+    let mut it = serving();
+    it.handle(Event::Leave {
+        connection: None,
+        key: "a",
+    });
+    it.handle(Event::Left { key: "a" });
+    assert_eq!(reserve(&mut it, "a", true), [Action::Load("a")]);
+    // What ends while the row is loaded may be a line that the load shows.
+    assert_eq!(it.handle(Event::Tick), [look(&[], &[])]);
+    assert_eq!(looked(&mut it, vec![news(3, Fate::Free, false)]), []);
+    let lines = vec![(line(3), -2), (line(4), -1)];
+    let found = it.handle(Event::Loaded { key: "a", lines });
+    let reserved = Action::Reserve(vec![(line(3), "a", -2), (line(4), "a", -1)]);
+    assert_eq!(
+        (&found[0], found.last()),
+        (&reserved, Some(&Action::Grant(ONE, "a", 1)))
+    );
+    assert_eq!(it.handle(Event::Tick), [look(&[], &[])]);
+    let ended = [Action::End(vec![(line(3), None)])];
+    assert_eq!(looked(&mut it, vec![news(3, Fate::Free, false)]), ended);
+    // What was taken before the load showed the row's lines may be in its journal.
+    assert_eq!(it.handle(Event::Tick), [look(&[3], &[])]);
+    let folded = [Action::Fold(vec!["a"])];
+    assert_eq!(
+        looked(&mut it, vec![news(5, Fate::Taken(1), false)]),
+        folded
+    );
+}
+
+#[test]
+fn what_ended_before_this_owner_is_forgotten_and_its_mark_goes() {
+    let mut it = serving();
+    assert_eq!(it.handle(Event::Tick), [look(&[], &[])]);
+    let mut other = news(3, Fate::Taken(1), false);
+    other.key = "b";
+    assert_eq!(looked(&mut it, vec![other]), [Action::Leave("b")]);
+    assert_eq!(it.handle(Event::Tick), [look(&[3], &[])]);
+}
+
+#[test]
+fn a_hold_that_was_taken_for_committed_is_an_alarm() {
+    let mut it = serving();
+    hold(&mut it, true, 7);
+    ready(&mut it, Status::Idle);
+    it.handle(Event::Tick);
+    let alarm = [Action::Alarm(Alarm::HoldUnseen, None)];
+    assert_eq!(looked(&mut it, vec![news(7, Fate::Free, true)]), alarm);
+    assert_eq!(it.ownership(), Ownership::Stopped);
+}
+
+#[test]
+fn a_take_is_answered_once_the_server_knows_it() {
+    let mut it = serving();
+    names(&mut it);
+    completed(&mut it, "SELECT 1");
+    assert_eq!(ready(&mut it, Status::Idle), [look(&[], &[])]);
+    assert_eq!(looked(&mut it, vec![]), [Action::Deliver(ONE)]);
+    // A connection that has named holds is asked after a restart of PostgreSQL too.
+    it.handle(Event::KeeperLost);
+    for event in [
+        Event::OwnerTaken,
+        Event::EpochSet,
+        Event::Holders { any: false },
+    ] {
+        it.handle(event);
+    }
+    assert_eq!(reserve(&mut it, "a", false), [Action::Load("a")]);
+    it.handle(Event::Loaded {
+        key: "a",
+        lines: Vec::new(),
+    });
+    it.handle(Event::Granted { connection: ONE });
+    it.handle(Event::Noted {
+        connection: ONE,
+        id: Id(9),
+        line: line(9),
+    });
+    completed(&mut it, "COMMIT");
+    assert_eq!(ready(&mut it, Status::Idle), [look(&[], &[9])]);
+}
+
+#[test]
+fn a_look_that_fails_is_done_again() {
+    let mut it = serving();
+    names(&mut it);
+    hold(&mut it, false, 7);
+    completed(&mut it, "COMMIT");
+    assert_eq!(ready(&mut it, Status::Idle), [look(&[], &[7])]);
+    looked(&mut it, vec![news(7, Fate::Free, true)]);
+    assert_eq!(it.handle(Event::Tick).last(), Some(&look(&[7], &[])));
+    // What was to be forgotten may be shown again, and somebody else waits for the next look.
+    assert_eq!(it.handle(Event::LookFailed), []);
+    hold(&mut it, false, 8);
+    completed(&mut it, "COMMIT");
+    assert_eq!(ready(&mut it, Status::Idle), [look(&[7], &[8])]);
+    assert_eq!(it.handle(Event::LookFailed), []);
+    assert_eq!(it.handle(Event::Tick), [look(&[7], &[8])]);
+    let found = looked(&mut it, vec![news(8, Fate::Stands, true)]);
+    let kept = Action::Keep {
+        connection: ONE,
+        committed: vec![],
+        kept: vec![(line(8), "a", 1)],
+    };
+    assert_eq!(found[0], kept);
+}
+
+/// Two connections wait for a look: one for what it has taken, which has committed more meanwhile, and the other for its notes.
+#[test]
+fn a_look_begins_when_all_of_the_one_before_is_done() {
+    const TWO: Connection = Connection(2);
+    let mut it = serving();
+    assert_eq!(it.handle(Event::Tick), [look(&[], &[])]);
+    names(&mut it);
+    completed(&mut it, "SELECT 1");
+    assert_eq!(ready(&mut it, Status::Idle), []);
+    it.handle(Event::WaitOver { connection: ONE });
+    it.handle(Event::Names {
+        connection: TWO,
+        runs: true,
+    });
+    for (connection, id) in [(ONE, 7), (TWO, 8)] {
+        it.handle(Event::Reserve {
+            connection,
+            key: "a",
+            change: 1,
+            alone: false,
+        });
+        it.handle(Event::Granted { connection });
+        it.handle(Event::Noted {
+            connection,
+            id: Id(id),
+            line: line(id),
+        });
+        let tag = Tag::Commit;
+        it.handle(Event::Completed { connection, tag });
+        let status = Status::Idle;
+        assert_eq!(it.handle(Event::Ready { connection, status }), []);
+    }
+    assert_eq!(looked(&mut it, vec![]), [look(&[], &[7, 8])]);
+    // The first one waited for news alone, so its notes are asked again. The line of the second one is forgotten before.
+    let found = looked(&mut it, vec![news(8, Fate::Free, true)]);
+    assert_eq!(found.last(), Some(&look(&[8], &[7])), "{:?}", found);
+    let found = looked(&mut it, vec![news(7, Fate::Stands, true)]);
+    let kept = Action::Keep {
+        connection: ONE,
+        committed: vec![],
+        kept: vec![(line(7), "a", 1)],
+    };
+    assert_eq!(found[0], kept);
 }

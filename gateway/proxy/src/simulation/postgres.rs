@@ -8,7 +8,7 @@ use rand::Rng;
 
 use super::server::Grant;
 use super::{Change, Key, Without, GREATEST, KEYS, LEAST, START};
-use crate::protocol::{Status, Verdict};
+use crate::protocol::{Fate, Status, Verdict};
 
 /// What a client sends.
 #[derive(Clone, Copy, Debug, PartialEq, Eq)]
@@ -17,7 +17,7 @@ pub(super) enum Statement {
     Savepoint,
     /// To the savepoint of this depth, or an error.
     RollbackTo(usize),
-    Release(usize),
+    ReleaseTo(usize),
     Commit,
     CommitAndChain,
     Rollback,
@@ -31,6 +31,12 @@ pub(super) enum Statement {
     },
     /// A procedure that rolls back.
     CallRollback,
+    /// What the transaction has reserved so far becomes a hold.
+    Hold,
+    /// A hold is taken, or a part of it, and by a number that chooses among those that stand.
+    Take(usize, bool),
+    /// A hold is released.
+    Release(usize),
 }
 
 /// What a backend reads.
@@ -64,6 +70,10 @@ pub(super) enum Reply {
 struct Level {
     id: Option<u64>,
     rows: Vec<Note>,
+    /// Rows of it and of those around it that it has moved into lines of a hold.
+    moved: Vec<(Grant, HoldId)>,
+    /// Lines that it has ended.
+    ends: Vec<(Grant, Fate<Change>)>,
     /// Its subtransactions that were released.
     merged: Vec<u64>,
 }
@@ -102,8 +112,28 @@ struct Backend {
     work: Work,
 }
 
+impl Backend {
+    fn rows(&self) -> impl Iterator<Item = Note> + '_ {
+        self.levels.iter().flat_map(|it| it.rows.iter().copied())
+    }
+
+    fn moved(&self) -> impl Iterator<Item = Grant> + '_ {
+        self.levels.iter().flat_map(|it| &it.moved).map(|it| it.0)
+    }
+}
+
 /// A row of the journal.
 type Row = Note;
+
+type HoldId = u64;
+
+/// A line of a hold.
+#[derive(Clone, Copy, Debug)]
+pub(super) struct HeldLine {
+    pub(super) note: Note,
+    hold: HoldId,
+    pub(super) fate: Fate<Change>,
+}
 
 /// A commit record: what it moves, and whose it is.
 #[derive(Clone, Default)]
@@ -111,6 +141,9 @@ struct Record {
     rises: Vec<(Key, Change)>,
     removed: Vec<Grant>,
     added: Vec<Row>,
+    held: Vec<(Note, HoldId)>,
+    ends: Vec<(Grant, Fate<Change>)>,
+    forgotten: Vec<Grant>,
     ids: Vec<u64>,
     is_visible: bool,
 }
@@ -123,7 +156,9 @@ struct Image {
     /// What commits have added to each row, by folds or not.
     truth: [i64; KEYS],
     ids: BTreeSet<u64>,
-    grants: BTreeSet<Grant>,
+    /// What of each grant is committed.
+    grants: BTreeMap<Grant, Change>,
+    lines: BTreeMap<Grant, HeldLine>,
 }
 
 impl Image {
@@ -137,7 +172,19 @@ impl Image {
         for row in &record.added {
             self.journal.insert(row.grant, *row);
             self.truth[row.key] += row.change;
-            self.grants.insert(row.grant);
+            self.grants.insert(row.grant, row.change);
+        }
+        for &(note, hold) in &record.held {
+            let fate = Fate::Stands;
+            self.lines.insert(note.grant, HeldLine { note, hold, fate });
+        }
+        for (grant, fate) in &record.ends {
+            if let Some(line) = self.lines.get_mut(grant) {
+                line.fate = *fate;
+            }
+        }
+        for grant in &record.forgotten {
+            self.lines.remove(grant);
         }
         self.ids.extend(&record.ids);
     }
@@ -177,7 +224,8 @@ impl Postgres {
             journal: BTreeMap::new(),
             truth: [START; KEYS],
             ids: BTreeSet::new(),
-            grants: BTreeSet::new(),
+            grants: BTreeMap::new(),
+            lines: BTreeMap::new(),
         };
         Postgres {
             visible: image.clone(),
@@ -231,8 +279,53 @@ impl Postgres {
         self.visible.grants.len() as u64
     }
 
-    pub(super) fn has_committed(&self, grant: Grant) -> bool {
-        self.visible.grants.contains(&grant)
+    /// Returns what of a grant is committed.
+    pub(super) fn committed(&self, grant: Grant) -> Option<Change> {
+        self.visible.grants.get(&grant).copied()
+    }
+
+    /// Returns the lines of holds that stand.
+    pub(super) fn standing(&self) -> impl Iterator<Item = &HeldLine> {
+        let lines = self.visible.lines.values();
+        lines.filter(|line| line.fate == Fate::Stands)
+    }
+
+    /// Looks at lines of holds: forgets some, ends a hold whose time is over, and returns the others that have ended, and those
+    /// that are asked.
+    pub(super) fn look(
+        &mut self,
+        forgotten: Vec<Grant>,
+        asked: &[Grant],
+        ends_one: bool,
+    ) -> Vec<HeldLine> {
+        let over = match ends_one {
+            true => self.free_hold(0).unwrap_or_default(),
+            false => Vec::new(),
+        };
+        if !forgotten.is_empty() || !over.is_empty() {
+            self.log.push(Record {
+                forgotten,
+                ends: over.into_iter().map(|it| (it, Fate::Free)).collect(),
+                ..Record::default()
+            });
+            self.show(self.log.len() - 1);
+        }
+        let lines = self.visible.lines.values();
+        let is_told = |it: &&HeldLine| it.fate != Fate::Stands || asked.contains(&it.note.grant);
+        lines.filter(is_told).copied().collect()
+    }
+
+    /// Returns the lines of a hold that stands and that no transaction has locked.
+    fn free_hold(&self, pick: usize) -> Option<Vec<Grant>> {
+        let levels = self.backends.values().flat_map(|it| &it.levels);
+        let locked: BTreeSet<Grant> = levels.flat_map(|it| &it.ends).map(|it| it.0).collect();
+        let free = self
+            .standing()
+            .filter(|it| !locked.contains(&it.note.grant));
+        let holds: BTreeSet<HoldId> = free.map(|it| it.hold).collect();
+        let chosen = *holds.iter().nth(pick % holds.len().max(1))?;
+        let lines = self.standing().filter(|it| it.hold == chosen);
+        Some(lines.map(|it| it.note.grant).collect())
     }
 
     /// Returns the grants of the present epoch whose COMMIT may be under way.
@@ -252,7 +345,9 @@ impl Postgres {
     pub(super) fn is_quiet(&self) -> bool {
         let is_resting =
             |it: &Backend| it.inbox.is_empty() && it.outbox.is_empty() && it.levels.is_empty();
-        self.backends.values().all(is_resting)
+        // The owner has looked at what became of holds, and is done with it.
+        let mut lines = self.visible.lines.values();
+        self.backends.values().all(is_resting) && lines.all(|it| it.fate == Fate::Stands)
     }
 
     pub(super) fn journal_is_empty(&self) -> bool {
@@ -360,10 +455,6 @@ impl Postgres {
 
     pub(super) fn is_locked(&self, key: Key) -> bool {
         self.locks[key]
-    }
-
-    pub(super) fn value(&self, key: Key) -> i64 {
-        self.visible.rows[key]
     }
 
     // Connections.
@@ -558,22 +649,79 @@ impl Postgres {
                 self.fail(backend);
             }
             Message::Note(note) => {
-                if backend.levels.is_empty() {
-                    backend.levels.push(Level::default());
-                }
-                for level in &mut backend.levels {
-                    if level.id.is_none() {
-                        level.id = Some(self.next_id);
-                        self.next_id += 1;
-                    }
-                }
-                if let Some(level) = backend.levels.last_mut() {
+                if let Some(level) = self.writing(backend) {
                     level.rows.push(note);
                 }
                 backend.work = Work::Test(note);
             }
             Message::Statement(statement) => self.run(backend, statement),
         }
+    }
+
+    /// Returns the innermost level, which has an id like those around it.
+    fn writing<'a>(&mut self, backend: &'a mut Backend) -> Option<&'a mut Level> {
+        if backend.levels.is_empty() {
+            backend.levels.push(Level::default());
+        }
+        for level in &mut backend.levels {
+            if level.id.is_none() {
+                level.id = Some(self.next_id);
+                self.next_id += 1;
+            }
+        }
+        backend.levels.last_mut()
+    }
+
+    /// Moves the transaction's own rows of the journal into a hold. What was taken in part cannot be held again.
+    fn hold(&mut self, backend: &mut Backend) {
+        let moved: BTreeSet<Grant> = backend.moved().collect();
+        let rows: Vec<Note> = backend.rows().collect();
+        let is_left = |it: &&Note| !moved.contains(&it.grant);
+        let own: Vec<Note> = rows.iter().filter(is_left).copied().collect();
+        let is_part = own.iter().any(|row| {
+            let line = self.visible.lines.get(&row.grant);
+            line.map_or(false, |line| line.note.change != row.change)
+        });
+        if own.is_empty() || is_part {
+            self.fail(backend);
+            return;
+        }
+        let hold = self.number();
+        if let Some(level) = self.writing(backend) {
+            level.moved.extend(own.iter().map(|it| (it.grant, hold)));
+        }
+        backend.outbox.push_back(Reply::Completed("SELECT 1"));
+    }
+
+    /// Ends a hold. What is taken of it are rows of the journal.
+    fn end_hold(&mut self, backend: &mut Backend, pick: usize, takes: Option<bool>) {
+        // The backend itself is not among the others now.
+        let own: BTreeSet<Grant> = backend
+            .levels
+            .iter()
+            .flat_map(|it| &it.ends)
+            .map(|it| it.0)
+            .collect();
+        let lines = match self.free_hold(pick) {
+            Some(lines) if lines.iter().all(|it| !own.contains(it)) => lines,
+            _ => return self.fail(backend),
+        };
+        let notes: Vec<Note> = lines.iter().map(|it| self.visible.lines[it].note).collect();
+        if let Some(level) = self.writing(backend) {
+            for mut note in notes {
+                match takes {
+                    Some(in_part) => {
+                        if in_part && note.change.abs() > 1 {
+                            note.change = note.change.signum();
+                        }
+                        level.rows.push(note);
+                        level.ends.push((note.grant, Fate::Taken(note.change)));
+                    }
+                    None => level.ends.push((note.grant, Fate::Free)),
+                }
+            }
+        }
+        backend.outbox.push_back(Reply::Completed("SELECT 1"));
     }
 
     /// Rules 7, 8 and 10.
@@ -608,13 +756,20 @@ impl Postgres {
             .iter()
             .flat_map(|level| level.id.into_iter().chain(level.merged.iter().copied()))
             .collect();
-        let added = backend
+        let moved: BTreeMap<Grant, HoldId> = backend
             .levels
             .iter()
-            .flat_map(|level| level.rows.iter().copied())
+            .flat_map(|level| level.moved.iter().copied())
             .collect();
+        let held = backend
+            .rows()
+            .filter_map(|row| Some((row, *moved.get(&row.grant)?)));
+        let is_left = |grant: &Grant| !moved.contains_key(grant);
+        let ends = backend.levels.iter().flat_map(|level| level.ends.iter());
         self.log.push(Record {
-            added,
+            added: backend.rows().filter(|row| is_left(&row.grant)).collect(),
+            held: held.collect(),
+            ends: ends.filter(|end| is_left(&end.0)).copied().collect(),
             ids,
             ..Record::default()
         });
@@ -654,17 +809,22 @@ impl Postgres {
                 backend.has_failed = false;
                 backend.outbox.push_back(Reply::Completed("ROLLBACK"));
             }
-            Release(to) if backend.in_block && to >= 1 && to < depth => {
+            ReleaseTo(to) if backend.in_block && to >= 1 && to < depth => {
                 let released = backend.levels.split_off(to);
                 if let Some(level) = backend.levels.last_mut() {
                     for it in released {
                         level.merged.extend(it.id.into_iter().chain(it.merged));
                         level.rows.extend(it.rows);
+                        level.moved.extend(it.moved);
+                        level.ends.extend(it.ends);
                     }
                 }
                 backend.outbox.push_back(Reply::Completed("RELEASE"));
             }
-            Savepoint | RollbackTo(_) | Release(_) => self.fail(backend),
+            Savepoint | RollbackTo(_) | ReleaseTo(_) => self.fail(backend),
+            Hold => self.hold(backend),
+            Take(pick, in_part) => self.end_hold(backend, pick, Some(in_part)),
+            Release(pick) => self.end_hold(backend, pick, None),
             Commit | CommitAndChain | Rollback | RollbackAndChain => {
                 self.end_block(backend, statement)
             }

@@ -10,7 +10,8 @@ use super::postgres::{Folding, Message, Note, Postgres, Reply, Statement};
 use super::server::{Grant, Server};
 use super::{Change, Key, Seen, Without, CLIENTS, KEYS};
 use crate::protocol::{
-    Action, Answer, Connection, Event, Id, Ownership, Protocol, Status, Tag, Told, Verdict,
+    Action, Answer, Connection, Event, Id, Line, News, Ownership, Protocol, Status, Tag, Told,
+    Verdict,
 };
 
 /// What a client sends next.
@@ -55,6 +56,9 @@ struct Client {
 enum Job {
     Verdicts(Connection, Vec<Verdict>),
     Load(Key, Option<Folding>),
+    /// With the lines that the snapshot of the value shows. None: another snapshot shows them.
+    Loaded(Key, i64, Option<Vec<(Line, Change)>>),
+    Looked(Vec<News<Key, Change>>),
     Left(Key),
     Fold(Folding),
     Granted(Connection, bool),
@@ -266,7 +270,44 @@ impl Relay {
                 self.jobs[KEEPER].push_back(Job::Verdicts(connection, verdicts));
             }
             // The keeper is gone, which it will see.
-            Action::SetEpoch | Action::EndHolders | Action::Ask(..) => {}
+            Action::Look { done, asked } if postgres.is_owner(self.place, self.epoch) => {
+                let done = done.into_iter().map(|it| it.number as Grant).collect();
+                let asked: Vec<Grant> = asked.iter().map(|it| it.number as Grant).collect();
+                let ends_one = random.gen_range(0..40) == 0;
+                let lines = postgres.look(done, &asked, ends_one);
+                let epoch = self.epoch;
+                let news = lines.into_iter().map(|it| News {
+                    line: line(&it.note),
+                    key: it.note.key,
+                    fate: it.fate,
+                    is_ours: it.note.epoch == epoch,
+                });
+                self.jobs[KEEPER].push_back(Job::Looked(news.collect()));
+            }
+            Action::SetEpoch | Action::EndHolders | Action::Ask(..) | Action::Look { .. } => {}
+            Action::Keep {
+                connection,
+                committed,
+                kept,
+            } => {
+                seen.holds += kept.len() as u64;
+                let kept = kept
+                    .into_iter()
+                    .map(|(line, key, change)| (line.number as Grant, key, change));
+                self.server.keep(connection, committed, kept.collect())?;
+            }
+            Action::Reserve(lines) => {
+                seen.reserved_again += lines.len() as u64;
+                for (line, key, change) in lines {
+                    self.server.reserve(line.number as Grant, key, change)?;
+                }
+            }
+            Action::End(lines) => {
+                for (line, taken) in lines {
+                    seen.taken += u64::from(taken.is_some());
+                    self.server.end(line.number as Grant, taken)?;
+                }
+            }
             Action::RestartServer => {
                 self.let_folds_end(postgres);
                 self.server = Server::default();
@@ -421,9 +462,18 @@ impl Relay {
             Job::Granted(connection, false) => Event::Refused { connection },
             Job::WaitOver(connection) => Event::WaitOver { connection },
             Job::Load(key, Some(folding)) if postgres.folded(&folding) => {
-                self.server.values.insert(key, postgres.value(key));
-                Event::Loaded { key }
+                // One snapshot shows what is pending since the fold's, and which lines stand.
+                let is_one = self.without != Some(Without::OneSnapshot);
+                let (value, lines) = (postgres.now(key), is_one.then(|| standing(postgres, key)));
+                self.jobs[LOADER].push_front(Job::Loaded(key, value, lines));
+                return Ok(());
             }
+            Job::Loaded(key, value, lines) => {
+                self.server.values.insert(key, value);
+                let lines = lines.unwrap_or_else(|| standing(postgres, key));
+                Event::Loaded { key, lines }
+            }
+            Job::Looked(news) => Event::Looked { news },
             Job::Left(key) => Event::Left { key },
             Job::Load(key, _) => Event::NotLoaded {
                 key,
@@ -507,6 +557,10 @@ impl Relay {
             Reply::Noted(id) => Event::Noted {
                 connection,
                 id: Id(id),
+                line: Line {
+                    epoch: self.epoch as i64,
+                    number: client.grant as i64,
+                },
             },
             Reply::Error if client.waits == Waits::Note => {
                 seen.stale_notes += 1;
@@ -568,6 +622,17 @@ impl Relay {
             Some(Step::Statement(statement)) => {
                 postgres.send(client.backend, Message::Statement(statement));
                 client.expected += 1;
+                let is_seen = match statement {
+                    Statement::Hold => true,
+                    // A function that takes it passes unseen.
+                    Statement::Take(..) | Statement::Release(_) => random.gen(),
+                    _ => false,
+                };
+                if is_seen {
+                    client.script.pop_front();
+                    let runs = true;
+                    return self.give(Event::Names { connection, runs }, postgres, random, seen);
+                }
             }
             // What was sent before it is answered first.
             Some(Step::Hot(..)) if client.expected > 0 => {
@@ -599,6 +664,38 @@ impl Relay {
     }
 }
 
+/// Returns how a note is known that has become a line of a hold.
+fn line(note: &Note) -> Line {
+    Line {
+        epoch: note.epoch as i64,
+        number: note.grant as i64,
+    }
+}
+
+/// Returns the lines of holds that stand of a row.
+fn standing(postgres: &Postgres, key: Key) -> Vec<(Line, Change)> {
+    let lines = postgres.standing().filter(|it| it.note.key == key);
+    lines.map(|it| (line(&it.note), it.note.change)).collect()
+}
+
+/// A block that makes a hold, takes one, or takes one and holds it with more.
+fn with_hold(random: &mut StdRng, hot: impl Fn(&mut StdRng) -> Step, steps: &mut VecDeque<Step>) {
+    let (pick, in_part) = (random.gen_range(0..20), random.gen_range(0..4) == 0);
+    let way = random.gen_range(0..8);
+    steps.push_back(Step::Statement(Statement::Begin));
+    if way >= 4 {
+        steps.push_back(Step::Statement(Statement::Take(pick, in_part)));
+    }
+    if way < 6 {
+        steps.push_back(hot(random));
+        steps.push_back(Step::Statement(Statement::Hold));
+    }
+    if way % 2 == 0 {
+        steps.push_back(hot(random));
+    }
+    steps.push_back(Step::Statement(Statement::Commit));
+}
+
 /// What a client does in one cycle, up to its Sync. An UPDATE by itself has none: the proxy sends it.
 fn cycle(status: Status, random: &mut StdRng) -> VecDeque<Step> {
     use Statement::*;
@@ -608,13 +705,19 @@ fn cycle(status: Status, random: &mut StdRng) -> VecDeque<Step> {
     };
     let statement = |random: &mut StdRng| {
         let depth = random.gen_range(1..3);
+        let (pick, in_part) = (random.gen_range(0..20), random.gen_range(0..4) == 0);
         let all = [
             Select,
             Savepoint,
             Savepoint,
             RollbackTo(depth),
             RollbackTo(depth),
-            Release(depth),
+            ReleaseTo(depth),
+            Hold,
+            Hold,
+            Take(pick, in_part),
+            Take(pick, in_part),
+            Release(pick),
             Commit,
             Commit,
             Commit,
@@ -629,12 +732,18 @@ fn cycle(status: Status, random: &mut StdRng) -> VecDeque<Step> {
         *all.choose(random).unwrap_or(&Select)
     };
     let mut steps = VecDeque::new();
-    match (status, random.gen_range(0..10)) {
+    let kinds = if status == Status::Idle { 16 } else { 10 };
+    match (status, random.gen_range(0..kinds)) {
+        (Status::Idle, 10..=15) => with_hold(random, hot, &mut steps),
         (Status::Idle, 0..=2) => return VecDeque::from(vec![hot(random)]),
         (Status::Idle, 3..=4) => {
             // A pipeline without a block, with foreign parts.
             for _ in 0..random.gen_range(1..4) {
+                let (pick, in_part) = (random.gen_range(0..20), random.gen());
                 let call = *[
+                    Take(pick, in_part),
+                    Release(pick),
+                    Hold,
                     Select,
                     CallCommit { fails: true },
                     CallCommit { fails: false },

@@ -1,6 +1,6 @@
 //! The server: committed values, sessions with reservations and savepoints. It tries every choice of what is open.
 
-use std::collections::BTreeMap;
+use std::collections::{BTreeMap, BTreeSet};
 
 use super::postgres::Postgres;
 use super::{Change, Key, GREATEST, LEAST};
@@ -19,15 +19,75 @@ enum Entry {
 pub(super) struct Server {
     pub(super) values: BTreeMap<Key, i64>,
     sessions: BTreeMap<Connection, Vec<Entry>>,
+    /// What is kept of holds.
+    kept: BTreeMap<Grant, (Key, Change)>,
 }
 
 impl Server {
     fn open(&self) -> impl Iterator<Item = (Key, Change, Grant)> + '_ {
         let entries = self.sessions.values().flatten();
-        entries.filter_map(|entry| match entry {
+        let reserved = entries.filter_map(|entry| match entry {
             Entry::Reservation(key, change, grant) => Some((*key, *change, *grant)),
             Entry::Mark(_) => None,
-        })
+        });
+        let kept = self.kept.iter();
+        reserved.chain(kept.map(|(grant, (key, change))| (*key, *change, *grant)))
+    }
+
+    /// Returns whether no choice of what is open breaks the CHECK with this change.
+    fn may_grant(&self, key: Key, change: Change) -> bool {
+        let open = || self.open().filter(|it| it.0 == key).map(|it| it.1);
+        let value = self.values[&key] + change;
+        let least = value + open().filter(|&it| it < 0).sum::<i64>();
+        let greatest = value + open().filter(|&it| it > 0).sum::<i64>();
+        least >= LEAST && greatest <= GREATEST
+    }
+
+    /// Commits a change that was reserved a moment ago.
+    fn commit(&mut self, key: Key, change: Change) -> Result<(), String> {
+        if !self.may_grant(key, change) {
+            return Err(format!("{} of key {} is refused", change, key));
+        }
+        *self.values.entry(key).or_default() += change;
+        Ok(())
+    }
+
+    /// Reserves a line of a hold.
+    pub(super) fn reserve(&mut self, grant: Grant, key: Key, change: Change) -> Result<(), String> {
+        if !self.may_grant(key, change) || self.kept.contains_key(&grant) {
+            return Err(format!("{} of a hold of key {} is refused", change, key));
+        }
+        self.kept.insert(grant, (key, change));
+        Ok(())
+    }
+
+    /// Ends a transaction that has left holds.
+    pub(super) fn keep(
+        &mut self,
+        connection: Connection,
+        committed: Vec<(Key, Change)>,
+        kept: Vec<(Grant, Key, Change)>,
+    ) -> Result<(), String> {
+        self.sessions.remove(&connection);
+        for (key, change) in committed {
+            self.commit(key, change)?;
+        }
+        for (grant, key, change) in kept {
+            self.reserve(grant, key, change)?;
+        }
+        Ok(())
+    }
+
+    /// Ends a line of a hold.
+    pub(super) fn end(&mut self, grant: Grant, taken: Option<Change>) -> Result<(), String> {
+        let (key, _) = self
+            .kept
+            .remove(&grant)
+            .ok_or_else(|| format!("{} is not kept", grant))?;
+        match taken {
+            Some(change) => self.commit(key, change),
+            None => Ok(()),
+        }
     }
 
     /// Grants a change if no choice of what is open breaks the CHECK.
@@ -38,11 +98,7 @@ impl Server {
         change: Change,
         grant: Grant,
     ) -> bool {
-        let open = || self.open().filter(|it| it.0 == key).map(|it| it.1);
-        let value = self.values[&key] + change;
-        let least = value + open().filter(|&it| it < 0).sum::<i64>();
-        let greatest = value + open().filter(|&it| it > 0).sum::<i64>();
-        let is_granted = least >= LEAST && greatest <= GREATEST;
+        let is_granted = self.may_grant(key, change);
         if is_granted {
             let entries = self.sessions.entry(connection).or_default();
             entries.push(Entry::Reservation(key, change, grant));
@@ -88,10 +144,9 @@ impl Server {
     /// The invariant: D + J = V + the changes of what is open here and committed there.
     pub(super) fn check(&self, postgres: &Postgres) -> Result<(), String> {
         for (&key, &value) in &self.values {
-            let committed = self
-                .open()
-                .filter(|it| it.0 == key && postgres.has_committed(it.2));
-            let expected = value + committed.map(|it| it.1).sum::<i64>();
+            let open = self.open().filter(|it| it.0 == key);
+            let committed = open.filter_map(|it| postgres.committed(it.2));
+            let expected = value + committed.sum::<i64>();
             if postgres.now(key) != expected {
                 return Err(format!(
                     "key {}: PostgreSQL has {}, the server {}",
@@ -106,12 +161,19 @@ impl Server {
                 return Err(format!("grant {} may commit, and is not open", grant));
             }
         }
+        let open: BTreeSet<Grant> = self.open().map(|it| it.2).collect();
+        for line in postgres.standing() {
+            if self.values.contains_key(&line.note.key) && !open.contains(&line.note.grant) {
+                return Err(format!("{:?} stands, and is not open", line));
+            }
+        }
         Ok(())
     }
 
-    /// Tests that nothing is left open.
-    pub(super) fn rested(&self) -> Result<(), String> {
-        match self.open().next() {
+    /// Tests that nothing is left open but the holds that stand.
+    pub(super) fn rested(&self, postgres: &Postgres) -> Result<(), String> {
+        let stands: BTreeSet<Grant> = postgres.standing().map(|it| it.note.grant).collect();
+        match self.open().find(|it| !stands.contains(&it.2)) {
             Some(left) => Err(format!("{:?} is left", left)),
             None => Ok(()),
         }
