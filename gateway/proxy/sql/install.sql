@@ -921,8 +921,15 @@ BEGIN
 			END LOOP;
 			IF escrow.lock_%1$s(which, true) IS NULL THEN
 				RETURN false;
-			ELSIF current_setting('transaction_isolation') = 'read committed' THEN
-				IF EXISTS (SELECT FROM escrow.held_%1$s AS h WHERE h.key = which AND h.epoch = (SELECT last_value FROM escrow.epoch)) THEN
+			END IF;
+			-- Rules 7 and 10, as a note: a new owner looks for holders of the journal behind its epoch. Until they have ended,
+			-- marks of the former epoch are those of rows that somebody may still have reserved.
+			LOCK TABLE escrow.journal_%1$s IN ROW EXCLUSIVE MODE;
+			IF here_%1$s.epoch IS DISTINCT FROM (SELECT last_value FROM escrow.epoch) OR NOT escrow.is_live(here_%1$s.epoch) THEN
+				PERFORM escrow.refuse_stale();
+			END IF;
+			IF current_setting('transaction_isolation') = 'read committed' THEN
+				IF EXISTS (SELECT FROM escrow.held_%1$s AS h WHERE h.key = which AND h.epoch = here_%1$s.epoch) THEN
 					RETURN false;
 				END IF;
 			ELSIF EXISTS (SELECT FROM escrow.held_%1$s AS h WHERE h.key = which) OR EXISTS (SELECT FROM escrow.journal_%1$s AS j WHERE j.key = which) THEN
@@ -983,15 +990,22 @@ BEGIN
 		END
 		$body$
 	$f$, n, it.key_type);
-	-- The key is no longer held. The caller knows that nothing of it is open.
+	-- The key is no longer held in this epoch. The caller knows that nothing of it is open. The epoch is tested as in a sweep.
+	IF to_regprocedure(format('escrow.leave_%s(text)', n)) IS NOT NULL THEN
+		EXECUTE format('DROP FUNCTION escrow.leave_%s(text)', n); -- of before it asked for the epoch
+	END IF;
 	EXECUTE format($f$
-		CREATE OR REPLACE FUNCTION escrow.leave_%1$s(which text) RETURNS boolean
+		CREATE OR REPLACE FUNCTION escrow.leave_%1$s(epoch bigint, which text) RETURNS boolean
 		LANGUAGE plpgsql SECURITY DEFINER SET search_path = pg_catalog, pg_temp AS $body$
 		BEGIN
+			LOCK TABLE escrow.journal_%1$s IN ROW EXCLUSIVE MODE;
+			IF leave_%1$s.epoch IS DISTINCT FROM (SELECT last_value FROM escrow.epoch) THEN
+				PERFORM escrow.refuse_stale();
+			END IF;
 			IF escrow.row_%1$s(which::%2$s, true) IS NULL THEN
 				RETURN false;
 			END IF;
-			DELETE FROM escrow.held_%1$s WHERE key = which::%2$s;
+			DELETE FROM escrow.held_%1$s AS h WHERE h.key = which::%2$s AND h.epoch = leave_%1$s.epoch;
 			RETURN true;
 		END
 		$body$
