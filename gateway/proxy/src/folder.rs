@@ -389,7 +389,10 @@ fn is_passing(error: &Error) -> bool {
 /// are gone.
 async fn is_ordinary(own: &mut Own, table: i32) -> bool {
     let text = "SELECT pg_catalog.to_regprocedure($1) IS NULL";
-    match own.query(text, &[&format!("escrow.fold_{table}(text[])")]).await {
+    match own
+        .query(text, &[&format!("escrow.fold_{table}(text[])")])
+        .await
+    {
         Ok(rows) => rows.first().map_or(false, |row| row.get(0)),
         Err(_) => false,
     }
