@@ -14,6 +14,9 @@ BEGIN
 		IF escrow.version() < 2 AND escrow.is_live((SELECT nullif(last_value, 0) FROM escrow.epoch)) THEN
 			RAISE EXCEPTION 'an escrowd-proxy is running' USING ERRCODE = 'object_in_use', HINT = 'Stop it first.';
 		END IF;
+		-- Where a dump was restored, columns may have got other numbers. The event trigger leaves these tables alone until the end
+		-- of this script, which reads them anew.
+		UPDATE escrow.declared SET definition = '{}';
 	END IF;
 	-- It owns journals, secret and what reads them.
 	IF to_regrole('escrow_journal') IS NULL THEN
@@ -366,7 +369,8 @@ GRANT EXECUTE ON FUNCTION escrow.end_owner TO escrow_proxy;
 -- Reads a CHECK as linear sums over reservable columns. Returns null if it has none of them. Each condition of it
 -- becomes one: coefficients, comparison, limit. `ranks` are the columns' types by what they can hold: 2, 4 and 8 are
 -- integers of so many bytes, 99 is numeric. PostgreSQL computes a sum of integers in the type of its widest part, and
--- fails if that is too small. So each such sum, also as a part of another, becomes two conditions more, with "range".
+-- fails if that is too small. So each such sum, also as a part of another, becomes two conditions more, with "range". A sum
+-- of bigint is refused if values of 15 digits can be too large for it.
 CREATE OR REPLACE FUNCTION escrow.linear(condition text, reservable name[], others name[], ranks integer[]) RETURNS jsonb
 LANGUAGE plpgsql IMMUTABLE SET search_path = pg_catalog, pg_temp AS $$
 DECLARE
@@ -399,7 +403,7 @@ BEGIN
 	condition := regexp_replace(condition, '\((-?[0-9.]+)\)', ' \1 ', 'g');
 	tokens := ARRAY(SELECT m[1] FROM regexp_matches(condition, '("(?:[^"]|"")+"|[a-zA-Z_][a-zA-Z0-9_$]*|[0-9.]+|<=|>=|<>|::[a-z]+(?:\([0-9,]+\))?|[^[:space:]])', 'g') AS m);
 	FOREACH token IN ARRAY tokens LOOP
-		token := CASE WHEN token LIKE '"%' THEN replace(btrim(token, '"'), '""', '"') ELSE token END;
+		token := CASE WHEN token LIKE '"%' THEN replace(substr(token, 2, length(token) - 2), '""', '"') ELSE token END;
 		names := CASE WHEN token = ANY (reservable) OR token = ANY (others) THEN names || token::name ELSE names END;
 	END LOOP;
 	IF NOT names && reservable THEN
@@ -408,7 +412,7 @@ BEGIN
 	tokens := tokens || 'AND'::text;
 	WHILE i <= cardinality(tokens) LOOP
 		token := tokens[i];
-		variable := array_position(reservable, CASE WHEN token LIKE '"%' THEN replace(btrim(token, '"'), '""', '"') ELSE token END::name);
+		variable := array_position(reservable, CASE WHEN token LIKE '"%' THEN replace(substr(token, 2, length(token) - 2), '""', '"') ELSE token END::name);
 		IF token = '(' AND expects_term THEN
 			signs := signs || sign;
 			opened := opened || sums || level;
@@ -418,7 +422,10 @@ BEGIN
 			rank := greatest(rank, opened_ranks[cardinality(opened_ranks)]);
 			sign := side * signs[cardinality(signs)];
 			change := ARRAY(SELECT sign * (s - o) FROM unnest(sums, opened[cardinality(opened) - n : cardinality(opened) - 1]) WITH ORDINALITY AS u (s, o, place) ORDER BY place);
-			IF steps[cardinality(steps)] > 0 AND rank < 8 AND change <> array_fill(0::numeric, ARRAY[n]) THEN
+			IF steps[cardinality(steps)] > 0 AND rank = 8
+				AND (SELECT sum(abs(c)) FROM unnest(change) AS c) * 999999999999999 + abs(level - opened[cardinality(opened)]) > 9223372036854775807 THEN
+				RETURN '"no sum"';
+			ELSIF steps[cardinality(steps)] > 0 AND rank < 8 AND change <> array_fill(0::numeric, ARRAY[n]) THEN
 				ranges := ranges || jsonb_build_array(
 					jsonb_build_object('range', true, 'coefficients', to_jsonb(change), 'comparison', '<=',
 						'limit', CASE rank WHEN 2 THEN 32767 ELSE 2147483647 END + sign * (level - opened[cardinality(opened)])),
@@ -455,7 +462,7 @@ BEGIN
 					factor := -factor;
 					i := i + 1;
 				END LOOP;
-				token := CASE WHEN tokens[i] LIKE '"%' THEN replace(btrim(tokens[i], '"'), '""', '"') ELSE tokens[i] END;
+				token := CASE WHEN tokens[i] LIKE '"%' THEN replace(substr(tokens[i], 2, length(tokens[i]) - 2), '""', '"') ELSE tokens[i] END;
 				IF variable IS NULL AND token = ANY (reservable) THEN
 					variable := array_position(reservable, token::name);
 					rank := greatest(rank, ranks[variable]);
@@ -534,6 +541,16 @@ LANGUAGE sql IMMUTABLE SET search_path = pg_catalog, pg_temp AS $$
 		|| ' ' || (condition->>'comparison') || ' ' || (condition->>'limit')
 	FROM jsonb_array_elements_text(condition->'coefficients') WITH ORDINALITY AS e(c, n)
 	WHERE c::numeric <> 0
+$$;
+
+-- Whether the session may do what a table's owner may: as its role, or as that of its SET ROLE. The functions that ask run as
+-- their owner, so their current_user is nobody's. In an operation that PostgreSQL restricts, as ANALYZE of an index with a
+-- function of somebody else's, the session is not who calls; UNLISTEN raises there, and does nothing else.
+CREATE OR REPLACE FUNCTION escrow.is_owners(proprietor oid) RETURNS boolean LANGUAGE plpgsql SET search_path = pg_catalog, pg_temp AS $$
+BEGIN
+	UNLISTEN escrow_nothing;
+	RETURN pg_has_role(coalesce(nullif(current_setting('role'), 'none'), session_user)::name, proprietor, 'USAGE');
+END
 $$;
 
 -- Refuses a declaration.
@@ -699,10 +716,12 @@ BEGIN
 	result.key_name := key.attname;
 	result.key_type := format_type(key.atttypid, key.atttypmod);
 	result.definition := jsonb_build_object('name', format('%s.%I', it.relnamespace::regnamespace, it.relname), 'key', key.attnum, 'key_name', key.attname, 'key_type', result.key_type,
-		'columns', result.columns, 'checks', result.checks, 'owner', it.relowner::regrole::text,
+		'columns', result.columns, 'checks', result.checks,
 		'triggers', (SELECT jsonb_object_agg(tgname, tgenabled) FROM pg_trigger WHERE tgrelid = relation AND tgname ~ '^~?escrow '),
-		-- The table's owner owns some of them. Without SECURITY DEFINER, triggers on the table would run with other rights.
-		'functions', (SELECT jsonb_object_agg(p.proname, format('%s %s %s', p.proowner::regrole, p.prosecdef, p.proconfig))
+		-- The table's owner owns some of them. Without SECURITY DEFINER, triggers on the table would run with other rights. Roles
+		-- may get other names.
+		'functions', (SELECT jsonb_object_agg(p.proname, format('%s %s %s', CASE p.proowner WHEN it.relowner THEN 'owner'
+				WHEN 'escrow_journal'::regrole THEN 'escrow_journal' ELSE p.proowner::regrole::text END, p.prosecdef, p.proconfig))
 			FROM escrow.functions((SELECT number FROM escrow.declared AS d WHERE d.relation = describe.relation)) AS f JOIN pg_proc AS p ON p.oid = f));
 	RETURN result;
 END
@@ -959,9 +978,14 @@ BEGIN
 			END LOOP;
 			IF escrow.lock_%1$s(which, true) IS NULL THEN
 				RETURN false;
-			ELSIF here_%1$s.epoch IS DISTINCT FROM (SELECT last_value FROM escrow.epoch) THEN
+			END IF;
+			-- Rules 7 and 10, as a note: a new owner looks for holders of the journal behind its epoch. Until they have ended,
+			-- marks of the former epoch are those of rows that somebody may still have reserved.
+			LOCK TABLE escrow.journal_%1$s IN ROW EXCLUSIVE MODE;
+			IF here_%1$s.epoch IS DISTINCT FROM (SELECT last_value FROM escrow.epoch) OR NOT escrow.is_live(here_%1$s.epoch) THEN
 				PERFORM escrow.refuse_stale();
-			ELSIF current_setting('transaction_isolation') = 'read committed' THEN
+			END IF;
+			IF current_setting('transaction_isolation') = 'read committed' THEN
 				IF EXISTS (SELECT FROM escrow.held_%1$s AS h WHERE h.key = which AND h.epoch = here_%1$s.epoch) OR escrow.is_held(%1$s, %6$s) THEN
 					RETURN false;
 				END IF;
@@ -1029,15 +1053,23 @@ BEGIN
 		END
 		$body$
 	$f$, n, it.key_type, escrow.key_text(it.key_type, 'h.key'));
-	-- The key is no longer held. The caller knows that nothing of it is open, but for holds: their mark stays.
+	-- The key is no longer held in this epoch. The caller knows that nothing of it is open, but for holds: their mark stays. The
+	-- epoch is tested as in a sweep.
+	IF to_regprocedure(format('escrow.leave_%s(text)', n)) IS NOT NULL THEN
+		EXECUTE format('DROP FUNCTION escrow.leave_%s(text)', n); -- of before it asked for the epoch
+	END IF;
 	EXECUTE format($f$
-		CREATE OR REPLACE FUNCTION escrow.leave_%1$s(which text) RETURNS boolean
+		CREATE OR REPLACE FUNCTION escrow.leave_%1$s(epoch bigint, which text) RETURNS boolean
 		LANGUAGE plpgsql SECURITY DEFINER SET search_path = pg_catalog, pg_temp AS $body$
 		BEGIN
+			LOCK TABLE escrow.journal_%1$s IN ROW EXCLUSIVE MODE;
+			IF leave_%1$s.epoch IS DISTINCT FROM (SELECT last_value FROM escrow.epoch) THEN
+				PERFORM escrow.refuse_stale();
+			END IF;
 			IF escrow.row_%1$s(which::%2$s, true) IS NULL THEN
 				RETURN false;
 			END IF;
-			DELETE FROM escrow.held_%1$s AS h WHERE h.key = which::%2$s AND NOT escrow.is_held(%1$s, %3$s);
+			DELETE FROM escrow.held_%1$s AS h WHERE h.key = which::%2$s AND h.epoch = leave_%1$s.epoch AND NOT escrow.is_held(%1$s, %3$s);
 			RETURN true;
 		END
 		$body$
@@ -1443,7 +1475,7 @@ DECLARE
 	proprietor oid := (SELECT relowner FROM pg_class WHERE oid = relation);
 	largest text;
 BEGIN
-	IF NOT pg_has_role(session_user, proprietor, 'USAGE') THEN
+	IF escrow.is_owners(proprietor) IS NOT TRUE THEN
 		RAISE EXCEPTION 'must be owner of table %', relation USING ERRCODE = 'insufficient_privilege';
 	END IF;
 	EXECUTE format('LOCK TABLE %s IN SHARE ROW EXCLUSIVE MODE', relation);
@@ -1484,7 +1516,7 @@ BEGIN
 	IF n IS NULL THEN
 		RAISE EXCEPTION '% is not declared reservable', relation USING ERRCODE = 'object_not_in_prerequisite_state';
 	END IF;
-	IF NOT pg_has_role(session_user, (SELECT relowner FROM pg_class WHERE oid = relation), 'USAGE') THEN
+	IF escrow.is_owners((SELECT relowner FROM pg_class WHERE oid = relation)) IS NOT TRUE THEN
 		RAISE EXCEPTION 'must be owner of table %', relation USING ERRCODE = 'insufficient_privilege';
 	END IF;
 	IF current_setting('transaction_isolation') <> 'read committed' THEN
@@ -1511,7 +1543,7 @@ BEGIN
 END
 $$;
 
--- Keeps DDL away that would change what was declared.
+-- Keeps DDL away that would change what was declared. A function is known by its name, since it may have got another schema.
 CREATE OR REPLACE FUNCTION escrow.keep_declared() RETURNS event_trigger
 LANGUAGE plpgsql SECURITY DEFINER SET search_path = pg_catalog, pg_temp AS $$
 DECLARE
@@ -1519,7 +1551,7 @@ DECLARE
 	found escrow.declared;
 BEGIN
 	FOR it IN SELECT * FROM escrow.declared AS d WHERE d.definition <> '{}' AND (TG_TAG NOT IN ('ALTER FUNCTION', 'ALTER ROUTINE')
-		OR EXISTS (SELECT FROM pg_event_trigger_ddl_commands() AS command WHERE command.objid IN (SELECT escrow.functions(d.number))))
+		OR EXISTS (SELECT FROM pg_event_trigger_ddl_commands() AS command JOIN pg_proc AS p ON p.oid = command.objid WHERE p.proname LIKE '%\_' || d.number))
 	LOOP
 		BEGIN
 			found := escrow.describe(it.relation, ARRAY(SELECT (c->>'name')::name FROM jsonb_array_elements(it.columns) AS c));
@@ -1535,17 +1567,21 @@ END
 $$;
 DROP EVENT TRIGGER IF EXISTS escrow_keep_altered;
 CREATE EVENT TRIGGER escrow_keep_altered ON ddl_command_end
-	WHEN TAG IN ('ALTER TABLE', 'ALTER FUNCTION', 'ALTER ROUTINE', 'CREATE INDEX', 'CREATE TRIGGER', 'CREATE RULE', 'ALTER TRIGGER', 'CREATE TABLE')
+	WHEN TAG IN ('ALTER TABLE', 'ALTER FUNCTION', 'ALTER ROUTINE', 'CREATE INDEX', 'CREATE TRIGGER', 'CREATE RULE', 'ALTER TRIGGER', 'CREATE TABLE',
+		'CREATE FOREIGN TABLE', 'ALTER FOREIGN TABLE', 'CREATE SCHEMA', 'ALTER SCHEMA')
 	EXECUTE FUNCTION escrow.keep_declared();
 DROP EVENT TRIGGER IF EXISTS escrow_keep_dropped;
 CREATE EVENT TRIGGER escrow_keep_dropped ON sql_drop EXECUTE FUNCTION escrow.keep_declared();
 
--- An upgrade makes the functions of declared tables anew.
+-- An upgrade makes the functions of declared tables anew, and reads columns and CHECKs again.
 DO $do$
 DECLARE
 	it escrow.declared;
+	found escrow.declared;
 BEGIN
 	FOR it IN SELECT * FROM escrow.declared LOOP
+		found := escrow.describe(it.relation, ARRAY(SELECT (c->>'name')::name FROM jsonb_array_elements(it.columns) AS c));
+		UPDATE escrow.declared AS d SET columns = found.columns, checks = found.checks WHERE d.number = it.number RETURNING d.* INTO it;
 		PERFORM escrow.generate(it);
 	END LOOP;
 END

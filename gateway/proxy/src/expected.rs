@@ -243,6 +243,17 @@ impl Track {
         last.unwrap_or_else(|| self.portals.get(name).cloned())
     }
 
+    /// A portal is run: PostgreSQL runs none a second time.
+    pub fn spend_portal(&mut self, name: &str) {
+        self.portals.remove(name);
+        for it in &mut self.queue {
+            match it {
+                Expect::Bind(portal, bound) if portal == name => *bound = None,
+                _ => {}
+            }
+        }
+    }
+
     /// Returns the statement of a name, as it will be when all is answered without an error.
     pub fn statement(&self, name: &str) -> Option<Arc<Prepared>> {
         let last = self.queue.iter().rev().find_map(|it| match it {
@@ -597,6 +608,30 @@ mod tests {
         let (skips_own, moved) = (false, 7);
         assert_eq!(track.reply(b'E', b""), Reply::Failed { skips_own, moved });
         assert!(track.is_skipping());
+    }
+
+    #[test]
+    fn a_portal_is_run_once() {
+        let mut track = started();
+        let statement = Statement::read("UPDATE t SET n = n - 1 WHERE id = 1").unwrap();
+        let types = Vec::new();
+        let bound = Arc::new(Bound {
+            statement: Arc::new(Prepared { statement, types }),
+            formats: Vec::new(),
+            values: Vec::new(),
+            results: Vec::new(),
+        });
+        for is_answered in [true, false] {
+            track.expect(Expect::Bind("p".to_owned(), Some(bound.clone())));
+            if is_answered {
+                track.reply(b'2', b"");
+            }
+            assert!(track.portal("p").is_some());
+            track.spend_portal("p");
+            assert!(track.portal("p").is_none());
+        }
+        track.reply(b'2', b"");
+        assert!(track.portal("p").is_none());
     }
 
     #[test]

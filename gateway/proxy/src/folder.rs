@@ -266,8 +266,8 @@ async fn fold_keys(hub: &Hub, own: &mut Own, keys: &[Key]) -> HubEvent {
                 tracing::debug!("a fold failed: {}", error);
                 return Event::FoldFailed;
             }
-            Err(Failure::Refused(error)) if is_gone(&error) => {
-                // The table is ordinary again: its declaration was taken back, which folded all.
+            Err(Failure::Refused(error)) if is_gone(&error) && is_ordinary(own, table).await => {
+                // Its declaration was taken back, which folded all.
                 folded.extend(keys.iter().map(|&text| Key {
                     table,
                     text: text.into(),
@@ -325,7 +325,7 @@ impl Sweep {
             Ok(Swept::Some) => return,
             Ok(Swept::AllButLocked) => self.is_left = true,
             Ok(Swept::All) => {}
-            Err(Failure::Refused(error)) if is_gone(&error) => {}
+            Err(Failure::Refused(error)) if is_gone(&error) && is_ordinary(own, table).await => {}
             Err(Failure::Refused(error)) if !is_passing(&error) => {
                 hub.fold_refused(table, &words(&error));
             }
@@ -385,7 +385,20 @@ fn is_passing(error: &Error) -> bool {
     })
 }
 
-/// Returns whether the functions or the columns of a table are gone.
+/// Returns whether a table is not declared any more. An error of a trigger of a user's may look like one of its functions that
+/// are gone.
+async fn is_ordinary(own: &mut Own, table: i32) -> bool {
+    let text = "SELECT pg_catalog.to_regprocedure($1) IS NULL";
+    match own
+        .query(text, &[&format!("escrow.fold_{table}(text[])")])
+        .await
+    {
+        Ok(rows) => rows.first().map_or(false, |row| row.get(0)),
+        Err(_) => false,
+    }
+}
+
+/// Returns whether an error says that a function, a table or a column is not there.
 fn is_gone(error: &Error) -> bool {
     let gone = [
         SqlState::UNDEFINED_FUNCTION,
@@ -407,8 +420,8 @@ pub async fn load(
         let task = tasks.lock().await.recv().await;
         let (generation, key) = match task {
             Some(LoaderTask::Load(generation, key)) => (generation, key),
-            Some(LoaderTask::Leave(generation, key, why)) => {
-                leave(&mut own, &key).await;
+            Some(LoaderTask::Leave(generation, epoch, key, why)) => {
+                leave(&mut own, epoch, &key).await;
                 let missing = false;
                 let event = match why {
                     Left::Held => Event::Left { key },
@@ -439,7 +452,7 @@ pub async fn load(
                     Ok(_) => true,
                     Err(Failure::Refused(error)) => {
                         tracing::debug!("a row is not loaded: {}", error);
-                        is_gone(&error)
+                        is_gone(&error) && is_ordinary(&mut own, key.table).await
                     }
                     Err(Failure::Lost(why)) => {
                         tracing::debug!("a row is not loaded: {}", why);
@@ -469,10 +482,10 @@ fn lines(row: &tokio_postgres::Row) -> Vec<(Line, Change)> {
         .collect()
 }
 
-/// Removes the mark of a row that the server cannot have.
-async fn leave(own: &mut Own, key: &Key) {
-    let text = format!("SELECT escrow.leave_{}($1)", key.table);
-    match own.query(&text, &[&&*key.text]).await {
+/// Removes the mark that an epoch has set of a row, which the server does not have any more or cannot have.
+async fn leave(own: &mut Own, epoch: i64, key: &Key) {
+    let text = format!("SELECT escrow.leave_{}($1, $2)", key.table);
+    match own.query(&text, &[&epoch, &&*key.text]).await {
         Ok(_) => {}
         Err(Failure::Lost(why)) => tracing::debug!("a row is not left: {}", why),
         Err(Failure::Refused(error)) => tracing::debug!("a row is not left: {}", error),

@@ -89,8 +89,8 @@ pub enum FolderTask {
 pub enum LoaderTask {
     /// Load a row.
     Load(Generation, Key),
-    /// Remove the mark of a row that the server does not have, and say so.
-    Leave(Generation, Key, Left),
+    /// Remove the mark of this epoch of a row that the server does not have, and say so.
+    Leave(Generation, i64, Key, Left),
 }
 
 /// Why a row's mark is removed.
@@ -470,7 +470,7 @@ impl Hub {
     fn not_loaded(&self, state: &State, key: Key, why: &str) {
         let Key { table, text } = &key;
         tracing::warn!("a row cannot be held (table {table}, key {text}): {why}");
-        let task = LoaderTask::Leave(state.generation, key, Left::Refused);
+        let task = LoaderTask::Leave(state.generation, state.epoch, key, Left::Refused);
         let _ = self.workers.loader.send(task);
     }
 
@@ -569,7 +569,7 @@ impl Hub {
             }
             Action::Leave(key) => {
                 state.server.delete(&key);
-                let task = LoaderTask::Leave(state.generation, key, Left::Held);
+                let task = LoaderTask::Leave(state.generation, state.epoch, key, Left::Held);
                 let _ = self.workers.loader.send(task);
             }
             Action::Fold(keys) => {

@@ -282,6 +282,7 @@ impl<'a> Requests<'a> {
                     .map(|bound| (bound, &bound.statement.statement));
                 match prepared {
                     Some((bound, Statement::Update(form))) => {
+                        self.shared.track().spend_portal(portal);
                         let parameters = Parameters {
                             types: &bound.statement.types,
                             formats: &bound.formats,

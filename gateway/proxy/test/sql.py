@@ -262,7 +262,7 @@ def held_rows_stay(cluster: Cluster) -> None:
         # An old snapshot does not show the mark, but the load has written the row anew.
         with refused(errors.SerializationFailure):
             old.execute("DELETE FROM stock WHERE id = 1")
-        same(owner.one(f"SELECT escrow.leave_{owner.declared('stock')[0]}('1')")[0], True)
+        same(owner.one(f"SELECT escrow.leave_{owner.declared('stock')[0]}({owner.epoch}, '1')")[0], True)
         it.execute("UPDATE stock SET id = 9 WHERE id = 1; DELETE FROM stock WHERE id = 9; DELETE FROM stock WHERE id = 2")
         # A row that is locked for a deletion is not loaded.
         it.execute("BEGIN; DELETE FROM stock WHERE id = 3")
@@ -393,7 +393,7 @@ def notes_need_a_grant(cluster: Cluster) -> None:
         "SELECT * FROM escrow.secret", "INSERT INTO escrow.journal_{n} VALUES (1, 1, 1, 1, 1)", "DELETE FROM escrow.journal_{n}", "SELECT escrow.mac('a')",
         "SELECT escrow.is_fresh(1)", "SELECT setval('escrow.heard', 1)", "SELECT currval('escrow.heard')", "SELECT setval('escrow.epoch', 1)",
         "SELECT escrow.fold_{n}('{{1}}')", "SELECT escrow.row_{n}(1, true)", "SELECT escrow.lock_{n}(1, true)", "SELECT escrow.load_{n}(1, '1')",
-        "SELECT escrow.leave_{n}('1')", "SELECT escrow.set_epoch(3)", "DELETE FROM escrow.held_{n}", "UPDATE escrow.declared SET note_text = ''",
+        "SELECT escrow.leave_{n}(1, '1')", "SELECT escrow.set_epoch(3)", "DELETE FROM escrow.held_{n}", "UPDATE escrow.declared SET note_text = ''",
     ):
         with refused(errors.InsufficientPrivilege, "permission denied"):
             buyer.execute(text.format(n=table))
