@@ -543,13 +543,21 @@ LANGUAGE sql IMMUTABLE SET search_path = pg_catalog, pg_temp AS $$
 	WHERE c::numeric <> 0
 $$;
 
--- Whether the session may do what a table's owner may: as its role, or as that of its SET ROLE. The functions that ask run as
--- their owner, so their current_user is nobody's. In an operation that PostgreSQL restricts, as ANALYZE of an index with a
--- function of somebody else's, the session is not who calls; UNLISTEN raises there, and does nothing else.
-CREATE OR REPLACE FUNCTION escrow.is_owners(proprietor oid) RETURNS boolean LANGUAGE plpgsql SET search_path = pg_catalog, pg_temp AS $$
+-- The role that a client acts as: that of SET ROLE, or the one it logged in as. The functions that ask run as their owner, so
+-- their current_user is nobody's; a function of the client's with rights of its own changes nothing of it. In an operation that
+-- PostgreSQL restricts, as ANALYZE of an index with a function of somebody else's, the session is not who calls; UNLISTEN raises
+-- there, and does nothing else.
+CREATE OR REPLACE FUNCTION escrow.caller() RETURNS regrole LANGUAGE plpgsql SET search_path = pg_catalog, pg_temp AS $$
 BEGIN
 	UNLISTEN escrow_nothing;
-	RETURN pg_has_role(coalesce(nullif(current_setting('role'), 'none'), session_user)::name, proprietor, 'USAGE');
+	RETURN quote_ident(coalesce(nullif(current_setting('role'), 'none'), session_user))::regrole;
+END
+$$;
+
+-- Whether the client may do what a table's owner may.
+CREATE OR REPLACE FUNCTION escrow.is_owners(proprietor oid) RETURNS boolean LANGUAGE plpgsql SET search_path = pg_catalog, pg_temp AS $$
+BEGIN
+	RETURN pg_has_role(escrow.caller(), proprietor, 'USAGE');
 END
 $$;
 
@@ -1157,12 +1165,6 @@ $$;
 -- journal has just what is committed, and a line what somebody may still commit. A line that has ended stays until the
 -- owner has seen it: by it the owner knows what became of a note.
 
--- The role that a client acts as: that of SET ROLE, or the one it logged in as. A function of the client's with rights of
--- its own changes nothing of it.
-CREATE OR REPLACE FUNCTION escrow.caller() RETURNS regrole LANGUAGE sql STABLE SET search_path = pg_catalog, pg_temp AS $$
-	SELECT quote_ident(coalesce(nullif(current_setting('role'), 'none'), session_user))::regrole
-$$;
-
 -- Whether a standing hold has a line of a row.
 CREATE OR REPLACE FUNCTION escrow.is_held(table_number integer, which text) RETURNS boolean
 LANGUAGE sql STABLE SET search_path = pg_catalog, pg_temp AS $$
@@ -1225,6 +1227,7 @@ $$;
 CREATE OR REPLACE FUNCTION escrow.standing(name text, may_own boolean) RETURNS escrow.hold_names
 LANGUAGE plpgsql SET search_path = pg_catalog, pg_temp AS $$
 DECLARE
+	asker regrole := escrow.caller();
 	it escrow.hold_names;
 BEGIN
 	SELECT * INTO it FROM escrow.hold_names AS h WHERE h.name = standing.name AND h.state = 'standing' FOR UPDATE;
@@ -1233,9 +1236,9 @@ BEGIN
 	END IF;
 	IF it.number IS NULL THEN
 		RAISE EXCEPTION 'hold "%" does not exist', name USING ERRCODE = 'undefined_object';
-	ELSIF NOT pg_has_role(escrow.caller(), it.maker, 'USAGE') AND NOT (may_own AND EXISTS (
+	ELSIF NOT pg_has_role(asker, it.maker, 'USAGE') AND NOT (may_own AND EXISTS (
 			SELECT FROM escrow.hold_lines AS l JOIN escrow.declared AS d ON d.number = l."table" JOIN pg_class AS c ON c.oid = d.relation
-			WHERE l.hold = it.number AND pg_has_role(escrow.caller(), c.relowner, 'USAGE'))) THEN
+			WHERE l.hold = it.number AND pg_has_role(asker, c.relowner, 'USAGE'))) THEN
 		RAISE EXCEPTION 'permission denied for hold "%"', name USING ERRCODE = 'insufficient_privilege', DETAIL = format('It is of the role %s.', it.maker);
 	ELSIF it.state = 'taken' THEN
 		RAISE EXCEPTION 'hold "%" was taken already', name USING ERRCODE = '55H01';
@@ -1255,6 +1258,7 @@ CREATE OR REPLACE FUNCTION escrow.take_hold(name text, part numeric) RETURNS int
 LANGUAGE plpgsql SET search_path = pg_catalog, pg_temp AS $$
 DECLARE
 	it escrow.hold_names := escrow.standing(name, false);
+	asker regrole := escrow.caller();
 	refused regclass;
 	sizes integer;
 	size numeric;
@@ -1267,7 +1271,7 @@ BEGIN
 	FROM escrow.hold_lines AS l JOIN escrow.declared AS d ON d.number = l."table"
 	CROSS JOIN LATERAL jsonb_array_elements(d.columns) WITH ORDINALITY AS c (it, place)
 	WHERE l.hold = it.number AND l.changes[c.place] <> 0
-		AND NOT has_column_privilege(escrow.caller(), d.relation, (c.it->>'place')::smallint, 'UPDATE');
+		AND NOT has_column_privilege(asker, d.relation, (c.it->>'place')::smallint, 'UPDATE');
 	IF refused IS NOT NULL THEN
 		RAISE EXCEPTION 'permission denied for table %', refused USING ERRCODE = 'insufficient_privilege';
 	END IF;

@@ -114,18 +114,21 @@ def products_fit_bigint(cluster: Cluster) -> None:
 
 
 @part
-def nobody_declares_for_others(cluster: Cluster) -> None:
+def nobody_acts_for_others(cluster: Cluster) -> None:
     """A role's function that PostgreSQL calls for a superuser, as ANALYZE does, may not do what the superuser may."""
     stock(cluster)
     cluster.run("CREATE ROLE mallory LOGIN", "CREATE SCHEMA mallory AUTHORIZATION mallory", "GRANT USAGE ON SCHEMA public TO mallory")
     with cluster.connect("mallory") as it:
         it.execute("CREATE FUNCTION mallory.f(i integer) RETURNS integer LANGUAGE plpgsql IMMUTABLE AS 'BEGIN RETURN i; END'; "
                    "CREATE TABLE mallory.t (i integer); INSERT INTO mallory.t SELECT generate_series(1, 9); CREATE INDEX ON mallory.t (mallory.f(i))")
-        it.execute("CREATE FUNCTION mallory.g() RETURNS void LANGUAGE plpgsql AS 'BEGIN PERFORM escrow.ordinary(''public.stock''); END'; "
-                   "CREATE OR REPLACE FUNCTION mallory.f(i integer) RETURNS integer LANGUAGE plpgsql IMMUTABLE AS 'BEGIN PERFORM mallory.g(); RETURN i; END'")
+    for call in ("ordinary('public.stock')", "take('cart')", "release('cart')", "prolong('cart', '1 day')", "hold('mine', '1 day')"):
+        with cluster.connect("mallory") as it:
+            it.execute(f"CREATE OR REPLACE FUNCTION mallory.g() RETURNS void LANGUAGE plpgsql AS $$ BEGIN PERFORM escrow.{call}; END $$; "
+                       "CREATE OR REPLACE FUNCTION mallory.f(i integer) RETURNS integer LANGUAGE plpgsql IMMUTABLE AS 'BEGIN PERFORM mallory.g(); RETURN i; END'".encode())
+        with cluster.connect() as it:
+            with refused(errors.InsufficientPrivilege, "within security-restricted operation"):
+                it.execute("ANALYZE mallory.t /* escrow.hold */")
     with cluster.connect() as it:
-        with refused(errors.InsufficientPrivilege, "within security-restricted operation"):
-            it.execute("ANALYZE mallory.t")
         # The role of SET ROLE counts, and not the one that may take it.
         it.execute("SET ROLE mallory")
         with refused(errors.InsufficientPrivilege, "must be owner of table public.stock"):
