@@ -707,6 +707,18 @@ def a_rollback_that_is_refused_for_a_client_that_has_gone() -> None:
         gateway.expect_clean_end()
 
 
+@PART.served
+def a_rollback_among_blanks(gateway: Gateway) -> None:
+    """The server gets its own short form, however many blanks and comments the client writes."""
+    with Connection(gateway.socket) as it:
+        it.do(STOCK, *ROWS)
+        for text in ("ROLLBACK" + " " * 5000, f"/* {'x' * 5000} */ ROLLBACK", "ROLLBACK TO" + " " * 5000 + "s; ROLLBACK"):
+            it.do("BEGIN", "SAVEPOINT s", TAKE.format(7))
+            expect(it.ask(text)[-2:], ["complete ROLLBACK", "ready I"])
+            it.do("BEGIN", TAKE.format(0), "COMMIT")
+            expect((it.rows("SELECT * FROM stock WHERE id = 1"), it.rows("SHOW JOURNAL")), ([UNCHANGED], []))
+
+
 @PART.alone
 def a_rollback_that_is_never_done() -> None:
     """Only a restart frees what the session holds: the gateway tells its clients, and ends with a status of its own."""
