@@ -215,6 +215,14 @@ def long_update(size: int) -> str:
     return text.format(" - 0" * ((size - len(text)) // 4)) if size else text.format("")
 
 
+def is_refused(connection: Connection) -> bool:
+    """Returns whether what was asked is refused, or the connection has ended."""
+    try:
+        return any(found.kind == "E" for found in connection.until_ready())
+    except (wire.Ended, OSError):
+        return True
+
+
 def with_connections(path: Path, count: int) -> List[Connection]:
     """Opens connections, as many of them as are served."""
     found: List[Connection] = []
@@ -325,11 +333,7 @@ def portals_with_rows_left(path: Path, end: float) -> None:
             it.until_ready()
             for turn in range(200):
                 it.send(wire.bind(name="s", portal=f"p{turn}"), wire.execute(f"p{turn}", 1), wire.sync())
-                try:
-                    failed = any(found.kind == "E" for found in it.until_ready())
-                except (wire.Ended, OSError):
-                    break
-                if failed or time.monotonic() > end:
+                if is_refused(it) or time.monotonic() > end:
                     break
 
 
@@ -375,11 +379,7 @@ def statements_of_many_tokens(path: Path, end: float) -> None:
         with Connection(path, timeout=120.0) as it:
             for turn in range(4000):
                 it.send(wire.parse(long_update(4000), f"s{turn}"), wire.sync())
-                try:
-                    failed = any(found.kind == "E" for found in it.until_ready())
-                except (wire.Ended, OSError):
-                    break
-                if failed or time.monotonic() > end:
+                if is_refused(it) or time.monotonic() > end:
                     break
 
 
@@ -390,11 +390,7 @@ def statements_of_many_types(path: Path, end: float) -> None:
         with Connection(path, timeout=120.0) as it:
             for turn in range(500):
                 it.send(wire.parse("UPDATE hot SET pieces = pieces - 1 WHERE id = 999", f"s{turn}", [wire.INT8] * MANY), wire.sync())
-                try:
-                    failed = any(found.kind == "E" for found in it.until_ready())
-                except (wire.Ended, OSError):
-                    break
-                if failed or time.monotonic() > end:
+                if is_refused(it) or time.monotonic() > end:
                     break
 
 
