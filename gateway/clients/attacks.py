@@ -215,6 +215,14 @@ def long_update(size: int) -> str:
     return text.format(" - 0" * ((size - len(text)) // 4)) if size else text.format("")
 
 
+def is_refused(connection: Connection) -> bool:
+    """Returns whether what was asked is refused, or the connection has ended."""
+    try:
+        return any(found.kind == "E" for found in connection.until_ready())
+    except (wire.Ended, OSError):
+        return True
+
+
 def with_connections(path: Path, count: int) -> List[Connection]:
     """Opens connections, as many of them as are served."""
     found: List[Connection] = []
@@ -325,11 +333,7 @@ def portals_with_rows_left(path: Path, end: float) -> None:
             it.until_ready()
             for turn in range(200):
                 it.send(wire.bind(name="s", portal=f"p{turn}"), wire.execute(f"p{turn}", 1), wire.sync())
-                try:
-                    failed = any(found.kind == "E" for found in it.until_ready())
-                except (wire.Ended, OSError):
-                    break
-                if failed or time.monotonic() > end:
+                if is_refused(it) or time.monotonic() > end:
                     break
 
 
@@ -375,11 +379,7 @@ def statements_of_many_tokens(path: Path, end: float) -> None:
         with Connection(path, timeout=120.0) as it:
             for turn in range(4000):
                 it.send(wire.parse(long_update(4000), f"s{turn}"), wire.sync())
-                try:
-                    failed = any(found.kind == "E" for found in it.until_ready())
-                except (wire.Ended, OSError):
-                    break
-                if failed or time.monotonic() > end:
+                if is_refused(it) or time.monotonic() > end:
                     break
 
 
@@ -390,11 +390,7 @@ def statements_of_many_types(path: Path, end: float) -> None:
         with Connection(path, timeout=120.0) as it:
             for turn in range(500):
                 it.send(wire.parse("UPDATE hot SET pieces = pieces - 1 WHERE id = 999", f"s{turn}", [wire.INT8] * MANY), wire.sync())
-                try:
-                    failed = any(found.kind == "E" for found in it.until_ready())
-                except (wire.Ended, OSError):
-                    break
-                if failed or time.monotonic() > end:
+                if is_refused(it) or time.monotonic() > end:
                     break
 
 
@@ -705,6 +701,18 @@ def a_rollback_that_is_refused_for_a_client_that_has_gone() -> None:
         expect(watch.rows("SELECT * FROM stock")[:2], [UNCHANGED, ("5", str(100 - len(others)), "1.50", "tea")])
         closed([*others, watch])
         gateway.expect_clean_end()
+
+
+@PART.served
+def a_rollback_among_blanks(gateway: Gateway) -> None:
+    """The server gets its own short form, however many blanks and comments the client writes."""
+    with Connection(gateway.socket) as it:
+        it.do(STOCK, *ROWS)
+        for text in ("ROLLBACK" + " " * 5000, f"/* {'x' * 5000} */ ROLLBACK", "ROLLBACK TO" + " " * 5000 + "s; ROLLBACK"):
+            it.do("BEGIN", "SAVEPOINT s", TAKE.format(7))
+            expect(it.ask(text)[-2:], ["complete ROLLBACK", "ready I"])
+            it.do("BEGIN", TAKE.format(0), "COMMIT")
+            expect((it.rows("SELECT * FROM stock WHERE id = 1"), it.rows("SHOW JOURNAL")), ([UNCHANGED], []))
 
 
 @PART.alone

@@ -31,7 +31,7 @@ Exit status:
   2  wrong arguments, or the file of the metrics is not a regular file
   3  a program cannot be started, or a store cannot be opened
   4  the socket cannot be created, or another process listens on it
-  5  a program ended while it was in use
+  5  a program ended while it was in use, or refused for ten seconds to roll back
   6  a program's reply does not match its statement";
 
 /// PostgreSQL's protocol in front of `escrowd serve`.
