@@ -133,8 +133,8 @@ def nobody_acts_for_others(cluster: Cluster) -> None:
         it.execute("SET ROLE mallory")
         with refused(errors.InsufficientPrivilege, "must be owner of table public.stock"):
             it.execute("SELECT escrow.ordinary('stock')")
-        it.execute("RESET ROLE; CREATE ROLE keeper NOINHERIT LOGIN; GRANT mallory TO keeper; CREATE TABLE mallory.own (id integer PRIMARY KEY, n integer NOT NULL); "
-                   "ALTER TABLE mallory.own OWNER TO mallory")
+        it.execute("RESET ROLE; CREATE ROLE keeper NOINHERIT LOGIN; GRANT mallory TO keeper; "
+                   "CREATE TABLE mallory.own (id integer PRIMARY KEY, n integer NOT NULL); ALTER TABLE mallory.own OWNER TO mallory")
     with cluster.connect("keeper") as it:
         it.execute("SET ROLE mallory; SELECT escrow.reservable('mallory.own', 'n'); SELECT escrow.ordinary('mallory.own')")
     same(value(cluster, "SELECT relation::text FROM escrow.declared"), "stock")
@@ -181,22 +181,25 @@ def a_dump_numbers_columns_anew(cluster: Cluster) -> None:
 @part
 def definitions_stay_on_other_ways(cluster: Cluster) -> None:
     all_ordinary(cluster)
-    cluster.run("CREATE ROLE mallory LOGIN", "CREATE SCHEMA mallory AUTHORIZATION mallory", "CREATE TABLE mallory.t (id integer PRIMARY KEY, n integer NOT NULL)",
-                "ALTER TABLE mallory.t OWNER TO mallory", "SELECT escrow.reservable('mallory.t', 'n')")
+    cluster.run("CREATE ROLE mallory LOGIN", "CREATE SCHEMA mallory AUTHORIZATION mallory",
+                "CREATE TABLE mallory.t (id integer PRIMARY KEY, n integer NOT NULL)", "ALTER TABLE mallory.t OWNER TO mallory",
+                "SELECT escrow.reservable('mallory.t', 'n')")
     n = value(cluster, "SELECT number FROM escrow.declared")
     texts: List[str] = ["ALTER SCHEMA mallory RENAME TO m", "CREATE SCHEMA more CREATE TABLE child () INHERITS (mallory.t)",
                         f"ALTER FUNCTION escrow.row_{n}(integer, boolean) SET SCHEMA mallory"]
     for user, text in (("clerk", texts[0]), ("clerk", texts[1]), ("mallory", texts[2])):
         with cluster.connect(user) as it, refused(errors.ObjectInUse, "would change what is declared reservable of t"):
             it.execute(text.encode())
-    cluster.run("CREATE SCHEMA more", "ALTER SCHEMA more RENAME TO less", "DROP SCHEMA less", "SELECT escrow.ordinary('mallory.t')", "DROP OWNED BY mallory", "DROP ROLE mallory")
+    cluster.run("CREATE SCHEMA more", "ALTER SCHEMA more RENAME TO less", "DROP SCHEMA less", "SELECT escrow.ordinary('mallory.t')",
+                "DROP OWNED BY mallory", "DROP ROLE mallory")
 
 
 @part
 def a_trigger_that_lacks_its_table_stops_the_table(cluster: Cluster) -> None:
     """PostgreSQL's error is that of functions which are gone: the proxy may not take the table for one that is ordinary again."""
     all_ordinary(cluster)
-    cluster.run("CREATE TABLE log (id integer)", "CREATE FUNCTION logs() RETURNS trigger LANGUAGE plpgsql AS 'BEGIN INSERT INTO public.log VALUES (1); RETURN NULL; END'",
+    cluster.run("CREATE TABLE log (id integer)",
+                "CREATE FUNCTION logs() RETURNS trigger LANGUAGE plpgsql AS 'BEGIN INSERT INTO public.log VALUES (1); RETURN NULL; END'",
                 "CREATE TABLE ware (id integer PRIMARY KEY, n integer NOT NULL CHECK (n >= 0))", "INSERT INTO ware VALUES (1, 9), (2, 9)",
                 "CREATE TRIGGER logs AFTER UPDATE ON ware FOR EACH ROW EXECUTE FUNCTION logs()", "SELECT escrow.reservable('ware', 'n')")
     take = "UPDATE ware SET n = n - 1 WHERE id = "
