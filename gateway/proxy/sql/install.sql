@@ -1061,8 +1061,8 @@ BEGIN
 		END
 		$body$
 	$f$, n, it.key_type, escrow.key_text(it.key_type, 'h.key'));
-	-- The key is no longer held in this epoch. The caller knows that nothing of it is open, but for holds: their mark stays. The
-	-- epoch is tested as in a sweep.
+	-- The key is no longer held. The caller knows that nothing of it is open, but for holds: their mark stays. The epoch is tested as
+	-- in a sweep; so a mark of another epoch is a former one's, of a row that was held while its hold stood.
 	IF to_regprocedure(format('escrow.leave_%s(text)', n)) IS NOT NULL THEN
 		EXECUTE format('DROP FUNCTION escrow.leave_%s(text)', n); -- of before it asked for the epoch
 	END IF;
@@ -1077,7 +1077,7 @@ BEGIN
 			IF escrow.row_%1$s(which::%2$s, true) IS NULL THEN
 				RETURN false;
 			END IF;
-			DELETE FROM escrow.held_%1$s AS h WHERE h.key = which::%2$s AND h.epoch = leave_%1$s.epoch AND NOT escrow.is_held(%1$s, %3$s);
+			DELETE FROM escrow.held_%1$s AS h WHERE h.key = which::%2$s AND NOT escrow.is_held(%1$s, %3$s);
 			RETURN true;
 		END
 		$body$
