@@ -180,12 +180,8 @@ impl Connection {
             Ok(statement) => Rc::clone(statement),
             Err(report) => return self.fail(report, None),
         };
-        let definition = statement
-            .table_name()
-            .and_then(|table| self.definitions().get(table));
-        let types = statement.parameter_types(definition.as_deref());
-        let columns = match self.columns_of(&statement, definition.as_deref(), &types) {
-            Ok(columns) => columns,
+        let (types, columns) = match self.types_and_columns(&statement) {
+            Ok(described) => described,
             Err(report) => return self.fail(report, Some(&statement.text)),
         };
         let out = self.output.buffer();
@@ -197,26 +193,30 @@ impl Connection {
         statement.described.replace(columns);
     }
 
-    /// Returns the columns of a statement's rows. None: it has none.
-    fn columns_of(
+    /// Returns the types of a statement's parameters, and the columns of its rows. None: it has none.
+    fn types_and_columns(
         &self,
         statement: &Statement,
-        definition: Option<&Definition>,
-        types: &[Oid],
-    ) -> Result<Option<Rc<[Column]>>, Failure> {
-        let tree = match &statement.parsed {
-            Some(parsed) => &parsed.statement,
-            None => return Ok(None),
+    ) -> Result<(Vec<Oid>, Option<Rc<[Column]>>), Failure> {
+        let table = statement.table_name();
+        let definition = table.and_then(|table| self.definitions().get(table));
+        let definition = definition.as_deref();
+        let types = statement.parameter_types(definition);
+        let of_table = |shown: &[select::Shown]| {
+            definition
+                .map(|definition| select::columns(shown, definition, &types))
+                .transpose()
         };
-        let shown = match tree {
-            Tree::Served(Served::Select(select)) => &select.shown,
-            Tree::Served(served) if !served.returning().is_empty() => served.returning(),
-            Tree::Query(query) => return self.query_columns(query, types).map(Some),
-            tree => return self.columns(tree),
+        let columns = match statement.parsed.as_ref().map(|parsed| &parsed.statement) {
+            None => None,
+            Some(Tree::Served(Served::Select(select))) => of_table(&select.shown)?,
+            Some(Tree::Served(served)) if !served.returning().is_empty() => {
+                of_table(served.returning())?
+            }
+            Some(Tree::Query(query)) => Some(self.query_columns(query, &types)?),
+            Some(tree) => self.columns(tree)?,
         };
-        definition
-            .map(|definition| select::columns(shown, definition, types))
-            .transpose()
+        Ok((types, columns))
     }
 
     /// Describes a portal. The rows of a table are read ahead for it.
@@ -246,16 +246,13 @@ impl Connection {
             let then = AfterDefinition::DescribePortal(name.to_owned(), statement);
             return self.ask_definition(&table, then);
         }
-        let definition = statement
-            .table_name()
-            .and_then(|table| self.definitions().get(table));
-        let types = statement.parameter_types(definition.as_deref());
-        let columns = match self.columns_of(&statement, definition.as_deref(), &types) {
-            Err(report) => return self.fail(report, Some(&statement.text)),
-            Ok(Some(columns)) => Some(columns),
-            Ok(None) => statement.described.borrow().clone(),
-        };
-        self.write_description(name, columns);
+        match self.types_and_columns(&statement) {
+            Err(report) => self.fail(report, Some(&statement.text)),
+            Ok((_, columns)) => {
+                let columns = columns.or_else(|| statement.described.borrow().clone());
+                self.write_description(name, columns);
+            }
+        }
     }
 
     /// Describes the columns of a portal's rows. None: it has no rows.
