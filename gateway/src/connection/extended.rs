@@ -19,6 +19,14 @@ use crate::value::oid;
 use crate::wire::backend::{self, Column, Format};
 use crate::wire::frontend::{self, Bind, Parse};
 
+/// What Describe tells of a statement.
+struct Described {
+    /// The types of its parameters.
+    types: Vec<Oid>,
+    /// The columns of its rows. None: it has none.
+    columns: Option<Rc<[Column]>>,
+}
+
 impl Connection {
     /// Serves Sync: commits what a pipeline has reserved, and ends the skipping behind an error.
     pub(super) fn sync(&mut self) {
@@ -180,7 +188,7 @@ impl Connection {
             Ok(statement) => Rc::clone(statement),
             Err(report) => return self.fail(report, None),
         };
-        let (types, columns) = match self.types_and_columns(&statement) {
+        let Described { types, columns } = match self.described(&statement) {
             Ok(described) => described,
             Err(report) => return self.fail(report, Some(&statement.text)),
         };
@@ -193,11 +201,8 @@ impl Connection {
         statement.described.replace(columns);
     }
 
-    /// Returns the types of a statement's parameters, and the columns of its rows. None: it has none.
-    fn types_and_columns(
-        &self,
-        statement: &Statement,
-    ) -> Result<(Vec<Oid>, Option<Rc<[Column]>>), Failure> {
+    /// Returns what Describe tells of a statement.
+    fn described(&self, statement: &Statement) -> Result<Described, Failure> {
         let table = statement.table_name();
         let definition = table.and_then(|table| self.definitions().get(table));
         let definition = definition.as_deref();
@@ -216,7 +221,7 @@ impl Connection {
             Some(Tree::Query(query)) => Some(self.query_columns(query, &types)?),
             Some(tree) => self.columns(tree)?,
         };
-        Ok((types, columns))
+        Ok(Described { types, columns })
     }
 
     /// Describes a portal. The rows of a table are read ahead for it.
@@ -246,10 +251,12 @@ impl Connection {
             let then = AfterDefinition::DescribePortal(name.to_owned(), statement);
             return self.ask_definition(&table, then);
         }
-        match self.types_and_columns(&statement) {
+        match self.described(&statement) {
             Err(report) => self.fail(report, Some(&statement.text)),
-            Ok((_, columns)) => {
-                let columns = columns.or_else(|| statement.described.borrow().clone());
+            Ok(told) => {
+                let columns = told
+                    .columns
+                    .or_else(|| statement.described.borrow().clone());
                 self.write_description(name, columns);
             }
         }
