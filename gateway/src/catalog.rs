@@ -10,14 +10,14 @@ mod constraints;
 mod execution;
 mod functions;
 mod namespace;
-mod operators;
+pub(crate) mod operators;
 mod output;
 mod plan;
 mod procedures;
 mod reading;
 mod relations;
 mod system;
-mod types;
+pub(crate) mod types;
 mod value;
 
 #[cfg(test)]

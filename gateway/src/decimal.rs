@@ -96,14 +96,9 @@ impl Decimal {
         i64::try_from(self.with_scale(0)?.digits).ok()
     }
 
-    /// Returns how many digits are in front of the point.
-    pub fn digits_in_front(self) -> u32 {
-        let whole = (self.digits / power(self.scale).unwrap_or(i128::MAX)).unsigned_abs();
-        if whole == 0 {
-            0
-        } else {
-            whole.to_string().len() as u32
-        }
+    /// Returns whether it has at most so many digits, all behind its point among them.
+    pub fn has_digits(self, most: u32) -> bool {
+        power(most).map_or(true, |limit| self.digits.abs() < limit)
     }
 
     /// Compares two numbers.
@@ -248,6 +243,6 @@ mod tests {
         );
         assert_eq!(decimal("1.50").compare(&decimal("1.5")), Ordering::Equal);
         assert_eq!(decimal("1.50").reduced(), decimal("1.5"));
-        assert_eq!(decimal("12.5").digits_in_front(), 2);
+        assert!(decimal("12.5").has_digits(3) && !decimal("12.5").has_digits(2));
     }
 }

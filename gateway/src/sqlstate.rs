@@ -206,6 +206,14 @@ impl Report {
         self
     }
 
+    /// Adds a place, unless it has one.
+    pub fn or_at(self: Box<Self>, place: usize) -> Failure {
+        match self.place {
+            Some(_) => self,
+            None => self.at(place),
+        }
+    }
+
     /// Adds a detail.
     pub fn detail(mut self: Box<Self>, detail: impl Into<String>) -> Failure {
         self.detail = Some(detail.into());

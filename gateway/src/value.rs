@@ -6,6 +6,7 @@ use std::fmt;
 use postgres_protocol::types;
 use postgres_protocol::Oid;
 
+use crate::decimal::Decimal;
 use crate::limits::{MOST_DIGITS, MOST_DIGITS_BEHIND_POINT};
 use crate::sqlstate::{Failure, Report, SqlState};
 use crate::statement::literal::not_utf8;
@@ -338,7 +339,7 @@ fn list(number: usize, element: Oid, format: Format, bytes: &[u8]) -> Result<Val
                 .collect()
         }
         Format::Binary => {
-            let elements = array::binary_elements(bytes, element)?;
+            let elements = array::binary_elements(number, element, bytes)?;
             elements.into_iter().map(value).collect()
         }
     };
@@ -403,6 +404,27 @@ pub fn no_number(text: &str) -> Failure {
     }
 }
 
+/// Returns a number as one of a numeric with precision and scale.
+///
+/// # Errors
+///
+/// Fails if it has too many digits.
+pub fn sized(number: Decimal, precision: u32, scale: u32) -> Result<Decimal, Failure> {
+    let rounded = number.with_scale(scale);
+    let fitting = rounded.filter(|rounded| rounded.has_digits(precision));
+    fitting.ok_or_else(|| {
+        let limit = match i64::from(precision) - i64::from(scale) {
+            0 => "1".to_owned(),
+            most => format!("10^{}", most),
+        };
+        let detail = format!(
+            "A field with precision {}, scale {} must round to an absolute value less than {}.",
+            precision, scale, limit
+        );
+        Report::error(SqlState::NUMBER_OUT_OF_RANGE, "numeric field overflow").detail(detail)
+    })
+}
+
 fn binary_number(number: usize, oid: Oid, bytes: &[u8]) -> Result<Value, Failure> {
     let least = match oid {
         oid::INT2 => 2,
@@ -414,12 +436,7 @@ fn binary_number(number: usize, oid: Oid, bytes: &[u8]) -> Result<Value, Failure
         let text = "insufficient data left in message";
         return Err(Report::error(SqlState::PROTOCOL_VIOLATION, text));
     }
-    let wrong = || {
-        Report::error(
-            SqlState::INVALID_BINARY_REPRESENTATION,
-            format!("incorrect binary data format in bind parameter {}", number),
-        )
-    };
+    let wrong = || no_binary(number);
     let integer = match oid {
         oid::INT2 => types::int2_from_sql(bytes).map(i64::from),
         oid::INT4 => types::int4_from_sql(bytes).map(i64::from),
@@ -437,6 +454,12 @@ fn binary_number(number: usize, oid: Oid, bytes: &[u8]) -> Result<Value, Failure
     Number::from_integer(integer)
         .map(Value::Number)
         .map_err(|_| out_of_range(&integer.to_string()))
+}
+
+/// Makes the report of a parameter whose bytes are no value of its type.
+pub fn no_binary(number: usize) -> Failure {
+    let text = format!("incorrect binary data format in bind parameter {}", number);
+    Report::error(SqlState::INVALID_BINARY_REPRESENTATION, text)
 }
 
 fn invalid_input(name: &str, text: &str) -> Failure {

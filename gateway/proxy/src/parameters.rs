@@ -165,7 +165,7 @@ impl Parameters<'_> {
                 if of != told.unwrap_or(oid) {
                     return None;
                 }
-                let elements = array::binary_elements(bytes, of).ok()?;
+                let elements = array::binary_elements(number.into(), of, bytes).ok()?;
                 let literals = elements.into_iter().flatten();
                 literals.map(|it| literal(binary(of, it)?)).collect()
             }

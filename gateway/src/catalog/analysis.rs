@@ -130,12 +130,3 @@ pub fn too_complex() -> Failure {
         "the query of the catalog is too complex",
     )
 }
-
-/// Adds a place to a report that has none.
-fn placed(report: Failure, span: Span) -> Failure {
-    if report.place.is_some() {
-        report
-    } else {
-        report.at(span.start)
-    }
-}

@@ -10,11 +10,9 @@ use crate::catalog::value::Value;
 use crate::catalog::{output, World};
 use crate::decimal::Decimal;
 use crate::sqlstate::{Failure, Report, SqlState};
-use crate::statement::literal::not_utf8;
+use crate::statement::literal::{cut, not_utf8, LONGEST_NAME};
+use crate::value::{self, array, integer};
 use crate::wire::backend::Format;
-
-/// The most bytes of a name.
-const LONGEST_NAME: usize = 63;
 
 /// Returns whether a text is read as a value of this type.
 fn is_read(to: Oid) -> bool {
@@ -114,21 +112,14 @@ fn no_cast(from: Oid, to: Oid) -> Failure {
 
 /// Cuts a text to what its type holds: a name to 63 bytes, a "char" to one.
 fn shortened(text: &str, to: Oid) -> &str {
-    let most = match to {
-        oid::NAME => LONGEST_NAME,
-        oid::CHAR => {
-            return text
-                .chars()
-                .next()
-                .map_or("", |first| &text[..first.len_utf8()])
-        }
-        _ => return text,
-    };
-    let mut end = text.len().min(most);
-    while !text.is_char_boundary(end) {
-        end -= 1;
+    match to {
+        oid::NAME => cut(text, LONGEST_NAME),
+        oid::CHAR => text
+            .chars()
+            .next()
+            .map_or("", |first| &text[..first.len_utf8()]),
+        _ => text,
     }
-    &text[..end]
 }
 
 /// Applies a type's modifier: the length of a text, precision and scale of a number.
@@ -148,15 +139,7 @@ fn sized(value: Value, to: Oid, modifier: i32) -> Result<Value, Failure> {
         }
         (oid::NUMERIC, Value::Decimal(number)) => {
             let (precision, scale) = ((modifier >> 16) as u32, (modifier & 0x7ff) as u32);
-            match number.with_scale(scale) {
-                Some(number) if number.digits_in_front() <= precision - scale => {
-                    Ok(Value::Decimal(number))
-                }
-                _ => Err(Report::error(
-                    SqlState::NUMBER_OUT_OF_RANGE,
-                    "numeric field overflow",
-                )),
-            }
+            value::sized(number, precision, scale).map(Value::Decimal)
         }
         (_, value) => Ok(value),
     }
@@ -212,7 +195,7 @@ fn read(text: &str, from: Oid, to: Oid, world: &World) -> Result<Value, Failure>
         oid::BOOL => boolean(trimmed)
             .map(Value::Bool)
             .ok_or_else(|| invalid(to, text)),
-        oid::INT2 | oid::INT4 | oid::INT8 => integer(trimmed, to, text),
+        oid::INT2 | oid::INT4 | oid::INT8 => integer(to, text).map(Value::Integer),
         oid::OID | oid::XID => match trimmed.parse::<i64>() {
             Ok(number) if in_range(number, to) => Ok(Value::Integer(number)),
             Ok(number) if number < 0 && i32::try_from(number).is_ok() => {
@@ -241,7 +224,19 @@ fn read(text: &str, from: Oid, to: Oid, world: &World) -> Result<Value, Failure>
             Ok(Value::Array(elements?.into()))
         }
         to => match types::element(to) {
-            Some(element) => array(trimmed, element, text, world),
+            Some(element) => {
+                let elements: Result<Vec<Value>, Failure> = array::elements(text)?
+                    .iter()
+                    .map(|piece| match piece {
+                        None => Ok(Value::Null),
+                        Some(piece) if types::is_text(element) => {
+                            Ok(Value::text(shortened(piece, element)))
+                        }
+                        Some(piece) => read(piece, oid::UNKNOWN, element, world),
+                    })
+                    .collect();
+                Ok(Value::Array(elements?.into()))
+            }
             None => Err(no_cast(
                 if from == oid::UNKNOWN {
                     oid::TEXT
@@ -261,17 +256,6 @@ fn too_large(text: &str, to: Oid) -> Failure {
         types::display(to)
     );
     Report::error(SqlState::NUMBER_OUT_OF_RANGE, text)
-}
-
-fn integer(trimmed: &str, to: Oid, text: &str) -> Result<Value, Failure> {
-    let digits = trimmed.strip_prefix(['+', '-']).unwrap_or(trimmed);
-    if digits.is_empty() || !digits.bytes().all(|byte| byte.is_ascii_digit()) {
-        return Err(invalid(to, text));
-    }
-    match trimmed.parse::<i64>() {
-        Ok(number) if in_range(number, to) => Ok(Value::Integer(number)),
-        _ => Err(too_large(text, to)),
-    }
 }
 
 /// Reads the value of the parameter `$number`.
@@ -294,13 +278,9 @@ pub fn parameter(
     if format == Format::Text {
         return cast(Value::text(as_text()?), oid::UNKNOWN, oid, -1, world);
     }
-    let wrong = || {
-        let text = format!("incorrect binary data format in bind parameter {}", number);
-        Report::error(SqlState::INVALID_BINARY_REPRESENTATION, text)
-    };
     let whole = |size: usize| -> Result<i64, Failure> {
         if bytes.len() != size {
-            return Err(wrong());
+            return Err(value::no_binary(number));
         }
         let negative = bytes[0] >= 0x80 && !types::is_oid(oid);
         let start = if negative { -1 } else { 0 };
@@ -317,56 +297,20 @@ pub fn parameter(
         oid::CHAR if bytes == [0] => Value::text(""),
         oid if types::is_text(oid) || oid == oid::UNKNOWN => Value::text(as_text()?),
         oid => match types::element(oid) {
-            Some(_) => array_from_binary(number, bytes, world)?,
+            Some(element) => {
+                let elements: Result<Vec<Value>, Failure> =
+                    array::binary_elements(number, element, bytes)?
+                        .into_iter()
+                        .map(|bytes| parameter(number, element, format, bytes, world))
+                        .collect();
+                Value::Array(elements?.into())
+            }
             None => {
                 let what = format!("a parameter of the type {} in binary", types::display(oid));
                 return Err(missing(&what));
             }
         },
     })
-}
-
-/// Reads an array of at most one dimension from its binary form.
-fn array_from_binary(number: usize, bytes: &[u8], world: &World) -> Result<Value, Failure> {
-    let wrong = || {
-        let text = format!("incorrect binary data format in bind parameter {}", number);
-        Report::error(SqlState::INVALID_BINARY_REPRESENTATION, text)
-    };
-    let word = |place: usize| -> Result<i32, Failure> {
-        let bytes = bytes.get(place..place + 4).ok_or_else(wrong)?;
-        Ok(i32::from_be_bytes([bytes[0], bytes[1], bytes[2], bytes[3]]))
-    };
-    let (dimensions, element) = (word(0)?, word(8)? as Oid);
-    match dimensions {
-        0 => return Ok(Value::Array(Vec::new().into())),
-        1 => {}
-        _ => {
-            return Err(missing(
-                "a parameter that is an array of several dimensions",
-            ))
-        }
-    }
-    let count = word(12)?;
-    let (mut at, mut elements) = (20, Vec::new());
-    for _ in 0..count {
-        let length = word(at)?;
-        at += 4;
-        let value = match usize::try_from(length) {
-            Ok(length) => {
-                let end = at.checked_add(length).ok_or_else(wrong)?;
-                let value = bytes.get(at..end).ok_or_else(wrong)?;
-                at = end;
-                Some(value)
-            }
-            Err(_) => None,
-        };
-        elements.push(parameter(number, element, Format::Binary, value, world)?);
-    }
-    if at == bytes.len() {
-        Ok(Value::Array(elements.into()))
-    } else {
-        Err(wrong())
-    }
 }
 
 /// Reads a boolean: a word, or the beginning of one.
@@ -380,60 +324,6 @@ pub fn boolean(text: &str) -> Option<bool> {
         _ if begins("false") || begins("no") => Some(false),
         _ => None,
     }
-}
-
-/// Reads an array of one dimension: `{a,"b c",NULL}`.
-fn array(trimmed: &str, element: Oid, text: &str, world: &World) -> Result<Value, Failure> {
-    let malformed = || {
-        let text = format!("malformed array literal: \"{}\"", text);
-        Report::error(SqlState::INVALID_TEXT_REPRESENTATION, text)
-    };
-    let inside = trimmed
-        .strip_prefix('{')
-        .and_then(|rest| rest.strip_suffix('}'))
-        .ok_or_else(malformed)?;
-    let mut elements = Vec::new();
-    let mut rest = inside.trim();
-    while !rest.is_empty() {
-        let (piece, is_quoted, behind) = element_of(rest).ok_or_else(malformed)?;
-        elements.push(if !is_quoted && piece.eq_ignore_ascii_case("NULL") {
-            Value::Null
-        } else if types::is_text(element) {
-            Value::text(shortened(&piece, element))
-        } else {
-            read(&piece, oid::UNKNOWN, element, world)?
-        });
-        rest = behind.trim_start();
-        if rest.is_empty() {
-            break;
-        }
-        rest = rest.strip_prefix(',').ok_or_else(malformed)?.trim_start();
-        if rest.is_empty() {
-            return Err(malformed());
-        }
-    }
-    Ok(Value::Array(elements.into()))
-}
-
-/// Reads an element of an array: what it is, whether it is in quotes, and what is behind it.
-fn element_of(rest: &str) -> Option<(String, bool, &str)> {
-    let mut piece = String::new();
-    let mut marks = rest.char_indices();
-    if !rest.starts_with('"') {
-        let end = rest.find(',').unwrap_or(rest.len());
-        let plain = rest[..end].trim_end();
-        let is_plain = !plain.is_empty() && !plain.contains(['{', '}', '"', '\\']);
-        return is_plain.then(|| (plain.to_owned(), false, &rest[end..]));
-    }
-    marks.next();
-    while let Some((at, mark)) = marks.next() {
-        match mark {
-            '"' => return Some((piece, true, &rest[at + 1..])),
-            '\\' => piece.push(marks.next()?.1),
-            mark => piece.push(mark),
-        }
-    }
-    None
 }
 
 #[cfg(test)]
@@ -465,6 +355,7 @@ mod tests {
                 "{a,\"b c\",NULL,\"NULL\"}",
             ),
             ("{}", oid::TEXT_ARRAY, -1, "{}"),
+            ("{a\\b}", oid::TEXT_ARRAY, -1, "{ab}"),
             ("1 2", oid::INT2VECTOR, -1, "1 2"),
             ("pg_class", oid::REGCLASS, -1, "pg_class"),
             ("-1", oid::OID, -1, "4294967295"),

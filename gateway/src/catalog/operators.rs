@@ -191,6 +191,27 @@ pub fn out_of_range(oid: Oid) -> Failure {
     Report::error(SqlState::NUMBER_OUT_OF_RANGE, text)
 }
 
+/// Makes the report of an operator in front that doesn't take this type.
+pub fn no_operator_before(operator: &str, right: Oid) -> Failure {
+    let text = format!(
+        "operator does not exist: {} {}",
+        operator,
+        types::name(right)
+    );
+    Report::error(SqlState::UNDEFINED_FUNCTION, text).hint(
+        "No operator matches the given name and argument type. You might need to add an explicit type cast.",
+    )
+}
+
+/// Makes the report of an operator that doesn't take these types.
+pub fn no_operator_between(left: Oid, operator: &str, right: Oid) -> Failure {
+    let (left, right) = (types::name(left), types::name(right));
+    let text = format!("operator does not exist: {} {} {}", left, operator, right);
+    Report::error(SqlState::UNDEFINED_FUNCTION, text).hint(
+        "No operator matches the given name and argument types. You might need to add explicit type casts.",
+    )
+}
+
 /// How a text is compared with a pattern.
 #[derive(Clone, Copy, Debug, PartialEq, Eq)]
 pub struct Match {

@@ -234,6 +234,14 @@ pub fn display(oid: Oid) -> String {
     format(oid, None)
 }
 
+/// Returns the name of a type in a report, as [`display`] has it. A type that nothing tells is unknown.
+pub fn name(oid: Oid) -> String {
+    match oid {
+        oid::UNKNOWN | oid::UNSPECIFIED => "unknown".to_owned(),
+        oid => display(oid),
+    }
+}
+
 /// Returns the name of a type with its modifier, as format_type has it. A type that nobody knows is `???`.
 pub fn format(oid: Oid, modifier: Option<i32>) -> String {
     if let Some(element) = element(oid).filter(|_| !matches!(oid, oid::INT2VECTOR | oid::OIDVECTOR))

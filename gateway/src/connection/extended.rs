@@ -19,6 +19,14 @@ use crate::value::oid;
 use crate::wire::backend::{self, Column, Format};
 use crate::wire::frontend::{self, Bind, Parse};
 
+/// What Describe tells of a statement.
+struct Described {
+    /// The types of its parameters.
+    types: Vec<Oid>,
+    /// The columns of its rows. None: it has none.
+    columns: Option<Rc<[Column]>>,
+}
+
 impl Connection {
     /// Serves Sync: commits what a pipeline has reserved, and ends the skipping behind an error.
     pub(super) fn sync(&mut self) {
@@ -180,12 +188,8 @@ impl Connection {
             Ok(statement) => Rc::clone(statement),
             Err(report) => return self.fail(report, None),
         };
-        let definition = statement
-            .table_name()
-            .and_then(|table| self.definitions().get(table));
-        let types = statement.parameter_types(definition.as_deref());
-        let columns = match self.columns_of(&statement, definition.as_deref(), &types) {
-            Ok(columns) => columns,
+        let Described { types, columns } = match self.described(&statement) {
+            Ok(described) => described,
             Err(report) => return self.fail(report, Some(&statement.text)),
         };
         let out = self.output.buffer();
@@ -197,26 +201,27 @@ impl Connection {
         statement.described.replace(columns);
     }
 
-    /// Returns the columns of a statement's rows. None: it has none.
-    fn columns_of(
-        &self,
-        statement: &Statement,
-        definition: Option<&Definition>,
-        types: &[Oid],
-    ) -> Result<Option<Rc<[Column]>>, Failure> {
-        let tree = match &statement.parsed {
-            Some(parsed) => &parsed.statement,
-            None => return Ok(None),
+    /// Returns what Describe tells of a statement.
+    fn described(&self, statement: &Statement) -> Result<Described, Failure> {
+        let table = statement.table_name();
+        let definition = table.and_then(|table| self.definitions().get(table));
+        let definition = definition.as_deref();
+        let types = statement.parameter_types(definition);
+        let of_table = |shown: &[select::Shown]| {
+            definition
+                .map(|definition| select::columns(shown, definition, &types))
+                .transpose()
         };
-        let shown = match tree {
-            Tree::Served(Served::Select(select)) => &select.shown,
-            Tree::Served(served) if !served.returning().is_empty() => served.returning(),
-            Tree::Query(query) => return self.query_columns(query, types).map(Some),
-            tree => return self.columns(tree),
+        let columns = match statement.parsed.as_ref().map(|parsed| &parsed.statement) {
+            None => None,
+            Some(Tree::Served(Served::Select(select))) => of_table(&select.shown)?,
+            Some(Tree::Served(served)) if !served.returning().is_empty() => {
+                of_table(served.returning())?
+            }
+            Some(Tree::Query(query)) => Some(self.query_columns(query, &types)?),
+            Some(tree) => self.columns(tree)?,
         };
-        definition
-            .map(|definition| select::columns(shown, definition, types))
-            .transpose()
+        Ok(Described { types, columns })
     }
 
     /// Describes a portal. The rows of a table are read ahead for it.
@@ -246,16 +251,15 @@ impl Connection {
             let then = AfterDefinition::DescribePortal(name.to_owned(), statement);
             return self.ask_definition(&table, then);
         }
-        let definition = statement
-            .table_name()
-            .and_then(|table| self.definitions().get(table));
-        let types = statement.parameter_types(definition.as_deref());
-        let columns = match self.columns_of(&statement, definition.as_deref(), &types) {
-            Err(report) => return self.fail(report, Some(&statement.text)),
-            Ok(Some(columns)) => Some(columns),
-            Ok(None) => statement.described.borrow().clone(),
-        };
-        self.write_description(name, columns);
+        match self.described(&statement) {
+            Err(report) => self.fail(report, Some(&statement.text)),
+            Ok(told) => {
+                let columns = told
+                    .columns
+                    .or_else(|| statement.described.borrow().clone());
+                self.write_description(name, columns);
+            }
+        }
     }
 
     /// Describes the columns of a portal's rows. None: it has no rows.

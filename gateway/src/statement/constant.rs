@@ -2,10 +2,12 @@
 
 use postgres_protocol::Oid;
 
+use crate::catalog::operators::{in_range, no_operator_before, no_operator_between, out_of_range};
+use crate::catalog::types;
 use crate::decimal::Decimal;
 use crate::rows::{ColumnType, DefinedColumn};
 use crate::sqlstate::{Failure, Report, SqlState};
-use crate::statement::query::{Expression, ExpressionKind, Span, TypeName};
+use crate::statement::query::{Expression, ExpressionKind, TypeName};
 use crate::statement::served::Verb;
 use crate::value::{self, oid, Number, Value};
 
@@ -50,7 +52,7 @@ pub enum Usage {
 #[derive(Clone, Copy, Debug, PartialEq, Eq)]
 enum CastTo {
     Integer(Oid),
-    Numeric(Option<(i32, i32)>),
+    Numeric(Option<(u32, u32)>),
     Text,
     Varchar(Option<usize>),
 }
@@ -86,7 +88,7 @@ fn cast_to(to: &TypeName) -> Result<CastTo, Failure> {
             if !(0..=30).contains(&scale) {
                 return Err(Report::missing("a cast to numeric of such a scale").at(to.span.start));
             }
-            CastTo::Numeric(Some((*precision, scale)))
+            CastTo::Numeric(Some((*precision as u32, scale as u32)))
         }
         (name, _) => {
             return Err(Report::missing(&format!("a cast to {}", name)).at(to.span.start));
@@ -154,7 +156,7 @@ pub fn type_of(expression: &Expression, types: &[Oid]) -> (Oid, i32) {
             Ok(CastTo::Integer(oid)) => oid,
             Ok(CastTo::Numeric(None)) => oid::NUMERIC,
             Ok(CastTo::Numeric(Some((precision, scale)))) => {
-                return (oid::NUMERIC, (precision << 16 | scale) + 4);
+                return (oid::NUMERIC, (precision << 16 | scale) as i32 + 4);
             }
             Ok(CastTo::Varchar(length)) => {
                 let modifier = length.and_then(|length| i32::try_from(length + 4).ok());
@@ -202,21 +204,13 @@ pub fn evaluate(expression: &Expression, input: Input<'_>) -> Result<Datum, Fail
         ExpressionKind::Text(text) => Ok(Datum::Unknown(text.clone())),
         ExpressionKind::Parameter(number) => parameter(*number, input, place),
         ExpressionKind::Unary(sign, operand) => {
-            signed(sign, operand, input).map_err(|report| at(report, expression.span))
+            signed(sign, operand, input).map_err(|report| report.or_at(expression.span.start))
         }
         ExpressionKind::Cast(operand, to) => {
             let datum = evaluate(operand, input)?;
-            cast(datum, cast_to(to)?).map_err(|report| at(report, operand.span))
+            cast(datum, cast_to(to)?).map_err(|report| report.or_at(operand.span.start))
         }
         _ => Ok(Datum::Null),
-    }
-}
-
-fn at(report: Failure, span: Span) -> Failure {
-    if report.place.is_some() {
-        report
-    } else {
-        report.at(span.start)
     }
 }
 
@@ -310,7 +304,7 @@ pub fn elements(expression: &Expression, input: Input<'_>) -> Result<Vec<Datum>,
             let elements = elements(operand, input)?.into_iter().map(of);
             elements
                 .collect::<Result<_, _>>()
-                .map_err(|report| at(report, operand.span))?
+                .map_err(|report| report.or_at(operand.span.start))?
         }
         ExpressionKind::Parameter(number) => {
             let index = usize::from(*number) - 1;
@@ -347,20 +341,13 @@ fn signed(sign: &str, operand: &Expression, input: Input<'_>) -> Result<Datum, F
         Datum::Integer(integer, oid) if is_minus => {
             let negated = integer
                 .checked_neg()
-                .filter(|negated| is_in_range(*negated, oid));
-            Datum::Integer(negated.ok_or_else(|| out_of_type(oid))?, oid)
+                .filter(|negated| in_range(*negated, oid));
+            Datum::Integer(negated.ok_or_else(|| out_of_range(oid))?, oid)
         }
         Datum::Numeric(decimal) if is_minus => Datum::Numeric(decimal.negated()),
         Datum::Integer(..) | Datum::Numeric(_) | Datum::Null => datum,
         Datum::Unknown(_) => return Err(sign_of_unknown(if is_minus { '-' } else { '+' })),
-        datum => {
-            let text = format!(
-                "operator does not exist: {} {}",
-                sign,
-                type_name(datum.oid())
-            );
-            return Err(no_operator(text));
-        }
+        datum => return Err(no_operator_before(sign, datum.oid())),
     })
 }
 
@@ -376,69 +363,32 @@ pub fn sign_of_unknown(sign: char) -> Failure {
     Report::error(SqlState::AMBIGUOUS_FUNCTION, text).hint(hint)
 }
 
-fn no_operator(text: String) -> Failure {
-    Report::error(SqlState::UNDEFINED_FUNCTION, text).hint(
-        "No operator matches the given name and argument types. You might need to add explicit type casts.",
-    )
-}
-
-fn is_in_range(integer: i64, oid: Oid) -> bool {
-    match oid {
-        oid::INT2 => i16::try_from(integer).is_ok(),
-        oid::INT4 => i32::try_from(integer).is_ok(),
-        _ => true,
-    }
-}
-
-fn out_of_type(oid: Oid) -> Failure {
-    let text = format!("{} out of range", type_name(oid));
-    Report::error(SqlState::NUMBER_OUT_OF_RANGE, text)
-}
-
-/// Returns the name of a type as PostgreSQL's texts have it.
-pub fn type_name(oid: Oid) -> &'static str {
-    match oid {
-        oid::BOOL => "boolean",
-        oid::INT2 => "smallint",
-        oid::INT4 => "integer",
-        oid::INT8 => "bigint",
-        oid::NUMERIC => "numeric",
-        oid::VARCHAR => "character varying",
-        oid::BPCHAR => "character",
-        oid::NAME => "name",
-        oid::TEXT => "text",
-        _ => "unknown",
-    }
-}
-
 fn cast(datum: Datum, to: CastTo) -> Result<Datum, Failure> {
     let text = match (&datum, to) {
         (Datum::Null, _) => return Ok(datum),
         (Datum::Boolean(_), _) => return Err(Report::missing("a cast of a boolean")),
         (Datum::Integer(integer, _), CastTo::Integer(oid)) => {
-            return if is_in_range(*integer, oid) {
+            return if in_range(*integer, oid) {
                 Ok(Datum::Integer(*integer, oid))
             } else {
-                Err(out_of_type(oid))
+                Err(out_of_range(oid))
             };
         }
         (Datum::Numeric(decimal), CastTo::Integer(oid)) => {
-            let rounded = decimal
-                .rounded()
-                .filter(|rounded| is_in_range(*rounded, oid));
-            let rounded = rounded.ok_or_else(|| out_of_type(oid))?;
+            let rounded = decimal.rounded().filter(|rounded| in_range(*rounded, oid));
+            let rounded = rounded.ok_or_else(|| out_of_range(oid))?;
             return Ok(Datum::Integer(rounded, oid));
         }
         (Datum::Integer(integer, _), CastTo::Numeric(size)) => {
-            return sized(Decimal::from(*integer), size);
+            return numeric(Decimal::from(*integer), size);
         }
-        (Datum::Numeric(decimal), CastTo::Numeric(size)) => return sized(*decimal, size),
+        (Datum::Numeric(decimal), CastTo::Numeric(size)) => return numeric(*decimal, size),
         _ => datum.text().unwrap_or_default(),
     };
     Ok(match to {
         CastTo::Integer(oid) => Datum::Integer(value::integer(oid, &text)?, oid),
         CastTo::Numeric(size) => match Decimal::parse(text.trim()) {
-            Some(decimal) => return sized(decimal, size),
+            Some(decimal) => return numeric(decimal, size),
             None => return Err(value::no_number(&text)),
         },
         CastTo::Varchar(Some(length)) => {
@@ -449,28 +399,12 @@ fn cast(datum: Datum, to: CastTo) -> Result<Datum, Failure> {
     })
 }
 
-/// Returns a number of a type with precision and scale.
-fn sized(decimal: Decimal, size: Option<(i32, i32)>) -> Result<Datum, Failure> {
-    let (precision, scale) = match size {
-        Some(size) => size,
-        None => return Ok(Datum::Numeric(decimal)),
-    };
-    let rounded = decimal
-        .with_scale(scale as u32)
-        .filter(|rounded| rounded.digits_in_front() as i32 <= precision - scale);
-    rounded.map(Datum::Numeric).ok_or_else(|| {
-        let detail = format!(
-            "A field with precision {}, scale {} must round to an absolute value less than {}.",
-            precision,
-            scale,
-            if precision == scale {
-                "1".to_owned()
-            } else {
-                format!("10^{}", precision - scale)
-            }
-        );
-        Report::error(SqlState::NUMBER_OUT_OF_RANGE, "numeric field overflow").detail(detail)
-    })
+/// Returns a number as one of a numeric, perhaps with precision and scale.
+fn numeric(decimal: Decimal, size: Option<(u32, u32)>) -> Result<Datum, Failure> {
+    let sized = size.map_or(Ok(decimal), |(precision, scale)| {
+        value::sized(decimal, precision, scale)
+    });
+    sized.map(Datum::Numeric)
 }
 
 impl Datum {
@@ -540,10 +474,7 @@ impl Datum {
         let oid = self.oid();
         match self.value()? {
             Value::Number(number) => Ok(number),
-            _ => {
-                let text = format!("operator does not exist: numeric = {}", type_name(oid));
-                Err(no_operator(text))
-            }
+            _ => Err(no_operator_between(oid::NUMERIC, "=", oid)),
         }
     }
 
@@ -568,14 +499,14 @@ impl Datum {
 
 /// Makes the report of a value whose type a column doesn't take, in PostgreSQL's words.
 fn mismatch(column: &DefinedColumn, usage: Usage, oid: Oid) -> Failure {
-    let of_column = type_name(column.result_column().oid);
+    let of_column = column.result_column().oid;
     let sign = match usage {
         Usage::Assigned => {
             let text = format!(
                 "column \"{}\" is of type {} but expression is of type {}",
                 column.name,
-                of_column,
-                type_name(oid)
+                types::name(of_column),
+                types::name(oid)
             );
             let report = Report::error(SqlState::DATATYPE_MISMATCH, text);
             return report.hint("You will need to rewrite or cast the expression.");
@@ -583,12 +514,7 @@ fn mismatch(column: &DefinedColumn, usage: Usage, oid: Oid) -> Failure {
         Usage::Changed => "+",
         Usage::Compared => "=",
     };
-    no_operator(format!(
-        "operator does not exist: {} {} {}",
-        of_column,
-        sign,
-        type_name(oid)
-    ))
+    no_operator_between(of_column, sign, oid)
 }
 
 /// Makes the report of a NULL, which no column takes.
@@ -611,5 +537,5 @@ pub fn value_for(
     let datum = evaluate(expression, input)?;
     datum
         .fit(column, usage)
-        .map_err(|report| at(report, expression.span))
+        .map_err(|report| report.or_at(expression.span.start))
 }

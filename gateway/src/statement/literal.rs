@@ -22,7 +22,7 @@ pub fn folded(written: &str, is_quoted: bool) -> String {
 }
 
 /// Returns the first characters of a text, as many as are in so many bytes.
-fn cut(text: &str, most: usize) -> &str {
+pub fn cut(text: &str, most: usize) -> &str {
     let mut end = text.len().min(most);
     while !text.is_char_boundary(end) {
         end -= 1;

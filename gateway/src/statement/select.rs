@@ -5,6 +5,7 @@ use std::rc::Rc;
 
 use postgres_protocol::Oid;
 
+use crate::catalog::types;
 use crate::rows::shape::{Order, Output, Shape};
 use crate::rows::Definition;
 use crate::sqlstate::{Failure, Report, SqlState};
@@ -666,7 +667,7 @@ fn bound(
     let place = expression.span.start;
     let of = constant::type_of(expression, input.types).0;
     let mismatch = || {
-        let of = constant::type_name(of);
+        let of = types::name(of);
         let text = format!("argument of {} must be type bigint, not type {}", name, of);
         Err(Report::error(SqlState::DATATYPE_MISMATCH, text).at(place))
     };

@@ -249,6 +249,24 @@ fn what_is_no_statement_or_is_missing_is_refused() {
 }
 
 #[test]
+fn a_column_of_a_narrower_type_has_a_notice() {
+    let text = "CREATE TABLE t (a INT, b SMALLINT, c BIGINT, d NUMERIC, e DECIMAL(8,2), f TEXT, g VARCHAR(9), h VARCHAR(300))";
+    let define = match served(text).unwrap() {
+        Served::Define(define) => define,
+        other => panic!("{:?}", other),
+    };
+    assert_eq!(
+        define.notices,
+        [
+            "column \"c\": bigint has at most 15 digits",
+            "column \"d\": numeric has at most 15 digits, 6 of them behind the point",
+            "column \"f\": a text has at most 255 bytes",
+            "column \"h\": a text has at most 255 bytes",
+        ]
+    );
+}
+
+#[test]
 #[rustfmt::skip]
 fn values_are_explained_by_the_definition() {
     for (text, state, place) in [
@@ -393,6 +411,8 @@ fn constants_are_those_of_postgresql_15() {
         ("- 2.55::int", "-3 int4"),
         ("2.55::numeric(5,1)", "2.6 numeric"),
         ("5::numeric(5,2)", "5.00 numeric"),
+        ("0.0125::numeric(2,3)", "0.013 numeric"),
+        ("0.1::numeric(2,3)", "22003"),
         ("'abcdef'::varchar(3)", "abc varchar"),
         ("'\u{e4}\u{e4}'::varchar(1)", "\u{e4} varchar"),
         ("1.50::text", "1.50 text"),

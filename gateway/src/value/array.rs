@@ -2,8 +2,9 @@
 
 use postgres_protocol::Oid;
 
+use crate::catalog::types;
 use crate::sqlstate::{Failure, Report, SqlState};
-use crate::value::oid;
+use crate::value::{no_binary, oid};
 
 /// The types of arrays that are understood, each with the type of its elements.
 const TYPES: [(Oid, Oid); 6] = [
@@ -94,16 +95,17 @@ pub fn elements(text: &str) -> Result<Vec<Option<String>>, Failure> {
     }
 }
 
-/// Reads the elements of an array in binary, each as its type has it. None: NULL.
+/// Reads the elements of an array in binary, which is the parameter `$number`, each as its type has it. None: NULL.
 ///
 /// # Errors
 ///
 /// Fails if the bytes are no array, one of another type, or one of several dimensions.
-pub fn binary_elements(mut bytes: &[u8], element: Oid) -> Result<Vec<Option<&[u8]>>, Failure> {
-    let wrong = || {
-        let text = "incorrect binary data format of an array";
-        Report::error(SqlState::INVALID_BINARY_REPRESENTATION, text)
-    };
+pub fn binary_elements(
+    number: usize,
+    element: Oid,
+    mut bytes: &[u8],
+) -> Result<Vec<Option<&[u8]>>, Failure> {
+    let wrong = || no_binary(number);
     let word = |bytes: &mut &[u8]| -> Result<i32, Failure> {
         let (first, rest) = (bytes.get(..4), bytes.get(4..));
         let first = first.and_then(|first| <[u8; 4]>::try_from(first).ok());
@@ -111,15 +113,25 @@ pub fn binary_elements(mut bytes: &[u8], element: Oid) -> Result<Vec<Option<&[u8
         first.map(i32::from_be_bytes).ok_or_else(wrong)
     };
     let (dimensions, _, of) = (word(&mut bytes)?, word(&mut bytes)?, word(&mut bytes)?);
-    match dimensions {
-        0 => return Ok(Vec::new()),
-        1 => {}
+    let of = of as Oid;
+    if of != element {
+        let text = format!(
+            "binary data has array element type {} ({}) instead of expected {} ({})",
+            of,
+            types::display(of),
+            element,
+            types::display(element)
+        );
+        return Err(Report::error(SqlState::DATATYPE_MISMATCH, text));
+    }
+    let count = match dimensions {
+        0 => 0,
+        1 => {
+            let (count, _) = (word(&mut bytes)?, word(&mut bytes)?);
+            count
+        }
         _ => return Err(too_deep()),
-    }
-    if of as Oid != element {
-        return Err(wrong());
-    }
-    let (count, _) = (word(&mut bytes)?, word(&mut bytes)?);
+    };
     let mut elements = Vec::new();
     for _ in 0..count {
         elements.push(match usize::try_from(word(&mut bytes)?) {
@@ -131,6 +143,9 @@ pub fn binary_elements(mut bytes: &[u8], element: Oid) -> Result<Vec<Option<&[u8
             }
             Ok(_) => return Err(wrong()),
         });
+    }
+    if !bytes.is_empty() {
+        return Err(wrong());
     }
     Ok(elements)
 }
@@ -181,25 +196,29 @@ mod tests {
         let bytes = array(&[1, 0, int4, 2, 1, 4, 7, -1]);
         let seven = 7_i32.to_be_bytes();
         assert_eq!(
-            binary_elements(&bytes, oid::INT4).unwrap(),
+            binary_elements(1, oid::INT4, &bytes).unwrap(),
             [Some(&seven[..]), None]
         );
-        assert!(binary_elements(&array(&[0, 0, int4]), oid::INT4)
+        assert!(binary_elements(1, oid::INT4, &array(&[0, 0, int4]))
             .unwrap()
             .is_empty());
         for wrong in [
             &[1, 0, int4, 2, 1, 4, 7][..],
-            &[1, 0, int4 + 1, 0, 1],
             &[1, 0, int4, i32::MAX, 1, i32::MAX],
+            &[1, 0, int4, 1, 1, 4, 7, 9],
+            &[0, 0, int4, 9],
             &[1],
         ] {
-            let report = binary_elements(&array(wrong), oid::INT4).unwrap_err();
+            let report = binary_elements(1, oid::INT4, &array(wrong)).unwrap_err();
             assert_eq!(report.state.code(), "22P03");
         }
-        let deep = array(&[2, 0, int4, 1, 1, 1, 1]);
-        assert_eq!(
-            binary_elements(&deep, oid::INT4).unwrap_err().state.code(),
-            "0A000"
-        );
+        for (other, state) in [
+            (&[2, 0, int4, 1, 1, 1, 1][..], "0A000"),
+            (&[1, 0, int4 + 1, 0, 1], "42804"),
+            (&[0, 0, int4 + 1], "42804"),
+        ] {
+            let report = binary_elements(1, oid::INT4, &array(other)).unwrap_err();
+            assert_eq!(report.state.code(), state);
+        }
     }
 }

@@ -2,7 +2,7 @@
 
 use postgres_protocol::Oid;
 
-use crate::catalog::analysis::{placed, Analyser, Typed};
+use crate::catalog::analysis::{Analyser, Typed};
 use crate::catalog::casts;
 use crate::catalog::missing;
 use crate::catalog::plan::Node;
@@ -52,7 +52,7 @@ impl Analyser<'_> {
         let node = match typed.node {
             Node::Constant(value) if typed.oid == oid::UNKNOWN => Node::Constant(
                 casts::cast(value, oid::UNKNOWN, to, modifier, self.world)
-                    .map_err(|report| placed(report, typed.span.unwrap_or(span)))?,
+                    .map_err(|report| report.or_at(typed.span.unwrap_or(span).start))?,
             ),
             node => {
                 let from = if typed.oid == oid::UNKNOWN {
@@ -60,7 +60,7 @@ impl Analyser<'_> {
                 } else {
                     typed.oid
                 };
-                casts::check(from, to).map_err(|report| placed(report, span))?;
+                casts::check(from, to).map_err(|report| report.or_at(span.start))?;
                 if from == to && modifier < 0 {
                     node
                 } else {
@@ -98,7 +98,7 @@ impl Analyser<'_> {
         span: Span,
     ) -> Result<(Vec<Typed>, Oid), Failure> {
         let types = values.iter().map(|typed| (typed.oid, typed.span));
-        let to = common_type(types, what).map_err(|report| placed(report, span))?;
+        let to = common_type(types, what).map_err(|report| report.or_at(span.start))?;
         let values: Result<Vec<Typed>, Failure> = values
             .into_iter()
             .map(|typed| self.implicit(typed, to, span))

@@ -6,9 +6,11 @@ use postgres_protocol::Oid;
 
 use crate::catalog::analysis::coercion::text_constant;
 use crate::catalog::analysis::scope::Scope;
-use crate::catalog::analysis::{placed, Analyser, Typed};
+use crate::catalog::analysis::{Analyser, Typed};
 use crate::catalog::missing;
-use crate::catalog::operators::{Arithmetic, Comparison, Match};
+use crate::catalog::operators::{
+    no_operator_before, no_operator_between, Arithmetic, Comparison, Match,
+};
 use crate::catalog::plan::{ElementTest, Node, Plan};
 use crate::catalog::types::{self, oid};
 use crate::catalog::value::Value;
@@ -28,7 +30,7 @@ impl Analyser<'_> {
         let typed = self.deeper(|analyser| {
             analyser
                 .kind(expression, scope)
-                .map_err(|report| placed(report, span))
+                .map_err(|report| report.or_at(span.start))
         })?;
         Ok(Typed {
             span: typed.span.or(Some(span)),
@@ -82,7 +84,7 @@ impl Analyser<'_> {
             ExpressionKind::Binary(left, operator, right) => {
                 let span = operator.span;
                 self.binary(left, operator, right, span, scope)
-                    .map_err(|report| placed(report, span))
+                    .map_err(|report| report.or_at(span.start))
             }
             ExpressionKind::Cast(operand, name) => {
                 let (oid, modifier) = self.type_of(name)?;
@@ -115,7 +117,7 @@ impl Analyser<'_> {
             ExpressionKind::Quantified(left, operator, is_all, right) => {
                 let span = operator.span;
                 self.quantified(left, operator, *is_all, right, span, scope)
-                    .map_err(|report| placed(report, span))
+                    .map_err(|report| report.or_at(span.start))
             }
             ExpressionKind::Function(call) => self.call(call, span, scope),
             ExpressionKind::Case {
@@ -758,37 +760,12 @@ fn only_column(plan: &Plan, span: Span) -> Result<(Oid, i32), Failure> {
     }
 }
 
-/// Makes the report of an operator in front that doesn't take this type.
-fn no_operator_before(operator: &str, right: Oid) -> Failure {
-    let text = format!("operator does not exist: {} {}", operator, type_name(right));
-    Report::error(SqlState::UNDEFINED_FUNCTION, text).hint(
-        "No operator matches the given name and argument type. You might need to add an explicit type cast.",
-    )
-}
-
-/// Makes the report of an operator that doesn't take these types.
-fn no_operator_between(left: Oid, operator: &str, right: Oid) -> Failure {
-    let (left, right) = (type_name(left), type_name(right));
-    let text = format!("operator does not exist: {} {} {}", left, operator, right);
-    Report::error(SqlState::UNDEFINED_FUNCTION, text).hint(
-        "No operator matches the given name and argument types. You might need to add explicit type casts.",
-    )
-}
-
 /// Makes the report of an operator between two values whose types are open.
 fn not_unique(operator: &str) -> Failure {
     let text = format!("operator is not unique: unknown {} unknown", operator);
     Report::error(SqlState::AMBIGUOUS_FUNCTION, text).hint(
         "Could not choose a best candidate operator. You might need to add explicit type casts.",
     )
-}
-
-/// Returns the name of a type in the report of an operator.
-fn type_name(oid: Oid) -> String {
-    match oid {
-        oid::UNKNOWN | oid::UNSPECIFIED => "unknown".to_owned(),
-        oid => types::display(oid),
-    }
 }
 
 /// Returns the type as which values of two types are compared. None: they are not.

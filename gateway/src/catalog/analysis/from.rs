@@ -3,12 +3,12 @@
 use std::rc::Rc;
 
 use crate::catalog::analysis::calls::function_node;
-use crate::catalog::analysis::scope::{Clause, Item, Scope, ScopeColumn, MOST_SLOTS};
+use crate::catalog::analysis::scope::{Clause, Item, Scope, MOST_SLOTS};
 use crate::catalog::analysis::{too_complex, Analyser};
 use crate::catalog::functions;
 use crate::catalog::missing;
 use crate::catalog::operators::Comparison;
-use crate::catalog::plan::{Node, Plan, Source, Step};
+use crate::catalog::plan::{Node, OutputColumn, Plan, Source, Step};
 use crate::catalog::system;
 use crate::catalog::types::oid;
 use crate::sqlstate::{Failure, Report, SqlState};
@@ -122,7 +122,7 @@ impl Analyser<'_> {
         let columns = relation
             .columns
             .iter()
-            .map(|column| ScopeColumn {
+            .map(|column| OutputColumn {
                 name: column.name.to_owned(),
                 oid: column.oid,
                 modifier: column.modifier,
@@ -151,20 +151,11 @@ impl Analyser<'_> {
         joined: &mut Joined,
         scope: &mut Scope<'_>,
     ) -> Result<(), Failure> {
-        let columns = plan
-            .columns
-            .iter()
-            .map(|column| ScopeColumn {
-                name: column.name.clone(),
-                oid: column.oid,
-                modifier: column.modifier,
-            })
-            .collect();
         let item = Item {
             schema: None,
             name: String::new(),
             slot: 0,
-            columns,
+            columns: plan.columns.clone(),
             relation: None,
         };
         let slot = self.add_item(item, alias, scope)?;
@@ -225,7 +216,7 @@ impl Analyser<'_> {
                     Some(alias) if only => alias.name.text.clone(),
                     _ => field.to_owned(),
                 };
-                columns.push(ScopeColumn {
+                columns.push(OutputColumn {
                     name,
                     oid,
                     modifier: -1,
@@ -233,7 +224,7 @@ impl Analyser<'_> {
             }
         }
         if with_ordinality {
-            columns.push(ScopeColumn {
+            columns.push(OutputColumn {
                 name: "ordinality".to_owned(),
                 oid: oid::INT8,
                 modifier: -1,
@@ -487,7 +478,8 @@ impl Joined {
     }
 }
 
-fn step(source: Source) -> Step {
+/// Makes the step of a source without conditions.
+pub fn step(source: Source) -> Step {
     Step {
         source,
         is_outer: false,

@@ -6,14 +6,14 @@ use postgres_protocol::Oid;
 
 use crate::catalog::analysis::calls::sort_key;
 use crate::catalog::analysis::coercion::common_type;
-use crate::catalog::analysis::from::{placed_conditions, Condition, Joined};
+use crate::catalog::analysis::from::{placed_conditions, step, Condition, Joined};
 use crate::catalog::analysis::locking;
 use crate::catalog::analysis::scope::{Clause, Extras, Scope};
-use crate::catalog::analysis::{placed, too_complex, Analyser, Named, Typed};
+use crate::catalog::analysis::{too_complex, Analyser, Named, Typed};
 use crate::catalog::casts;
 use crate::catalog::missing;
 use crate::catalog::plan::{
-    Body, Distinct, Grouping, Node, OutputColumn, Plan, Select, SetOperation, SortKey,
+    Body, Distinct, Grouping, Node, OutputColumn, Plan, Select, SetOperation, SortKey, Source,
 };
 use crate::catalog::types::{self, oid};
 use crate::sqlstate::{Failure, Report, SqlState};
@@ -173,18 +173,11 @@ impl Analyser<'_> {
                 place,
             })
             .collect();
-        let source = crate::catalog::plan::Source::Query {
+        let step = step(Source::Query {
             slot: 0,
             plan: Rc::new(plan),
             is_lateral: false,
-        };
-        let step = crate::catalog::plan::Step {
-            source,
-            is_outer: false,
-            on: Vec::new(),
-            lookup: None,
-            filters: Vec::new(),
-        };
+        });
         let select = Select {
             slots: 4,
             guards: Vec::new(),
@@ -337,7 +330,7 @@ impl Analyser<'_> {
     ) -> Result<(), Failure> {
         let from = plan.columns[place].oid;
         plan.columns[place].oid = to;
-        casts::check(from, to).map_err(|report| placed(report, span))?;
+        casts::check(from, to).map_err(|report| report.or_at(span.start))?;
         let is_sorted_by_it = plan.order.iter().any(|key| key.place == place);
         if is_sorted_by_it
             && from != to
@@ -357,7 +350,7 @@ impl Analyser<'_> {
         for place in 0..rows.columns.len() {
             if matches!(rows.columns[place].oid, oid::UNKNOWN | oid::UNSPECIFIED) {
                 self.convert(&mut rows, place, oid::TEXT)
-                    .map_err(|report| placed(report, span))?;
+                    .map_err(|report| report.or_at(span.start))?;
             }
         }
         let columns = rows
@@ -422,7 +415,7 @@ impl Analyser<'_> {
             let text = "for SELECT DISTINCT, ORDER BY expressions must appear in select list";
             let report = Report::error(SqlState::INVALID_COLUMN_REFERENCE, text);
             let span = targets.shown[visible].span.unwrap_or_default();
-            return Err(placed(report, span));
+            return Err(report.or_at(span.start));
         }
         scope.clause.set(Clause::Having);
         let having = match &select.having {

@@ -2,11 +2,9 @@
 
 use std::cell::{Cell, RefCell};
 
-use postgres_protocol::Oid;
-
 use crate::catalog::analysis::{Analyser, Typed};
 use crate::catalog::missing;
-use crate::catalog::plan::{Aggregate, Node, Window};
+use crate::catalog::plan::{Aggregate, Node, OutputColumn, Window};
 use crate::catalog::system::Relation;
 use crate::catalog::types::oid;
 use crate::catalog::value::Value;
@@ -15,17 +13,6 @@ use crate::statement::query::{Name, QualifiedName, Span};
 
 /// The most relations that a query reads side by side.
 pub const MOST_SLOTS: usize = 100;
-
-/// A column of a relation.
-#[derive(Clone, Debug)]
-pub struct ScopeColumn {
-    /// Its name.
-    pub name: String,
-    /// The Oid of its type.
-    pub oid: Oid,
-    /// The type's modifier.
-    pub modifier: i32,
-}
 
 /// A relation that a query reads.
 #[derive(Debug)]
@@ -37,7 +24,7 @@ pub struct Item {
     /// Its slot.
     pub slot: usize,
     /// Its columns.
-    pub columns: Vec<ScopeColumn>,
+    pub columns: Vec<OutputColumn>,
     /// The relation of the catalog that it is.
     pub relation: Option<&'static Relation>,
 }

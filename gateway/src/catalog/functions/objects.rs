@@ -247,14 +247,10 @@ pub fn by_name(name: &str) -> Option<Body> {
         | "has_type_privilege"
         | "has_tablespace_privilege"
         | "pg_has_role" => owned,
-        name if name.starts_with("pg_") && name.ends_with("_is_visible") => invisible,
+        // Objects of other kinds don't exist here.
+        name if name.starts_with("pg_") && name.ends_with("_is_visible") => nothing,
         _ => return None,
     })
-}
-
-/// Objects of this kind don't exist here.
-fn invisible(_: &mut Executor<'_>, _: &Call, _: &[Value]) -> Result<Value, Failure> {
-    Ok(Value::Null)
 }
 
 /// Fails unless the user that is asked for is the client's own; whoever connects is the only role.
