@@ -27,9 +27,6 @@ const OWN: u16 = 1;
 /// How many sessions the server has. So one transaction less may have reservations at a time.
 pub const SESSIONS: u16 = 4_096;
 
-/// How many bins there are before holds share one, if there is room.
-const BINS: usize = SESSIONS as usize / 2;
-
 /// What the server was asked.
 #[derive(Clone, Debug, PartialEq, Eq)]
 enum Asked {
@@ -128,6 +125,8 @@ pub struct Server {
     sizes: BTreeSet<(usize, u16)>,
     /// In which bin each line is.
     places: HashMap<Line, u16>,
+    /// How many bins there are before holds share one, if there is room.
+    most_bins: usize,
     tables: HashMap<i32, Made>,
     /// Counts what is asked, as a clock of rows.
     clock: u64,
@@ -144,14 +143,20 @@ impl Default for Server {
 impl Server {
     /// Returns a server without tables.
     pub fn new() -> Server {
+        Server::of(SESSIONS)
+    }
+
+    /// Returns one of so many sessions. Half of them keep holds before these share one.
+    fn of(sessions: u16) -> Server {
         Server {
             asked: VecDeque::new(),
-            free: (OWN + 1..=SESSIONS).rev().collect(),
+            free: (OWN + 1..=sessions).rev().collect(),
             seats: HashMap::new(),
             waiting: VecDeque::new(),
             bins: BTreeMap::new(),
             sizes: BTreeSet::new(),
             places: HashMap::new(),
+            most_bins: usize::from(sessions / 2),
             tables: HashMap::new(),
             clock: 0,
             lines: Vec::new(),
@@ -377,7 +382,7 @@ impl Server {
         let room = self.sizes.iter().next().copied();
         let shared = room.filter(|(size, _)| size + count <= RESERVATIONS);
         match shared {
-            Some((_, seat)) if self.bins.len() >= BINS => Some(seat),
+            Some((_, seat)) if self.bins.len() >= self.most_bins => Some(seat),
             _ => own
                 .or_else(|| self.free.pop())
                 .or_else(|| shared.map(|(_, seat)| seat)),

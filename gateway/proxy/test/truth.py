@@ -49,8 +49,8 @@ SECONDS = 60.0 * PATIENCE
 ALARMS = re.compile(r"(?i)panicked|alarm|fold was refused|cannot be folded|the server lacks a row|that no note gives|was not expected")
 
 
-# Rules that are taken away from schema escrow, as a text in it and what takes its place. The test has to find that: `twice` at once, the others
-# if something is killed at the right moment.
+# Rules that are taken away from schema escrow, as a text in it and what takes its place. The test has to find that: `twice` and `taken` at once, the
+# others if something is killed at the right moment.
 WITHOUT = {
     "twice": ("coalesce(pg_catalog.sum(taken.change_%s), 0)", "coalesce(2 * pg_catalog.sum(taken.change_%s), 0)"),
     "part": ("WHERE j.key OPERATOR(pg_catalog.=) OLD.%2$I RETURNING",
@@ -58,6 +58,8 @@ WITHOUT = {
     "epoch": ("pg_catalog.pg_sequence_last_value('escrow.epoch') OPERATOR(pg_catalog.=) %6$s_%1$s.epoch "
               "AND NOT pg_catalog.pg_try_advisory_xact_lock_shared(%6$s_%1$s.epoch)", "true"),
     "wait": ("WHERE l.locktype = 'relation' AND l.granted AND l.mode = 'RowExclusiveLock'", "WHERE false"),
+    "taken": ("string_agg(format('l.taken[%s]', i), ', ')", "string_agg(format('2 * l.taken[%s]', i), ', ')"),
+    "holds": ("""l."table" = %1$s AND l.key = %4$s AND l.stands) AS l""", """l."table" = %1$s AND l.key = %4$s AND l.stands AND false) AS l"""),
 }
 
 
@@ -631,8 +633,18 @@ def a_standby_takes_over() -> None:
 
 @PART.alone
 def a_rule_that_is_taken_away_is_missed() -> None:
+    missed("twice")
+
+
+@PART.alone
+def a_hold_that_counts_twice_is_found() -> None:
+    missed("taken", "held")
+
+
+def missed(without: str, *kinds: str) -> None:
+    """Tests that a rule is missed, whatever else is killed."""
     try:
-        run(5, 2, proxies=1, without="twice", only=("before",))
+        run(5, 2, proxies=1, without=without, only=("before",), kinds=kinds)
     except AssertionError as error:
         expect(any(it in str(error) for it in ("stock and orders differed", "its orders leave", "A FOLD WAS REFUSED")), True, str(error)[:500])
     else:
