@@ -10,13 +10,13 @@ _escrowd_proxy() {
         --log-level)
             mapfile -t COMPREPLY < <(compgen -W "error warning info debug" -- "$word")
             ;;
-        --postgres | --port | --mode | --fold-wait) ;;
+        --postgres | --port | --mode | --fold-wait | --threads) ;;
         *)
             if [[ ${COMP_WORDS[1]} == @(install|uninstall) ]]; then
                 mapfile -t COMPREPLY < <(compgen -W "--apply --postgres --help" -- "$word")
             else
                 mapfile -t COMPREPLY < <(compgen -W "install uninstall --listen --port --mode
-                    --postgres --program --fold-wait --tls-certificate --tls-key --tls-only
+                    --postgres --program --fold-wait --threads --tls-certificate --tls-key --tls-only
                     --metrics --log-level --help --version" -- "$word")
             fi
             ;;

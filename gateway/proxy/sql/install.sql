@@ -863,9 +863,11 @@ BEGIN
 	-- Rule 11. A fold locks the row, and the guard adds to it what it takes out of the journal. It runs with the rights of the
 	-- table's owner, as triggers on the table do then, and with the usual path of search for these. No caller tells it what
 	-- to change, so anybody's fold is harmless (rule 12). It returns the transaction or subtransaction that has written the
-	-- row anew, or nothing if the row is locked or not there. It waits for a lock unless it skips it.
-	fold_text := format('UPDATE %1$s AS t SET %2$s FROM (SELECT s.%3$I FROM %1$s AS s WHERE s.%3$I OPERATOR(pg_catalog.=) which FOR NO KEY UPDATE SKIP LOCKED) AS s
-				WHERE t.%3$I OPERATOR(pg_catalog.=) s.%3$I', relation, texts[3], k);
+	-- row anew, or nothing if the row is locked or not there. It waits for a lock unless it skips it. The text finds the row
+	-- once, by its place. A row that somebody has written anew since the snapshot was taken has another place then, which the
+	-- snapshot does not see: its fold is left to what comes behind.
+	fold_text := format('UPDATE %1$s AS t SET %2$s WHERE t.ctid OPERATOR(pg_catalog.=)
+				(SELECT s.ctid FROM %1$s AS s WHERE s.%3$I OPERATOR(pg_catalog.=) which FOR NO KEY UPDATE SKIP LOCKED)', relation, texts[3], k);
 	EXECUTE format($f$
 		CREATE OR REPLACE FUNCTION escrow.row_%1$s(which %2$s, skips boolean) RETURNS xid
 		LANGUAGE plpgsql SECURITY DEFINER SET search_path = "$user", public SET escrow.fold = on AS $body$

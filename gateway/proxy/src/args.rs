@@ -104,6 +104,11 @@ pub struct Serve {
     #[arg(long, value_name = "MILLISECONDS", default_value = "100", value_parser = milliseconds)]
     pub fold_wait: Duration,
 
+    /// How many threads serve clients: by itself one for four processors. Where the proxy has a machine
+    /// of its own, it may have more
+    #[arg(long, value_name = "NUMBER", value_parser = clap::value_parser!(u16).range(1..=1024))]
+    pub threads: Option<u16>,
+
     /// The certificate that clients see over TCP, and those that sign it, in PEM
     #[arg(long, value_name = "FILE", requires = "tls_key")]
     pub tls_certificate: Option<PathBuf>,
@@ -232,7 +237,10 @@ mod tests {
         let it = serve("--listen /run/x --postgres host=a");
         assert_eq!(it.listen, [Place::Path(PathBuf::from("/run/x"))]);
         assert_eq!((it.port, it.mode), (5432, 0o777));
-        assert_eq!(it.fold_wait, Duration::from_millis(100));
+        assert_eq!(
+            (it.fold_wait, it.threads),
+            (Duration::from_millis(100), None)
+        );
         assert_eq!(
             (it.program, it.metrics, it.tls_certificate),
             (None, None, None)
@@ -244,7 +252,7 @@ mod tests {
     fn all_options_are_read() {
         let it = serve(
             "--listen [::1]:6432 --listen ./x --port 1 --mode 0660 --postgres host=a,b --program /p --fold-wait 0 \
-             --tls-certificate c --tls-key k --tls-only --metrics localhost:9 --log-level debug",
+             --threads 3 --tls-certificate c --tls-key k --tls-only --metrics localhost:9 --log-level debug",
         );
         let address = |text: &str| Place::Address(text.to_owned());
         assert_eq!(
@@ -252,6 +260,7 @@ mod tests {
             [address("[::1]:6432"), Place::Path(PathBuf::from("./x"))]
         );
         assert_eq!((it.port, it.mode, it.fold_wait), (1, 0o660, Duration::ZERO));
+        assert_eq!(it.threads, Some(3));
         assert_eq!(it.postgres.config.get_hosts().len(), 2);
         assert_eq!(
             (it.program, it.tls_key),
@@ -288,6 +297,7 @@ mod tests {
             "--listen /x --postgres host=a --mode 1777",
             "--listen /x --postgres host=a --port 0",
             "--listen /x --postgres host=a --fold-wait -1",
+            "--listen /x --postgres host=a --threads 0",
             "--listen /x --postgres host=a --tls-certificate c",
             "--listen /x --postgres host=a --tls-key k",
             "--listen /x --postgres host=a --tls-only",

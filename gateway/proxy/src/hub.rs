@@ -359,9 +359,14 @@ impl Hub {
         self.generations.subscribe()
     }
 
-    /// Returns what is declared, as it was read last.
+    /// Returns what is declared, and what it becomes.
     pub fn catalog(&self) -> watch::Receiver<Option<Arc<Catalog>>> {
         self.catalog.subscribe()
+    }
+
+    /// Returns what is declared, as it was read last. None: it was not read yet.
+    pub fn declared(&self) -> Option<Arc<Catalog>> {
+        self.catalog.borrow().clone()
     }
 
     /// Keeps what is declared.
@@ -675,10 +680,10 @@ impl State {
 
     /// Hands the server's lines on.
     fn write(&mut self) {
-        if let Some(lines) = &mut self.lines {
+        if let Some(lines) = &self.lines {
             let bytes = self.server.take_lines();
             if !bytes.is_empty() {
-                lines.send(&bytes);
+                lines.send(bytes);
             }
         }
     }

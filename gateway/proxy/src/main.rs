@@ -4,7 +4,7 @@
 
 use std::io;
 use std::panic;
-use std::path::{Path, PathBuf};
+use std::path::PathBuf;
 use std::process::ExitCode;
 use std::sync::Arc;
 use std::time::Duration;
@@ -19,7 +19,7 @@ use escrowd_proxy::listener::{ListenError, Listener};
 use escrowd_proxy::metrics::{Metrics, Shown};
 use escrowd_proxy::relay::Service;
 use escrowd_proxy::target::{BadTarget, Target};
-use escrowd_proxy::threads::Threads;
+use escrowd_proxy::threads::{usual_count, Threads};
 use escrowd_proxy::tls::{Acceptor, BadFile};
 use escrowd_proxy::{folder, keeper, process};
 use tokio::signal::unix::{signal, SignalKind};
@@ -132,17 +132,8 @@ async fn serve(args: Serve) -> Result<(), Failure> {
         listeners.push(Listener::open(place, args.port, args.mode).await?);
         tracing::info!("listening on {place}");
     }
-    let fold_wait = args.fold_wait;
-    let service = start(
-        &program,
-        target,
-        acceptor.clone(),
-        fold_wait,
-        metrics.clone(),
-    );
-    let threads = Threads::start(&service)?;
+    let (hub, threads) = start(program, target, acceptor.clone(), &args, metrics.clone())?;
     if let Some(shown) = shown {
-        let hub = service.hub.clone();
         tokio::spawn(shown.run(metrics, move || hub.now()));
     }
     for listener in listeners {
@@ -180,14 +171,14 @@ fn program_of(args: &Serve) -> Result<PathBuf, Failure> {
     }
 }
 
-/// Starts what serves all clients: the server, and the proxy's own connections.
+/// Starts what serves all clients: threads, the server, and the proxy's own connections.
 fn start(
-    program: &Path,
+    program: PathBuf,
     target: Arc<Target>,
     acceptor: Option<Arc<Acceptor>>,
-    fold_wait: Duration,
+    args: &Serve,
     metrics: Metrics,
-) -> Service {
+) -> io::Result<(Arc<Hub>, Threads)> {
     let (keeper, to_keeper) = unbounded_channel();
     let (folder, to_folder) = unbounded_channel();
     let (loader, to_loader) = unbounded_channel();
@@ -199,20 +190,23 @@ fn start(
         starter,
     };
     let hub = Arc::new(Hub::new(workers, metrics));
-    tokio::spawn(process::run(hub.clone(), program.to_owned(), to_starter));
-    tokio::spawn(keeper::keep(hub.clone(), target.clone(), to_keeper));
-    tokio::spawn(folder::fold(hub.clone(), target.clone(), to_folder));
-    tokio::spawn(folder::watch(hub.clone(), target.clone()));
+    let service = Service {
+        hub: hub.clone(),
+        target: target.clone(),
+        acceptor,
+        fold_wait: args.fold_wait,
+    };
+    let threads = Threads::start(args.threads.unwrap_or_else(usual_count), &service)?;
+    threads.spawn(process::run(hub.clone(), program, to_starter));
+    threads.spawn(folder::fold(hub.clone(), target.clone(), to_folder));
     let to_loader = Arc::new(tokio::sync::Mutex::new(to_loader));
     for _ in 0..folder::LOADERS {
-        tokio::spawn(folder::load(hub.clone(), target.clone(), to_loader.clone()));
+        threads.spawn(folder::load(hub.clone(), target.clone(), to_loader.clone()));
     }
-    Service {
-        hub,
-        target,
-        acceptor,
-        fold_wait,
-    }
+    // The keeper has to be heard of in time (rule 9), however busy the clients are.
+    tokio::spawn(keeper::keep(hub.clone(), target.clone(), to_keeper));
+    tokio::spawn(folder::watch(hub.clone(), target));
+    Ok((hub, threads))
 }
 
 /// Opens the place of the metrics.

@@ -1,5 +1,7 @@
 //! What is sent to `escrow.note` and `escrow.greet`, and what comes back, with their MACs (rules 17 and 18).
 
+use std::fmt::Write;
+
 use bytes::Buf;
 use sha2::{Digest, Sha512};
 
@@ -51,9 +53,14 @@ impl Secret {
 
     /// Returns the halves of the hash of words, which are joined by bars.
     fn proved(&self, words: &[&dyn std::fmt::Display]) -> Proved {
-        let words: Vec<String> = words.iter().map(|word| word.to_string()).collect();
+        let mut text = String::with_capacity(256);
+        for (at, word) in words.iter().enumerate() {
+            let bar = if at == 0 { "" } else { "|" };
+            // A String takes all.
+            let _ = write!(text, "{bar}{word}");
+        }
         let hash = Sha512::new()
-            .chain_update(words.join("|"))
+            .chain_update(text)
             .chain_update(self.0)
             .finalize();
         let half = |at: usize| std::array::from_fn(|place| hash[at + place]);

@@ -1,11 +1,10 @@
 //! Starts `escrowd serve`, writes its lines, and reads its replies.
 
-use std::io::{self, Write};
+use std::io;
 use std::os::unix::io::OwnedFd;
 use std::os::unix::net::UnixStream;
 use std::path::{Path, PathBuf};
 use std::process::Stdio;
-use std::sync::atomic::{AtomicUsize, Ordering};
 use std::sync::Arc;
 use std::time::Duration;
 
@@ -16,6 +15,7 @@ use tokio::time::sleep;
 
 use crate::hub::{Generation, Hub};
 use crate::server::SESSIONS;
+use crate::unix::Writer;
 
 /// Starts the program so that it ignores what a terminal or a service manager sends to all processes of a group: the end
 /// of its input ends it.
@@ -24,31 +24,15 @@ const WITHOUT_KEYS: &str = r#"trap '' HUP INT QUIT TERM USR1 USR2 ALRM VTALRM PR
 /// How long a start that failed waits for the next.
 const PAUSE: Duration = Duration::from_millis(200);
 
-/// Where the server's lines go. They are written at once, as far as its socket takes them; a task writes the rest.
-pub struct Lines {
-    socket: UnixStream,
-    rest: UnboundedSender<Vec<u8>>,
-    /// How many bytes the task has not written yet.
-    waiting: Arc<AtomicUsize>,
-}
+/// Where the server's lines go. A task writes all that has come when it gets its turn at once.
+#[derive(Clone, Debug)]
+pub struct Lines(UnboundedSender<Vec<u8>>);
 
 impl Lines {
     /// Sends lines behind those that were sent before.
-    pub fn send(&mut self, bytes: &[u8]) {
-        let mut written = 0;
-        while self.waiting.load(Ordering::Acquire) == 0 && written < bytes.len() {
-            match self.socket.write(&bytes[written..]) {
-                Ok(count) => written += count,
-                Err(error) if error.kind() == io::ErrorKind::Interrupted => {}
-                // The socket is full. Or the server has ended, which its reader tells.
-                Err(_) => break,
-            }
-        }
-        if written < bytes.len() {
-            self.waiting
-                .fetch_add(bytes.len() - written, Ordering::AcqRel);
-            let _ = self.rest.send(bytes[written..].to_vec());
-        }
+    pub fn send(&self, lines: Vec<u8>) {
+        // If that fails, the server has ended, which its reader tells.
+        let _ = self.0.send(lines);
     }
 }
 
@@ -92,16 +76,9 @@ fn spawn(program: &Path) -> io::Result<(Child, Lines)> {
         .stderr(Stdio::piped())
         .kill_on_drop(true)
         .spawn()?;
-    let (rest, to_write) = unbounded_channel();
-    let waiting = Arc::new(AtomicUsize::new(0));
-    let writer = tokio::net::UnixStream::from_std(socket.try_clone()?)?;
-    tokio::spawn(write(writer, to_write, waiting.clone()));
-    let lines = Lines {
-        socket,
-        rest,
-        waiting,
-    };
-    Ok((child, lines))
+    let (lines, to_write) = unbounded_channel();
+    tokio::spawn(write(Writer::of(socket), to_write));
+    Ok((child, Lines(lines)))
 }
 
 /// Ends a server, whose rows are of no epoch any more.
@@ -110,17 +87,15 @@ async fn end(mut child: Child) {
     let _ = child.kill().await;
 }
 
-/// Writes what the socket did not take at once.
-async fn write(
-    mut input: tokio::net::UnixStream,
-    mut rest: UnboundedReceiver<Vec<u8>>,
-    waiting: Arc<AtomicUsize>,
-) {
-    while let Some(bytes) = rest.recv().await {
+/// Writes lines.
+async fn write(mut input: Writer, mut lines: UnboundedReceiver<Vec<u8>>) {
+    while let Some(mut bytes) = lines.recv().await {
+        while let Ok(more) = lines.try_recv() {
+            bytes.extend(more);
+        }
         if input.write_all(&bytes).await.is_err() {
             return;
         }
-        waiting.fetch_sub(bytes.len(), Ordering::AcqRel);
     }
 }
 

@@ -294,6 +294,7 @@ async fn reserve(
         resumed,
         fold_wait: service.fold_wait,
         out: Vec::new(),
+        is_followed: false,
         row: None,
     };
     let ended = tokio::select! {

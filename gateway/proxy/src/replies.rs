@@ -18,7 +18,7 @@ use crate::hub::Hub;
 use crate::own;
 use crate::protocol::{Connection, Event, Status};
 use crate::relay::{Shared, CHUNK};
-use crate::requests::OwnReply;
+use crate::requests::{OwnReply, Resumed};
 use crate::stream::{Reader, Writer};
 
 /// The direction from PostgreSQL to a client.
@@ -38,11 +38,13 @@ pub struct Replies<'a> {
     /// Takes own replies.
     pub own: UnboundedSender<OwnReply>,
     /// What is to be written before it goes on behind an own reply.
-    pub resumed: UnboundedReceiver<Bytes>,
+    pub resumed: UnboundedReceiver<Resumed>,
     /// How long a COMMIT waits for its fold.
     pub fold_wait: Duration,
     /// What is not written yet.
     pub out: Vec<u8>,
+    /// Whether that can wait for the next ReadyForQuery.
+    pub is_followed: bool,
     /// The row of the own reply that is under way.
     pub row: Option<Vec<Option<Bytes>>>,
 }
@@ -66,18 +68,26 @@ impl Replies<'_> {
                     self.flush().await?;
                 }
             }
-            self.flush().await?;
+            if !self.is_followed {
+                self.flush().await?;
+            }
             input.reserve(CHUNK);
             tokio::select! {
                 biased;
                 // The other direction answers by itself.
-                Some(bytes) = self.resumed.recv() => self.out.extend_from_slice(&bytes),
+                Some(resumed) = self.resumed.recv() => self.resume(&resumed),
                 read = self.from.read_buf(&mut input) => if read? == 0 {
+                    self.flush().await?;
                     self.to.shutdown().await?;
                     return Ok(());
                 },
             }
         }
+    }
+
+    fn resume(&mut self, resumed: &Resumed) {
+        self.out.extend_from_slice(&resumed.bytes);
+        self.is_followed = resumed.is_followed;
     }
 
     async fn flush(&mut self) -> Result<(), Error> {
@@ -138,6 +148,7 @@ impl Replies<'_> {
                 }
                 self.shared.track().ready(status);
                 self.out.extend_from_slice(bytes);
+                self.is_followed = false;
             }
             Reply::Own => {
                 if kind == b'D' {
@@ -168,8 +179,8 @@ impl Replies<'_> {
     async fn hand_over(&mut self, reply: OwnReply) -> Result<(), Error> {
         self.own.send(reply).map_err(|_| Error::Ended)?;
         self.shared.changed.notify_one();
-        let bytes = self.resumed.recv().await.ok_or(Error::Ended)?;
-        self.out.extend_from_slice(&bytes);
+        let resumed = self.resumed.recv().await.ok_or(Error::Ended)?;
+        self.resume(&resumed);
         Ok(())
     }
 

@@ -3,7 +3,7 @@
 //! Such an UPDATE is asked of the server, and then noted in the client's own transaction (rules 3 to 6). Nothing else of
 //! the client's is sent in between.
 
-use std::collections::HashMap;
+use std::collections::{HashMap, VecDeque};
 use std::sync::Arc;
 
 use bytes::{Bytes, BytesMut};
@@ -21,7 +21,7 @@ use crate::protocol::{Connection, Event};
 use crate::relay::{Shared, CHUNK};
 use crate::script::{self, Piece};
 use crate::stream::{Reader, Writer};
-use crate::update::Statement;
+use crate::update::{Form, Statement};
 
 /// What PostgreSQL has answered the proxy itself.
 #[derive(Debug)]
@@ -34,6 +34,15 @@ pub enum OwnReply {
     Skipped,
     /// Nothing was sent, since PostgreSQL skips what comes.
     Unsent,
+}
+
+/// What the other direction is to write to the client before it goes on behind an own reply.
+#[derive(Debug)]
+pub struct Resumed {
+    /// What it writes.
+    pub bytes: Bytes,
+    /// Whether the client waits for the ReadyForQuery behind it in any case: then both go together.
+    pub is_followed: bool,
 }
 
 /// How a client has sent a statement.
@@ -103,10 +112,37 @@ pub struct Requests<'a> {
     pub mail: UnboundedReceiver<Mail>,
     /// Own replies.
     pub replies: UnboundedReceiver<OwnReply>,
-    /// What the other direction is to write to the client before it goes on behind an own reply.
-    pub resume: UnboundedSender<Bytes>,
+    /// Lets the other direction go on behind an own reply.
+    pub resume: UnboundedSender<Resumed>,
     pub(crate) own: Session,
+    forms: Forms,
     out: Vec<u8>,
+}
+
+/// How many UPDATEs are kept that were read before, and the most bytes of the text of one.
+const KEPT: usize = 8;
+const LONGEST_KEPT: usize = 1_024;
+
+/// The last UPDATEs that were read: programs send the same texts again and again.
+#[derive(Default)]
+struct Forms(VecDeque<Arc<Form>>);
+
+impl Forms {
+    /// Reads a text, unless it was read before. None: it passes on as it is.
+    fn read(&mut self, text: &str) -> Option<Statement> {
+        if let Some(known) = self.0.iter().find(|form| form.text() == text) {
+            return Some(Statement::Update(known.clone()));
+        }
+        let statement = Statement::read(text)?;
+        match &statement {
+            Statement::Update(form) if text.len() <= LONGEST_KEPT => {
+                self.0.truncate(KEPT - 1);
+                self.0.push_front(form.clone());
+            }
+            _ => {}
+        }
+        Some(statement)
+    }
 }
 
 /// What the proxy has made in the client's session.
@@ -133,7 +169,7 @@ impl<'a> Requests<'a> {
         hub: &'a Arc<Hub>,
         ends: (Connection, UnboundedReceiver<Mail>),
         replies: UnboundedReceiver<OwnReply>,
-        resume: UnboundedSender<Bytes>,
+        resume: UnboundedSender<Resumed>,
     ) -> Requests<'a> {
         Requests {
             from,
@@ -145,6 +181,7 @@ impl<'a> Requests<'a> {
             replies,
             resume,
             own: Session::default(),
+            forms: Forms::default(),
             out: Vec::new(),
         }
     }
@@ -368,7 +405,7 @@ impl<'a> Requests<'a> {
         if !contains(text, b"escrow") {
             return Ok(());
         }
-        let catalog = self.hub.catalog().borrow().clone();
+        let catalog = self.hub.declared();
         if catalog.map_or(false, |it| it.is_own_text(text)) {
             return Err(Error::OwnText);
         }
@@ -390,8 +427,9 @@ impl<'a> Requests<'a> {
     }
 
     /// Reads a text that the proxy looks at.
-    fn statement(&self, text: &[u8]) -> Option<Statement> {
-        Statement::read(self.known_text(text)?)
+    fn statement(&mut self, text: &[u8]) -> Option<Statement> {
+        let text = self.known_text(text)?;
+        self.forms.read(text)
     }
 
     /// Returns a text, if its letters are those that the proxy knows.
@@ -458,8 +496,10 @@ impl<'a> Requests<'a> {
     /// Reads a string of several statements, of which one may be a reservation. None: it passes on as it is.
     fn pieces(&self, text: &[u8]) -> Option<Vec<Piece>> {
         let text = self.known_text(text)?;
-        let catalog = self.hub.catalog().borrow().clone()?;
-        script::pieces(text, &catalog)
+        if !script::may_be_several(text) {
+            return None;
+        }
+        script::pieces(text, &*self.hub.declared()?)
     }
 
     /// Serves a string of several statements, one after another up to the first error. They are a pipeline, which is one
@@ -523,19 +563,28 @@ impl<'a> Requests<'a> {
     /// Lets the other direction go on behind an own reply, with what it writes to the client first. An error goes to the
     /// client.
     pub(crate) fn go_on(&self, reply: &OwnReply, bytes: Vec<u8>) {
+        self.go_on_to(reply, bytes, false);
+    }
+
+    /// Does the same; `is_followed` says that the client waits for the ReadyForQuery behind it in any case.
+    pub(crate) fn go_on_to(&self, reply: &OwnReply, bytes: Vec<u8>, is_followed: bool) {
         let bytes = match reply {
-            OwnReply::Failed(error) => own::without_context(error).into(),
+            OwnReply::Failed(error) => own::without_context(error),
             OwnReply::Unsent => return,
-            OwnReply::Row(_) | OwnReply::Skipped => bytes.into(),
+            OwnReply::Row(_) | OwnReply::Skipped => bytes,
         };
-        // If that fails, the other direction has ended.
-        let _ = self.resume.send(bytes);
+        self.write(bytes, is_followed);
     }
 
     /// Writes to the client, while the other direction waits for nothing of this one.
     pub(crate) fn say(&self, bytes: Vec<u8>) {
+        self.write(bytes, false);
+    }
+
+    fn write(&self, bytes: Vec<u8>, is_followed: bool) {
+        let bytes = bytes.into();
         // If that fails, the other direction has ended.
-        let _ = self.resume.send(bytes.into());
+        let _ = self.resume.send(Resumed { bytes, is_followed });
     }
 
     /// Sends a statement whose rows are the client's, and waits for its tag. The other direction waits for
@@ -662,9 +711,10 @@ impl<'a> Requests<'a> {
     }
 }
 
+/// Returns whether a text has a word, which is in small letters, in letters of any case.
 fn contains(text: &[u8], word: &[u8]) -> bool {
-    text.windows(word.len())
-        .any(|it| it.eq_ignore_ascii_case(word))
+    let mut all = text.windows(word.len());
+    all.any(|it| it[0] | 0x20 == word[0] && it.eq_ignore_ascii_case(word))
 }
 
 /// Returns whether a text names the functions of holds, as `escrow.hold` looks for its own name in it.
@@ -677,6 +727,9 @@ fn names_holds(text: &[u8]) -> bool {
 
 /// Reads `SET escrow.wait = off` and its like. None: it is another text.
 fn asks_to_wait(text: &[u8]) -> Option<bool> {
+    if !contains(text, b"escrow.wait") {
+        return None;
+    }
     let text = std::str::from_utf8(text).ok()?;
     let mut words = text
         .split(|it: char| it.is_ascii_whitespace() || matches!(it, '=' | ';' | '\''))
@@ -691,5 +744,53 @@ fn asks_to_wait(text: &[u8]) -> Option<bool> {
         "off" | "false" | "0" | "no" => Some(false),
         "on" | "true" | "1" | "yes" | "default" => Some(true),
         _ => None,
+    }
+}
+
+#[cfg(test)]
+mod tests {
+    use super::*;
+
+    #[test]
+    fn the_last_texts_are_not_read_again() {
+        let mut forms = Forms::default();
+        let mut read = |key: usize| {
+            let text = format!("UPDATE t SET n = n - 1 WHERE id = {key}");
+            match forms.read(&text) {
+                Some(Statement::Update(form)) if form.text() == text => form,
+                other => panic!("{text} is read as {other:?}"),
+            }
+        };
+        let first = read(0);
+        assert!(Arc::ptr_eq(&first, &read(0)));
+        for key in 1..KEPT {
+            read(key);
+        }
+        assert!(Arc::ptr_eq(&first, &read(0)), "{KEPT} are kept");
+        read(KEPT);
+        assert!(!Arc::ptr_eq(&first, &read(0)), "the oldest has gone");
+    }
+
+    #[test]
+    fn a_word_is_found_in_letters_of_any_case() {
+        assert!(contains(
+            b"SELECT Set_Config('a', 'b', true)",
+            b"set_config"
+        ));
+        assert!(!contains(b"SELECT set config, @et_config", b"set_config"));
+        assert!(!contains(b"set", b"set_config"));
+    }
+
+    #[test]
+    fn settings_of_the_wait_are_read() {
+        for (text, wait) in [
+            ("SET escrow.wait = off", Some(false)),
+            ("set session ESCROW.WAIT to 'on';", Some(true)),
+            ("SET escrow.wait = 5", None),
+            ("SELECT 'SET escrow.wait = off'", None),
+            ("SET x = off", None),
+        ] {
+            assert_eq!(asks_to_wait(text.as_bytes()), wait, "{text}");
+        }
     }
 }

@@ -147,7 +147,7 @@ impl Requests<'_> {
             let track = self.shared.track();
             !track.is_skipping() && track.status() == Status::InBlock && track.is_plain()
         };
-        let catalog = self.hub.catalog().borrow().clone().unwrap_or_default();
+        let catalog = self.hub.declared().unwrap_or_default();
         let mut tables: Vec<(Arc<Table>, Vec<Key>)> = Vec::new();
         if !is_sure {
             return tables;
@@ -188,7 +188,7 @@ impl Requests<'_> {
         deletion: &Deletion,
         parameters: Parameters<'_>,
     ) -> Result<(), Error> {
-        let catalog = self.hub.catalog().borrow().clone().unwrap_or_default();
+        let catalog = self.hub.declared().unwrap_or_default();
         for table in catalog.named(deletion.table_name()) {
             if let Some(key) = deletion.key(table, parameters) {
                 let connection = Some(self.connection);
@@ -255,7 +255,8 @@ impl Requests<'_> {
         for key in &keys {
             match self.row(&job, key).await? {
                 RowEnd::Done(reply, end) if job.is_single => {
-                    self.go_on(&reply, own::command_complete("UPDATE 1"));
+                    let tag = own::command_complete("UPDATE 1");
+                    self.go_on_to(&reply, tag, sent.is_query());
                     if sent.is_query() && end == End::Flush {
                         self.pass(own::SYNC, Expect::Sync);
                     }
@@ -478,13 +479,16 @@ impl Requests<'_> {
 
     /// Returns what is declared, at least as new as what this client has changed of it.
     pub(crate) async fn known_catalog(&mut self) -> Arc<Catalog> {
-        let mut catalog = self.hub.catalog();
-        if std::mem::take(&mut self.own.is_old) || catalog.borrow().is_none() {
-            drop(catalog.borrow_and_update());
-            self.hub.refresh();
-            // If it is not read in time, PostgreSQL's triggers refuse what is a reservation.
-            let _ = timeout(CATALOG_WAIT, catalog.changed()).await;
+        if !std::mem::take(&mut self.own.is_old) {
+            if let Some(known) = self.hub.declared() {
+                return known;
+            }
         }
+        let mut catalog = self.hub.catalog();
+        drop(catalog.borrow_and_update());
+        self.hub.refresh();
+        // If it is not read in time, PostgreSQL's triggers refuse what is a reservation.
+        let _ = timeout(CATALOG_WAIT, catalog.changed()).await;
         let known = catalog.borrow().clone();
         known.unwrap_or_default()
     }

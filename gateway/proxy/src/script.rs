@@ -33,11 +33,18 @@ pub struct Piece {
     pub statement: Option<Statement>,
 }
 
+/// Returns whether a text may have several statements.
+pub fn may_be_several(text: &str) -> bool {
+    let parts = text.split_once(';');
+    parts.map_or(false, |(first, rest)| {
+        !first.is_empty() && !rest.trim().is_empty()
+    })
+}
+
 /// Reads a string of several statements. None: it is one statement, PostgreSQL has nothing to reserve in it, or it has
 /// something that does not do the same in a pipeline.
 pub fn pieces(text: &str, catalog: &Catalog) -> Option<Vec<Piece>> {
-    let (first, rest) = text.split_once(';')?;
-    if first.is_empty() || rest.trim().is_empty() {
+    if !may_be_several(text) {
         return None;
     }
     let has = |word: &str| {

@@ -21,6 +21,9 @@ pub const SEAT_WAIT: Duration = Duration::from_secs(1);
 /// How many rows of a full table are left at once.
 const ROOM: usize = ROWS / 64;
 
+/// The most bytes of lines that wait for a question.
+const MOST_UNSENT: usize = 65_536;
+
 /// The session that makes tables and rows.
 const OWN: u16 = 1;
 
@@ -132,6 +135,8 @@ pub struct Server {
     clock: u64,
     /// Lines that were not taken yet.
     lines: Vec<u8>,
+    /// Whether somebody waits for the reply to one of them.
+    are_awaited: bool,
 }
 
 impl Default for Server {
@@ -160,11 +165,17 @@ impl Server {
             tables: HashMap::new(),
             clock: 0,
             lines: Vec::new(),
+            are_awaited: false,
         }
     }
 
-    /// Takes the lines that are to be written.
+    /// Takes the lines that are to be written: none until somebody waits for a reply to one of them. So ends of transactions
+    /// come to the server together with the next question, still in front of it.
     pub fn take_lines(&mut self) -> Vec<u8> {
+        if !self.are_awaited && self.lines.len() < MOST_UNSENT {
+            return Vec::new();
+        }
+        self.are_awaited = false;
         std::mem::take(&mut self.lines)
     }
 
@@ -174,6 +185,7 @@ impl Server {
     }
 
     fn send(&mut self, session: u16, asked: Asked, statement: &str) {
+        self.are_awaited |= !matches!(asked, Asked::Told(_));
         self.asked.push_back((session, asked));
         let line = format!("bank.{}: {}\n", session, statement);
         self.lines.extend_from_slice(line.as_bytes());
@@ -633,4 +645,39 @@ fn definition(table: &Table) -> String {
         ));
     }
     format!("CREATE TABLE T{} ({})", table.number, items.join(", "))
+}
+
+#[cfg(test)]
+mod tests {
+    use super::*;
+    use crate::protocol::Mark;
+
+    #[test]
+    fn what_nobody_waits_for_is_sent_with_the_next_question() {
+        let mut server = Server::new();
+        server.tell(Connection(1), Told::Mark(Mark(1)));
+        server.tell(Connection(1), Told::Commit);
+        assert!(server.take_lines().is_empty());
+        server.send(OWN, Asked::Create(1), "CREATE TABLE T1 ()");
+        let lines = "bank.2: SAVEPOINT M1\nbank.2: COMMIT\nbank.1: CREATE TABLE T1 ()\n";
+        assert_eq!(server.take_lines(), lines.as_bytes());
+        server.tell(Connection(1), Told::Mark(Mark(1)));
+        assert!(server.take_lines().is_empty());
+    }
+
+    #[test]
+    fn what_nobody_waits_for_is_sent_before_it_is_much() {
+        let mut server = Server::new();
+        server.tell(Connection(1), Told::Mark(Mark(1)));
+        let mut sent = Vec::new();
+        for count in 1..=MOST_UNSENT {
+            server.tell(Connection(1), Told::BackTo(Mark(1)));
+            sent = server.take_lines();
+            if !sent.is_empty() {
+                assert!(count > 1_000, "after {count} lines");
+                break;
+            }
+        }
+        assert!(sent.len() >= MOST_UNSENT);
+    }
 }

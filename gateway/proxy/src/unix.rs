@@ -40,15 +40,19 @@ pub struct Writer {
 /// Fails if the system refuses to watch it.
 pub fn split(stream: UnixStream) -> io::Result<(Reader, Writer)> {
     let socket = stream.into_std()?;
-    let writer = Writer {
-        socket: socket.try_clone()?,
-        room: None,
-    };
+    let writer = Writer::of(socket.try_clone()?);
     let reader = Reader {
         socket: AsyncFd::with_interest(socket, Interest::READABLE)?,
         read: vec![0; CHUNK].into(),
     };
     Ok((reader, writer))
+}
+
+impl Writer {
+    /// Makes one of a socket that does not block.
+    pub fn of(socket: Socket) -> Writer {
+        Writer { socket, room: None }
+    }
 }
 
 impl AsyncRead for Reader {

@@ -51,7 +51,7 @@ pub fn changes(all: impl IntoIterator<Item = Option<String>>) -> Change {
 #[derive(Clone, Debug, PartialEq, Eq)]
 pub enum Statement {
     /// An UPDATE that may be a reservation.
-    Update(Box<Form>),
+    Update(Arc<Form>),
     /// A DELETE of a row by its key.
     Delete(Deletion),
     /// DEALLOCATE of a statement.
@@ -113,7 +113,7 @@ impl Statement {
         if is_commit(text) {
             return Some(Statement::Commit);
         }
-        let update = Form::read(text).map(|form| Statement::Update(Box::new(form)));
+        let update = Form::read(text).map(|form| Statement::Update(Arc::new(form)));
         let delete = || Deletion::read(text).map(Statement::Delete);
         let deallocate = || deallocated(text).map(Statement::Deallocate);
         update.or_else(delete).or_else(deallocate)
@@ -291,6 +291,11 @@ impl Form {
     /// Returns whether the statement's tag and rows are those of the UPDATE.
     pub fn is_main(&self) -> bool {
         !matches!(self.place, Place::InWith(_))
+    }
+
+    /// Returns the text.
+    pub fn text(&self) -> &str {
+        &self.text
     }
 
     /// Returns the table's name without its schema.

@@ -97,7 +97,7 @@ def opened() -> Iterator[Tuple[Both]]:
             it.run(*TABLES)
         cluster.script("install.sql")
         cluster.run(*DECLARED)
-        yield (Both(cluster, plain, stack.enter_context(Proxy(cluster, "", "--fold-wait", 2000))),)
+        yield (Both(cluster, plain, stack.enter_context(Proxy(cluster, "", "--fold-wait", 2000, "--threads", 3))),)
 
 
 PART = SharedPart("proxy_drivers", opened)

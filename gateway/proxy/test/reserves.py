@@ -1,6 +1,8 @@
 """What a client of escrowd-proxy may rely on: grants, refusals, ends of transactions, rights, settings, and who is served when."""
 from __future__ import annotations
 
+import socket
+import struct
 import threading
 import time
 from contextlib import contextmanager
@@ -103,6 +105,25 @@ def a_grant_counts_at_once(cluster: Cluster, proxy: Proxy) -> None:
         one.execute("ROLLBACK")
         expect(take(two, key, 6), "UPDATE 1")
         expect(pieces(cluster, key), 0)
+
+
+@case
+def a_single_update_wakes_its_client_once(cluster: Cluster, proxy: Proxy) -> None:
+    """Its tag comes together with its ReadyForQuery, which it has to wait for."""
+    key = row(cluster)
+    startup = b"user\0clerk\0database\0bank\0\0"
+    text = f"UPDATE stock SET pieces = pieces - 1 WHERE id = {key}\0".encode()
+    with socket.socket(socket.AF_UNIX) as it:
+        it.settimeout(20)
+        it.connect(str(proxy.socket))
+        it.sendall(struct.pack("!ii", 8 + len(startup), 196_608) + startup)
+        answer = b""
+        while not answer.endswith(b"Z\0\0\0\5I"):
+            answer += it.recv(65_536)
+        for _ in range(3):
+            it.sendall(b"Q" + struct.pack("!i", 4 + len(text)) + text)
+            expect(it.recv(65_536), b"C\0\0\0\rUPDATE 1\0Z\0\0\0\5I")
+    expect(pieces(cluster, key), 7)
 
 
 @case
