@@ -29,7 +29,7 @@ import time
 from collections import Counter, defaultdict
 from contextlib import suppress
 from pathlib import Path
-from typing import AbstractSet, Callable, Dict, Iterable, List, Mapping, NamedTuple, Optional, Sequence
+from typing import AbstractSet, Callable, Dict, Iterable, List, Mapping, NamedTuple, Sequence
 
 import psycopg
 
@@ -59,7 +59,9 @@ class Machines(Scene):
         shutil.rmtree(self.cluster.folder, ignore_errors=True)  # of a PostgreSQL that is not started
         spaces = [Namespace(name, f"10.0.0.{number}") for name, number in MACHINES.items()] if has_network else []
         self.network = Network(spaces) if has_network else None
-        own: Sequence[Host] = spaces or [Host(it) for it in MACHINES if it not in ("etcd2", "etcd3")]
+        own: Sequence[Host] = spaces
+        if not has_network:
+            own = [Host(it) for it in MACHINES if it not in ("etcd2", "etcd3")]
         self.etcds = [Etcd(it) for it in own if it.name.startswith("etcd")]
         for etcd in self.etcds:
             etcd.members = self.etcds
@@ -317,7 +319,7 @@ def postgres_cut_off_from_etcd(scene: Machines) -> Noticed:
 def postgres_and_proxy_cut_off(scene: Machines) -> Noticed:
     """PostgreSQL that leads and the proxy that grants are cut off together. Clients reach both sides."""
     leader, owner = scene.leader(), scene.owner()
-    scene.part([leader.host.name, owner.host.name], {it for it in MACHINES} - {leader.host.name, owner.host.name})
+    scene.part([leader.host.name, owner.host.name], set(MACHINES) - {leader.host.name, owner.host.name})
     return another(scene, leader)
 
 

@@ -112,7 +112,7 @@ class Network:
         self.cuts = []
 
 
-class OnHost(Server):
+class OnHost(Server):  # pylint: disable=abstract-method  # its children start themselves
     """A server on a machine."""
 
     host: Host
@@ -293,7 +293,7 @@ def is_ok(url: str) -> bool:
         return False
 
 
-def state(process: int) -> str:
+def state(process: Optional[int]) -> str:
     """Returns a process's name and the letter of its state, or nothing if there is none."""
     try:
         name, rest = Path(f"/proc/{process}/stat").read_text(encoding="utf-8").split("(", 1)[1].rsplit(")", 1)
