@@ -649,8 +649,239 @@ fn definition(table: &Table) -> String {
 
 #[cfg(test)]
 mod tests {
+    use rand::rngs::StdRng;
+    use rand::{Rng, SeedableRng};
+
     use super::*;
+    use crate::catalog::KeyType;
     use crate::protocol::Mark;
+
+    /// What `escrowd serve` has: what is open in each session, and what was committed.
+    #[derive(Default)]
+    struct Model {
+        open: BTreeMap<u16, Vec<i64>>,
+        value: i64,
+    }
+
+    impl Model {
+        fn reply(&mut self, line: &str) -> String {
+            let (session, statement) = line
+                .strip_prefix("bank.")
+                .unwrap()
+                .split_once(": ")
+                .unwrap();
+            let open = self.open.entry(session.parse().unwrap()).or_default();
+            let words: Vec<&str> = statement.split(' ').collect();
+            let said = match words[0] {
+                "CREATE" => "created T7".to_owned(),
+                "INSERT" => "inserted".to_owned(),
+                "UPDATE" => {
+                    open.push(words[6..8].concat().parse().unwrap());
+                    format!("reserved {}", open.len())
+                }
+                "COMMIT" => {
+                    self.value += open.iter().sum::<i64>();
+                    format!("committed {}", open.drain(..).count())
+                }
+                "ROLLBACK" => format!("rolled back {}", open.drain(..).count()),
+                other => panic!("{other}"),
+            };
+            format!("bank.{session}> OK {said}")
+        }
+    }
+
+    /// A server with a row, and what of it has to be open and committed.
+    struct Tried {
+        server: Server,
+        model: Model,
+        key: Key,
+        transactions: BTreeMap<Connection, Vec<i64>>,
+        kept: BTreeMap<Line, i64>,
+        value: i64,
+        lines: i64,
+    }
+
+    impl Tried {
+        fn new(sessions: u16) -> Tried {
+            let column = Column {
+                name: "pieces".to_owned(),
+                place: 2,
+                type_name: "integer".to_owned(),
+                digits: (10, 0),
+                range: None,
+            };
+            let table = Arc::new(Table {
+                number: 7,
+                oid: 1,
+                schema: "public".to_owned(),
+                name: "stock".to_owned(),
+                key: "id".to_owned(),
+                key_type: KeyType::Integer(0, 99),
+                columns: vec![column],
+                checks: Vec::new(),
+                note_text: String::new(),
+                own_text: String::new(),
+                refusal_text: String::new(),
+                here_text: String::new(),
+                direct_text: String::new(),
+            });
+            let mut tried = Tried {
+                server: Server::of(sessions),
+                model: Model::default(),
+                key: Key {
+                    table: 7,
+                    text: "5".into(),
+                },
+                transactions: BTreeMap::new(),
+                kept: BTreeMap::new(),
+                value: 0,
+                lines: 0,
+            };
+            let refused = tried.server.insert(&table, &tried.key, &["0".to_owned()]);
+            assert_eq!(refused, None);
+            tried.check();
+            tried
+        }
+
+        fn line(&mut self) -> Line {
+            self.lines += 1;
+            Line {
+                epoch: 1,
+                number: self.lines,
+            }
+        }
+
+        /// Serves what was asked, and tests what is open and committed then.
+        fn check(&mut self) {
+            let asked = String::from_utf8(self.server.take_lines()).unwrap();
+            for line in asked.lines() {
+                let reply = self.model.reply(line);
+                if let Said::Broke(what) = self.server.said(&reply) {
+                    panic!("{what}");
+                }
+            }
+            let mut open: Vec<i64> = self.model.open.values().flatten().copied().collect();
+            let transactions = self.transactions.values().flatten();
+            let mut expected: Vec<i64> = transactions.chain(self.kept.values()).copied().collect();
+            open.sort_unstable();
+            expected.sort_unstable();
+            assert_eq!((open, self.model.value), (expected, self.value));
+        }
+
+        fn grant(&mut self, connection: Connection, change: i64) {
+            assert!(self.server.grant(connection, &self.key, &changed(change)));
+            let open = self.transactions.entry(connection).or_default();
+            open.push(change);
+        }
+
+        fn end(&mut self, connection: Connection, told: Told) {
+            self.server.tell(connection, told);
+            let open = self.transactions.remove(&connection).unwrap_or_default();
+            if told == Told::Commit {
+                self.value += open.iter().sum::<i64>();
+            }
+        }
+
+        /// Ends a transaction, of whose changes some are committed, some are kept, and the others given back.
+        fn keep(&mut self, connection: Connection, random: &mut StdRng) {
+            let mut committed = Vec::new();
+            let mut kept = Vec::new();
+            for change in self.transactions.remove(&connection).unwrap_or_default() {
+                match random.gen_range(0..3) {
+                    0 => {
+                        self.value += change;
+                        committed.push((self.key.clone(), changed(change)));
+                    }
+                    1 => {
+                        let line = self.line();
+                        self.kept.insert(line, change);
+                        kept.push((line, self.key.clone(), changed(change)));
+                    }
+                    _ => {}
+                }
+            }
+            self.server.keep(connection, &committed, kept).unwrap();
+        }
+
+        fn reserve(&mut self, changes: &[i64]) {
+            let mut lines = Vec::new();
+            for &change in changes {
+                let line = self.line();
+                self.kept.insert(line, change);
+                lines.push((line, self.key.clone(), changed(change)));
+            }
+            self.server.reserve(lines).unwrap();
+        }
+
+        /// Ends some holds: whole, in part, or without a change.
+        fn end_some(&mut self, random: &mut StdRng) {
+            let mut ends = Vec::new();
+            for (line, change) in self.kept.clone() {
+                let taken = match random.gen_range(0..6) {
+                    0 => change,
+                    1 => change.signum(),
+                    2 => 0,
+                    _ => continue,
+                };
+                self.kept.remove(&line);
+                self.value += taken;
+                ends.push((line, (taken != 0).then(|| changed(taken))));
+            }
+            self.server.end_lines(ends).unwrap();
+        }
+    }
+
+    fn changed(change: i64) -> Change {
+        [Some(change.to_string())].into_iter().collect()
+    }
+
+    #[test]
+    fn holds_stay_reserved_in_whichever_session_they_are() {
+        for seed in 0..40 {
+            let mut random = StdRng::seed_from_u64(seed);
+            // Four transactions and the holds need more sessions than there are, unless holds share them.
+            let mut tried = Tried::new(6);
+            for _ in 0..300 {
+                let connection = Connection(random.gen_range(1..=4));
+                let is_open = tried.transactions.contains_key(&connection);
+                let changes: Vec<i64> = (0..random.gen_range(1..4))
+                    .map(|_| [-2, -1, 3][random.gen_range(0..3)])
+                    .collect();
+                match random.gen_range(0..7) {
+                    0 => tried.end(connection, Told::Commit),
+                    1 => tried.end(connection, Told::Rollback),
+                    2 if is_open => tried.keep(connection, &mut random),
+                    3 if tried.kept.len() < 100 => tried.reserve(&changes),
+                    4 => tried.end_some(&mut random),
+                    _ => changes
+                        .iter()
+                        .for_each(|&change| tried.grant(connection, change)),
+                }
+                tried.check();
+            }
+        }
+    }
+
+    #[test]
+    fn a_session_keeps_no_more_than_it_may() {
+        let mut tried = Tried::new(3);
+        assert!(tried.server.has_room(2 * RESERVATIONS));
+        assert!(!tried.server.has_room(2 * RESERVATIONS + 1));
+        tried.reserve(&[-1; 2 * RESERVATIONS]);
+        tried.check();
+        let mut sizes = tried.model.open.values().map(Vec::len);
+        assert!(sizes.all(|size| size <= RESERVATIONS));
+        assert!(!tried.server.has_room(1));
+        let lacks = tried.server.reserve(vec![(
+            Line {
+                epoch: 2,
+                number: 1,
+            },
+            tried.key.clone(),
+            changed(-1),
+        )]);
+        assert_eq!(lacks, Err(Lacks(tried.key.clone())));
+    }
 
     #[test]
     fn what_nobody_waits_for_is_sent_with_the_next_question() {
