@@ -21,6 +21,9 @@ use crate::unix::Writer;
 /// of its input ends it.
 const WITHOUT_KEYS: &str = r#"trap '' HUP INT QUIT TERM USR1 USR2 ALRM VTALRM PROF; exec "$@""#;
 
+/// The bytes that are read at once.
+const CHUNK: usize = 16_384;
+
 /// How long a start that failed waits for the next.
 const PAUSE: Duration = Duration::from_millis(200);
 
@@ -103,6 +106,7 @@ async fn write(mut input: Writer, mut lines: UnboundedReceiver<Vec<u8>>) {
 async fn read(hub: Arc<Hub>, generation: Generation, mut output: ChildStdout) {
     let mut bytes = Vec::new();
     loop {
+        bytes.reserve(CHUNK);
         match output.read_buf(&mut bytes).await {
             Ok(0) | Err(_) => break,
             Ok(_) => {}

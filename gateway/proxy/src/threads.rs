@@ -6,15 +6,21 @@
 use std::future::Future;
 use std::io;
 use std::thread;
+use std::time::Duration;
 
 use tokio::runtime::{Builder, Handle};
 use tokio::sync::mpsc::{unbounded_channel, UnboundedReceiver, UnboundedSender};
+use tokio::time::interval;
 
 use crate::relay::{self, Service};
 use crate::stream::{Detached, Stream};
 
 /// For how many processors there is a thread. On one machine with PostgreSQL and clients, these have more to do for a message.
 const PROCESSORS: usize = 4;
+
+/// A timer that ends before all others has its thread wake itself as it begins. One that ends as often as this is always
+/// there, so those that limit how long an UPDATE waits don't.
+const FIRST: Duration = Duration::from_secs(5);
 
 /// Returns how many threads serve connections, unless the command line says it.
 pub fn usual_count() -> u16 {
@@ -80,7 +86,16 @@ fn start(number: u16, service: &Service) -> io::Result<(Handle, UnboundedSender<
 }
 
 async fn serve(service: Service, mut connections: UnboundedReceiver<Detached>) {
-    while let Some(client) = connections.recv().await {
+    let mut first = interval(FIRST);
+    loop {
+        let client = tokio::select! {
+            client = connections.recv() => client,
+            _ = first.tick() => continue,
+        };
+        let client = match client {
+            Some(client) => client,
+            None => return,
+        };
         let service = service.clone();
         tokio::spawn(async move {
             let served = match client.attach() {
