@@ -181,12 +181,12 @@ def holes(answered: AbstractSet[str], timelines: Mapping[str, str]) -> List[str]
     return wrong
 
 
-# Says whether others have noticed a failure.
+# Has something fail. Returns what says whether the others have noticed it.
 Noticed = Callable[[], bool]
-# What fails, by name; some need a network.
-FAILURES: Dict[str, Callable[[Machines], Noticed]] = {}
-PARTITIONS: Dict[str, Callable[[Machines], Noticed]] = {}
 Act = Callable[[Machines], Noticed]
+# What fails, by name; the second kind needs a network.
+FAILURES: Dict[str, Act] = {}
+PARTITIONS: Dict[str, Act] = {}
 
 
 def failure(act: Act) -> Act:
