@@ -1,0 +1,6 @@
+pub mod Held
+pub mod Lines
+pub mod Once
+pub mod Opened
+pub mod Played
+pub mod Readable
