@@ -4,3 +4,4 @@ pub mod Once
 pub mod Opened
 pub mod Played
 pub mod Readable
+pub mod Shown

@@ -1,17 +1,19 @@
 -- Believed: the statements of the laws in src/laws.rt.
-use Rattle.std.specs.Prelude.{◌≡◌, ◌≤◌, ℕ, ℤ, ◌+ℤ◌, Bool, Some, List, length, slice_get}
+use Rattle.std.specs.Prelude.{◌≡◌, ◌≤◌, ℕ, ℤ, ◌+ℤ◌, Bool, Some, List, [], ◌∷◌, length, slice_get, codes}
 use Rattle.std.specs.List.{AllByRecursion}
 use Rattle.sqlite.specs.Effect.{Database as Sql}
 use Rattle.sqlite.specs.Held.{state}
 use Rattle.sqlite_trees.specs.declared.store.Store.{Ghosts}
 use Rattle.sqlite_trees.specs.Tree.{Trees}
+use Rattle.escrow_num.specs.declared.refusal.Refusal.TheVariants as refusal
 use Rattle.escrow_num.specs.declared.row.Row.{Row}
 use Rattle.escrow_num.specs.declared.value.RowName.{RowName}
 use Rattle.escrow_schema.specs.declared.table.TableDef.{TableDef}
 use Rattle.escrow_schema.specs.Catalog.{IsCatalog}
 use Rattle.escrow_machine.specs.declared.event.Event.{Event}
 use Rattle.escrow_machine.specs.declared.reply.Reply.{Reply}
-use Rattle.escrow_machine.specs.State.{State}
+use Rattle.escrow_machine.specs.declared.reply.Reply.TheVariants as reply
+use Rattle.escrow_machine.specs.State.{State, opened}
 use Rattle.escrow_machine.specs.Step.{IsRun}
 use Rattle.escrow_machine.specs.Valid.{IsValid}
 use Rattle.escrow_accounts.specs.Book.{book, total, balance}
@@ -19,6 +21,7 @@ use Rattle.escrow_rows.specs.Answers.{IsUsable}
 use Rattle.escrow_recover.specs.Holds.{AreHeld, Holds}
 use Rattle.escrow_recover.specs.Stored.{HasHeldValues, HasOtherFormat, IsNoStore}
 use Rattle.escrow_core.specs.Database.{Database}
+use Rattle.escrow_reply.specs.Text.{rendered_whole}
 use Rattle.escrow_script.specs.declared.limits.TheConstants.{MAX_DATABASES}
 use Rattle.escrow_serve.specs.Left.{LeavesItsRows}
 use Rattle.escrow_serve.specs.Output.{WritesLines}
@@ -32,6 +35,16 @@ abbrev pub OutputIsAFunction : Type 0
 OutputIsAFunction = (sessions : ℕ) (lines : List (List ℕ)) (states : List State) (out other : List ℕ) (new another : List State)
     → length states ≤ MAX_DATABASES → WritesLines sessions states lines out new → WritesLines sessions states lines other another
     → ¬ (ShowsFailure out) → ¬ (ShowsFailure other) → (out ≡ other) × (new ≡ another)
+
+-- a restart that is done shows no failure, and one that fails does. Both may be written
+pub record FailuresShow (s : State) : Type 0 where
+  pub served : WritesLines 1 (s ∷ []) (codes "@restart bank" ∷ []) (rendered_whole (codes "bank") reply.Restarted) (opened s.catalog s.rows ∷ [])
+  pub shows_none : ¬ (ShowsFailure (rendered_whole (codes "bank") reply.Restarted))
+  pub failed : WritesLines 1 (s ∷ []) (codes "@restart bank" ∷ []) (rendered_whole (codes "bank") (reply.Refused refusal.Memory)) (s ∷ [])
+  pub shows : ShowsFailure (rendered_whole (codes "bank") (reply.Refused refusal.Memory))
+
+abbrev pub RestartsShow : Type 0
+RestartsShow = (s : State) → FailuresShow s
 
 -- THE DATABASES. What lines give to the databases: at each place a run of the machine, which is accounted for
 pub record ArePlayed (sessions : ℕ) (lines : List (List ℕ)) (states : List State) (out : List ℕ) (new : List State) : Type 0 where

@@ -1,6 +1,6 @@
 //! Laws of what a script writes and leaves. Each is the contract of a function that does nothing.
 
-ghost use Rattle.escrow_outcomes.specs.Laws.{OutputIsAFunction, ScriptsAreAccountedFor, TextsStayReadable, ReadableCanBeHeld, WhatIsLeftIsOpened};
+ghost use Rattle.escrow_outcomes.specs.Laws.{OutputIsAFunction, RestartsShow, ScriptsAreAccountedFor, TextsStayReadable, ReadableCanBeHeld, WhatIsLeftIsOpened};
 
 use sqlite::Alter;
 
@@ -8,6 +8,12 @@ use sqlite::Alter;
 /// of the states before: two outputs that show no 51 and no 60 are equal, and so are the states.
 pub fn output_is_a_function()
     ensures { OutputIsAFunction }
+{}
+
+/// The premise of that law is needed, and can be met: a restart may be written as done, which shows
+/// no failure, or as failed, which shows one.
+pub fn restarts_show()
+    ensures { RestartsShow }
 {}
 
 /// What lines write is the replies to what they ask of the databases, in order. For each database
