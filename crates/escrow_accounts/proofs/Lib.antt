@@ -1,0 +1,9 @@
+pub mod Applied
+pub mod Counting
+pub mod Events
+pub mod Example
+pub mod Ids
+pub mod Kept
+pub mod Reached
+pub mod Replies
+pub mod Served

@@ -1,0 +1,4 @@
+pub mod Asked
+pub mod Failed
+pub mod Laws
+pub mod Texts
