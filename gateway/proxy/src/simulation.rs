@@ -11,7 +11,7 @@ use rand::seq::SliceRandom;
 use rand::{Rng, SeedableRng};
 
 use crate::protocol::{Fault, Ownership, Row};
-use postgres::Postgres;
+use postgres::{Counts, Postgres};
 use relay::Relay;
 
 /// The rows' keys are 0 to this.
@@ -49,6 +49,26 @@ pub(crate) enum Without {
     Epoch,
     /// Rule 11: a fold takes one row of the journal.
     WholeFolds,
+    /// Rules 11 and 13: an own fold takes the transaction's own rows alone.
+    OthersRows,
+    /// Rule 11: a fold passes over the lock of a row.
+    RowLocks,
+    /// Rule 14: a load leaves no mark.
+    Marks,
+    /// Rule 14: a load does not write the row anew.
+    LoadsThatWrite,
+    /// Rule 14: a load does not test the epoch.
+    LoadsTested,
+    /// Rule 14: a sweep does not test the epoch.
+    SweepTested,
+    /// Rule 14: a row that is left loses its mark, whose ever that is.
+    LeavesOwn,
+    /// Rule 14: a DELETE looks for no mark.
+    DeleteLooks,
+    /// Rule 16: a change of a row of its own looks for no mark.
+    GuardLooks,
+    /// Rule 16: a change without a reservation looks for no mark.
+    HereLooks,
 }
 
 /// Counts what a run has seen.
@@ -63,6 +83,7 @@ struct Seen {
     lost_commits: u64,
     takeovers: u64,
     stale_notes: u64,
+    own: Counts,
 }
 
 impl std::ops::AddAssign for Seen {
@@ -76,6 +97,7 @@ impl std::ops::AddAssign for Seen {
         self.lost_commits += other.lost_commits;
         self.takeovers += other.takeovers;
         self.stale_notes += other.stale_notes;
+        self.own += other.own;
     }
 }
 
@@ -123,7 +145,8 @@ impl World {
             9..=20 if faults => proxy.cut_one(&mut self.postgres, &mut self.random, &mut self.seen),
             21..=26 if faults => self.postgres.end_one(&mut self.random),
             27..=29 if faults => proxy.stop(self.random.gen_range(1..300)),
-            30..=499 => self.postgres.step(&mut self.random),
+            30..=35 if faults => self.postgres.stall_one(&mut self.random),
+            36..=499 => self.postgres.step(&mut self.random),
             _ => proxy.step(&mut self.postgres, &mut self.random, &mut self.seen)?,
         }
         self.check()
@@ -161,7 +184,12 @@ impl World {
                 return self.rested();
             }
         }
-        Err(String::from("it does not come to rest"))
+        let left = self
+            .proxies
+            .iter()
+            .map(|it| (it.protocol.ownership(), it.protocol.counts()));
+        let left: Vec<_> = left.collect();
+        Err(format!("it does not come to rest: {:?}", left))
     }
 
     fn rested(&self) -> Result<(), String> {
@@ -191,6 +219,7 @@ fn run(seed: u64, without: Option<Without>) -> Result<Seen, String> {
         .rest()
         .map_err(|text| format!("seed {}, at rest: {}", seed, text))?;
     world.seen.committed = world.postgres.commits();
+    world.seen.own = world.postgres.own_counts;
     Ok(world.seen)
 }
 
@@ -214,6 +243,9 @@ fn no_step_breaks_the_invariant() {
     println!("{} steps: {:?}", runs * RUN, seen);
     assert!(seen.committed > runs && seen.lost_commits > 0 && seen.stale_notes > 0);
     assert!(seen.questions > runs && seen.takeovers > runs && seen.folds > runs);
+    let own = seen.own;
+    assert!(own.own_folds > 0 && own.direct > 0 && own.here > 0 && own.changed > 0);
+    assert!(own.deleted > 0 && own.left > 0 && own.swept > 0);
 }
 
 #[test]
@@ -227,10 +259,20 @@ fn a_rule_that_is_taken_away_is_missed() {
         Without::PostgresFirst,
         Without::Epoch,
         Without::WholeFolds,
+        Without::OthersRows,
+        Without::RowLocks,
+        Without::Marks,
+        Without::LoadsThatWrite,
+        Without::LoadsTested,
+        Without::SweepTested,
+        Without::LeavesOwn,
+        Without::DeleteLooks,
+        Without::GuardLooks,
+        Without::HereLooks,
     ];
     for without in rules {
         // What comes at rest may be a fault of the relay that was changed.
-        let found = (0..2_000)
+        let found = (0..number("ESCROW_RUNS").unwrap_or(2_000))
             .filter_map(|seed| run(seed, Some(without)).err())
             .find(|text| !text.contains("at rest"));
         match found {

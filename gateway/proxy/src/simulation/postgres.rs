@@ -1,5 +1,7 @@
 //! PostgreSQL: rows, a journal, transactions with subtransactions, a log of which a crash leaves a first part, locks, epoch.
 
+mod own;
+
 use std::collections::{BTreeMap, BTreeSet, VecDeque};
 
 use rand::rngs::StdRng;
@@ -9,11 +11,14 @@ use rand::Rng;
 use super::server::Grant;
 use super::{Change, Key, Without, GREATEST, KEYS, LEAST, START};
 use crate::protocol::{Status, Verdict};
+pub(super) use own::Counts;
+use own::{Own, Snapshot};
 
 /// What a client sends.
 #[derive(Clone, Copy, Debug, PartialEq, Eq)]
 pub(super) enum Statement {
     Begin,
+    BeginRepeatable,
     Savepoint,
     /// To the savepoint of this depth, or an error.
     RollbackTo(usize),
@@ -31,6 +36,14 @@ pub(super) enum Statement {
     },
     /// A procedure that rolls back.
     CallRollback,
+    /// SELECT .. FOR UPDATE of a row.
+    Lock(Key),
+    /// An UPDATE of a row's other columns.
+    Write(Key),
+    Insert(Key),
+    Delete(Key),
+    /// An UPDATE that the proxy passes on, since there was no such row.
+    Change(Key, Change),
 }
 
 /// What a backend reads.
@@ -38,6 +51,12 @@ pub(super) enum Statement {
 pub(super) enum Message {
     Statement(Statement),
     Note(Note),
+    /// A note and a fold in one (rule 13).
+    Direct(Note),
+    /// A change without a reservation (rule 16).
+    Here(Note),
+    /// A fold of these keys, in front of a COMMIT (rule 13).
+    OwnFold([bool; KEYS]),
     Sync,
 }
 
@@ -48,13 +67,20 @@ pub(super) struct Note {
     pub(super) key: Key,
     pub(super) change: Change,
     pub(super) grant: Grant,
+    /// Whether the server has granted it.
+    pub(super) is_granted: bool,
 }
 
 /// What a backend answers.
 #[derive(Clone, Debug, PartialEq, Eq)]
 pub(super) enum Reply {
     Completed(&'static str),
-    Noted(u64),
+    /// The id, and whether the row has it already.
+    Noted(u64, bool),
+    /// Whether all is folded.
+    OwnFolded(bool),
+    /// Whether it is changed.
+    Changed(bool),
     Error,
     Ready(Status),
 }
@@ -64,6 +90,7 @@ pub(super) enum Reply {
 struct Level {
     id: Option<u64>,
     rows: Vec<Note>,
+    own: Own,
     /// Its subtransactions that were released.
     merged: Vec<u64>,
 }
@@ -72,9 +99,19 @@ struct Level {
 enum Work {
     Read,
     /// The note is written, and not yet tested.
-    Test(Note),
+    Test(Note, Then),
     /// The commit record is in the log. What comes then.
     Commit(usize, Vec<Reply>, After),
+}
+
+/// What a note does once its test is passed.
+#[derive(Clone, Copy, PartialEq, Eq)]
+enum Then {
+    Nothing,
+    /// It folds its row, as a direct note.
+    Fold,
+    /// It folds its row, as a change without a reservation.
+    Here,
 }
 
 #[derive(Clone, Copy, PartialEq, Eq)]
@@ -88,6 +125,7 @@ enum After {
 
 /// A connection's two directions, and its backend.
 struct Backend {
+    number: u32,
     inbox: VecDeque<Message>,
     outbox: VecDeque<Reply>,
     /// The proxy has closed it.
@@ -99,6 +137,11 @@ struct Backend {
     has_failed: bool,
     /// An error skips what comes before the Sync.
     skips: bool,
+    /// In REPEATABLE READ: what it sees, from its first statement on.
+    is_repeatable: bool,
+    snapshot: Option<Snapshot>,
+    /// It stands still for so many of its steps.
+    stalled: u32,
     work: Work,
 }
 
@@ -111,6 +154,10 @@ struct Record {
     rises: Vec<(Key, Change)>,
     removed: Vec<Grant>,
     added: Vec<Row>,
+    /// What a transaction has written into rows by other ways than folds.
+    own: Own,
+    /// Marks that are made and removed (rule 14).
+    marked: Vec<(Key, Option<u64>)>,
     ids: Vec<u64>,
     is_visible: bool,
 }
@@ -118,35 +165,52 @@ struct Record {
 /// What is committed.
 #[derive(Clone)]
 struct Image {
-    rows: [i64; KEYS],
+    rows: [Option<i64>; KEYS],
+    /// How often each row was written.
+    versions: [u64; KEYS],
+    /// The epochs whose owners hold the rows.
+    marks: [Option<u64>; KEYS],
     journal: BTreeMap<Grant, Row>,
     /// What commits have added to each row, by folds or not.
-    truth: [i64; KEYS],
+    truth: [Option<i64>; KEYS],
     ids: BTreeSet<u64>,
     grants: BTreeSet<Grant>,
 }
 
 impl Image {
     fn apply(&mut self, record: &Record) {
-        for &(key, change) in &record.rises {
-            self.rows[key] += change;
+        self.insert(&record.own);
+        for row in &record.added {
+            self.journal.insert(row.grant, *row);
+            self.truth[row.key] = self.truth[row.key].map(|it| it + row.change);
+            self.grants.insert(row.grant);
         }
         for grant in &record.removed {
             self.journal.remove(grant);
         }
-        for row in &record.added {
-            self.journal.insert(row.grant, *row);
-            self.truth[row.key] += row.change;
-            self.grants.insert(row.grant);
+        for &(key, change) in &record.rises {
+            self.rows[key] = self.rows[key].map(|it| it + change);
+            self.versions[key] += 1;
+        }
+        self.change(&record.own);
+        for &(key, mark) in &record.marked {
+            self.marks[key] = mark;
         }
         self.ids.extend(&record.ids);
     }
+}
+
+/// Returns whether a value meets the CHECK.
+fn meets(value: i64) -> bool {
+    (LEAST..=GREATEST).contains(&value)
 }
 
 /// A fold or load that is in the log and not yet visible.
 pub(super) struct Folding {
     record: usize,
     life: u32,
+    locked: Vec<Key>,
+    /// The keys of which nothing is left in the journal.
     pub(super) keys: Vec<Key>,
 }
 
@@ -161,21 +225,37 @@ pub(super) struct Postgres {
     next_id: u64,
     next_backend: u32,
     numbers: u64,
-    locks: [bool; KEYS],
+    /// Who has locked each row: a backend, or a connection of a proxy's own.
+    locks: [Option<Locker>; KEYS],
     sync: bool,
     epoch: u64,
     /// Who holds OWNER, with the epoch whose lock it holds.
     owner: Option<(usize, u64)>,
     pub(super) life: u32,
+    /// A CHECK has refused what it may not (rule 22).
+    alarm: Option<String>,
+    /// How often each happened: own folds, direct notes that fold, changes without a reservation, rows that are deleted.
+    pub(super) own_counts: Counts,
+    /// Rows that are to be left, in sockets whose proxy reads no answer any more.
+    late: Vec<(Key, u64)>,
     without: Option<Without>,
+}
+
+/// Who holds a row's lock.
+#[derive(Clone, Copy, PartialEq, Eq)]
+enum Locker {
+    Backend(u32),
+    Proxy,
 }
 
 impl Postgres {
     pub(super) fn new(sync: bool, without: Option<Without>) -> Postgres {
         let image = Image {
-            rows: [START; KEYS],
+            rows: [Some(START); KEYS],
+            versions: [0; KEYS],
+            marks: [None; KEYS],
             journal: BTreeMap::new(),
-            truth: [START; KEYS],
+            truth: [Some(START); KEYS],
             ids: BTreeSet::new(),
             grants: BTreeSet::new(),
         };
@@ -188,36 +268,49 @@ impl Postgres {
             next_id: 1,
             next_backend: 1,
             numbers: 0,
-            locks: [false; KEYS],
+            locks: [None; KEYS],
             sync,
             epoch: 0,
             owner: None,
             life: 0,
+            alarm: None,
+            own_counts: Counts::default(),
+            late: Vec::new(),
             without,
         }
     }
 
     /// Tests that each committed change counts once, and that no CHECK is broken.
     pub(super) fn check(&self) -> Result<(), String> {
+        if let Some(alarm) = &self.alarm {
+            return Err(alarm.clone());
+        }
         for key in 0..KEYS {
             let (row, now) = (self.visible.rows[key], self.now(key));
             if now != self.visible.truth[key] {
                 return Err(format!(
-                    "key {}: {} in place of {}",
+                    "key {}: {:?} in place of {:?}",
                     key, now, self.visible.truth[key]
                 ));
             }
-            if !(LEAST..=GREATEST).contains(&now) || !(LEAST..=GREATEST).contains(&row) {
-                return Err(format!("key {}: {} and {} break the CHECK", key, row, now));
+            if !row.map_or(true, meets) || !now.map_or(true, meets) {
+                return Err(format!(
+                    "key {}: {:?} and {:?} break the CHECK",
+                    key, row, now
+                ));
+            }
+            if row.is_none() && self.visible.journal.values().any(|it| it.key == key) {
+                return Err(format!("key {}: the journal has more than the row", key));
             }
         }
         Ok(())
     }
 
-    /// Returns D + J.
-    pub(super) fn now(&self, key: Key) -> i64 {
+    /// Returns D + J, if the row exists.
+    pub(super) fn now(&self, key: Key) -> Option<i64> {
         let rows = self.visible.journal.values().filter(|row| row.key == key);
-        self.visible.rows[key] + rows.map(|row| row.change).sum::<i64>()
+        let pending: i64 = rows.map(|row| row.change).sum();
+        self.visible.rows[key].map(|it| it + pending)
     }
 
     /// Returns a number that was never used, for an epoch or a grant.
@@ -244,7 +337,7 @@ impl Postgres {
             .filter(is_committing)
             .flat_map(|it| &it.levels);
         let rows = levels.flat_map(|level| &level.rows);
-        rows.filter(|row| row.epoch == self.epoch)
+        rows.filter(|row| row.epoch == self.epoch && row.is_granted)
             .map(|row| row.grant)
             .collect()
     }
@@ -252,7 +345,7 @@ impl Postgres {
     pub(super) fn is_quiet(&self) -> bool {
         let is_resting =
             |it: &Backend| it.inbox.is_empty() && it.outbox.is_empty() && it.levels.is_empty();
-        self.backends.values().all(is_resting)
+        self.backends.values().all(is_resting) && self.late.is_empty()
     }
 
     pub(super) fn journal_is_empty(&self) -> bool {
@@ -309,15 +402,25 @@ impl Postgres {
 
     // Folds and loads.
 
-    /// Folds what it can lock. Fails if a CHECK refuses it. The rest of it is [`Postgres::folded`].
-    pub(super) fn fold(&mut self, keys: &[Key], random: &mut StdRng) -> Result<Folding, String> {
-        let keys: Vec<Key> = keys
-            .iter()
-            .copied()
-            .filter(|&key| !self.locks[key])
-            .collect();
+    /// Folds what it can lock. Fails if a CHECK refuses it. The rest of it is [`Postgres::folded`]. A load marks its key for
+    /// the owner of an epoch.
+    pub(super) fn fold(
+        &mut self,
+        keys: &[Key],
+        mark: Option<u64>,
+        random: &mut StdRng,
+    ) -> Result<Folding, String> {
+        let may_be_locked =
+            |key: &Key| !self.is_locked(*key) || self.without == Some(Without::RowLocks);
+        let free = keys.iter().copied().filter(may_be_locked);
+        let locked: Vec<Key> = free.filter(|&key| self.has_row(key)).collect();
+        let is_folded = |key: &Key| {
+            let mut rows = self.visible.journal.values();
+            locked.contains(key) || !rows.any(|row| row.key == *key)
+        };
+        let keys = keys.iter().copied().filter(is_folded).collect();
         let mut record = Record::default();
-        for &key in &keys {
+        for &key in &locked {
             let rows = self.visible.journal.values().filter(|row| row.key == key);
             let taken: Vec<&Row> = if self.without == Some(Without::WholeFolds) {
                 rows.choose(random).into_iter().collect()
@@ -325,21 +428,27 @@ impl Postgres {
                 rows.collect()
             };
             let rise: i64 = taken.iter().map(|row| row.change).sum();
-            if !(LEAST..=GREATEST).contains(&(self.visible.rows[key] + rise)) {
+            if !self.visible.rows[key].map_or(true, |it| meets(it + rise)) {
                 return Err(format!("a fold of key {} by {} is refused", key, rise));
             }
-            record.rises.push((key, rise));
+            if mark.is_none() || self.without != Some(Without::LoadsThatWrite) || rise != 0 {
+                record.rises.push((key, rise));
+            }
             record.removed.extend(taken.iter().map(|row| row.grant));
+            if mark.is_some() && self.without != Some(Without::Marks) {
+                record.marked.push((key, mark));
+            }
         }
-        for &key in &keys {
-            self.locks[key] = true;
+        for &key in &locked {
+            self.locks[key] = Some(Locker::Proxy);
         }
-        if !keys.is_empty() {
+        if !locked.is_empty() {
             self.log.push(record);
         }
         Ok(Folding {
             record: self.log.len().saturating_sub(1),
             life: self.life,
+            locked,
             keys,
         })
     }
@@ -349,20 +458,20 @@ impl Postgres {
         if folding.life != self.life {
             return false;
         }
-        if !folding.keys.is_empty() {
+        if !folding.locked.is_empty() {
             self.show(folding.record);
         }
-        for &key in &folding.keys {
-            self.locks[key] = false;
+        for &key in &folding.locked {
+            self.locks[key] = None;
         }
         true
     }
 
     pub(super) fn is_locked(&self, key: Key) -> bool {
-        self.locks[key]
+        self.locks[key].is_some()
     }
 
-    pub(super) fn value(&self, key: Key) -> i64 {
+    pub(super) fn value(&self, key: Key) -> Option<i64> {
         self.visible.rows[key]
     }
 
@@ -372,6 +481,7 @@ impl Postgres {
         let number = self.next_backend;
         self.next_backend += 1;
         let backend = Backend {
+            number,
             inbox: VecDeque::new(),
             outbox: VecDeque::new(),
             is_cut: false,
@@ -380,6 +490,9 @@ impl Postgres {
             in_block: false,
             has_failed: false,
             skips: false,
+            is_repeatable: false,
+            snapshot: None,
+            stalled: 0,
             work: Work::Read,
         };
         self.backends.insert(number, backend);
@@ -434,8 +547,16 @@ impl Postgres {
         }
     }
 
+    /// Lets any backend stand still.
+    pub(super) fn stall_one(&mut self, random: &mut StdRng) {
+        if let Some(backend) = self.backends.values_mut().choose(random) {
+            backend.stalled = random.gen_range(1..100);
+        }
+    }
+
     fn abort(&mut self, levels: Vec<Level>) {
         for level in levels {
+            self.unlock(&level.own);
             self.aborted.extend(level.id);
             self.aborted.extend(level.merged);
         }
@@ -474,7 +595,8 @@ impl Postgres {
             self.aborted
                 .extend(ids.filter(|id| !self.visible.ids.contains(id)));
         }
-        self.locks = [false; KEYS];
+        self.locks = [None; KEYS];
+        self.late.clear();
         self.owner = None;
         self.epoch = 0;
         self.life += 1;
@@ -491,6 +613,10 @@ impl Postgres {
     pub(super) fn step(&mut self, random: &mut StdRng) {
         let is_gone = |backend: &Backend| !backend.is_alive && backend.is_cut;
         self.backends.retain(|_, backend| !is_gone(backend));
+        if !self.late.is_empty() && random.gen_range(0..50) == 0 {
+            let (key, epoch) = self.late.remove(0);
+            self.leave(key, epoch);
+        }
         if self.log.len() > 50 && self.log.iter().all(|record| record.is_visible) {
             // A checkpoint: all of it is durable.
             self.base = self.visible.clone();
@@ -510,6 +636,11 @@ impl Postgres {
             Some(backend) => backend,
             None => return,
         };
+        if backend.stalled > 0 {
+            backend.stalled -= 1;
+            self.backends.insert(number, backend);
+            return;
+        }
         match std::mem::replace(&mut backend.work, Work::Read) {
             Work::Read => match backend.inbox.pop_front() {
                 Some(message) => self.read(&mut backend, message),
@@ -519,10 +650,13 @@ impl Postgres {
                 }
                 None => {}
             },
-            Work::Test(note) => self.test(&mut backend, note),
+            Work::Test(note, then) => self.test(&mut backend, note, then),
             Work::Commit(record, replies, after) => {
                 self.show(record);
-                backend.levels.clear();
+                for level in backend.levels.drain(..) {
+                    self.unlock(&level.own);
+                }
+                backend.snapshot = None;
                 backend.in_block = after == After::Chain;
                 if after == After::Chain {
                     backend.levels.push(Level::default());
@@ -553,36 +687,49 @@ impl Postgres {
                 backend.outbox.push_back(Reply::Ready(status));
             }
             _ if backend.skips => {}
-            Message::Note(note) if backend.has_failed => {
-                let _ = note;
+            Message::Note(_) | Message::Direct(_) | Message::Here(_) | Message::OwnFold(_)
+                if backend.has_failed =>
+            {
                 self.fail(backend);
             }
-            Message::Note(note) => {
-                if backend.levels.is_empty() {
-                    backend.levels.push(Level::default());
-                }
-                for level in &mut backend.levels {
-                    if level.id.is_none() {
-                        level.id = Some(self.next_id);
-                        self.next_id += 1;
-                    }
-                }
-                if let Some(level) = backend.levels.last_mut() {
-                    level.rows.push(note);
-                }
-                backend.work = Work::Test(note);
-            }
+            Message::Note(note) => self.write(backend, note, Then::Nothing),
+            Message::Direct(note) => self.write(backend, note, Then::Fold),
+            Message::Here(note) => self.here(backend, note),
+            Message::OwnFold(keys) => self.own_fold(backend, keys),
             Message::Statement(statement) => self.run(backend, statement),
         }
     }
 
+    /// Writes a row of the journal. It is tested then (rule 7).
+    fn write(&mut self, backend: &mut Backend, note: Note, then: Then) {
+        self.see(backend);
+        if let Some(level) = self.writing(backend) {
+            level.rows.push(note);
+        }
+        backend.work = Work::Test(note, then);
+    }
+
+    /// Returns the innermost level, which has an id like those around it.
+    fn writing<'a>(&mut self, backend: &'a mut Backend) -> Option<&'a mut Level> {
+        if backend.levels.is_empty() {
+            backend.levels.push(Level::default());
+        }
+        for level in &mut backend.levels {
+            if level.id.is_none() {
+                level.id = Some(self.next_id);
+                self.next_id += 1;
+            }
+        }
+        backend.levels.last_mut()
+    }
+
     /// Rules 7, 8 and 10.
-    fn test(&mut self, backend: &mut Backend, note: Note) {
+    fn test(&mut self, backend: &mut Backend, note: Note, then: Then) {
         let is_live = self.owner.map_or(false, |(_, epoch)| epoch == note.epoch);
         let passes = self.without == Some(Without::Epoch) || self.epoch == note.epoch && is_live;
         let id = backend.levels.last().and_then(|level| level.id);
         match id {
-            Some(id) if passes => backend.outbox.push_back(Reply::Noted(id)),
+            Some(id) if passes => self.fold_noted(backend, note, id, then),
             _ => self.fail(backend),
         }
     }
@@ -613,8 +760,12 @@ impl Postgres {
             .iter()
             .flat_map(|level| level.rows.iter().copied())
             .collect();
+        let own = Own::of(backend.levels.iter().map(|level| &level.own));
         self.log.push(Record {
             added,
+            rises: own.rises.clone(),
+            removed: own.taken.clone(),
+            own,
             ids,
             ..Record::default()
         });
@@ -633,8 +784,14 @@ impl Postgres {
             return;
         }
         let depth = backend.levels.len();
+        if !matches!(statement, Begin | BeginRepeatable) {
+            self.see(backend);
+        }
         match statement {
-            Begin => {
+            Begin | BeginRepeatable => {
+                if !backend.in_block {
+                    backend.is_repeatable = statement == BeginRepeatable;
+                }
                 backend.in_block = true;
                 if backend.levels.is_empty() {
                     backend.levels.push(Level::default());
@@ -660,11 +817,15 @@ impl Postgres {
                     for it in released {
                         level.merged.extend(it.id.into_iter().chain(it.merged));
                         level.rows.extend(it.rows);
+                        level.own.add(&it.own);
                     }
                 }
                 backend.outbox.push_back(Reply::Completed("RELEASE"));
             }
             Savepoint | RollbackTo(_) | Release(_) => self.fail(backend),
+            Lock(_) | Write(_) | Insert(_) | Delete(_) | Change(..) => {
+                self.write_row(backend, statement)
+            }
             Commit | CommitAndChain | Rollback | RollbackAndChain => {
                 self.end_block(backend, statement)
             }
@@ -694,6 +855,7 @@ impl Postgres {
             self.commit(backend, vec![Reply::Completed("COMMIT")], after);
         } else {
             self.abort(std::mem::take(&mut backend.levels));
+            backend.snapshot = None;
             backend.in_block = chains;
             if chains {
                 backend.levels.push(Level::default());

@@ -92,9 +92,9 @@ impl Server {
                 .open()
                 .filter(|it| it.0 == key && postgres.has_committed(it.2));
             let expected = value + committed.map(|it| it.1).sum::<i64>();
-            if postgres.now(key) != expected {
+            if postgres.now(key) != Some(expected) {
                 return Err(format!(
-                    "key {}: PostgreSQL has {}, the server {}",
+                    "key {}: PostgreSQL has {:?}, the server {}",
                     key,
                     postgres.now(key),
                     expected
