@@ -1,6 +1,7 @@
 //! Two proxies, their servers, clients and a PostgreSQL, under a scheduler that interleaves, loses and kills at every step.
 //!
 //! A run is named by its seed. `ESCROW_SEED` runs one seed, `ESCROW_STEPS` sets how many steps are run over all seeds.
+//! `ESCROW_WITHOUT` takes away the rules alone whose names have that text.
 
 mod postgres;
 mod relay;
@@ -11,7 +12,7 @@ use rand::seq::SliceRandom;
 use rand::{Rng, SeedableRng};
 
 use crate::protocol::{Fault, Ownership, Row};
-use postgres::Postgres;
+use postgres::{Counts, Postgres};
 use relay::Relay;
 
 /// The rows' keys are 0 to this.
@@ -51,6 +52,32 @@ pub(crate) enum Without {
     WholeFolds,
     /// Rule 24: a row's value and its holds are read by two snapshots.
     OneSnapshot,
+    /// Rules 11 and 13: an own fold takes the transaction's own rows alone.
+    OthersRows,
+    /// Rule 11: a fold passes over the lock of a row.
+    RowLocks,
+    /// Rule 14: a load leaves no mark.
+    Marks,
+    /// Rule 14: a load does not write the row anew.
+    LoadsThatWrite,
+    /// Rule 14: a load does not test the epoch.
+    LoadsTested,
+    /// Rule 14: a sweep does not test the epoch.
+    SweepTested,
+    /// Rule 14: a row that is left loses its mark, in whose epoch ever.
+    LeavesOwn,
+    /// Rule 14: a DELETE looks for no mark.
+    DeleteLooks,
+    /// Rule 16: a change of a row of its own looks for no mark.
+    GuardLooks,
+    /// Rule 16: a change without a reservation looks for no mark.
+    HereLooks,
+    /// Rule 16: a change without a reservation does not test the epoch.
+    HereTested,
+    /// Rule 27: a change without a reservation looks for no hold.
+    HereLooksForHolds,
+    /// Rule 27: a mark goes though a hold of its row stands.
+    MarksOfHolds,
 }
 
 /// Counts what a run has seen.
@@ -68,6 +95,7 @@ struct Seen {
     holds: u64,
     taken: u64,
     reserved_again: u64,
+    own: Counts,
 }
 
 impl std::ops::AddAssign for Seen {
@@ -84,6 +112,7 @@ impl std::ops::AddAssign for Seen {
         self.holds += other.holds;
         self.taken += other.taken;
         self.reserved_again += other.reserved_again;
+        self.own += other.own;
     }
 }
 
@@ -131,7 +160,8 @@ impl World {
             9..=20 if faults => proxy.cut_one(&mut self.postgres, &mut self.random, &mut self.seen),
             21..=26 if faults => self.postgres.end_one(&mut self.random),
             27..=29 if faults => proxy.stop(self.random.gen_range(1..300)),
-            30..=499 => self.postgres.step(&mut self.random),
+            30..=35 if faults => self.postgres.stall_one(&mut self.random),
+            36..=499 => self.postgres.step(&mut self.random),
             _ => proxy.step(&mut self.postgres, &mut self.random, &mut self.seen)?,
         }
         self.check()
@@ -169,7 +199,12 @@ impl World {
                 return self.rested();
             }
         }
-        Err(String::from("it does not come to rest"))
+        let left = self
+            .proxies
+            .iter()
+            .map(|it| (it.protocol.ownership(), it.protocol.counts()));
+        let left: Vec<_> = left.collect();
+        Err(format!("it does not come to rest: {:?}", left))
     }
 
     fn rested(&self) -> Result<(), String> {
@@ -200,6 +235,7 @@ fn run(seed: u64, without: Option<Without>) -> Result<Seen, String> {
         .rest()
         .map_err(|text| format!("seed {}, at rest: {}", seed, text))?;
     world.seen.committed = world.postgres.commits();
+    world.seen.own = world.postgres.own_counts;
     Ok(world.seen)
 }
 
@@ -224,6 +260,10 @@ fn no_step_breaks_the_invariant() {
     assert!(seen.committed > runs && seen.lost_commits > 0 && seen.stale_notes > 0);
     assert!(seen.questions > runs && seen.takeovers > runs && seen.folds > runs);
     assert!(seen.holds > runs && 4 * seen.taken > runs && 8 * seen.reserved_again > runs);
+    let own = seen.own;
+    assert!(own.own_folds > 0 && own.direct > 0 && own.here > 0 && own.changed > 0);
+    assert!(own.deleted > 0 && own.left > 0 && own.swept > 0);
+    assert!(own.held_deletes > 0 && own.held_here > 0 && own.held_marks > 0);
 }
 
 #[test]
@@ -240,10 +280,25 @@ fn a_rule_that_is_taken_away_is_missed() {
         Without::Epoch,
         Without::WholeFolds,
         Without::OneSnapshot,
+        Without::OthersRows,
+        Without::RowLocks,
+        Without::Marks,
+        Without::LoadsThatWrite,
+        Without::LoadsTested,
+        Without::SweepTested,
+        Without::LeavesOwn,
+        Without::DeleteLooks,
+        Without::GuardLooks,
+        Without::HereLooks,
+        Without::HereTested,
+        Without::HereLooksForHolds,
+        Without::MarksOfHolds,
     ];
-    for without in rules {
+    let asked = std::env::var("ESCROW_WITHOUT").unwrap_or_default();
+    let is_asked = |it: &Without| format!("{:?}", it).contains(&asked);
+    for without in rules.into_iter().filter(is_asked) {
         // What comes at rest may be a fault of the relay that was changed.
-        let found = (0..2_000)
+        let found = (0..number("ESCROW_RUNS").unwrap_or(2_000))
             .filter_map(|seed| run(seed, Some(without)).err())
             .find(|text| !text.contains("at rest"));
         match found {

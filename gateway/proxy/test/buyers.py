@@ -28,6 +28,13 @@ Connection = psycopg.Connection[Any]
 TIGHT, AMPLE, ALONE = (1, 2), (3, 4, 5, 6), 100
 MOST = 60
 START = {**{key: MOST // 2 for key in TIGHT}, **{key: 1_000_000 for key in AMPLE}, ALONE: 1_000_000_000}
+# Nobody of these is a superuser: who owns the tables, declares columns and may see what is reserved, and the role of the buyers.
+MERCHANT, BUYER = "merchant", "buyer"
+ROLES = (
+    f"CREATE ROLE {MERCHANT} LOGIN IN ROLE pg_monitor",
+    f"CREATE ROLE {BUYER} LOGIN",
+    f"GRANT CREATE ON SCHEMA public TO {MERCHANT}",
+)
 TABLES = (
     "CREATE TABLE stock (id integer PRIMARY KEY, title text NOT NULL, pieces integer NOT NULL CONSTRAINT in_stock CHECK (pieces >= 0))",
     "CREATE TABLE orders (key text PRIMARY KEY, item integer NOT NULL REFERENCES stock, pieces integer NOT NULL)",
@@ -37,6 +44,7 @@ TABLES = (
     "CREATE PROCEDURE finish(fails boolean) LANGUAGE plpgsql AS 'BEGIN COMMIT; IF fails THEN PERFORM 1 / 0; END IF; END'",
     *(f"INSERT INTO stock VALUES ({key}, 'item {key}', {pieces})" for key, pieces in START.items()),
 )
+RIGHTS = (f"GRANT SELECT, INSERT ON orders, receipts, carts TO {BUYER}", f"GRANT SELECT, UPDATE ON stock TO {BUYER}")
 PREPARED = {b"insert": b"INSERT INTO orders VALUES ($1, $2, $3)", b"take": b"UPDATE stock SET pieces = pieces - $1 WHERE id = $2"}
 # More than any row has.
 TOO_MANY = 1_500_000_000

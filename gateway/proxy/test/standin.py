@@ -54,9 +54,9 @@ class Cluster(Postgres):
         """Connects as a role. Statements commit by themselves."""
         return psycopg.connect(self.dsn().replace("user=clerk", f"user={user}"), autocommit=True)
 
-    def run(self, *statements: str) -> None:
-        """Runs statements, each by itself."""
-        with self.connect() as it:
+    def run(self, *statements: str, user: str = "clerk") -> None:
+        """Runs statements as a role, each by itself."""
+        with self.connect(user) as it:
             for statement in statements:
                 it.execute(statement.encode())
 

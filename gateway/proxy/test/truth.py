@@ -35,9 +35,9 @@ from psycopg import errors
 
 from clients.servers import PATIENCE, PORT, children, wait_until
 from clients.suite import Part, expect, main
-from proxy.test.buyers import ALONE, KINDS, TABLES, WITH_ESCROW, Line
+from proxy.test.buyers import ALONE, BUYER, KINDS, MERCHANT, RIGHTS, ROLES, TABLES, WITH_ESCROW, Line
 from proxy.test.harness import TOP, Forwarder, Proxy, Standby
-from proxy.test.standin import Cluster
+from proxy.test.standin import ROLE, Cluster
 
 PART = Part("proxy_truth")
 PROCESSES, EACH = 4, 10
@@ -218,17 +218,18 @@ class Scene:
         """Starts all, which tells how slow the machine is."""
         begin = time.monotonic()
         self.stack.enter_context(self.cluster)
-        self.cluster.run(*TABLES, "CREATE TABLE base (id integer PRIMARY KEY, pieces integer NOT NULL)")
+        self.cluster.run(*ROLES, "CREATE TABLE base (id integer PRIMARY KEY, pieces integer NOT NULL)")
+        self.cluster.run(*TABLES, *RIGHTS, user=MERCHANT)
         if self.wanted:
             self.cluster.script("install.sql", self.change)
-            self.cluster.run("SELECT escrow.reservable('stock', 'pieces')")
+            self.cluster.run("SELECT escrow.reservable('stock', 'pieces')", user=MERCHANT)
         if self.standby:
             self.stack.enter_context(self.standby)
         servers = [self.cluster, *([self.standby] if self.standby else [])]
         for _ in range(self.wanted):
             backs = [self.forwarder(it.socket) for it in servers]
             self.backs += backs
-            proxy = self.stack.enter_context(Proxy(self.cluster, postgres=connection_string(backs)))
+            proxy = self.stack.enter_context(Proxy(self.cluster, postgres=connection_string(backs, ROLE)))
             self.proxies.append(proxy)
             self.fronts.append(self.forwarder(proxy.socket))
         if not self.wanted:
@@ -240,9 +241,9 @@ class Scene:
         """Starts a forwarder."""
         return self.stack.enter_context(Forwarder(target, PORT))
 
-    def dsns(self) -> List[str]:
-        """Returns how buyers connect: to each, and then the others."""
-        return [connection_string(self.fronts[at:] + self.fronts[:at]) for at in range(len(self.fronts))]
+    def dsns(self, user: str = BUYER) -> List[str]:
+        """Returns how a role connects: to each, and then the others."""
+        return [connection_string(self.fronts[at:] + self.fronts[:at], user) for at in range(len(self.fronts))]
 
     def wait(self, what: str, is_so: Callable[[], object]) -> None:
         """Waits until something holds. Fails with what PostgreSQL's connections do if it does not hold in time."""
@@ -285,7 +286,7 @@ class Scene:
     def is_decided(self) -> bool:
         """Returns whether the owner knows of no open reservation: PostgreSQL may hear later than the buyers that a connection is lost."""
         try:
-            with self.connect() as it:
+            with self.connect(MERCHANT) as it:  # members of pg_monitor may ask
                 return it.execute("SELECT FROM escrow.reservations()").fetchall() == []
         except psycopg.OperationalError:
             return False
@@ -353,12 +354,12 @@ class Scene:
         self.wait(f"item {item} is asked for {pieces}", is_answered)
         return given[0]
 
-    def connect(self) -> "psycopg.Connection[Any]":
-        """Connects as a buyer, as soon as it can."""
+    def connect(self, user: str = BUYER) -> "psycopg.Connection[Any]":
+        """Connects as a buyer or another role does, as soon as it can."""
         found: List["psycopg.Connection[Any]"] = []
 
         def opens() -> bool:
-            for dsn in self.dsns():
+            for dsn in self.dsns(user):
                 try:
                     it = psycopg.connect(dsn, autocommit=True)
                     it.execute(f"UPDATE stock SET pieces = pieces - 0 WHERE id = {ALONE}")
@@ -372,9 +373,9 @@ class Scene:
         return found[0]
 
 
-def connection_string(forwarders: Sequence[Forwarder]) -> str:
-    """Returns how the database is reached through forwarders: by the first that accepts and writes."""
-    return f"host={','.join(str(it.folder) for it in forwarders)} port={PORT} dbname=bank user=clerk target_session_attrs=read-write"
+def connection_string(forwarders: Sequence[Forwarder], user: str) -> str:
+    """Returns how a role reaches the database through forwarders: by the first that accepts and writes."""
+    return f"host={','.join(str(it.folder) for it in forwarders)} port={PORT} dbname=bank user={user} target_session_attrs=read-write"
 
 
 # What is killed, and whether there has to be a proxy.
@@ -539,6 +540,11 @@ class Run:
     refused: "Counter[str]" = field(default_factory=Counter)
     looks: int = 0
 
+    def takeovers(self) -> int:
+        """Returns how often a proxy has become the owner, but the first time."""
+        epochs = {epoch for it in self.scene.proxies for epoch in re.findall("owner of epoch ([0-9]+)", it.said())}
+        return max(len(epochs) - 1, 0)
+
     def section(self, count: int, fails_over: bool = False) -> None:
         """Kills some times, and examines."""
         draw = random.Random(f"{self.seed} {self.scene.section}")
@@ -583,7 +589,7 @@ class Run:
     def told(self) -> str:
         """Returns what was done, in words."""
         times = "; ".join(f"{name} {statistics.median(it):.1f} (worst {max(it):.1f})" for name, it in self.times.items())
-        return (f"{sum(self.kills.values())} kills: {dict(self.kills)}\n  {dict(self.sums)}; errors {dict(self.refused)}; {self.looks} looks\n"
+        return (f"{sum(self.kills.values())} kills, {self.takeovers()} takeovers: {dict(self.kills)}\n  {dict(self.sums)}; errors {dict(self.refused)}; {self.looks} looks\n"
                 f"  seconds until {GOES_ON} more orders: {times}")
 
 
@@ -614,6 +620,15 @@ def shown(what: str) -> None:
 @PART.alone
 def nothing_is_lost_or_taken_twice() -> None:
     shown(run(1, 20))
+
+
+@PART.alone
+def neither_proxies_nor_buyers_are_superusers() -> None:
+    with Scene(1) as scene, scene.buying(7) as said:
+        scene.wait("buyers are served", lambda: said.now().count() > 0)
+        served = scene.ask("SELECT DISTINCT a.usename, r.rolsuper FROM pg_stat_activity AS a JOIN pg_roles AS r ON r.rolname = a.usename "
+                           "WHERE a.backend_type = 'client backend' AND a.pid <> pg_backend_pid()")
+        expect(sorted(served), sorted([(BUYER, False), (ROLE, False)]))
 
 
 @PART.alone

@@ -1,5 +1,8 @@
 //! PostgreSQL: rows, a journal, transactions with subtransactions, a log of which a crash leaves a first part, locks, epoch.
 
+mod holds;
+mod own;
+
 use std::collections::{BTreeMap, BTreeSet, VecDeque};
 
 use rand::rngs::StdRng;
@@ -9,11 +12,16 @@ use rand::Rng;
 use super::server::Grant;
 use super::{Change, Key, Without, GREATEST, KEYS, LEAST, START};
 use crate::protocol::{Fate, Status, Verdict};
+pub(super) use holds::HeldLine;
+use holds::HoldId;
+pub(super) use own::Counts;
+use own::{Own, Snapshot};
 
 /// What a client sends.
 #[derive(Clone, Copy, Debug, PartialEq, Eq)]
 pub(super) enum Statement {
     Begin,
+    BeginRepeatable,
     Savepoint,
     /// To the savepoint of this depth, or an error.
     RollbackTo(usize),
@@ -37,6 +45,14 @@ pub(super) enum Statement {
     Take(usize, bool),
     /// A hold is released.
     Release(usize),
+    /// SELECT .. FOR UPDATE of a row.
+    Lock(Key),
+    /// An UPDATE of a row's other columns.
+    Write(Key),
+    Insert(Key),
+    Delete(Key),
+    /// An UPDATE that the proxy passes on, since there was no such row.
+    Change(Key, Change),
 }
 
 /// What a backend reads.
@@ -44,6 +60,12 @@ pub(super) enum Statement {
 pub(super) enum Message {
     Statement(Statement),
     Note(Note),
+    /// A note and a fold in one (rule 13).
+    Direct(Note),
+    /// A change without a reservation (rule 16).
+    Here(Note),
+    /// A fold of these keys, in front of a COMMIT (rule 13).
+    OwnFold([bool; KEYS]),
     Sync,
 }
 
@@ -54,13 +76,20 @@ pub(super) struct Note {
     pub(super) key: Key,
     pub(super) change: Change,
     pub(super) grant: Grant,
+    /// Whether the server has granted it.
+    pub(super) is_granted: bool,
 }
 
 /// What a backend answers.
 #[derive(Clone, Debug, PartialEq, Eq)]
 pub(super) enum Reply {
     Completed(&'static str),
-    Noted(u64),
+    /// The id, and whether the row has it already.
+    Noted(u64, bool),
+    /// Whether all is folded.
+    OwnFolded(bool),
+    /// Whether it is changed.
+    Changed(bool),
     Error,
     Ready(Status),
 }
@@ -70,10 +99,13 @@ pub(super) enum Reply {
 struct Level {
     id: Option<u64>,
     rows: Vec<Note>,
+    /// It has locked the journal without a row, for a change without a reservation.
+    locks_journal: bool,
     /// Rows of it and of those around it that it has moved into lines of a hold.
     moved: Vec<(Grant, HoldId)>,
     /// Lines that it has ended.
     ends: Vec<(Grant, Fate<Change>)>,
+    own: Own,
     /// Its subtransactions that were released.
     merged: Vec<u64>,
 }
@@ -81,10 +113,20 @@ struct Level {
 /// What a backend does when its next step comes.
 enum Work {
     Read,
-    /// The note is written, and not yet tested.
-    Test(Note),
+    /// The note is written, or the journal locked for it, and the epoch is not yet tested.
+    Test(Note, Then),
     /// The commit record is in the log. What comes then.
     Commit(usize, Vec<Reply>, After),
+}
+
+/// What a note does once its test is passed.
+#[derive(Clone, Copy, PartialEq, Eq)]
+enum Then {
+    Nothing,
+    /// It folds its row, as a direct note.
+    Fold,
+    /// It is written and folded, as a change without a reservation, if nobody holds the row.
+    Here,
 }
 
 #[derive(Clone, Copy, PartialEq, Eq)]
@@ -98,6 +140,7 @@ enum After {
 
 /// A connection's two directions, and its backend.
 struct Backend {
+    number: u32,
     inbox: VecDeque<Message>,
     outbox: VecDeque<Reply>,
     /// The proxy has closed it.
@@ -109,6 +152,11 @@ struct Backend {
     has_failed: bool,
     /// An error skips what comes before the Sync.
     skips: bool,
+    /// In REPEATABLE READ: what it sees, from its first statement on.
+    is_repeatable: bool,
+    snapshot: Option<Snapshot>,
+    /// It stands still for so many of its steps.
+    stalled: u32,
     work: Work,
 }
 
@@ -117,23 +165,27 @@ impl Backend {
         self.levels.iter().flat_map(|it| it.rows.iter().copied())
     }
 
-    fn moved(&self) -> impl Iterator<Item = Grant> + '_ {
-        self.levels.iter().flat_map(|it| &it.moved).map(|it| it.0)
+    fn moved(&self) -> BTreeMap<Grant, HoldId> {
+        let moved = self.levels.iter().flat_map(|it| &it.moved);
+        moved.copied().collect()
+    }
+
+    /// Returns the lines that it has ended, of which it may have moved some into a hold again.
+    fn ended(&self) -> BTreeSet<Grant> {
+        let ends = self.levels.iter().flat_map(|it| &it.ends);
+        ends.map(|it| it.0).collect()
+    }
+
+    /// Returns its own rows of the journal: what is neither folded nor moved into a hold.
+    fn pending(&self) -> Vec<Note> {
+        let (own, moved) = (self.own(), self.moved());
+        let is_left = |row: &Note| !own.has_taken(row.grant) && !moved.contains_key(&row.grant);
+        self.rows().filter(is_left).collect()
     }
 }
 
 /// A row of the journal.
 type Row = Note;
-
-type HoldId = u64;
-
-/// A line of a hold.
-#[derive(Clone, Copy, Debug)]
-pub(super) struct HeldLine {
-    pub(super) note: Note,
-    hold: HoldId,
-    pub(super) fate: Fate<Change>,
-}
 
 /// A commit record: what it moves, and whose it is.
 #[derive(Clone, Default)]
@@ -144,6 +196,10 @@ struct Record {
     held: Vec<(Note, HoldId)>,
     ends: Vec<(Grant, Fate<Change>)>,
     forgotten: Vec<Grant>,
+    /// What a transaction has written into rows by other ways than folds.
+    own: Own,
+    /// Marks that are made and removed (rule 14).
+    marked: Vec<(Key, Option<u64>)>,
     ids: Vec<u64>,
     is_visible: bool,
 }
@@ -151,10 +207,14 @@ struct Record {
 /// What is committed.
 #[derive(Clone)]
 struct Image {
-    rows: [i64; KEYS],
+    rows: [Option<i64>; KEYS],
+    /// How often each row was written.
+    versions: [u64; KEYS],
+    /// The epochs whose owners hold the rows.
+    marks: [Option<u64>; KEYS],
     journal: BTreeMap<Grant, Row>,
     /// What commits have added to each row, by folds or not.
-    truth: [i64; KEYS],
+    truth: [Option<i64>; KEYS],
     ids: BTreeSet<u64>,
     /// What of each grant is committed.
     grants: BTreeMap<Grant, Change>,
@@ -163,16 +223,14 @@ struct Image {
 
 impl Image {
     fn apply(&mut self, record: &Record) {
-        for &(key, change) in &record.rises {
-            self.rows[key] += change;
+        self.insert(&record.own);
+        for row in &record.added {
+            self.journal.insert(row.grant, *row);
+            self.truth[row.key] = self.truth[row.key].map(|it| it + row.change);
+            self.grants.insert(row.grant, row.change);
         }
         for grant in &record.removed {
             self.journal.remove(grant);
-        }
-        for row in &record.added {
-            self.journal.insert(row.grant, *row);
-            self.truth[row.key] += row.change;
-            self.grants.insert(row.grant, row.change);
         }
         for &(note, hold) in &record.held {
             let fate = Fate::Stands;
@@ -186,14 +244,29 @@ impl Image {
         for grant in &record.forgotten {
             self.lines.remove(grant);
         }
+        for &(key, change) in &record.rises {
+            self.rows[key] = self.rows[key].map(|it| it + change);
+            self.versions[key] += 1;
+        }
+        self.change(&record.own);
+        for &(key, mark) in &record.marked {
+            self.marks[key] = mark;
+        }
         self.ids.extend(&record.ids);
     }
+}
+
+/// Returns whether a value meets the CHECK.
+fn meets(value: i64) -> bool {
+    (LEAST..=GREATEST).contains(&value)
 }
 
 /// A fold or load that is in the log and not yet visible.
 pub(super) struct Folding {
     record: usize,
     life: u32,
+    locked: Vec<Key>,
+    /// The keys of which nothing is left in the journal.
     pub(super) keys: Vec<Key>,
 }
 
@@ -208,21 +281,37 @@ pub(super) struct Postgres {
     next_id: u64,
     next_backend: u32,
     numbers: u64,
-    locks: [bool; KEYS],
+    /// Who has locked each row: a backend, or a connection of a proxy's own.
+    locks: [Option<Locker>; KEYS],
     sync: bool,
     epoch: u64,
     /// Who holds OWNER, with the epoch whose lock it holds.
     owner: Option<(usize, u64)>,
     pub(super) life: u32,
+    /// A CHECK has refused what it may not (rule 22).
+    alarm: Option<String>,
+    /// How often each happened: own folds, direct notes that fold, changes without a reservation, rows that are deleted.
+    pub(super) own_counts: Counts,
+    /// Rows that are to be left, in sockets whose proxy reads no answer any more.
+    late: Vec<(Key, u64)>,
     without: Option<Without>,
+}
+
+/// Who holds a row's lock.
+#[derive(Clone, Copy, PartialEq, Eq)]
+enum Locker {
+    Backend(u32),
+    Proxy,
 }
 
 impl Postgres {
     pub(super) fn new(sync: bool, without: Option<Without>) -> Postgres {
         let image = Image {
-            rows: [START; KEYS],
+            rows: [Some(START); KEYS],
+            versions: [0; KEYS],
+            marks: [None; KEYS],
             journal: BTreeMap::new(),
-            truth: [START; KEYS],
+            truth: [Some(START); KEYS],
             ids: BTreeSet::new(),
             grants: BTreeMap::new(),
             lines: BTreeMap::new(),
@@ -236,36 +325,52 @@ impl Postgres {
             next_id: 1,
             next_backend: 1,
             numbers: 0,
-            locks: [false; KEYS],
+            locks: [None; KEYS],
             sync,
             epoch: 0,
             owner: None,
             life: 0,
+            alarm: None,
+            own_counts: Counts::default(),
+            late: Vec::new(),
             without,
         }
     }
 
     /// Tests that each committed change counts once, and that no CHECK is broken.
     pub(super) fn check(&self) -> Result<(), String> {
+        if let Some(alarm) = &self.alarm {
+            return Err(alarm.clone());
+        }
         for key in 0..KEYS {
             let (row, now) = (self.visible.rows[key], self.now(key));
             if now != self.visible.truth[key] {
                 return Err(format!(
-                    "key {}: {} in place of {}",
+                    "key {}: {:?} in place of {:?}",
                     key, now, self.visible.truth[key]
                 ));
             }
-            if !(LEAST..=GREATEST).contains(&now) || !(LEAST..=GREATEST).contains(&row) {
-                return Err(format!("key {}: {} and {} break the CHECK", key, row, now));
+            if !row.map_or(true, meets) || !now.map_or(true, meets) {
+                return Err(format!(
+                    "key {}: {:?} and {:?} break the CHECK",
+                    key, row, now
+                ));
+            }
+            if row.is_none() && self.visible.journal.values().any(|it| it.key == key) {
+                return Err(format!("key {}: the journal has more than the row", key));
+            }
+            if row.is_none() && self.is_held(key) {
+                return Err(format!("key {}: a hold stands of a row that is gone", key));
             }
         }
         Ok(())
     }
 
-    /// Returns D + J.
-    pub(super) fn now(&self, key: Key) -> i64 {
+    /// Returns D + J, if the row exists.
+    pub(super) fn now(&self, key: Key) -> Option<i64> {
         let rows = self.visible.journal.values().filter(|row| row.key == key);
-        self.visible.rows[key] + rows.map(|row| row.change).sum::<i64>()
+        let pending: i64 = rows.map(|row| row.change).sum();
+        self.visible.rows[key].map(|it| it + pending)
     }
 
     /// Returns a number that was never used, for an epoch or a grant.
@@ -284,50 +389,6 @@ impl Postgres {
         self.visible.grants.get(&grant).copied()
     }
 
-    /// Returns the lines of holds that stand.
-    pub(super) fn standing(&self) -> impl Iterator<Item = &HeldLine> {
-        let lines = self.visible.lines.values();
-        lines.filter(|line| line.fate == Fate::Stands)
-    }
-
-    /// Looks at lines of holds: forgets some, ends a hold whose time is over, and returns the others that have ended, and those
-    /// that are asked.
-    pub(super) fn look(
-        &mut self,
-        forgotten: Vec<Grant>,
-        asked: &[Grant],
-        ends_one: bool,
-    ) -> Vec<HeldLine> {
-        let over = match ends_one {
-            true => self.free_hold(0).unwrap_or_default(),
-            false => Vec::new(),
-        };
-        if !forgotten.is_empty() || !over.is_empty() {
-            self.log.push(Record {
-                forgotten,
-                ends: over.into_iter().map(|it| (it, Fate::Free)).collect(),
-                ..Record::default()
-            });
-            self.show(self.log.len() - 1);
-        }
-        let lines = self.visible.lines.values();
-        let is_told = |it: &&HeldLine| it.fate != Fate::Stands || asked.contains(&it.note.grant);
-        lines.filter(is_told).copied().collect()
-    }
-
-    /// Returns the lines of a hold that stands and that no transaction has locked.
-    fn free_hold(&self, pick: usize) -> Option<Vec<Grant>> {
-        let levels = self.backends.values().flat_map(|it| &it.levels);
-        let locked: BTreeSet<Grant> = levels.flat_map(|it| &it.ends).map(|it| it.0).collect();
-        let free = self
-            .standing()
-            .filter(|it| !locked.contains(&it.note.grant));
-        let holds: BTreeSet<HoldId> = free.map(|it| it.hold).collect();
-        let chosen = *holds.iter().nth(pick % holds.len().max(1))?;
-        let lines = self.standing().filter(|it| it.hold == chosen);
-        Some(lines.map(|it| it.note.grant).collect())
-    }
-
     /// Returns the grants of the present epoch whose COMMIT may be under way.
     pub(super) fn may_commit(&self) -> Vec<Grant> {
         let is_committing = |backend: &&Backend| matches!(backend.work, Work::Commit(..));
@@ -337,7 +398,7 @@ impl Postgres {
             .filter(is_committing)
             .flat_map(|it| &it.levels);
         let rows = levels.flat_map(|level| &level.rows);
-        rows.filter(|row| row.epoch == self.epoch)
+        rows.filter(|row| row.epoch == self.epoch && row.is_granted)
             .map(|row| row.grant)
             .collect()
     }
@@ -347,7 +408,9 @@ impl Postgres {
             |it: &Backend| it.inbox.is_empty() && it.outbox.is_empty() && it.levels.is_empty();
         // The owner has looked at what became of holds, and is done with it.
         let mut lines = self.visible.lines.values();
-        self.backends.values().all(is_resting) && lines.all(|it| it.fate == Fate::Stands)
+        self.backends.values().all(is_resting)
+            && self.late.is_empty()
+            && lines.all(|it| it.fate == Fate::Stands)
     }
 
     pub(super) fn journal_is_empty(&self) -> bool {
@@ -375,7 +438,8 @@ impl Postgres {
 
     /// Ends who holds the journal. Returns whether anybody still does.
     pub(super) fn end_holders(&mut self) -> bool {
-        let holds = |backend: &Backend| backend.levels.iter().any(|level| !level.rows.is_empty());
+        let locks = |level: &Level| level.locks_journal || !level.rows.is_empty();
+        let holds = |backend: &Backend| backend.levels.iter().any(locks);
         let numbers: Vec<u32> = self
             .backends
             .iter()
@@ -404,15 +468,25 @@ impl Postgres {
 
     // Folds and loads.
 
-    /// Folds what it can lock. Fails if a CHECK refuses it. The rest of it is [`Postgres::folded`].
-    pub(super) fn fold(&mut self, keys: &[Key], random: &mut StdRng) -> Result<Folding, String> {
-        let keys: Vec<Key> = keys
-            .iter()
-            .copied()
-            .filter(|&key| !self.locks[key])
-            .collect();
+    /// Folds what it can lock. Fails if a CHECK refuses it. The rest of it is [`Postgres::folded`]. A load marks its key for
+    /// the owner of an epoch.
+    pub(super) fn fold(
+        &mut self,
+        keys: &[Key],
+        mark: Option<u64>,
+        random: &mut StdRng,
+    ) -> Result<Folding, String> {
+        let may_be_locked =
+            |key: &Key| !self.is_locked(*key) || self.without == Some(Without::RowLocks);
+        let free = keys.iter().copied().filter(may_be_locked);
+        let locked: Vec<Key> = free.filter(|&key| self.has_row(key)).collect();
+        let is_folded = |key: &Key| {
+            let mut rows = self.visible.journal.values();
+            locked.contains(key) || !rows.any(|row| row.key == *key)
+        };
+        let keys = keys.iter().copied().filter(is_folded).collect();
         let mut record = Record::default();
-        for &key in &keys {
+        for &key in &locked {
             let rows = self.visible.journal.values().filter(|row| row.key == key);
             let taken: Vec<&Row> = if self.without == Some(Without::WholeFolds) {
                 rows.choose(random).into_iter().collect()
@@ -420,21 +494,27 @@ impl Postgres {
                 rows.collect()
             };
             let rise: i64 = taken.iter().map(|row| row.change).sum();
-            if !(LEAST..=GREATEST).contains(&(self.visible.rows[key] + rise)) {
+            if !self.visible.rows[key].map_or(true, |it| meets(it + rise)) {
                 return Err(format!("a fold of key {} by {} is refused", key, rise));
             }
-            record.rises.push((key, rise));
+            if mark.is_none() || self.without != Some(Without::LoadsThatWrite) || rise != 0 {
+                record.rises.push((key, rise));
+            }
             record.removed.extend(taken.iter().map(|row| row.grant));
+            if mark.is_some() && self.without != Some(Without::Marks) {
+                record.marked.push((key, mark));
+            }
         }
-        for &key in &keys {
-            self.locks[key] = true;
+        for &key in &locked {
+            self.locks[key] = Some(Locker::Proxy);
         }
-        if !keys.is_empty() {
+        if !locked.is_empty() {
             self.log.push(record);
         }
         Ok(Folding {
             record: self.log.len().saturating_sub(1),
             life: self.life,
+            locked,
             keys,
         })
     }
@@ -444,17 +524,17 @@ impl Postgres {
         if folding.life != self.life {
             return false;
         }
-        if !folding.keys.is_empty() {
+        if !folding.locked.is_empty() {
             self.show(folding.record);
         }
-        for &key in &folding.keys {
-            self.locks[key] = false;
+        for &key in &folding.locked {
+            self.locks[key] = None;
         }
         true
     }
 
     pub(super) fn is_locked(&self, key: Key) -> bool {
-        self.locks[key]
+        self.locks[key].is_some()
     }
 
     // Connections.
@@ -463,6 +543,7 @@ impl Postgres {
         let number = self.next_backend;
         self.next_backend += 1;
         let backend = Backend {
+            number,
             inbox: VecDeque::new(),
             outbox: VecDeque::new(),
             is_cut: false,
@@ -471,6 +552,9 @@ impl Postgres {
             in_block: false,
             has_failed: false,
             skips: false,
+            is_repeatable: false,
+            snapshot: None,
+            stalled: 0,
             work: Work::Read,
         };
         self.backends.insert(number, backend);
@@ -525,8 +609,16 @@ impl Postgres {
         }
     }
 
+    /// Lets any backend stand still.
+    pub(super) fn stall_one(&mut self, random: &mut StdRng) {
+        if let Some(backend) = self.backends.values_mut().choose(random) {
+            backend.stalled = random.gen_range(1..100);
+        }
+    }
+
     fn abort(&mut self, levels: Vec<Level>) {
         for level in levels {
+            self.unlock(&level.own);
             self.aborted.extend(level.id);
             self.aborted.extend(level.merged);
         }
@@ -565,7 +657,8 @@ impl Postgres {
             self.aborted
                 .extend(ids.filter(|id| !self.visible.ids.contains(id)));
         }
-        self.locks = [false; KEYS];
+        self.locks = [None; KEYS];
+        self.late.clear();
         self.owner = None;
         self.epoch = 0;
         self.life += 1;
@@ -582,6 +675,10 @@ impl Postgres {
     pub(super) fn step(&mut self, random: &mut StdRng) {
         let is_gone = |backend: &Backend| !backend.is_alive && backend.is_cut;
         self.backends.retain(|_, backend| !is_gone(backend));
+        if !self.late.is_empty() && random.gen_range(0..50) == 0 {
+            let (key, epoch) = self.late.remove(0);
+            self.leave(key, epoch);
+        }
         if self.log.len() > 50 && self.log.iter().all(|record| record.is_visible) {
             // A checkpoint: all of it is durable.
             self.base = self.visible.clone();
@@ -601,6 +698,11 @@ impl Postgres {
             Some(backend) => backend,
             None => return,
         };
+        if backend.stalled > 0 {
+            backend.stalled -= 1;
+            self.backends.insert(number, backend);
+            return;
+        }
         match std::mem::replace(&mut backend.work, Work::Read) {
             Work::Read => match backend.inbox.pop_front() {
                 Some(message) => self.read(&mut backend, message),
@@ -610,10 +712,13 @@ impl Postgres {
                 }
                 None => {}
             },
-            Work::Test(note) => self.test(&mut backend, note),
+            Work::Test(note, then) => self.test(&mut backend, note, then),
             Work::Commit(record, replies, after) => {
                 self.show(record);
-                backend.levels.clear();
+                for level in backend.levels.drain(..) {
+                    self.unlock(&level.own);
+                }
+                backend.snapshot = None;
                 backend.in_block = after == After::Chain;
                 if after == After::Chain {
                     backend.levels.push(Level::default());
@@ -644,18 +749,26 @@ impl Postgres {
                 backend.outbox.push_back(Reply::Ready(status));
             }
             _ if backend.skips => {}
-            Message::Note(note) if backend.has_failed => {
-                let _ = note;
+            Message::Note(_) | Message::Direct(_) | Message::Here(_) | Message::OwnFold(_)
+                if backend.has_failed =>
+            {
                 self.fail(backend);
             }
-            Message::Note(note) => {
-                if let Some(level) = self.writing(backend) {
-                    level.rows.push(note);
-                }
-                backend.work = Work::Test(note);
-            }
+            Message::Note(note) => self.write(backend, note, Then::Nothing),
+            Message::Direct(note) => self.write(backend, note, Then::Fold),
+            Message::Here(note) => self.here(backend, note),
+            Message::OwnFold(keys) => self.own_fold(backend, keys),
             Message::Statement(statement) => self.run(backend, statement),
         }
+    }
+
+    /// Writes a row of the journal. It is tested then (rule 7).
+    fn write(&mut self, backend: &mut Backend, note: Note, then: Then) {
+        self.see(backend);
+        if let Some(level) = self.writing(backend) {
+            level.rows.push(note);
+        }
+        backend.work = Work::Test(note, then);
     }
 
     /// Returns the innermost level, which has an id like those around it.
@@ -672,65 +785,18 @@ impl Postgres {
         backend.levels.last_mut()
     }
 
-    /// Moves the transaction's own rows of the journal into a hold. What was taken in part cannot be held again.
-    fn hold(&mut self, backend: &mut Backend) {
-        let moved: BTreeSet<Grant> = backend.moved().collect();
-        let rows: Vec<Note> = backend.rows().collect();
-        let is_left = |it: &&Note| !moved.contains(&it.grant);
-        let own: Vec<Note> = rows.iter().filter(is_left).copied().collect();
-        let is_part = own.iter().any(|row| {
-            let line = self.visible.lines.get(&row.grant);
-            line.map_or(false, |line| line.note.change != row.change)
-        });
-        if own.is_empty() || is_part {
-            self.fail(backend);
-            return;
-        }
-        let hold = self.number();
-        if let Some(level) = self.writing(backend) {
-            level.moved.extend(own.iter().map(|it| (it.grant, hold)));
-        }
-        backend.outbox.push_back(Reply::Completed("SELECT 1"));
-    }
-
-    /// Ends a hold. What is taken of it are rows of the journal.
-    fn end_hold(&mut self, backend: &mut Backend, pick: usize, takes: Option<bool>) {
-        // The backend itself is not among the others now.
-        let own: BTreeSet<Grant> = backend
-            .levels
-            .iter()
-            .flat_map(|it| &it.ends)
-            .map(|it| it.0)
-            .collect();
-        let lines = match self.free_hold(pick) {
-            Some(lines) if lines.iter().all(|it| !own.contains(it)) => lines,
-            _ => return self.fail(backend),
-        };
-        let notes: Vec<Note> = lines.iter().map(|it| self.visible.lines[it].note).collect();
-        if let Some(level) = self.writing(backend) {
-            for mut note in notes {
-                match takes {
-                    Some(in_part) => {
-                        if in_part && note.change.abs() > 1 {
-                            note.change = note.change.signum();
-                        }
-                        level.rows.push(note);
-                        level.ends.push((note.grant, Fate::Taken(note.change)));
-                    }
-                    None => level.ends.push((note.grant, Fate::Free)),
-                }
-            }
-        }
-        backend.outbox.push_back(Reply::Completed("SELECT 1"));
-    }
-
     /// Rules 7, 8 and 10.
-    fn test(&mut self, backend: &mut Backend, note: Note) {
+    fn test(&mut self, backend: &mut Backend, note: Note, then: Then) {
         let is_live = self.owner.map_or(false, |(_, epoch)| epoch == note.epoch);
-        let passes = self.without == Some(Without::Epoch) || self.epoch == note.epoch && is_live;
+        let is_tested = match self.without {
+            Some(Without::Epoch) => false,
+            Some(Without::HereTested) => then != Then::Here,
+            _ => true,
+        };
+        let passes = !is_tested || self.epoch == note.epoch && is_live;
         let id = backend.levels.last().and_then(|level| level.id);
         match id {
-            Some(id) if passes => backend.outbox.push_back(Reply::Noted(id)),
+            Some(id) if passes => self.fold_noted(backend, note, id, then),
             _ => self.fail(backend),
         }
     }
@@ -756,20 +822,20 @@ impl Postgres {
             .iter()
             .flat_map(|level| level.id.into_iter().chain(level.merged.iter().copied()))
             .collect();
-        let moved: BTreeMap<Grant, HoldId> = backend
-            .levels
-            .iter()
-            .flat_map(|level| level.moved.iter().copied())
-            .collect();
+        let moved = backend.moved();
         let held = backend
             .rows()
             .filter_map(|row| Some((row, *moved.get(&row.grant)?)));
         let is_left = |grant: &Grant| !moved.contains_key(grant);
         let ends = backend.levels.iter().flat_map(|level| level.ends.iter());
+        let own = Own::of(backend.levels.iter().map(|level| &level.own));
         self.log.push(Record {
             added: backend.rows().filter(|row| is_left(&row.grant)).collect(),
             held: held.collect(),
             ends: ends.filter(|end| is_left(&end.0)).copied().collect(),
+            rises: own.rises.clone(),
+            removed: own.taken.clone(),
+            own,
             ids,
             ..Record::default()
         });
@@ -788,8 +854,14 @@ impl Postgres {
             return;
         }
         let depth = backend.levels.len();
+        if !matches!(statement, Begin | BeginRepeatable) {
+            self.see(backend);
+        }
         match statement {
-            Begin => {
+            Begin | BeginRepeatable => {
+                if !backend.in_block {
+                    backend.is_repeatable = statement == BeginRepeatable;
+                }
                 backend.in_block = true;
                 if backend.levels.is_empty() {
                     backend.levels.push(Level::default());
@@ -815,8 +887,10 @@ impl Postgres {
                     for it in released {
                         level.merged.extend(it.id.into_iter().chain(it.merged));
                         level.rows.extend(it.rows);
+                        level.locks_journal |= it.locks_journal;
                         level.moved.extend(it.moved);
                         level.ends.extend(it.ends);
+                        level.own.add(&it.own);
                     }
                 }
                 backend.outbox.push_back(Reply::Completed("RELEASE"));
@@ -825,6 +899,9 @@ impl Postgres {
             Hold => self.hold(backend),
             Take(pick, in_part) => self.end_hold(backend, pick, Some(in_part)),
             Release(pick) => self.end_hold(backend, pick, None),
+            Lock(_) | Write(_) | Insert(_) | Delete(_) | Change(..) => {
+                self.write_row(backend, statement)
+            }
             Commit | CommitAndChain | Rollback | RollbackAndChain => {
                 self.end_block(backend, statement)
             }
@@ -854,6 +931,7 @@ impl Postgres {
             self.commit(backend, vec![Reply::Completed("COMMIT")], after);
         } else {
             self.abort(std::mem::take(&mut backend.levels));
+            backend.snapshot = None;
             backend.in_block = chains;
             if chains {
                 backend.levels.push(Level::default());

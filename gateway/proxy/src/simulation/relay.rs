@@ -19,6 +19,8 @@ use crate::protocol::{
 enum Step {
     Statement(Statement),
     Hot(Key, Change),
+    /// A DELETE, for which the proxy has the row left.
+    Delete(Key),
     Sync,
 }
 
@@ -28,8 +30,10 @@ enum Waits {
     Nothing,
     /// Replies to what was sent: what the client waits for may be behind them.
     Replies,
-    /// The answer to its UPDATE.
+    /// The answer to its UPDATE or its DELETE.
     Answer,
+    /// That of a change without a reservation.
+    Here,
     /// The note's answer.
     Note,
     /// Behind its Sync.
@@ -44,6 +48,8 @@ struct Client {
     expected: u32,
     /// The present UPDATE is a transaction by itself.
     alone: bool,
+    /// What it asks for: the statement that passes if there is no such row, or none is held.
+    asked: Statement,
     /// What the server was asked for last.
     grant: Grant,
     /// The transaction status of the last ReadyForQuery.
@@ -52,14 +58,29 @@ struct Client {
     skips: bool,
 }
 
+impl Client {
+    /// Sends the Sync of an UPDATE by itself.
+    fn end_alone(&mut self, postgres: &mut Postgres, without: Option<Without>) {
+        if !self.alone {
+            return;
+        }
+        if self.expected == 0 || without != Some(Without::AnsweredNotes) {
+            postgres.send(self.backend, Message::Sync);
+            self.expected += 1;
+        }
+        self.waits = Waits::Ready;
+        self.skips = false;
+    }
+}
+
 /// What is under way outside of the state machine.
 enum Job {
     Verdicts(Connection, Vec<Verdict>),
-    Load(Key, Option<Folding>),
+    Load(Key, Option<Folding>, bool),
     /// With the lines that the snapshot of the value shows. None: another snapshot shows them.
     Loaded(Key, i64, Option<Vec<(Line, Change)>>),
     Looked(Vec<News<Key, Change>>),
-    Left(Key),
+    Leave(Key, u64),
     Fold(Folding),
     Granted(Connection, bool),
     Holders(bool),
@@ -130,8 +151,11 @@ impl Relay {
     fn let_folds_end(&mut self, postgres: &mut Postgres) {
         for job in self.jobs.iter_mut().flat_map(|jobs| jobs.drain(..)) {
             match job {
-                Job::Fold(folding) | Job::Load(_, Some(folding)) => {
+                Job::Fold(folding) | Job::Load(_, Some(folding), _) => {
                     postgres.folded(&folding);
+                }
+                Job::Leave(key, epoch) if self.life == postgres.life => {
+                    postgres.leave_late(key, epoch);
                 }
                 _ => {}
             }
@@ -212,6 +236,12 @@ impl Relay {
             0 if !self.is_finishing && random.gen_range(0..5) == 0 => {
                 let (connection, key) = (None, random.gen_range(0..KEYS));
                 self.give(Event::Leave { connection, key }, postgres, random, seen)
+            }
+            0 if self.protocol.ownership() == Ownership::Serving && random.gen_range(0..5) == 0 => {
+                if self.is_connected(postgres) {
+                    postgres.sweep(random.gen_range(0..KEYS), self.epoch);
+                }
+                Ok(())
             }
             0 => self.give(Event::Tick, postgres, random, seen),
             1..=5 => self.job(postgres, random, seen),
@@ -313,21 +343,24 @@ impl Relay {
                 self.server = Server::default();
             }
             Action::Load(key) => {
-                let folding = if self.is_connected(postgres) && !postgres.is_locked(key) {
-                    Some(postgres.fold(&[key], random)?)
-                } else {
-                    None
+                let is_missing = self.is_connected(postgres) && !postgres.has_row(key);
+                let is_present =
+                    postgres.is_present(self.epoch) || self.without == Some(Without::LoadsTested);
+                let may = self.is_connected(postgres) && is_present && !postgres.is_locked(key);
+                let folding = match may && !is_missing {
+                    true => Some(postgres.fold(&[key], Some(self.epoch), random)?),
+                    false => None,
                 };
-                self.jobs[LOADER].push_back(Job::Load(key, folding));
+                self.jobs[LOADER].push_back(Job::Load(key, folding, is_missing));
             }
             Action::Leave(key) => {
                 self.server.leave(key)?;
-                self.jobs[LOADER].push_back(Job::Left(key));
+                self.jobs[LOADER].push_back(Job::Leave(key, self.epoch));
             }
             Action::Fold(keys) => {
                 if self.is_connected(postgres) {
                     seen.folds += 1;
-                    let folding = postgres.fold(&keys, random)?;
+                    let folding = postgres.fold(&keys, None, random)?;
                     self.jobs[FOLDER].push_back(Job::Fold(folding));
                 }
             }
@@ -348,9 +381,15 @@ impl Relay {
                         key,
                         change,
                         grant: client.grant,
+                        is_granted: true,
                     };
                     client.waits = Waits::Note;
-                    postgres.send(client.backend, Message::Note(note));
+                    let folds = client.alone && self.protocol.may_fold(connection, &key);
+                    let message = match folds && random.gen() {
+                        true => Message::Direct(note),
+                        false => Message::Note(note),
+                    };
+                    postgres.send(client.backend, message);
                     if self.without == Some(Without::AnsweredNotes) && client.alone {
                         postgres.send(client.backend, Message::Sync);
                         client.expected += 1;
@@ -388,8 +427,27 @@ impl Relay {
         };
         client.waits = Waits::Nothing;
         match answer {
-            Answer::Reserved | Answer::Missing => {}
+            Answer::Reserved => {}
+            Answer::Missing => {
+                postgres.send(client.backend, Message::Statement(client.asked));
+                client.expected += 1;
+            }
             Answer::Failed => client.skips = true,
+            // It may be the client itself that has locked the row.
+            Answer::Locked if self.epoch != 0 => {
+                if let Statement::Change(key, change) = client.asked {
+                    client.waits = Waits::Here;
+                    let note = Note {
+                        epoch: self.epoch,
+                        key,
+                        change,
+                        grant: postgres.number(),
+                        is_granted: false,
+                    };
+                    postgres.send(client.backend, Message::Here(note));
+                    return Ok(());
+                }
+            }
             // It is raised inside PostgreSQL, so that the block has failed.
             Answer::Refused
             | Answer::Locked
@@ -402,14 +460,7 @@ impl Relay {
                 client.skips = true;
             }
         }
-        if client.alone {
-            if client.expected == 0 || without != Some(Without::AnsweredNotes) {
-                postgres.send(client.backend, Message::Sync);
-                client.expected += 1;
-            }
-            client.waits = Waits::Ready;
-            client.skips = false;
-        }
+        client.end_alone(postgres, without);
         if without == Some(Without::PostgresFirst) && answer == Answer::Reserved && client.alone {
             self.server.tell(connection, Told::Commit)?;
         }
@@ -461,10 +512,11 @@ impl Relay {
             Job::Granted(connection, true) => Event::Granted { connection },
             Job::Granted(connection, false) => Event::Refused { connection },
             Job::WaitOver(connection) => Event::WaitOver { connection },
-            Job::Load(key, Some(folding)) if postgres.folded(&folding) => {
+            Job::Load(key, Some(folding), _) if postgres.folded(&folding) => {
                 // One snapshot shows what is pending since the fold's, and which lines stand.
                 let is_one = self.without != Some(Without::OneSnapshot);
-                let (value, lines) = (postgres.now(key), is_one.then(|| standing(postgres, key)));
+                let value = postgres.now(key).ok_or("a row is loaded and gone")?;
+                let lines = is_one.then(|| standing(postgres, key));
                 self.jobs[LOADER].push_front(Job::Loaded(key, value, lines));
                 return Ok(());
             }
@@ -474,11 +526,13 @@ impl Relay {
                 Event::Loaded { key, lines }
             }
             Job::Looked(news) => Event::Looked { news },
-            Job::Left(key) => Event::Left { key },
-            Job::Load(key, _) => Event::NotLoaded {
-                key,
-                missing: false,
-            },
+            Job::Leave(key, epoch) => {
+                if self.is_connected(postgres) {
+                    postgres.leave(key, epoch);
+                }
+                Event::Left { key }
+            }
+            Job::Load(key, _, missing) => Event::NotLoaded { key, missing },
             Job::Fold(folding) if postgres.folded(&folding) => Event::Folded { keys: folding.keys },
             Job::Fold(_) => Event::FoldFailed,
         };
@@ -501,6 +555,7 @@ impl Relay {
                 waits: Waits::Nothing,
                 expected: 0,
                 alone: false,
+                asked: Statement::Select,
                 grant: 0,
                 status: Status::Idle,
                 skips: false,
@@ -537,7 +592,7 @@ impl Relay {
                 }
                 Ok(())
             }
-            Waits::Replies | Waits::Answer | Waits::Note | Waits::Ready => Ok(()),
+            Waits::Replies | Waits::Answer | Waits::Here | Waits::Note | Waits::Ready => Ok(()),
         }
     }
 
@@ -554,14 +609,44 @@ impl Relay {
             None => return Ok(()),
         };
         let event = match reply {
-            Reply::Noted(id) => Event::Noted {
-                connection,
-                id: Id(id),
-                line: Line {
-                    epoch: self.epoch as i64,
-                    number: client.grant as i64,
-                },
-            },
+            Reply::Noted(id, has_folded) => {
+                let noted = Event::Noted {
+                    connection,
+                    id: Id(id),
+                    line: Line {
+                        epoch: self.epoch as i64,
+                        number: client.grant as i64,
+                    },
+                };
+                self.give(noted, postgres, random, seen)?;
+                if !has_folded {
+                    return Ok(());
+                }
+                Event::OwnFolded { connection }
+            }
+            Reply::OwnFolded(are_all) => {
+                client.expected -= 1;
+                if !are_all {
+                    return Ok(());
+                }
+                Event::OwnFolded { connection }
+            }
+            Reply::Changed(is_so) => {
+                client.waits = Waits::Nothing;
+                if !is_so {
+                    postgres.send(client.backend, Message::Statement(Statement::Fail));
+                    client.expected += 1;
+                    client.skips = true;
+                }
+                client.end_alone(postgres, self.without);
+                return Ok(());
+            }
+            Reply::Error if client.waits == Waits::Here => {
+                client.waits = Waits::Nothing;
+                client.skips = true;
+                client.end_alone(postgres, self.without);
+                Event::Failed { connection }
+            }
             Reply::Error if client.waits == Waits::Note => {
                 seen.stale_notes += 1;
                 Event::NoteFailed { connection }
@@ -619,6 +704,18 @@ impl Relay {
                 client.skips = false;
             }
             Some(_) if client.skips => {}
+            Some(Step::Statement(Statement::Commit)) if client.expected == 0 => {
+                let keys = self.protocol.own_folds(connection);
+                let is_last = matches!(client.script.get(1), Some(Step::Sync));
+                if is_last && client.status == Status::InBlock && !keys.is_empty() && random.gen() {
+                    let mut asked = [false; KEYS];
+                    keys.iter().for_each(|&key| asked[key] = true);
+                    postgres.send(client.backend, Message::OwnFold(asked));
+                    client.expected += 1;
+                }
+                postgres.send(client.backend, Message::Statement(Statement::Commit));
+                client.expected += 1;
+            }
             Some(Step::Statement(statement)) => {
                 postgres.send(client.backend, Message::Statement(statement));
                 client.expected += 1;
@@ -635,13 +732,22 @@ impl Relay {
                 }
             }
             // What was sent before it is answered first.
-            Some(Step::Hot(..)) if client.expected > 0 => {
+            Some(Step::Hot(..)) | Some(Step::Delete(_)) if client.expected > 0 => {
                 client.waits = Waits::Replies;
                 return Ok(());
+            }
+            Some(Step::Delete(key)) => {
+                client.script.pop_front();
+                client.waits = Waits::Answer;
+                client.alone = false;
+                client.asked = Statement::Delete(key);
+                let connection = Some(connection);
+                return self.give(Event::Leave { connection, key }, postgres, random, seen);
             }
             Some(Step::Hot(key, change)) => {
                 client.script.pop_front();
                 client.waits = Waits::Answer;
+                client.asked = Statement::Change(key, change);
                 // By itself, if nothing else is in its cycle.
                 client.alone = client.status == Status::Idle && client.script.is_empty();
                 let alone = client.alone;
@@ -696,6 +802,40 @@ fn with_hold(random: &mut StdRng, hot: impl Fn(&mut StdRng) -> Step, steps: &mut
     steps.push_back(Step::Statement(Statement::Commit));
 }
 
+/// A block that locks, writes, inserts or deletes a row, and changes it.
+fn with_row(random: &mut StdRng, steps: &mut VecDeque<Step>) {
+    use Statement::*;
+    let key = random.gen_range(0..KEYS);
+    let begin = *[Begin, Begin, BeginRepeatable]
+        .choose(random)
+        .unwrap_or(&Begin);
+    steps.push_back(Step::Statement(begin));
+    if random.gen() {
+        steps.push_back(Step::Statement(Select));
+    }
+    let all = [
+        Step::Statement(Lock(key)),
+        Step::Statement(Write(key)),
+        Step::Statement(Insert(key)),
+        Step::Statement(Insert(key)),
+        Step::Statement(Insert(key)),
+        Step::Delete(key),
+        Step::Statement(Delete(key)),
+    ];
+    steps.extend(all.choose(random).copied());
+    for _ in 0..random.gen_range(0..3) {
+        let change = *[-2, -1, 1, 2].choose(random).unwrap_or(&1);
+        // The proxy does not understand each.
+        steps.push_back(match random.gen_range(0..4) {
+            0 => Step::Statement(Change(key, change)),
+            _ => Step::Hot(key, change),
+        });
+    }
+    if random.gen_range(0..4) > 0 {
+        steps.push_back(Step::Statement(Commit));
+    }
+}
+
 /// What a client does in one cycle, up to its Sync. An UPDATE by itself has none: the proxy sends it.
 fn cycle(status: Status, random: &mut StdRng) -> VecDeque<Step> {
     use Statement::*;
@@ -732,9 +872,10 @@ fn cycle(status: Status, random: &mut StdRng) -> VecDeque<Step> {
         *all.choose(random).unwrap_or(&Select)
     };
     let mut steps = VecDeque::new();
-    let kinds = if status == Status::Idle { 16 } else { 10 };
+    let kinds = if status == Status::Idle { 20 } else { 10 };
     match (status, random.gen_range(0..kinds)) {
         (Status::Idle, 10..=15) => with_hold(random, hot, &mut steps),
+        (Status::Idle, 16..=19) => with_row(random, &mut steps),
         (Status::Idle, 0..=2) => return VecDeque::from(vec![hot(random)]),
         (Status::Idle, 3..=4) => {
             // A pipeline without a block, with foreign parts.

@@ -147,9 +147,9 @@ impl Server {
             let open = self.open().filter(|it| it.0 == key);
             let committed = open.filter_map(|it| postgres.committed(it.2));
             let expected = value + committed.sum::<i64>();
-            if postgres.now(key) != expected {
+            if postgres.now(key) != Some(expected) {
                 return Err(format!(
-                    "key {}: PostgreSQL has {}, the server {}",
+                    "key {}: PostgreSQL has {:?}, the server {}",
                     key,
                     postgres.now(key),
                     expected
