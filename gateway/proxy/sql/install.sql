@@ -1,4 +1,4 @@
--- Installs schema escrow, version 1, or brings an older version to it. A superuser runs it, in one transaction, since it
+-- Installs schema escrow, version 2, or brings an older version to it. A superuser runs it, in one transaction, since it
 -- creates event triggers. Rules are those of PROTOCOL.md.
 
 DO $do$
@@ -7,11 +7,11 @@ BEGIN
 		RAISE EXCEPTION 'escrowd-proxy needs PostgreSQL 15 or later' USING ERRCODE = 'feature_not_supported';
 	END IF;
 	IF to_regprocedure('escrow.version()') IS NOT NULL THEN
-		IF escrow.version() > 1 THEN
-			RAISE EXCEPTION 'schema escrow has version %, which is newer than 1', escrow.version()
+		IF escrow.version() > 2 THEN
+			RAISE EXCEPTION 'schema escrow has version %, which is newer than 2', escrow.version()
 				USING ERRCODE = 'object_not_in_prerequisite_state';
 		END IF;
-		IF escrow.version() < 1 AND escrow.is_live((SELECT nullif(last_value, 0) FROM escrow.epoch)) THEN
+		IF escrow.version() < 2 AND escrow.is_live((SELECT nullif(last_value, 0) FROM escrow.epoch)) THEN
 			RAISE EXCEPTION 'an escrowd-proxy is running' USING ERRCODE = 'object_in_use', HINT = 'Stop it first.';
 		END IF;
 	END IF;
@@ -31,7 +31,7 @@ CREATE SCHEMA IF NOT EXISTS escrow;
 GRANT USAGE ON SCHEMA escrow TO PUBLIC;
 GRANT CREATE ON SCHEMA escrow TO escrow_journal;
 
-CREATE OR REPLACE FUNCTION escrow.version() RETURNS integer LANGUAGE sql IMMUTABLE AS 'SELECT 1';
+CREATE OR REPLACE FUNCTION escrow.version() RETURNS integer LANGUAGE sql IMMUTABLE AS 'SELECT 2';
 
 -- Rule 8. Unlogged, so that it is 0 after a crash, a promotion and a restore.
 CREATE UNLOGGED SEQUENCE IF NOT EXISTS escrow.epoch MINVALUE 0 START 0;
@@ -166,19 +166,27 @@ EXCEPTION WHEN invalid_parameter_value THEN
 END
 $$;
 
--- Rule 18. Greets a connection before its client's first message. Greetings come one after another.
-CREATE OR REPLACE FUNCTION escrow.greet(epoch bigint, number bigint, proof bytea) RETURNS void
+-- Rule 18. Greets a connection before its client's first message. Greetings come one after another. If the last one had this
+-- number or a higher one, this is no greeting, and the last number is returned: a greeting of the former owner may have come
+-- while the epoch was set.
+DROP FUNCTION IF EXISTS escrow.greet(bigint, bigint, bytea);
+CREATE FUNCTION escrow.greet(epoch bigint, number bigint, proof bytea) RETURNS bigint
 LANGUAGE plpgsql SECURITY DEFINER SET search_path = pg_catalog, pg_temp AS $$
+DECLARE
+	last bigint;
 BEGIN
-	IF proof IS NOT DISTINCT FROM escrow.mac('greet', epoch::text, pg_backend_pid()::text, number::text)
-		AND epoch IS DISTINCT FROM (SELECT last_value FROM escrow.epoch) THEN
-		PERFORM escrow.refuse_stale();
-	ELSIF proof IS DISTINCT FROM escrow.mac('greet', epoch::text, pg_backend_pid()::text, number::text)
-		OR number <= (SELECT last_value FROM escrow.greeted) THEN
+	IF proof IS DISTINCT FROM escrow.mac('greet', epoch::text, pg_backend_pid()::text, number::text) THEN
 		RAISE EXCEPTION 'escrow.greet is for escrowd-proxy' USING ERRCODE = 'insufficient_privilege';
+	ELSIF epoch IS DISTINCT FROM (SELECT last_value FROM escrow.epoch) THEN
+		PERFORM escrow.refuse_stale();
+	END IF;
+	last := (SELECT last_value FROM escrow.greeted);
+	IF number <= last THEN
+		RETURN last;
 	END IF;
 	PERFORM setval('escrow.greeted', number);
 	PERFORM setval('escrow.heard', number);
+	RETURN NULL;
 END
 $$;
 ALTER FUNCTION escrow.greet OWNER TO escrow_journal;
@@ -890,7 +898,8 @@ BEGIN
 				RAISE EXCEPTION 'a fold needs READ COMMITTED' USING ERRCODE = 'invalid_transaction_state';
 			END IF;
 			FOREACH which IN ARRAY keys LOOP
-				IF escrow.row_%1$s(which::%2$s, true) IS NOT NULL THEN
+				-- Nothing is left of a row that somebody else has folded, or that is deleted since.
+				IF escrow.row_%1$s(which::%2$s, true) IS NOT NULL OR NOT EXISTS (SELECT FROM escrow.journal_%1$s AS j WHERE j.key = which::%2$s) THEN
 					RETURN NEXT which;
 				END IF;
 			END LOOP;
@@ -929,6 +938,10 @@ BEGIN
 				RETURN false;
 			END IF;
 			INSERT INTO escrow.journal_%1$s (epoch, tag, number, key, %5$s) VALUES (here_%1$s.epoch, here_%1$s.number, here_%1$s.number, which, %3$s);
+			-- As a note (rule 7). The row may have a mark of this epoch that no longer counts, and reservations that may still commit.
+			IF (here_%1$s.epoch = (SELECT last_value FROM escrow.epoch) AND escrow.is_live(here_%1$s.epoch)) IS NOT TRUE THEN
+				PERFORM escrow.refuse_stale();
+			END IF;
 			PERFORM escrow.row_%1$s(which, true);
 			RETURN true;
 		END
@@ -983,15 +996,16 @@ BEGIN
 		END
 		$body$
 	$f$, n, it.key_type);
-	-- The key is no longer held. The caller knows that nothing of it is open.
+	-- The key is no longer held by the owner of an epoch, who knows that nothing of it is open. The mark of a later owner stays.
+	EXECUTE format('DROP FUNCTION IF EXISTS escrow.leave_%s(text)', n);
 	EXECUTE format($f$
-		CREATE OR REPLACE FUNCTION escrow.leave_%1$s(which text) RETURNS boolean
+		CREATE OR REPLACE FUNCTION escrow.leave_%1$s(epoch bigint, which text) RETURNS boolean
 		LANGUAGE plpgsql SECURITY DEFINER SET search_path = pg_catalog, pg_temp AS $body$
 		BEGIN
 			IF escrow.row_%1$s(which::%2$s, true) IS NULL THEN
 				RETURN false;
 			END IF;
-			DELETE FROM escrow.held_%1$s WHERE key = which::%2$s;
+			DELETE FROM escrow.held_%1$s AS h WHERE h.key = which::%2$s AND h.epoch = leave_%1$s.epoch;
 			RETURN true;
 		END
 		$body$

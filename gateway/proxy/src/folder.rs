@@ -407,8 +407,8 @@ pub async fn load(
         let task = tasks.lock().await.recv().await;
         let (generation, key) = match task {
             Some(LoaderTask::Load(generation, key)) => (generation, key),
-            Some(LoaderTask::Leave(generation, key, why)) => {
-                leave(&mut own, &key).await;
+            Some(LoaderTask::Leave(generation, epoch, key, why)) => {
+                leave(&mut own, epoch, &key).await;
                 let missing = false;
                 let event = match why {
                     Left::Held => Event::Left { key },
@@ -446,10 +446,10 @@ pub async fn load(
     }
 }
 
-/// Removes the mark of a row that the server cannot have.
-async fn leave(own: &mut Own, key: &Key) {
-    let text = format!("SELECT escrow.leave_{}($1)", key.table);
-    match own.query(&text, &[&&*key.text]).await {
+/// Removes the mark that the owner of an epoch has made of a row that its server does not have.
+async fn leave(own: &mut Own, epoch: i64, key: &Key) {
+    let text = format!("SELECT escrow.leave_{}($1, $2)", key.table);
+    match own.query(&text, &[&epoch, &&*key.text]).await {
         Ok(_) => {}
         Err(Failure::Lost(why)) => tracing::debug!("a row is not left: {}", why),
         Err(Failure::Refused(error)) => tracing::debug!("a row is not left: {}", error),

@@ -89,8 +89,8 @@ pub enum FolderTask {
 pub enum LoaderTask {
     /// Load a row.
     Load(Generation, Key),
-    /// Remove the mark of a row that the server does not have, and say so.
-    Leave(Generation, Key, Left),
+    /// Remove the mark that the owner of this epoch has made of a row that its server does not have, and say so.
+    Leave(Generation, i64, Key, Left),
 }
 
 /// Why a row's mark is removed.
@@ -335,6 +335,12 @@ impl Hub {
         state.number
     }
 
+    /// Goes on with numbers above one that PostgreSQL has had in this epoch.
+    pub fn pass_number(&self, last: i64) {
+        let mut state = lock(&self.state);
+        state.number = state.number.max(last);
+    }
+
     /// Begins an epoch, which PostgreSQL has. Numbers go on: who still asks for one in the former epoch gets none that
     /// PostgreSQL has had before (rule 18).
     pub fn begin_epoch(&self, epoch: i64) {
@@ -458,7 +464,7 @@ impl Hub {
     fn not_loaded(&self, state: &State, key: Key, why: &str) {
         let Key { table, text } = &key;
         tracing::warn!("a row cannot be held (table {table}, key {text}): {why}");
-        let task = LoaderTask::Leave(state.generation, key, Left::Refused);
+        let task = LoaderTask::Leave(state.generation, state.epoch, key, Left::Refused);
         let _ = self.workers.loader.send(task);
     }
 
@@ -533,7 +539,7 @@ impl Hub {
             }
             Action::Leave(key) => {
                 state.server.delete(&key);
-                let task = LoaderTask::Leave(state.generation, key, Left::Held);
+                let task = LoaderTask::Leave(state.generation, state.epoch, key, Left::Held);
                 let _ = self.workers.loader.send(task);
             }
             Action::Fold(keys) => {

@@ -70,23 +70,23 @@ def scripts_are_printed(cluster: Cluster) -> None:
 @PART.case
 def a_version_is_installed_kept_and_brought_up(cluster: Cluster) -> None:
     expect(apply(cluster, "uninstall"), 0, "schema escrow is not installed\n")
-    assert apply(cluster, "install") == (0, "schema escrow is installed, version 1\n")
+    assert apply(cluster, "install") == (0, "schema escrow is installed, version 2\n")
     cluster.run("CREATE TABLE stock (id int PRIMARY KEY, pieces int NOT NULL CHECK (pieces >= 0))", "INSERT INTO stock VALUES (1, 10)",
                 "SELECT escrow.reservable('stock', 'pieces')")
     secret = one(cluster, "SELECT key FROM escrow.secret")
     before = one(cluster, OBJECTS)
-    expect(apply(cluster, "install"), 0, "schema escrow had version 1, its functions are made anew\n")
+    expect(apply(cluster, "install"), 0, "schema escrow had version 2, its functions are made anew\n")
     cluster.run("CREATE OR REPLACE FUNCTION escrow.version() RETURNS integer LANGUAGE sql IMMUTABLE AS 'SELECT 0'")
-    expect(apply(cluster, "install"), 0, "schema escrow is brought from version 0 to version 1\n")
+    expect(apply(cluster, "install"), 0, "schema escrow is brought from version 0 to version 2\n")
     assert (one(cluster, "SELECT key FROM escrow.secret"), one(cluster, OBJECTS)) == (secret, before)
-    cluster.run("CREATE OR REPLACE FUNCTION escrow.version() RETURNS integer LANGUAGE sql IMMUTABLE AS 'SELECT 2'")
-    expect(apply(cluster, "install"), 1, "schema escrow has version 2, which is newer than 1")
+    cluster.run("CREATE OR REPLACE FUNCTION escrow.version() RETURNS integer LANGUAGE sql IMMUTABLE AS 'SELECT 3'")
+    expect(apply(cluster, "install"), 1, "schema escrow has version 3, which is newer than 2")
     assert one(cluster, OBJECTS) == before
 
 
 @PART.case
 def what_fails_changes_nothing(cluster: Cluster) -> None:
-    cluster.run("CREATE OR REPLACE FUNCTION escrow.version() RETURNS integer LANGUAGE sql IMMUTABLE AS 'SELECT 1'", "CREATE ROLE buyer LOGIN")
+    cluster.run("CREATE OR REPLACE FUNCTION escrow.version() RETURNS integer LANGUAGE sql IMMUTABLE AS 'SELECT 2'", "CREATE ROLE buyer LOGIN")
     before = one(cluster, OBJECTS)
     for act in ("install", "uninstall"):
         status, said = apply(cluster, act, "buyer")
@@ -107,7 +107,7 @@ def a_running_proxy_keeps_the_schema(cluster: Cluster) -> None:
         cluster.run("CREATE OR REPLACE FUNCTION escrow.version() RETURNS integer LANGUAGE sql IMMUTABLE AS 'SELECT 0'")
         expect(apply(cluster, "install"), 1, "an escrowd-proxy is running\nHINT: Stop it first.")
     with Proxy(cluster) as proxy:
-        wait_until("the proxy tells", lambda: "schema escrow has version 0, and this program needs 1" in proxy.said())
+        wait_until("the proxy tells", lambda: "schema escrow has version 0, and this program needs 2" in proxy.said())
     assert apply(cluster, "install")[0] == 0
 
 
