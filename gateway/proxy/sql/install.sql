@@ -1194,6 +1194,7 @@ DO $do$
 DECLARE
 	it escrow.declared;
 BEGIN
+	UPDATE escrow.declared SET definition = '{}'; -- the event trigger lets them alone
 	FOR it IN SELECT * FROM escrow.declared LOOP
 		PERFORM escrow.generate(it);
 	END LOOP;
