@@ -3,10 +3,11 @@
 
     check.py                      every state of the small setting, and each rule taken away
     check.py --truth              further forms that hold, and the traces in which a sum is wrong
-    check.py --clients 3 --losses 2 --crashes 1    every state of a large setting, without the rest
+    check.py --clients 3 --losses 2 --crashes 1 --held    every state of a large setting, without the rest
 
 For the rules that are taken away spin searches breadth first, so the table shows the length of the shortest trace: to the
-first violation of any property, and to the first in which a sum is wrong, a CHECK breaks or a fold is refused.
+first violation of any property, and to the first in which a sum is wrong, a CHECK breaks or a fold is refused. Rules that need
+neither are searched without rows that are left and changes without a reservation.
 """
 from __future__ import annotations
 
@@ -32,6 +33,11 @@ class Without(NamedTuple):
     what: str
     names: Tuple[str, ...]
 
+    def given(self, is_held: bool = False) -> Tuple[str, ...]:
+        """Returns the names that the model gets."""
+        needs_all = not self.rule or self.rule in ("14", "16")
+        return self.names if needs_all and not is_held else (*self.names, "HELD")
+
 
 BREAK = [
     Without("1", "the server commits when COMMIT is sent", ("EARLY",)),
@@ -48,6 +54,11 @@ BREAK = [
     Without("11", "a fold takes a part of the key's rows", ("PART",)),
     Without("11", "an own fold takes its own row alone", ("OWN_ROWS",)),
     Without("11", "a fold takes no lock of the row", ("NO_LOCK",)),
+    Without("14", "a load does not test the epoch", ("LOAD_UNTESTED",)),
+    Without("14", "a sweep does not test the epoch", ("SWEEP_UNTESTED",)),
+    Without("14", "an owner that leaves a row removes any mark", ("LEAVE_ANY",)),
+    Without("16", "a change without a reservation looks for no mark", ("HERE_UNMARKED",)),
+    Without("16", "a change without a reservation does not test its epoch", ("HERE_UNTESTED",)),
 ]
 HOLD = [
     Without("", "as it is", ()),
@@ -91,16 +102,16 @@ def search(folder: Path, names: Sequence[str], values: Dict[str, int], shortest:
     return Found(int(states.group(1)), seconds, violated.group(1) if violated else None, int(violated.group(2)) if violated else 0)
 
 
-def report(folder: Path, values: Dict[str, int], truth: bool, compact: bool) -> bool:
+def report(folder: Path, values: Dict[str, int], truth: bool, compact: bool, is_held: bool) -> bool:
     """Prints what each search found. Returns whether all is as it should be."""
     good = True
     holds = HOLD if truth else HOLD[:1]
     breaks = [] if values else BREAK
     kinds: Sequence[Tuple[str, Tuple[str, ...]]] = (("any", ()), ("truth", ("TRUTH_ALONE",))) if truth else (("any", ()),)
     with ThreadPoolExecutor(2) as pool:
-        holding = [(it, pool.submit(search, folder / f"hold{n}", it.names, values, False, compact)) for n, it in enumerate(holds)]
+        holding = [(it, pool.submit(search, folder / f"hold{n}", it.given(is_held), values, False, compact)) for n, it in enumerate(holds)]
         breaking = [
-            (it, [pool.submit(search, folder / f"{kind}{n}", it.names + more, values, True) for kind, more in kinds])
+            (it, [pool.submit(search, folder / f"{kind}{n}", it.given() + more, values, True) for kind, more in kinds])
             for n, it in enumerate(breaks)
         ]
         print(f"{'holds':70}{'states':>12}{'seconds':>9}")
@@ -124,11 +135,12 @@ def main(words: Optional[List[str]] = None) -> int:
     parser = argparse.ArgumentParser(description=__doc__, formatter_class=argparse.RawDescriptionHelpFormatter)
     parser.add_argument("--truth", action="store_true")
     parser.add_argument("--compact", action="store_true", help="keep a hash of each state instead of the state")
+    parser.add_argument("--held", action="store_true", help="leave out that rows are left, and changes without a reservation")
     sizes = [parser.add_argument(f"--{name}", type=int).dest for name in ("clients", "losses", "crashes")]
     chosen = parser.parse_args(words)
     values: Dict[str, int] = {name.upper(): getattr(chosen, name) for name in sizes if getattr(chosen, name) is not None}
     with tempfile.TemporaryDirectory(prefix="escrowd-model-") as folder:
-        good = report(Path(folder), values, chosen.truth, chosen.compact)
+        good = report(Path(folder), values, chosen.truth, chosen.compact, chosen.held)
     print("\nas it should be" if good else "\nNOT AS IT SHOULD BE")
     return 0 if good else 1
 

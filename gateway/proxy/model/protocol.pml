@@ -2,7 +2,8 @@
  * hold after each of them. check.py takes rules away by their names, as -DEARLY.
  *
  * A change is a number. A set of clients is a mask, client c being the bit 1 << c. Each client has one transaction with one
- * note. Values must not fall below 0: the only CHECK.
+ * note: one that is granted, which may be direct, or a change without a reservation (rule 16). Values must not fall below 0:
+ * the only CHECK. -DHELD leaves out that rows are left and swept, and so changes without a reservation.
  */
 
 #ifndef CLIENTS      /* 2 to 4 */
@@ -60,6 +61,7 @@
 #define RAISED 2     /* its epoch is set */
 #define CLEAR 3      /* no transaction of an older epoch holds a journal */
 #define SERVING 4    /* the row is loaded */
+#define LEAVING 5    /* the server has the row no longer; that the mark is to go is in a socket */
 
 /* PostgreSQL, as later snapshots see it. */
 short row;           /* D */
@@ -69,6 +71,7 @@ byte epoch;          /* 0: nobody's */
 byte live;           /* the epoch whose lock is held, or 0 */
 byte owner;          /* the proxy that holds OWNER, plus 1, or 0 */
 byte locker;         /* who holds the row's lock: a client plus 1, a folder plus 10, or 0 */
+byte mark;           /* the epoch whose owner holds the row, or 0. A crash needs none: it ends the epoch */
 byte life;           /* how often it has crashed */
 byte losses;
 byte issued;         /* the last epoch that was chosen */
@@ -83,7 +86,8 @@ Record log[RECORDS];
 
 typedef Client {
 	byte known; byte backend; bit proxy; byte epoch; byte life; byte took;
-	bit folds;       /* COMMIT comes with an own fold */
+	bit folds;       /* COMMIT comes with an own fold, or the fold is done: then it has the row's lock */
+	bit here;        /* it changes the row without a reservation */
 	bit cut;         /* the connection is lost */
 	bit answered;    /* the client has heard that it is committed */
 #ifdef SNAPSHOT
@@ -107,7 +111,7 @@ short start;
 #define IS_OWNER(p) (owner == 1 + (p) && proxy[p].life == life)
 #define LETS_GO(c) (client[c].backend < WROTE || client[c].backend > LOGGED)
 #define MAY_COMMIT(c) (client[c].backend >= HAS_COMMIT && client[c].backend <= LOGGED)
-#define COUNTS(c, p) (!MAY_COMMIT(c) || client[c].epoch != proxy[p].epoch || HAS(proxy[p].reserved, c))
+#define COUNTS(c, p) (!MAY_COMMIT(c) || client[c].here || client[c].epoch != proxy[p].epoch || HAS(proxy[p].reserved, c))
 #define COUNTS_0(c) COUNTS(c, 0)
 #define COUNTS_1(c) COUNTS(c, 1)
 #define KNOWS(p) (row + SUM(journal) == proxy[p].value + SUM(proxy[p].reserved & committed))
@@ -119,6 +123,15 @@ inline check() {
 #ifndef TRUTH_ALONE
 	assert(!IS_CURRENT(0) || (KNOWS(0) && ALL(COUNTS_0)));   /* the invariant */
 	assert(!IS_CURRENT(1) || (KNOWS(1) && ALL(COUNTS_1)))
+#endif
+}
+
+/* What a transaction's own fold takes out of the journal, beside its own row. */
+inline take(c) {
+#ifdef OWN_ROWS
+	client[c].took = 0
+#else
+	client[c].took = journal
 #endif
 }
 
@@ -170,11 +183,32 @@ inline keep(n, j) {
 	j = 0
 }
 
+/* Folds, under the row's lock. */
+inline fold_all() {
+	FITS(row + SUM(journal));
+	if
+	:: journal ->
+		record(SUM(journal), journal, 0, 0, 0);
+		reveal(SUM(journal), journal, 0, 0)
+	:: else
+	fi
+}
+
 /* The server grants if no choice of what is open breaks the CHECK. */
 #define GRANTS(p, c) (proxy[p].state == SERVING && proxy[p].value + FALLS(proxy[p].reserved) + change[c] >= 0)
 
 inline grant(p, c) {
 	proxy[p].reserved = proxy[p].reserved | BIT(c);
+	client[c].proxy = p;
+	client[c].epoch = proxy[p].epoch;
+	client[c].life = life;
+	client[c].known = NOTING;
+	client[c].backend = HAS_NOTE
+}
+
+/* A change without a reservation is sent. */
+inline send_here(p, c) {
+	client[c].here = 1;
 	client[c].proxy = p;
 	client[c].epoch = proxy[p].epoch;
 	client[c].life = life;
@@ -189,15 +223,19 @@ inline forget(c) {
 	client[c].cut = 0;
 	client[c].proxy = 0;
 	if
-	:: client[c].backend >= COMMITTED -> client[c].epoch = 0
+	:: client[c].backend >= COMMITTED -> client[c].epoch = 0; client[c].here = 0
 	:: else
 	fi
 }
 
 /* The proxy tells the server COMMIT. */
 inline apply(c) {
-	proxy[client[c].proxy].value = proxy[client[c].proxy].value + change[c];
-	proxy[client[c].proxy].reserved = proxy[client[c].proxy].reserved & ~BIT(c)
+	if
+	:: client[c].here
+	:: else ->
+		proxy[client[c].proxy].value = proxy[client[c].proxy].value + change[c];
+		proxy[client[c].proxy].reserved = proxy[client[c].proxy].reserved & ~BIT(c)
+	fi
 }
 
 /* The proxy tells the server ROLLBACK. */
@@ -207,13 +245,17 @@ inline release(c) {
 
 inline end_backend(c, outcome) {
 	client[c].backend = outcome;
+	if
+	:: locker == 1 + c -> locker = 0
+	:: else
+	fi;
 	client[c].folds = 0;
 	client[c].took = 0;
 #ifdef UNANSWERED
 	client[c].behind = 0;
 #endif
 	if
-	:: client[c].known == DONE -> client[c].epoch = 0
+	:: client[c].known == DONE -> client[c].epoch = 0; client[c].here = 0
 	:: else
 	fi
 }
@@ -261,6 +303,31 @@ inline reset(p, j) {
 #else
 #define CAN_LOCK (locker == 0)
 #endif
+#if defined(HERE_UNTESTED)
+#define HERE_PASSES(c) 1
+#else
+#define HERE_PASSES(c) PASSES(c)
+#endif
+#if defined(HERE_UNMARKED)
+#define IS_HELD 0
+#else
+#define IS_HELD (mark == epoch)
+#endif
+#if defined(LOAD_UNTESTED)
+#define MAY_MARK(p) 1
+#else
+#define MAY_MARK(p) (epoch == proxy[p].epoch)
+#endif
+#if defined(LEAVE_ANY)
+#define MAY_UNMARK(p) 1
+#else
+#define MAY_UNMARK(p) (mark == proxy[p].epoch)
+#endif
+#if defined(SWEEP_UNTESTED)
+#define MAY_SWEEP(p) 1
+#else
+#define MAY_SWEEP(p) (epoch == proxy[p].epoch)
+#endif
 #if defined(NO_WAIT)
 #define MAY_LOAD 1
 #else
@@ -281,6 +348,11 @@ end:	do
 #endif
 	:: d_step { client[c].known == IDLE && HAS_BEGUN(c) && GRANTS(0, c) -> grant(0, c); check() }
 	:: d_step { client[c].known == IDLE && HAS_BEGUN(c) && GRANTS(1, c) -> grant(1, c); check() }
+#ifndef HELD
+	/* The row is not loaded, since it is locked: a change without a reservation is sent. */
+	:: d_step { client[c].known == IDLE && HAS_BEGUN(c) && proxy[0].state == CLEAR -> send_here(0, c); check() }
+	:: d_step { client[c].known == IDLE && HAS_BEGUN(c) && proxy[1].state == CLEAR -> send_here(1, c); check() }
+#endif
 	:: d_step { client[c].known == NOTING && client[c].backend == OPEN && !client[c].cut ->
 		client[c].known = NOTED;
 		check() }
@@ -304,7 +376,7 @@ end:	do
 		apply(c);
 #endif
 		check() }
-	:: d_step { client[c].known == NOTED && client[c].backend == OPEN && !client[c].cut ->
+	:: d_step { client[c].known == NOTED && client[c].backend == OPEN && !client[c].cut && !client[c].folds ->
 		client[c].known = ENDING;
 		client[c].backend = HAS_COMMIT;
 		client[c].folds = 1;
@@ -368,27 +440,56 @@ end:	do
 		check() }
 	:: d_step { client[c].backend == TESTED -> client[c].backend = OPEN; check() }
 #else
-	:: d_step { client[c].backend == HAS_NOTE -> client[c].backend = WROTE; check() }
-	:: d_step { client[c].backend == WROTE ->
+	:: d_step { client[c].backend == HAS_NOTE && !client[c].here -> client[c].backend = WROTE; check() }
+#ifndef NO_LOCK
+	/* A direct note folds at once, if it gets the row's lock. A CHECK may refuse only what the proxy has given up. */
+	:: d_step { client[c].backend == WROTE && !client[c].here && PASSES(c) && locker == 0 ->
+		take(c);
+		if
+		:: row + SUM(client[c].took) + change[c] >= 0 ->
+			locker = 1 + c;
+			client[c].folds = 1;
+			client[c].backend = OPEN
+		:: else ->
+			FITS(-(client[c].known != DONE));
+			end_backend(c, ABORTED)
+		fi;
+		check() }
+#endif
+	:: d_step { client[c].backend == WROTE && !client[c].here ->
 		if
 		:: PASSES(c) -> client[c].backend = OPEN
 		:: else -> end_backend(c, ABORTED)
 		fi;
 		check() }
 #endif
+#ifndef HELD
+	/* A change without a reservation: lock, mark, the row of the journal; then the epoch, and a fold, which a CHECK may refuse. */
+	:: d_step { client[c].backend == HAS_NOTE && client[c].here && locker == 0 && !IS_HELD ->
+		locker = 1 + c;
+		client[c].backend = WROTE;
+		check() }
+	:: d_step { client[c].backend == HAS_NOTE && client[c].here && (locker != 0 || IS_HELD) -> end_backend(c, ABORTED); check() }
+	:: d_step { client[c].backend == WROTE && client[c].here ->
+		take(c);
+		if
+		:: HERE_PASSES(c) && row + SUM(client[c].took) + change[c] >= 0 ->
+			client[c].folds = 1;
+			client[c].backend = OPEN
+		:: else -> end_backend(c, ABORTED)
+		fi;
+		check() }
+#endif
+	:: d_step { client[c].backend == HAS_COMMIT && client[c].folds && locker == 1 + c -> client[c].backend = FOLDED; check() }
 	:: d_step { client[c].backend == HAS_COMMIT && client[c].folds && CAN_LOCK ->
 #ifndef NO_LOCK
 		locker = 1 + c;
 #endif
-#ifdef OWN_ROWS
-		client[c].took = 0;
-#else
-		client[c].took = journal;
-#endif
+		take(c);
 		FITS(row + SUM(client[c].took) + change[c]);
 		client[c].backend = FOLDED;
 		check() }
-	:: d_step { client[c].backend == HAS_COMMIT && (!client[c].folds || locker != 0) ->
+	:: d_step { client[c].backend == HAS_COMMIT && (!client[c].folds || locker != 0 && locker != 1 + c) ->
 		record(0, 0, BIT(c), BIT(c), 0);
 		client[c].folds = 0;
 		client[c].backend = LOGGED;
@@ -405,9 +506,6 @@ end:	do
 		if
 		:: client[c].folds ->
 			reveal(SUM(client[c].took) + change[c], client[c].took, 0, BIT(c));
-#ifndef NO_LOCK
-			locker = 0;
-#endif
 		:: else -> reveal(0, 0, BIT(c), BIT(c))
 		fi;
 		end_backend(c, COMMITTED);
@@ -415,10 +513,6 @@ end:	do
 	/* It is ended, or reads the end of its socket. */
 	:: d_step { client[c].backend >= HAS_NOTE && client[c].backend <= FOLDED &&
 			(client[c].cut || client[c].known == DONE || client[c].epoch != epoch) ->
-		if
-		:: client[c].backend == FOLDED && locker == 1 + c -> locker = 0
-		:: else
-		fi;
 		end_backend(c, ABORTED);
 		check() }
 	od
@@ -461,17 +555,30 @@ end:	do
 	:: d_step { proxy[p].state == RAISED && IS_OWNER(p) && MAY_LOAD -> proxy[p].state = CLEAR; check() }
 #endif
 	/* The load, which an owner that has lost its place may still do: its loader is another connection. */
-	:: d_step { proxy[p].state == CLEAR && proxy[p].life == life && locker == 0 ->
-		FITS(row + SUM(journal));
-		proxy[p].value = row + SUM(journal);
-		if
-		:: journal ->
-			record(SUM(journal), journal, 0, 0, 0);
-			reveal(SUM(journal), journal, 0, 0)
-		:: else
-		fi;
+	:: d_step { proxy[p].state == CLEAR && proxy[p].life == life && locker == 0 && MAY_MARK(p) ->
+		fold_all();
+		proxy[p].value = row;
+		mark = proxy[p].epoch;
 		proxy[p].state = SERVING;
 		check() }
+#ifndef HELD
+	/* The row is left: nothing of it is open. The mark goes later, if the row is not locked then. And marks of former epochs. */
+	:: d_step { proxy[p].state == SERVING && proxy[p].reserved == 0 -> proxy[p].state = LEAVING; proxy[p].value = 0; check() }
+	:: d_step { proxy[p].state == LEAVING && locker == 0 && proxy[p].life == life ->
+		fold_all();
+		if
+		:: MAY_UNMARK(p) -> mark = 0
+		:: else
+		fi;
+		proxy[p].state = CLEAR;
+		check() }
+	:: d_step { proxy[p].state == LEAVING && (locker != 0 || proxy[p].life != life) -> proxy[p].state = CLEAR; check() }
+	:: d_step { (proxy[p].state == CLEAR || proxy[p].state == SERVING) && locker == 0 && proxy[p].life == life &&
+			mark != 0 && mark != proxy[p].epoch && MAY_SWEEP(p) ->
+		fold_all();
+		mark = 0;
+		check() }
+#endif
 	/* The folder, of an owner or not. */
 #ifdef PART
 	:: d_step { proxy[p].state == SERVING && proxy[p].life == life && proxy[p].folding == 0 && locker == 0 && HAS(journal, 0) ->
@@ -553,6 +660,7 @@ end:	do
 		owner = 0;
 		live = 0;
 		locker = 0;
+		mark = 0;
 		life++;
 		j = 0;
 		do
@@ -609,6 +717,7 @@ init {
 		live = 1;
 		issued = 1;
 		owner = 1;
+		mark = 1;
 		proxy[0].state = SERVING;
 		proxy[0].epoch = 1;
 		proxy[0].value = start;

@@ -202,19 +202,27 @@ EXCEPTION WHEN invalid_parameter_value THEN
 END
 $$;
 
--- Rule 18. Greets a connection before its client's first message. Greetings come one after another.
-CREATE OR REPLACE FUNCTION escrow.greet(epoch bigint, number bigint, proof bytea) RETURNS void
+-- Rule 18. Greets a connection before its client's first message. Greetings come one after another. If the last one had this
+-- number or a higher one, this is no greeting, and the last number is returned: a greeting of the former owner may have come
+-- while the epoch was set.
+DROP FUNCTION IF EXISTS escrow.greet(bigint, bigint, bytea);
+CREATE FUNCTION escrow.greet(epoch bigint, number bigint, proof bytea) RETURNS bigint
 LANGUAGE plpgsql SECURITY DEFINER SET search_path = pg_catalog, pg_temp AS $$
+DECLARE
+	last bigint;
 BEGIN
-	IF proof IS NOT DISTINCT FROM escrow.mac('greet', epoch::text, pg_backend_pid()::text, number::text)
-		AND epoch IS DISTINCT FROM (SELECT last_value FROM escrow.epoch) THEN
-		PERFORM escrow.refuse_stale();
-	ELSIF proof IS DISTINCT FROM escrow.mac('greet', epoch::text, pg_backend_pid()::text, number::text)
-		OR number <= (SELECT last_value FROM escrow.greeted) THEN
+	IF proof IS DISTINCT FROM escrow.mac('greet', epoch::text, pg_backend_pid()::text, number::text) THEN
 		RAISE EXCEPTION 'escrow.greet is for escrowd-proxy' USING ERRCODE = 'insufficient_privilege';
+	ELSIF epoch IS DISTINCT FROM (SELECT last_value FROM escrow.epoch) THEN
+		PERFORM escrow.refuse_stale();
+	END IF;
+	last := (SELECT last_value FROM escrow.greeted);
+	IF number <= last THEN
+		RETURN last;
 	END IF;
 	PERFORM setval('escrow.greeted', number);
 	PERFORM setval('escrow.heard', number);
+	RETURN NULL;
 END
 $$;
 ALTER FUNCTION escrow.greet OWNER TO escrow_journal;
@@ -957,7 +965,8 @@ BEGIN
 				RAISE EXCEPTION 'a fold needs READ COMMITTED' USING ERRCODE = 'invalid_transaction_state';
 			END IF;
 			FOREACH which IN ARRAY keys LOOP
-				IF escrow.row_%1$s(which::%2$s, true) IS NOT NULL THEN
+				-- Nothing is left of a row that somebody else has folded, or that is deleted since.
+				IF escrow.row_%1$s(which::%2$s, true) IS NOT NULL OR NOT EXISTS (SELECT FROM escrow.journal_%1$s AS j WHERE j.key = which::%2$s) THEN
 					RETURN NEXT which;
 				END IF;
 			END LOOP;

@@ -482,7 +482,7 @@ fn lines(row: &tokio_postgres::Row) -> Vec<(Line, Change)> {
         .collect()
 }
 
-/// Removes the mark that an epoch has set of a row, which the server does not have any more or cannot have.
+/// Removes the mark of a row that the server of this epoch's owner does not have.
 async fn leave(own: &mut Own, epoch: i64, key: &Key) {
     let text = format!("SELECT escrow.leave_{}($1, $2)", key.table);
     match own.query(&text, &[&epoch, &&*key.text]).await {

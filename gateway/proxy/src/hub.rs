@@ -89,7 +89,7 @@ pub enum FolderTask {
 pub enum LoaderTask {
     /// Load a row.
     Load(Generation, Key),
-    /// Remove the mark of this epoch of a row that the server does not have, and say so.
+    /// Remove the mark of a row that the server of this epoch's owner does not have, and say so.
     Leave(Generation, i64, Key, Left),
 }
 
@@ -336,6 +336,12 @@ impl Hub {
         let mut state = lock(&self.state);
         state.number += 1;
         state.number
+    }
+
+    /// Goes on with numbers above one that PostgreSQL has had in this epoch.
+    pub fn pass_number(&self, last: i64) {
+        let mut state = lock(&self.state);
+        state.number = state.number.max(last);
     }
 
     /// Begins an epoch, which PostgreSQL has. Numbers go on: who still asks for one in the former epoch gets none that

@@ -645,18 +645,30 @@ impl Requests<'_> {
         Ok(None)
     }
 
-    /// Greets the connection. Greetings go one after another.
+    /// Greets the connection. Greetings go one after another. PostgreSQL may have had a higher number: one of a former owner's
+    /// came while the epoch was set.
     async fn greet(&mut self, secret: &Secret, epoch: i64) -> Result<OwnReply, Error> {
         let hub = self.hub.clone();
         let _turn = hub.greeting.lock().await;
-        let number = hub.number();
-        let process = self.shared.track().process;
-        let values = [
-            Value::Text(epoch.to_string()),
-            Value::Text(number.to_string()),
-            Value::Binary(secret.of_greeting(epoch, process, number).to_vec()),
-        ];
-        self.ask(GREETING, &values, &[0], End::Flush).await
+        loop {
+            let number = hub.number();
+            let process = self.shared.track().process;
+            let values = [
+                Value::Text(epoch.to_string()),
+                Value::Text(number.to_string()),
+                Value::Binary(secret.of_greeting(epoch, process, number).to_vec()),
+            ];
+            let reply = self.ask(GREETING, &values, &[0], End::Flush).await?;
+            let last = match &reply {
+                OwnReply::Row(Some(row)) => row.first().and_then(number_of),
+                _ => None,
+            };
+            match last {
+                Some(last) => hub.pass_number(last),
+                None => return Ok(reply),
+            }
+            self.go_on(&reply, Vec::new());
+        }
     }
 
     /// Has PostgreSQL raise what the client's UPDATE is refused with, so that its transaction fails as by any error.
@@ -696,6 +708,11 @@ impl Requests<'_> {
 /// Returns whether a value is a boolean in text that is true.
 fn is_true(value: Option<&Option<Bytes>>) -> bool {
     matches!(value, Some(Some(text)) if &text[..] == b"t")
+}
+
+/// Returns a value that is a number in text.
+fn number_of(value: &Option<Bytes>) -> Option<i64> {
+    std::str::from_utf8(value.as_deref()?).ok()?.parse().ok()
 }
 
 /// Returns the command tag that is a reply's only value.

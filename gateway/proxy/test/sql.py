@@ -262,7 +262,7 @@ def held_rows_stay(cluster: Cluster) -> None:
         # An old snapshot does not show the mark, but the load has written the row anew.
         with refused(errors.SerializationFailure):
             old.execute("DELETE FROM stock WHERE id = 1")
-        same(owner.one(f"SELECT escrow.leave_{owner.declared('stock')[0]}({owner.epoch}, '1')")[0], True)
+        same(owner.leave("stock", 1), True)
         it.execute("UPDATE stock SET id = 9 WHERE id = 1; DELETE FROM stock WHERE id = 9; DELETE FROM stock WHERE id = 2")
         # A row that is locked for a deletion is not loaded.
         it.execute("BEGIN; DELETE FROM stock WHERE id = 3")
@@ -362,9 +362,14 @@ def notes_need_a_grant(cluster: Cluster) -> None:
     # A greeting is worth one.
     number = owner.next()
     words = (owner.epoch, number, owner.mac("greet", owner.epoch, client.connection.info.backend_pid, number))
-    client.connection.execute("SELECT escrow.greet(%s, %s, %s)", words)
+    greeted = "SELECT escrow.greet(%s, %s, %s)"
+    same(client.connection.execute(greeted, words).fetchone(), (None,))
+    client.note("stock", 1, -1)
+    heard = value(cluster, "SELECT last_value FROM escrow.heard")
+    same(client.connection.execute(greeted, words).fetchone(), (number,))
+    same(value(cluster, "SELECT last_value FROM escrow.heard"), heard)
     with refused(errors.InsufficientPrivilege, "escrow.greet is for escrowd-proxy"):
-        client.connection.execute("SELECT escrow.greet(%s, %s, %s)", words)
+        client.connection.execute(greeted, (owner.epoch, number + 100, words[2]))
     # Another text: rights that the client grants itself, EXECUTE of a statement of SQL, DO.
     buyer = Client(owner, "buyer")
     with refused(errors.InsufficientPrivilege, "permission denied for table stock"):
@@ -504,6 +509,49 @@ def a_proxy_is_no_superuser(cluster: Cluster) -> None:
         wait_until("it is ended", lambda: ended == [(1,)] or it.execute("SELECT escrow.end_owner(0)").fetchall() == [(1,)])
     bystander.execute("SELECT 1")
     cluster.run("DROP ROLE runner")
+
+
+@part
+def a_former_owner_leaves_no_row_of_the_next(cluster: Cluster) -> None:
+    former = stock(cluster)
+    former.load("stock", 1)
+    former.keeper.close()
+    owner = Owner(cluster)
+    owner.load("stock", 1)
+    client = Client(owner)
+    client.execute("BEGIN")
+    client.note("stock", 1, -1)
+    former.keeper = cluster.connect()
+    former.leave("stock", 1)
+    with cluster.connect() as it:
+        with refused(errors.ObjectInUse, "the row of stock is held by escrowd-proxy"):
+            it.execute(b"DELETE FROM stock WHERE id = 1")
+    client.execute("COMMIT")
+    same(owner.fold("stock", 1), ["1"])
+    same(owner.leave("stock", 1), True)
+    cluster.run("DELETE FROM stock WHERE id = 1")
+    same(owner.fold("stock", 1), ["1"])  # nothing is left of it
+
+
+@part
+def a_change_without_a_reservation_is_one_of_its_epoch(cluster: Cluster) -> None:
+    """A row that its owner had not yet loaded when the change was sent, and that it had when the change came, behind the next owner's epoch."""
+    former = stock(cluster)
+    late, client = Client(former), Client(former)
+    same(late.here("stock", 2, -1), True)
+    same(value(cluster, "SELECT pieces FROM stock WHERE id = 2"), 9)
+    former.load("stock", 1)
+    same(late.here("stock", 1, -10), False)
+    client.execute("BEGIN")
+    client.note("stock", 1, -10)
+    former.keeper.close()
+    owner = Owner(cluster)
+    former.keeper = cluster.connect()
+    late.execute("BEGIN")
+    with refused(errors.SerializationFailure, "not the owner any more"):
+        late.here("stock", 1, -10)
+    client.execute("COMMIT")
+    same(owner.load("stock", 1), ["0"])
 
 
 @part

@@ -149,8 +149,13 @@ class Owner:
         found = self.one(f"SELECT escrow.load_{number}(%s, %s)", self.epoch, str(key))[0]
         return None if found is None else list(found)
 
+    def leave(self, relation: str, key: object) -> bool:
+        """Leaves a row, of which nothing is open. Returns whether it could lock it."""
+        number, _ = self.declared(relation)
+        return bool(self.one(f"SELECT escrow.leave_{number}(%s, %s)", self.epoch, str(key))[0])
+
     def fold(self, relation: str, *keys: object) -> List[str]:
-        """Folds keys on the keeper, as no proxy does. Returns those whose row it could lock."""
+        """Folds keys on the keeper, as no proxy does. Returns those of which nothing is left."""
         number, _ = self.declared(relation)
         return [it for it, in self.keeper.execute(f"SELECT escrow.fold_{number}(%s)".encode(), ([str(it) for it in keys],))]
 
@@ -205,6 +210,18 @@ class Client:
         noted = self.send(self.direct_arguments(relation, key, *changes))
         assert self.owner.status(noted.id) == "committed"
         return noted.folded
+
+    def here(self, relation: str, key: object, *changes: object) -> bool:
+        """Changes a row without a reservation. Returns whether that was done."""
+        owner = self.owner
+        table, text = owner.one("SELECT number, here_text FROM escrow.declared WHERE relation = %s::regclass", relation)
+        number = owner.next()
+        given = [None if it is None else str(it) for it in changes]
+        shown, written = str(key), ",".join(it or "" for it in given)
+        proof = owner.mac("here", table, owner.epoch, self.connection.info.backend_pid, number, len(shown.encode()), shown, written)
+        done = self.connection.execute(placeholders(text), (owner.epoch, number, shown, given, proof, relation)).fetchone()
+        assert done is not None
+        return bool(done[0])
 
     def fold(self, relation: str, *keys: object) -> None:
         """Sends an own fold."""
