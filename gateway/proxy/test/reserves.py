@@ -537,6 +537,16 @@ def refusals_leave_nothing_in_a_session(cluster: Cluster, proxy: Proxy) -> None:
         assert prepared() <= before + 2, (before, prepared())
 
 
+@case
+def a_late_greeting_of_a_former_owner_holds_nobody_up(cluster: Cluster, proxy: Proxy) -> None:
+    """It came while this owner set its epoch, and its number was higher than this one's numbers."""
+    key = row(cluster)
+    cluster.run("SELECT setval('escrow.greeted', last_value + 1000000) FROM escrow.greeted")
+    for _ in range(2):
+        with proxy.connect() as it:
+            expect(take(it, key, 1), "UPDATE 1")
+
+
 def is_served(proxy: Proxy) -> bool:
     """Returns whether a proxy takes clients."""
     try:
