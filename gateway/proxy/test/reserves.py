@@ -177,7 +177,7 @@ def ends_of_transactions(cluster: Cluster, proxy: Proxy) -> None:
                 pass
             it.execute("ROLLBACK")
             left -= 3 * is_kept
-            expect(pieces(cluster, key), left, end)
+            wait_until(f"the row shows {end}", lambda: pieces(cluster, key) == left)
             # The server has just that left.
             other.execute("BEGIN")
             expect(take(other, key, left), "UPDATE 1", end)

@@ -76,22 +76,6 @@ def a_change_here_of_a_former_epoch_raises(cluster: Cluster) -> None:
 
 
 @part
-def a_former_owner_leaves_no_row_of_the_new_one(cluster: Cluster) -> None:
-    owner = stock(cluster, 5)
-    table = owner.declared("stock")[0]
-    owner.load("stock", 1)
-    second = taken_over(owner)
-    same(second.load("stock", 1), ["5"])
-    leave = f"SELECT escrow.leave_{table}(%s, '1')"
-    with refused(errors.SerializationFailure, "not the owner any more"):
-        owner.one(leave, owner.epoch)
-    with refused(errors.ObjectInUse, "the row of stock is held by escrowd-proxy"):
-        cluster.run("DELETE FROM stock WHERE id = 1")
-    same(second.one(leave, second.epoch), (True,))
-    cluster.run("DELETE FROM stock WHERE id = 1")
-
-
-@part
 def names_end_where_they_end(cluster: Cluster) -> None:
     """A name that ends with a quotation mark is another one than the same without it."""
     cluster.run('CREATE TABLE t (id integer PRIMARY KEY, a integer NOT NULL, "a""" integer NOT NULL CONSTRAINT it CHECK (2 * "a""" >= 0))')

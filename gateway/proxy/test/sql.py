@@ -522,7 +522,8 @@ def a_former_owner_leaves_no_row_of_the_next(cluster: Cluster) -> None:
     client.execute("BEGIN")
     client.note("stock", 1, -1)
     former.keeper = cluster.connect()
-    former.leave("stock", 1)
+    with refused(errors.SerializationFailure, "not the owner any more"):
+        former.leave("stock", 1)
     with cluster.connect() as it:
         with refused(errors.ObjectInUse, "the row of stock is held by escrowd-proxy"):
             it.execute(b"DELETE FROM stock WHERE id = 1")
