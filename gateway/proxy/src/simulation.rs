@@ -72,8 +72,6 @@ pub(crate) enum Without {
     GuardLooks,
     /// Rule 16: a change without a reservation looks for no mark.
     HereLooks,
-    /// Rule 16: a change without a reservation does not test the epoch.
-    HereTested,
     /// Rule 27: a change without a reservation looks for no hold.
     HereLooksForHolds,
     /// Rule 27: a mark goes though a hold of its row stands.
@@ -290,7 +288,6 @@ fn a_rule_that_is_taken_away_is_missed() {
         Without::DeleteLooks,
         Without::GuardLooks,
         Without::HereLooks,
-        Without::HereTested,
         Without::HereLooksForHolds,
         Without::MarksOfHolds,
     ];
