@@ -295,7 +295,7 @@ fn a_rule_that_is_taken_away_is_missed() {
     let is_asked = |it: &Without| format!("{:?}", it).contains(&asked);
     for without in rules.into_iter().filter(is_asked) {
         // What comes at rest may be a fault of the relay that was changed.
-        let found = (0..number("ESCROW_RUNS").unwrap_or(2_000))
+        let found = (0..number("ESCROW_RUNS").unwrap_or(4_000))
             .filter_map(|seed| run(seed, Some(without)).err())
             .find(|text| !text.contains("at rest"));
         match found {
