@@ -72,8 +72,6 @@ pub(crate) enum Without {
     GuardLooks,
     /// Rule 16: a change without a reservation looks for no mark.
     HereLooks,
-    /// Rule 16: a change without a reservation does not test the epoch.
-    HereTested,
     /// Rule 27: a change without a reservation looks for no hold.
     HereLooksForHolds,
     /// Rule 27: a mark goes though a hold of its row stands.
@@ -290,7 +288,6 @@ fn a_rule_that_is_taken_away_is_missed() {
         Without::DeleteLooks,
         Without::GuardLooks,
         Without::HereLooks,
-        Without::HereTested,
         Without::HereLooksForHolds,
         Without::MarksOfHolds,
     ];
@@ -298,7 +295,7 @@ fn a_rule_that_is_taken_away_is_missed() {
     let is_asked = |it: &Without| format!("{:?}", it).contains(&asked);
     for without in rules.into_iter().filter(is_asked) {
         // What comes at rest may be a fault of the relay that was changed.
-        let found = (0..number("ESCROW_RUNS").unwrap_or(2_000))
+        let found = (0..number("ESCROW_RUNS").unwrap_or(4_000))
             .filter_map(|seed| run(seed, Some(without)).err())
             .find(|text| !text.contains("at rest"));
         match found {

@@ -788,12 +788,7 @@ impl Postgres {
     /// Rules 7, 8 and 10.
     fn test(&mut self, backend: &mut Backend, note: Note, then: Then) {
         let is_live = self.owner.map_or(false, |(_, epoch)| epoch == note.epoch);
-        let is_tested = match self.without {
-            Some(Without::Epoch) => false,
-            Some(Without::HereTested) => then != Then::Here,
-            _ => true,
-        };
-        let passes = !is_tested || self.epoch == note.epoch && is_live;
+        let passes = self.without == Some(Without::Epoch) || self.epoch == note.epoch && is_live;
         let id = backend.levels.last().and_then(|level| level.id);
         match id {
             Some(id) if passes => self.fold_noted(backend, note, id, then),
