@@ -446,11 +446,11 @@ impl Postgres {
         self.late.push((key, epoch));
     }
 
-    /// A row is no longer held by the owner of an epoch (event 16).
+    /// A row is no longer held, by word of the owner of an epoch (event 16). A mark may be a former owner's, of a row that had holds.
     pub(crate) fn leave(&mut self, key: Key, epoch: u64) {
         let is_tested = self.without != Some(Without::LeavesOwn);
         let may = self.is_present(epoch) || !is_tested;
-        if may && self.unmark(key, |mark| !is_tested || mark == epoch) {
+        if may && self.unmark(key, |_| true) {
             self.own_counts.left += 1;
         }
     }
