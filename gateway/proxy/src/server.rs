@@ -753,6 +753,8 @@ mod tests {
 
         /// Serves what was asked, and tests what is open and committed then.
         fn check(&mut self) {
+            // As if a question stood behind them.
+            self.server.are_awaited = true;
             let asked = String::from_utf8(self.server.take_lines()).unwrap();
             for line in asked.lines() {
                 let reply = self.model.reply(line);

@@ -293,14 +293,20 @@ fn a_rule_that_is_taken_away_is_missed() {
     ];
     let asked = std::env::var("ESCROW_WITHOUT").unwrap_or_default();
     let is_asked = |it: &Without| format!("{:?}", it).contains(&asked);
-    for without in rules.into_iter().filter(is_asked) {
-        // What comes at rest may be a fault of the relay that was changed.
-        let found = (0..number("ESCROW_RUNS").unwrap_or(4_000))
+    // What comes at rest may be a fault of the relay that was changed.
+    let found_without = |without| {
+        (0..number("ESCROW_RUNS").unwrap_or(4_000))
             .filter_map(|seed| run(seed, Some(without)).err())
-            .find(|text| !text.contains("at rest"));
-        match found {
-            Some(text) => println!("{:?}: {}", without, text),
-            None => panic!("{:?}: nothing was found", without),
+            .find(|text| !text.contains("at rest"))
+    };
+    std::thread::scope(|scope| {
+        let begin = |without| (without, scope.spawn(move || found_without(without)));
+        let searches: Vec<_> = rules.into_iter().filter(is_asked).map(begin).collect();
+        for (without, search) in searches {
+            match search.join().expect("a search ends") {
+                Some(text) => println!("{:?}: {}", without, text),
+                None => panic!("{:?}: nothing was found", without),
+            }
         }
-    }
+    });
 }

@@ -229,7 +229,8 @@ def savepoints_and_several_holds(cluster: Cluster, proxy: Proxy) -> None:
         take(it, key, 16)
         coded_in_block(it, "55000", key)
         it.execute("COMMIT")
-        expect(standing(cluster, one, two, three), [(one, "stock", str(key), "pieces", -1), (two, "stock", str(key), "pieces", -4), (two, "stock", str(key), "pieces", -8)])
+        found = [(one, "stock", str(key), "pieces", -1), *((two, "stock", str(key), "pieces", change) for change in (-4, -8))]
+        expect(standing(cluster, one, two, three), found)
         expect(pieces(cluster, key), 84)
         gives_just(other, key, 71)
         # Taken, with more, and held again: nobody gets anything of it in between.
@@ -324,7 +325,8 @@ def what_cannot_be_held(cluster: Cluster, proxy: Proxy) -> None:
 @case
 def a_hold_is_its_makers(cluster: Cluster, proxy: Proxy) -> None:
     key = row(cluster)
-    cluster.run("CREATE ROLE shop LOGIN", "CREATE ROLE clerk_of_shop LOGIN IN ROLE shop", "CREATE ROLE thief LOGIN", "GRANT SELECT, UPDATE ON stock TO shop, thief")
+    cluster.run("CREATE ROLE shop LOGIN", "CREATE ROLE clerk_of_shop LOGIN IN ROLE shop", "CREATE ROLE thief LOGIN",
+                "GRANT SELECT, UPDATE ON stock TO shop, thief")
     with proxy.connect(user="shop") as shop, proxy.connect(user="clerk_of_shop") as member, proxy.connect(user="thief") as thief:
         held = hold(shop, key, 2)
         for function, values in (("take", ()), ("release", ()), ("prolong", ("1 minute",))):

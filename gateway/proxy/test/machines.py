@@ -35,7 +35,7 @@ import psycopg
 
 from clients.servers import children, heard, wait_until
 from clients.suite import Part, expect, main
-from proxy.test.buyers import TABLES
+from proxy.test.buyers import BUYER, MERCHANT, RIGHTS, ROLES, TABLES
 from proxy.test.harness import PROXY
 from proxy.test.nodes import PASSWORD, READY, Elected, Etcd, Front, Host, Namespace, Network, Node
 from proxy.test.truth import GOES_ON, Lines, Said, Scene, Watch, shown
@@ -91,8 +91,10 @@ class Machines(Scene):
         with psycopg.connect(self.elected.dsn("postgres"), autocommit=True) as superuser:
             superuser.execute("CREATE DATABASE bank")
         subprocess.run([PROXY, "install", "--apply", "--postgres", self.cluster.dsn()], check=True, stdout=subprocess.DEVNULL)
-        self.cluster.run(f"CREATE ROLE escrowd LOGIN PASSWORD '{PASSWORD}'", "GRANT escrow_proxy TO escrowd", *TABLES, TIMELINE,
-                         "CREATE TABLE base (id integer PRIMARY KEY, pieces integer NOT NULL)", "SELECT escrow.reservable('stock', 'pieces')")
+        passwords = [f"ALTER ROLE {it} PASSWORD '{PASSWORD}'" for it in (MERCHANT, BUYER)]
+        self.cluster.run(f"CREATE ROLE escrowd LOGIN PASSWORD '{PASSWORD}'", "GRANT escrow_proxy TO escrowd", *ROLES, *passwords,
+                         "CREATE TABLE base (id integer PRIMARY KEY, pieces integer NOT NULL)")
+        self.cluster.run(*TABLES, *RIGHTS, TIMELINE, "SELECT escrow.reservable('stock', 'pieces')", user=MERCHANT)
         target = self.cluster.dsn().replace("user=clerk", "user=escrowd")
         self.machines = [self.stack.enter_context(Front(it, self.cluster, target)) for it in self.behind]
         self.proxies = list(self.machines)
@@ -100,9 +102,9 @@ class Machines(Scene):
         self.await_whole()
         self.connect().close()
 
-    def dsns(self) -> List[str]:
+    def dsns(self, user: str = BUYER) -> List[str]:
         places = [it.address.split(":") for it in self.proxies]
-        return [f"host={one[0]},{other[0]} port={one[1]},{other[1]} dbname=bank user=clerk password={PASSWORD} {PATIENT}"
+        return [f"host={one[0]},{other[0]} port={one[1]},{other[1]} dbname=bank user={user} password={PASSWORD} {PATIENT}"
                 for one, other in (places, places[::-1])]
 
     def leader(self) -> Node:

@@ -46,8 +46,8 @@ RESERVED, SERVED, FREE, RATE = 2.0, 3.0, 1.5, 0.9
 def spent(root: int) -> float:
     """Returns the processor time of a process with its children, those too that have ended."""
     try:
-        children = Path(f"/proc/{root}/task/{root}/children").read_text().split()
-        fields = Path(f"/proc/{root}/stat").read_text().rsplit(")", 1)[1].split()
+        children = Path(f"/proc/{root}/task/{root}/children").read_text("ascii").split()
+        fields = Path(f"/proc/{root}/stat").read_text("utf-8").rsplit(")", 1)[1].split()
     except (FileNotFoundError, ProcessLookupError):
         return 0.0  # it ends just now
     own = sum(int(it) for it in fields[11:15]) / os.sysconf("SC_CLK_TCK")

@@ -249,13 +249,13 @@ class Elected(Cluster):
                 lost = error
         raise lost
 
-    def run(self, *statements: str) -> None:
-        """Runs statements as soon as a PostgreSQL takes writes."""
+    def run(self, *statements: str, user: str = "clerk") -> None:
+        """Runs statements as a role, as soon as a PostgreSQL takes writes."""
         served: List["psycopg.Connection[Any]"] = []
 
         def is_served() -> bool:
             with contextlib.suppress(psycopg.OperationalError):
-                served.append(self.connect())
+                served.append(self.connect(user))
             return bool(served)
 
         wait_until("a PostgreSQL takes writes", is_served, READY)

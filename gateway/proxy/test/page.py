@@ -89,23 +89,24 @@ def is_known(proxy: Proxy) -> bool:
 @PART.alone
 def what_the_page_on_holds_shows_runs() -> None:
     """A transaction holds two pieces, and one of another connection buys them, over the page's tables."""
-    with installed() as (cluster,), Proxy(cluster) as proxy:
-        cluster.run("CREATE TABLE carts (id integer PRIMARY KEY, person text, pieces integer)", "CREATE TABLE orders (LIKE carts INCLUDING ALL)",
-                    "CREATE TABLE stock (id integer PRIMARY KEY, pieces integer NOT NULL CHECK (pieces >= 0))", "INSERT INTO stock VALUES (5, 10)",
-                    "SELECT escrow.reservable('stock', 'pieces')")
-        held, bought = SQL_BLOCK.findall(HOLDS.read_text())
-        with proxy.connect() as it:
-            for statement in held.rstrip(";\n").split(";"):
-                it.execute(statement.encode())
-        with cluster.connect() as it:
-            found = it.execute('SELECT name, relation::text, key, "column", change FROM escrow.holds').fetchall()
-            assert found == [("cart-17", "stock", "5", "pieces", -2)], found
-        with proxy.connect() as it:
-            for statement in bought.rstrip(";\n").split(";"):
-                it.execute(statement.encode())
-        with cluster.connect() as it:
-            found = it.execute("SELECT s.pieces, o.person, o.pieces, (SELECT count(*) FROM escrow.holds) FROM stock AS s, orders AS o").fetchall()
-            assert found == [(8, "ada", 2, 0)], found
+    with installed() as (cluster,):
+        with Proxy(cluster) as proxy:
+            cluster.run("CREATE TABLE carts (id integer PRIMARY KEY, person text, pieces integer)", "CREATE TABLE orders (LIKE carts INCLUDING ALL)",
+                        "CREATE TABLE stock (id integer PRIMARY KEY, pieces integer NOT NULL CHECK (pieces >= 0))", "INSERT INTO stock VALUES (5, 10)",
+                        "SELECT escrow.reservable('stock', 'pieces')")
+            held, bought = SQL_BLOCK.findall(HOLDS.read_text())
+            with proxy.connect() as it:
+                for statement in held.rstrip(";\n").split(";"):
+                    it.execute(statement.encode())
+            with cluster.connect() as it:
+                found = it.execute('SELECT name, relation::text, key, "column", change FROM escrow.holds').fetchall()
+                assert found == [("cart-17", "stock", "5", "pieces", -2)], found
+            with proxy.connect() as it:
+                for statement in bought.rstrip(";\n").split(";"):
+                    it.execute(statement.encode())
+            with cluster.connect() as it:
+                found = it.execute("SELECT s.pieces, o.person, o.pieces, (SELECT count(*) FROM escrow.holds) FROM stock AS s, orders AS o").fetchall()
+                assert found == [(8, "ada", 2, 0)], found
 
 
 if __name__ == "__main__":

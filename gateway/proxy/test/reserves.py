@@ -161,6 +161,11 @@ def an_error_is_that_of_postgres(cluster: Cluster, proxy: Proxy) -> None:
     expect(pieces(cluster, key), 0)
 
 
+def shows(cluster: Cluster, key: int, left: int) -> bool:
+    """Returns whether a row shows so many pieces."""
+    return pieces(cluster, key) == left
+
+
 @case
 def ends_of_transactions(cluster: Cluster, proxy: Proxy) -> None:
     key = row(cluster, 100)
@@ -177,7 +182,7 @@ def ends_of_transactions(cluster: Cluster, proxy: Proxy) -> None:
                 pass
             it.execute("ROLLBACK")
             left -= 3 * is_kept
-            wait_until(f"the row shows {end}", lambda: pieces(cluster, key) == left)
+            wait_until(f"the row shows {end}", partial(shows, cluster, key, left))
             # The server has just that left.
             other.execute("BEGIN")
             expect(take(other, key, left), "UPDATE 1", end)

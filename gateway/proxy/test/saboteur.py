@@ -107,8 +107,8 @@ def nobody_acts_for_others(cluster: Cluster) -> None:
                    "CREATE TABLE mallory.t (i integer); INSERT INTO mallory.t SELECT generate_series(1, 9); CREATE INDEX ON mallory.t (mallory.f(i))")
     for call in ("ordinary('public.stock')", "take('cart')", "release('cart')", "prolong('cart', '1 day')", "hold('mine', '1 day')"):
         with cluster.connect("mallory") as it:
-            it.execute(f"CREATE OR REPLACE FUNCTION mallory.g() RETURNS void LANGUAGE plpgsql AS $$ BEGIN PERFORM escrow.{call}; END $$; "
-                       "CREATE OR REPLACE FUNCTION mallory.f(i integer) RETURNS integer LANGUAGE plpgsql IMMUTABLE AS 'BEGIN PERFORM mallory.g(); RETURN i; END'".encode())
+            for name, kind, acts in (("g()", "void", f"PERFORM escrow.{call};"), ("f(i integer)", "integer IMMUTABLE", "PERFORM mallory.g(); RETURN i;")):
+                it.execute(f"CREATE OR REPLACE FUNCTION mallory.{name} RETURNS {kind} LANGUAGE plpgsql AS $$ BEGIN {acts} END $$".encode())
         with cluster.connect() as it:
             with refused(errors.InsufficientPrivilege, "within security-restricted operation"):
                 it.execute("ANALYZE mallory.t /* escrow.hold */")

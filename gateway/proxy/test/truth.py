@@ -589,7 +589,8 @@ class Run:
     def told(self) -> str:
         """Returns what was done, in words."""
         times = "; ".join(f"{name} {statistics.median(it):.1f} (worst {max(it):.1f})" for name, it in self.times.items())
-        return (f"{sum(self.kills.values())} kills, {self.takeovers()} takeovers: {dict(self.kills)}\n  {dict(self.sums)}; errors {dict(self.refused)}; {self.looks} looks\n"
+        return (f"{sum(self.kills.values())} kills, {self.takeovers()} takeovers: {dict(self.kills)}\n"
+                f"  {dict(self.sums)}; errors {dict(self.refused)}; {self.looks} looks\n"
                 f"  seconds until {GOES_ON} more orders: {times}")
 
 
