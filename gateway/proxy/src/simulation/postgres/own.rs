@@ -432,7 +432,7 @@ impl Postgres {
             rises: vec![(key, rise)],
             removed: rows.iter().map(|row| row.grant).collect(),
             marked: (is_its && is_free)
-                .then(|| (key, None))
+                .then_some((key, None))
                 .into_iter()
                 .collect(),
             ..Record::default()
