@@ -104,7 +104,7 @@ pub struct Serve {
     #[arg(long, value_name = "MILLISECONDS", default_value = "100", value_parser = milliseconds)]
     pub fold_wait: Duration,
 
-    /// How many threads serve clients: by itself one for four processors. Where the proxy has a machine
+    /// How many threads serve clients: by itself one for two processors. Where the proxy has a machine
     /// of its own, it may have more
     #[arg(long, value_name = "NUMBER", value_parser = clap::value_parser!(u16).range(1..=1024))]
     pub threads: Option<u16>,

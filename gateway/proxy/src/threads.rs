@@ -16,7 +16,7 @@ use crate::relay::{self, Service};
 use crate::stream::{Detached, Stream};
 
 /// For how many processors there is a thread. On one machine with PostgreSQL and clients, these have more to do for a message.
-const PROCESSORS: usize = 4;
+const PROCESSORS: usize = 2;
 
 /// A timer that ends before all others has its thread wake itself as it begins. One that ends as often as this is always
 /// there, so those that limit how long an UPDATE waits don't.
