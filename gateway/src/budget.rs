@@ -155,6 +155,19 @@ impl Charge {
         true
     }
 
+    /// Returns how many bytes it has.
+    pub fn bytes(&self) -> u64 {
+        self.bytes
+    }
+
+    /// Gives them back to the part of a pool that they were taken of. They stay taken of the pool that this is a part of.
+    pub fn leave_part(&mut self) {
+        if let Some(of) = self.pool.0.of.clone() {
+            self.pool.0.taken.set(self.pool.taken() - self.bytes);
+            self.pool = of;
+        }
+    }
+
     /// Gives all bytes back.
     pub fn clear(&mut self) {
         self.pool.remove(self.bytes);
@@ -186,6 +199,8 @@ mod tests {
         assert_eq!((one.taken(), two.taken(), all.taken()), (60, 0, 60));
         assert!(first.set(5) && !first.set(61) && first.set(7));
         assert_eq!((one.taken(), all.taken()), (7, 7));
+        first.leave_part();
+        assert_eq!((one.taken(), all.taken(), first.bytes()), (0, 7, 7));
         drop(first);
         assert_eq!((one.taken(), all.taken()), (0, 0));
         assert!(all.take(usize::MAX).is_none());

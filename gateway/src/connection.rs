@@ -22,6 +22,7 @@ use std::rc::Rc;
 use std::time::{Duration, Instant};
 
 use crate::budget::{Charge, Pool};
+use crate::leftovers::Leftovers;
 use crate::reply::Question;
 use crate::rows::spool::Spill;
 use crate::rows::Definitions;
@@ -61,6 +62,8 @@ pub struct Settings {
     pub statements: KnownStatements,
     /// The memory of all connections.
     pub memory: Pool,
+    /// What connections no longer use.
+    pub leftovers: Rc<Leftovers>,
     /// The disk for rows of all connections that wait for their clients.
     pub disk: Pool,
 }
@@ -230,7 +233,7 @@ impl Connection {
         let variables = Variables::new(&settings.version, "", settings.limits);
         let limit = now.checked_add(settings.startup);
         Connection {
-            prepared: Prepared::new(&settings.memory),
+            prepared: Prepared::new(&settings.memory, &settings.leftovers),
             spill: None,
             waiting: settings.memory.charge(),
             settings,

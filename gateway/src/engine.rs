@@ -195,6 +195,7 @@ impl Engine {
         // Of clients that left, transactions are rolled back.
         self.write_to_programs();
         self.keep_deadlines();
+        is_more |= self.settings.leftovers.free_some();
         is_more || !self.queue.is_empty()
     }
 

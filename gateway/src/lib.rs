@@ -10,6 +10,7 @@ pub mod budget;
 pub mod catalog;
 pub mod connection;
 pub mod decimal;
+pub mod leftovers;
 pub mod limits;
 pub mod queue;
 pub mod reply;

@@ -11,6 +11,7 @@ use crate::budget::{Charge, Pool};
 use crate::catalog::Parameter;
 use crate::connection::catalog::RawValue;
 use crate::connection::results::Rows;
+use crate::leftovers::Leftovers;
 use crate::rows::Definition;
 use crate::sqlstate::{Failure, Report, SqlState};
 use crate::statement::constant::Input;
@@ -48,7 +49,7 @@ pub struct Statement {
     pub types: Vec<Oid>,
     /// The columns that the client was told last.
     pub described: RefCell<Option<Rc<[Column]>>>,
-    charge: Option<Charge>,
+    charge: RefCell<Option<Charge>>,
 }
 
 impl Statement {
@@ -59,7 +60,7 @@ impl Statement {
             parsed,
             types,
             described: RefCell::default(),
-            charge: None,
+            charge: RefCell::default(),
         }
     }
 
@@ -350,6 +351,8 @@ pub struct Prepared {
     portals: HashMap<String, Portal>,
     /// What they all take.
     memory: Pool,
+    /// Where they go when many are removed at once.
+    leftovers: Rc<Leftovers>,
 }
 
 fn too_many(what: &str) -> Failure {
@@ -362,11 +365,12 @@ fn too_many(what: &str) -> Failure {
 
 impl Prepared {
     /// Returns none as yet, which will take their memory of that of all connections.
-    pub fn new(memory: &Pool) -> Prepared {
+    pub fn new(memory: &Pool, leftovers: &Rc<Leftovers>) -> Prepared {
         Prepared {
             statements: HashMap::new(),
             portals: HashMap::new(),
             memory: memory.part(MOST_BYTES),
+            leftovers: Rc::clone(leftovers),
         }
     }
 
@@ -400,10 +404,11 @@ impl Prepared {
                 format!("prepared statement \"{}\" already exists", name),
             ));
         }
-        statement.charge = self.memory.take(name.len() + statement.size());
-        if self.statements.len() == MOST_STATEMENTS || statement.charge.is_none() {
+        let charge = self.memory.take(name.len() + statement.size());
+        if self.statements.len() == MOST_STATEMENTS || charge.is_none() {
             return Err(too_many("prepared statements"));
         }
+        statement.charge = charge.into();
         self.statements.insert(name.to_owned(), Rc::new(statement));
         Ok(())
     }
@@ -415,7 +420,12 @@ impl Prepared {
 
     /// Removes all prepared statements.
     pub fn remove_statements(&mut self) {
-        self.statements = HashMap::new();
+        let statements = mem::take(&mut self.statements);
+        let charges = statements.values().map(|it| it.charge.borrow_mut());
+        let bytes = charges.map(|mut it| leave_part(&mut it)).sum();
+        let pieces = statements.into_values();
+        self.leftovers
+            .add(bytes, pieces.map(|it| bytes_of(&it.charge.borrow())));
     }
 
     /// Returns a portal.
@@ -470,7 +480,35 @@ impl Prepared {
 
     /// Removes all portals, because the transaction ends.
     pub fn drop_portals(&mut self) {
-        self.portals.clear();
-        self.portals.shrink_to(USUAL_PORTALS);
+        if self.portals.len() <= USUAL_PORTALS {
+            self.portals.clear();
+            self.portals.shrink_to(USUAL_PORTALS);
+            return;
+        }
+        let mut portals = mem::take(&mut self.portals);
+        let charges = portals.values_mut().map(|it| &mut it.charge);
+        let bytes = charges.map(leave_part).sum();
+        let pieces = portals.into_values();
+        self.leftovers
+            .add(bytes, pieces.map(|it| bytes_of(&it.charge)));
     }
+}
+
+impl Drop for Prepared {
+    fn drop(&mut self) {
+        self.drop_portals();
+        self.remove_statements();
+    }
+}
+
+fn bytes_of(charge: &Option<Charge>) -> u64 {
+    charge.as_ref().map_or(0, Charge::bytes)
+}
+
+/// Lets a charge count for all connections alone. Returns its bytes.
+fn leave_part(charge: &mut Option<Charge>) -> u64 {
+    if let Some(charge) = charge {
+        charge.leave_part();
+    }
+    bytes_of(charge)
 }

@@ -30,6 +30,7 @@ fn settings() -> Rc<Settings> {
         definitions: vec![Definitions::default(), Definitions::default()],
         statements: KnownStatements::default(),
         memory: Pool::new(u64::MAX),
+        leftovers: Rc::default(),
         disk: Pool::new(u64::MAX),
     })
 }

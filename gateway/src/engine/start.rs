@@ -84,6 +84,7 @@ impl Engine {
                 definitions,
                 statements: KnownStatements::default(),
                 memory: memory::of_connections(),
+                leftovers: Rc::default(),
                 disk: Pool::new(spool::MOST_OF_ALL),
             }),
             metrics,

@@ -1,8 +1,8 @@
 //! SELECTs of whole tables, which take turns with all other statements.
 //!
 //! The program serves one statement after another. One SELECT of a large table takes it as long as thousands of other
-//! statements. So no more than one of these is on its way at a time, and behind it the others get as much time as it
-//! took, if one of them had to wait for it.
+//! statements. So no more than one of these is on its way at a time, and behind it the others have the program for
+//! themselves, if one of them had to wait for it: for as long as it took, or four times as long if that is felt.
 //!
 //! Each statement passes [`LongSelects::admit`]. If its asker has a statement that waits, the new one waits behind it,
 //! whatever their sessions are. So the statements of a client reach the program in the order in which they were asked.
@@ -17,8 +17,15 @@ use super::sessions::{Asked, Asker, Number};
 /// A result of more rows than this is long: these take the program about a millisecond.
 const LONG: u64 = 250;
 
+/// Who waits so long for a SELECT feels it.
+const FELT: Duration = Duration::from_millis(20);
+
+/// How many times as long others have the program for themselves behind a SELECT that was felt. So these get a fifth of
+/// its time.
+const OTHERS: u32 = 4;
+
 /// How long others have the program for themselves at the most.
-const MOST_PAUSE: Duration = Duration::from_secs(1);
+const MOST_PAUSE: Duration = Duration::from_secs(4);
 
 /// How many statements are known by their text. Beyond that all are forgotten, and learnt again.
 const MOST_KNOWN: usize = 256;
@@ -113,7 +120,9 @@ impl LongSelects {
         };
         let is_long = rows > LONG;
         if is_long && others_wait {
-            self.pause = Some(now + now.duration_since(sent.since).min(MOST_PAUSE));
+            let took = now.duration_since(sent.since);
+            let times = if took > FELT { OTHERS } else { 1 };
+            self.pause = Some(now + took.saturating_mul(times).min(MOST_PAUSE));
         }
         if self.known.len() == MOST_KNOWN {
             self.known.clear();
@@ -238,7 +247,7 @@ mod tests {
         assert!(!turns.select(2, SMALL), "it may be long");
         assert!(turns.asked_now().is_empty() && turns.long.deadline().is_none());
         let begin = turns.now;
-        turns.now += second / 2;
+        turns.now += second / (1 + OTHERS);
         turns.answer(Some(LONG + 1), true);
         assert!(turns.asked_now().is_empty());
         assert_eq!(turns.long.deadline(), Some(begin + second));
@@ -249,6 +258,13 @@ mod tests {
         assert!(turns.long.leave(client(2)).is_empty());
         turns.answer(Some(LONG + 1), false);
         assert!(turns.asked_now().is_empty());
+        // One that nobody felt is followed by as much time as it took.
+        assert!(turns.select(3, BIG));
+        let begin = turns.now;
+        turns.now += FELT;
+        turns.answer(Some(LONG + 1), true);
+        assert!(!turns.select(3, BIG));
+        assert_eq!(turns.long.deadline(), Some(begin + 2 * FELT));
     }
 
     #[test]

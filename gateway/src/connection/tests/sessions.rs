@@ -274,6 +274,38 @@ fn show_statistics_counts_what_the_connection_asked() {
 }
 
 #[test]
+fn what_a_client_leaves_is_freed_in_turns_and_counts_against_it_no_more() {
+    const MANY: u64 = 48 << 20;
+    let settings = settings();
+    let mut client = Client::connected_with(settings.clone());
+    let fill = |client: &mut Client| {
+        let names = (0..).map(|at| format!("s{}", at));
+        for name in names.take_while(|_| settings.memory.taken() < MANY) {
+            client.send(&parse(&name, "SELECT 1", &[23; 32_767]));
+            client.send(&bind(&name, &name, &[None; 32_767], 0, 0));
+            assert_eq!(client.output(), ["parsed", "bound"]);
+        }
+    };
+    client.ask("BEGIN", &[]);
+    fill(&mut client);
+    // A client has 64 MiB. What it had before isn't freed yet, and the same names are free.
+    client.ask("COMMIT; DEALLOCATE ALL", &[]);
+    assert!(settings.memory.taken() > MANY - (1 << 20));
+    client.send(&parse("s0", "SELECT 1", &[23; 32_767]));
+    assert_eq!(client.output(), ["parsed"]);
+    let turns = std::iter::from_fn(|| settings.leftovers.free_some().then_some(())).count();
+    assert!(turns > 20, "{}", turns);
+    assert!(settings.memory.taken() < 500_000);
+    // So it is if a client ends.
+    client.ask("BEGIN; DEALLOCATE ALL", &[]);
+    fill(&mut client);
+    drop(client);
+    assert!(settings.leftovers.free_some() && settings.memory.taken() > MANY / 2);
+    while settings.leftovers.free_some() {}
+    assert_eq!(settings.memory.taken(), 0);
+}
+
+#[test]
 fn a_connection_that_rests_gives_its_memory_back() {
     let rest = Duration::from_secs(1);
     let mut client = Client::connected();
