@@ -23,7 +23,7 @@ from pathlib import Path
 from typing import Callable, Dict, FrozenSet, Iterator, List, Optional, Sequence, Tuple
 
 from clients import honest, wire
-from clients.servers import PATIENCE, TRANSACTIONS, Gateway, holds, resident, wait_until
+from clients.servers import PATIENCE, TRANSACTIONS, Gateway, holds, keeps, resident, wait_until
 from clients.suite import Part, expect, main
 from clients.wire import Connection
 
@@ -889,22 +889,22 @@ def print_soak(minutes: float) -> int:
         honest.prepare(gateway.socket)
         fill_big(gateway.socket, 5000, 200)
         honest.result(honest.apart(gateway.socket, 40, 10.0))  # what is taken once, and kept
-        first = holds(process) / MB
+        first = keeps(process) / MB
         shown = [("attack", "seconds", "before", "most", "behind", "p99 of the clients, ms", "")]
         each = 60 * minutes / len(ATTACKS)
         for name in ATTACKS:
-            before = holds(process) / MB
+            before = keeps(process) / MB
             Path(f"/proc/{process}/clear_refs").write_text("5", encoding="utf-8")
             clients = honest.apart(gateway.socket, 40, each - 3.0)
             said = finish(begin(name, gateway.socket, each - 4.0))
             times = honest.result(clients)
             most = resident(process) / MB
             time.sleep(2.0)
-            shown.append((name, f"{each:.0f}", f"{before:.1f}", f"{most:.1f}", f"{holds(process) / MB:.1f}", f"{times.p99:.1f}", said[:60]))
+            shown.append((name, f"{each:.0f}", f"{before:.1f}", f"{most:.1f}", f"{keeps(process) / MB:.1f}", f"{times.p99:.1f}", said[:60]))
             print(table(shown[:1] + shown[-1:]), file=sys.stderr, flush=True)
         honest.result(honest.apart(gateway.socket, 40, 10.0))
         time.sleep(2.0)
-        last = holds(process) / MB
+        last = keeps(process) / MB
         print(table(shown), f"\nat its beginning {first:.1f} MB, at its end {last:.1f} MB: {'level' if last - first <= 2.0 else 'NOT level'}")
         gateway.expect_clean_end()
         return int(last - first > 2.0)

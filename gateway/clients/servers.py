@@ -78,6 +78,11 @@ def holds(process: int) -> int:
     return memory(process, "VmRSS:")
 
 
+def keeps(process: int) -> int:
+    """Returns the bytes of memory that a process holds now, without the pages of its program's file that it has run so far."""
+    return memory(process, "RssAnon:")
+
+
 def memory(process: int, name: str) -> int:
     """Returns an amount of memory that the system tells of a process."""
     for line in Path(f"/proc/{process}/status").read_text(encoding="utf-8").splitlines():
