@@ -36,13 +36,13 @@ IN_A_STORE: Mapping[str, Optional[Path]] = {"bank": Path("bank.db")}
 Self = TypeVar("Self", bound="Server")
 
 
-def wait_until(what: str, is_so: Callable[[], object], seconds: float = START) -> None:
-    """Waits until something holds. Fails if it does not hold in time."""
+def wait_until(what: str, is_so: Callable[[], object], seconds: float = START, pause: float = 0.005) -> None:
+    """Waits until something holds, which it asks again behind each pause. Fails if it does not hold in time."""
     end = time.monotonic() + seconds
     while not is_so():
         if time.monotonic() > end:
             raise AssertionError(f"not within {seconds} s: {what}")
-        time.sleep(0.005)
+        time.sleep(pause)
 
 
 def is_answered(path: Path) -> bool:

@@ -1,6 +1,6 @@
 """Buyers for the test that kills: each writes orders and takes their pieces from the stock, in one transaction, in all ways that clients do.
 
-    python3 -m proxy.test.buyers [--careless] [--kinds KIND ..] -- FIRST COUNT SEED FILE DSN [DSN ..]
+    python3 -m proxy.test.buyers [--careless] [--thinking SECONDS] [--kinds KIND ..] -- FIRST COUNT SEED FILE DSN [DSN ..]
 
 Each order has a key of its own. FILE gets a line for what is known of it: `answered` if its COMMIT was answered, `aborted` if it cannot be there,
 `unknown` if the connection was lost amid COMMIT; such an order is repeated with the same key until something is known. `fault` is an answer that
@@ -16,7 +16,7 @@ import sys
 import threading
 import time
 from dataclasses import dataclass, field
-from typing import Any, Callable, Dict, List, NamedTuple, Optional, Sequence, Tuple
+from typing import Any, Callable, Dict, List, NamedTuple, Optional, Tuple
 
 import psycopg
 from psycopg import errors
@@ -92,15 +92,22 @@ class Order:
 class Till:
     """A connection, and how it says a thing: a draw decides for each statement."""
 
-    def __init__(self, connection: Connection, order: Order, draw: random.Random) -> None:
-        self.connection, self.order, self.draw = connection, order, draw
+    def __init__(self, connection: Connection, order: Order, draw: random.Random, thinking: float = 0.0) -> None:
+        self.connection, self.order, self.draw, self.thinking = connection, order, draw, thinking
+
+    def think(self) -> None:
+        """Waits before one statement of three, up to so many seconds."""
+        if self.thinking and self.draw.randrange(3) == 0:
+            time.sleep(self.draw.uniform(0, self.thinking))
 
     def run(self, statement: str, *values: object) -> "psycopg.Cursor[Any]":
         """Runs a statement: without values by the simple protocol."""
+        self.think()
         return self.connection.execute(statement.encode(), values or None)
 
     def run_prepared(self, name: bytes, *values: object) -> str:
         """Runs a statement that was prepared under a name. Returns its tag."""
+        self.think()
         result = self.connection.pgconn.exec_prepared(name, [str(it).encode() for it in values])
         if result.status != ExecStatus.COMMAND_OK:
             raise errors.error_from_result(result)
@@ -541,10 +548,9 @@ def is_lost(error: psycopg.Error, connection: Connection) -> bool:
 class Buyer(threading.Thread):
     """A connection that writes one order after another."""
 
-    def __init__(self, name: str, seed: int, dsns: List[str], file: int, stop: threading.Event, kinds: Sequence[str], is_careless: bool) -> None:
+    def __init__(self, name: str, seed: int, file: int, stop: threading.Event, asked: argparse.Namespace) -> None:
         super().__init__()
-        self.buyer, self.draw, self.dsns, self.file, self.stop = name, random.Random(seed), dsns, file, stop
-        self.kinds, self.is_careless = kinds, is_careless
+        self.buyer, self.draw, self.file, self.stop, self.asked = name, random.Random(seed), file, stop, asked
         self.connection: Optional[Connection] = None
         self.count = 0
 
@@ -557,7 +563,7 @@ class Buyer(threading.Thread):
         while self.connection is None or self.connection.closed:
             try:
                 # A string of its own may have a shorter one.
-                dsn = f"connect_timeout=30 {self.draw.choice(self.dsns)}"
+                dsn = f"connect_timeout=30 {self.draw.choice(self.asked.dsns)}"
                 self.connection = psycopg.connect(dsn, autocommit=True, prepare_threshold=None)
                 for name, statement in PREPARED.items():
                     result = self.connection.pgconn.prepare(name, statement)
@@ -567,7 +573,7 @@ class Buyer(threading.Thread):
                     self.connection.execute("SET escrow.wait = off")
             except psycopg.Error:
                 self.connection = None
-                time.sleep(self.draw.uniform(0.01, 0.1))
+                time.sleep(self.draw.uniform(0.02, 0.2))
                 if self.stop.is_set():
                     sys.exit()
         return self.connection
@@ -575,7 +581,7 @@ class Buyer(threading.Thread):
     def run(self) -> None:
         while not self.stop.is_set():
             self.count += 1
-            chosen = self.draw.choices(self.kinds, [KINDS[it][0] for it in self.kinds])[0]
+            chosen = self.draw.choices(self.asked.kinds, [KINDS[it][0] for it in self.asked.kinds])[0]
             seed = self.draw.getrandbits(32)
             key = f"{self.buyer}.{self.count}"
             # What is not known is asked by a repeat, in the same words.
@@ -586,9 +592,9 @@ class Buyer(threading.Thread):
     def tried(self, order: Order) -> bool:
         """Tries an order. Returns whether its outcome is known, or nobody will ask for it."""
         connection = self.connected()
-        till = Till(connection, order, random.Random(order.seed))
+        till = Till(connection, order, random.Random(order.seed), self.asked.thinking)
         try:
-            (Careless.act if self.is_careless else KINDS[order.kind][1])(till)
+            (Careless.act if self.asked.careless else KINDS[order.kind][1])(till)
         except errors.UniqueViolation:
             self.ended(order, "answered")  # the first try was committed
         except psycopg.Error as error:
@@ -616,7 +622,7 @@ class Buyer(threading.Thread):
 
     def ended(self, order: Order, outcome: str) -> None:
         """Says how an order ended."""
-        if order.kind == alone.__name__ and not self.is_careless:
+        if order.kind == alone.__name__ and not self.asked.careless:
             self.say("alone", outcome)
             return
         for what, lines in ((outcome, order.kept), ("aborted", order.dropped)):
@@ -636,6 +642,7 @@ class Buyer(threading.Thread):
 def main() -> None:
     parser = argparse.ArgumentParser()
     parser.add_argument("--careless", action="store_true")
+    parser.add_argument("--thinking", type=float, default=0.0)
     parser.add_argument("--kinds", nargs="+", default=list(KINDS), choices=list(KINDS))
     parser.add_argument("first", type=int)
     parser.add_argument("count", type=int)
@@ -646,8 +653,7 @@ def main() -> None:
     said = os.open(asked.file, os.O_WRONLY | os.O_CREAT | os.O_APPEND)
     stop = threading.Event()
     signal.signal(signal.SIGTERM, lambda *_: stop.set())
-    buyers = [Buyer(f"{asked.seed}.{it}", asked.seed * 1000 + it, asked.dsns, said, stop, asked.kinds, asked.careless)
-              for it in range(asked.first, asked.first + asked.count)]
+    buyers = [Buyer(f"{asked.seed}.{it}", asked.seed * 1000 + it, said, stop, asked) for it in range(asked.first, asked.first + asked.count)]
     for it in buyers:
         it.start()
     for it in buyers:

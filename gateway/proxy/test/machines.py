@@ -2,7 +2,7 @@
 """A cluster of Debian's parts: etcd, two PostgreSQL under Patroni, two escrowd-proxies. Forty buyers order while machines die or are cut off.
 
     python3 -m proxy.test.machines [CASE ..]
-    python3 -m proxy.test.machines --failures N [--asynchronous] [--on-ports] [--only WORD ..] [--each N] [--seconds N] [--seed N]
+    python3 -m proxy.test.machines --failures N [--asynchronous] [--on-ports] [--only WORD ..] [--each N] [--seconds N] [--seed N] [--thinking SECONDS]
     python3 -m proxy.test.machines --keep [--asynchronous] [--on-ports]
 
 Run it in the folder gateway; it needs Debian's packages patroni and etcd-server. The settings are packaging/etcd.env, patroni.yml and patroni.env.
@@ -38,7 +38,7 @@ from clients.suite import Part, expect, main
 from proxy.test.buyers import BUYER, MERCHANT, RIGHTS, ROLES, TABLES
 from proxy.test.harness import PROXY
 from proxy.test.nodes import PASSWORD, READY, Elected, Etcd, Front, Host, Namespace, Network, Node
-from proxy.test.truth import GOES_ON, Lines, Said, Scene, Watch, shown
+from proxy.test.truth import GOES_ON, ByHand, Lines, Said, Scene, Watch, shown
 
 PART = Part("proxy_machines")
 # The seconds in which others notice a failure, and in which orders go on behind it.
@@ -54,8 +54,8 @@ MACHINES = {"db1": 11, "db2": 12, "etcd1": 21, "etcd2": 22, "etcd3": 23, "proxy1
 class Machines(Scene):
     """The cluster, with the tables and the proxies."""
 
-    def __init__(self, is_synchronous: bool = True, has_network: bool = False) -> None:
-        super().__init__(2, is_lazy=not is_synchronous)
+    def __init__(self, is_synchronous: bool = True, has_network: bool = False, by_hand: ByHand = ByHand()) -> None:
+        super().__init__(2, is_lazy=not is_synchronous, by_hand=by_hand)
         shutil.rmtree(self.cluster.folder, ignore_errors=True)  # of a PostgreSQL that is not started
         spaces = [Namespace(name, f"10.0.0.{number}") for name, number in MACHINES.items()] if has_network else []
         self.network = Network(spaces) if has_network else None
@@ -444,12 +444,18 @@ def section(scene: Machines, seed: int, names: Sequence[str], is_last: bool = Fa
     pauses: Dict[str, List[float]] = defaultdict(list)
     with scene.buying(seed) as said, Pace(said) as pace:
         watch.start()
+        wrong: List[str] = []
         for at, name in enumerate(names, 1):
-            pauses[name].append(fail(scene, pace, name, is_last and at == len(names)))
+            try:
+                pauses[name].append(fail(scene, pace, name, is_last and at == len(names)))
+            except AssertionError as fault:  # orders may be lost too
+                wrong = [f"{name}: {fault}"]
+                shown(f"  {wrong}")
+                break
             shown(f"  {name}: {pauses[name][-1]:.1f} s without service")
     watch.is_off.set()
     watch.join()
-    wrong = scene.examine(said) + ([watch.wrong] if watch.wrong else [])
+    wrong += scene.examine(said) + ([watch.wrong] if watch.wrong else [])
     if wrong:
         raise AssertionError(f"seed {seed}, {names}:\n  " + "\n  ".join(wrong[:20]))
     return Outcome(pauses, said.count(), len(said.answered - set(scene.found().orders)))
@@ -519,7 +525,7 @@ def keep(scene: Machines) -> None:
         signal.pause()
 
 
-def by_hand() -> None:
+def asked_by_hand() -> None:
     parser = argparse.ArgumentParser(description=__doc__, formatter_class=argparse.RawDescriptionHelpFormatter,
                                      epilog="\n".join(f"  {name:28}{act.__doc__}" for name, act in all_failures().items()))
     parser.add_argument("--failures", type=int, default=1)
@@ -529,6 +535,7 @@ def by_hand() -> None:
     parser.add_argument("--each", type=int, default=5)
     parser.add_argument("--seconds", type=float, default=1e9)
     parser.add_argument("--seed", type=int, default=random.randrange(1_000_000))
+    parser.add_argument("--thinking", type=float, default=0.0)
     parser.add_argument("--logs", type=Path, help="a folder that gets what all servers have said")
     parser.add_argument("--keep", action="store_true")
     parser.add_argument("--in-namespace", action="store_true", help=argparse.SUPPRESS)
@@ -540,7 +547,7 @@ def by_hand() -> None:
     end = time.monotonic() + asked.seconds
     print(f"seed {asked.seed}", flush=True)
     random.seed(asked.seed)
-    with Machines(not asked.asynchronous, has_network=asked.in_namespace) as scene:
+    with Machines(not asked.asynchronous, asked.in_namespace, ByHand(thinking=asked.thinking)) as scene:
         shown("the cluster serves")
         if asked.keep:
             keep(scene)
@@ -557,7 +564,7 @@ def by_hand() -> None:
 if __name__ == "__main__":
     if any(it.startswith("-") for it in sys.argv[1:]):
         try:
-            by_hand()
+            asked_by_hand()
         except AssertionError as fault:
             print(*heard(fault), sep="\n")
             raise

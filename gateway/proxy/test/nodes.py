@@ -151,7 +151,7 @@ class Node(OnHost):
         self.host, self.is_synchronous = host, is_synchronous
         self.address, self.rest = host.place(5432), host.place(8008)
         self.data = self.folder / "home/data"
-        own = {"NAME": host.name, "ETCD3_HOSTS": ",".join(it.address for it in etcds), "RESTAPI_LISTEN": self.rest, "RESTAPI_CONNECT_ADDRESS": self.rest,
+        own = {"NAME": host.name, "ETCD_HOSTS": ",".join(it.address for it in etcds), "RESTAPI_LISTEN": self.rest, "RESTAPI_CONNECT_ADDRESS": self.rest,
                "POSTGRESQL_LISTEN": self.address, "POSTGRESQL_CONNECT_ADDRESS": self.address, "POSTGRESQL_DATA_DIR": str(self.data),
                "POSTGRESQL_BIN_DIR": str(postgres_binary("postgres").parent), "POSTGRESQL_PGPASS": str(self.folder / "home/pgpass"),
                "SUPERUSER_USERNAME": "clerk", "SUPERUSER_PASSWORD": PASSWORD}

@@ -5,6 +5,7 @@ import hashlib
 import random
 import re
 import struct
+import time
 from pathlib import Path
 from typing import Any, Dict, List, NamedTuple, Optional, Sequence, Tuple
 
@@ -48,7 +49,7 @@ class Cluster(Postgres):
                 self.connect().close()
                 return
             except psycopg.OperationalError:
-                pass
+                time.sleep(0.01)
 
     def connect(self, user: str = "clerk") -> "psycopg.Connection[Any]":
         """Connects as a role. Statements commit by themselves."""

@@ -2,7 +2,7 @@
 """Forty buyers write orders and take their pieces, while proxies, PostgreSQL, backends and connections are killed at random: no sum is ever wrong.
 
     python3 -m proxy.test.truth [--kills N] [--seconds N] [--seed N] [--only WORD ..] [--kinds KIND ..] [--proxies N] [--each N]
-                            [--straight] [--lazy] [--standby] [--without RULE]
+                            [--straight] [--lazy] [--standby] [--without RULE] [--processes N] [--thinking SECONDS] [--pairs] [--kept FOLDER]
 
 Run it in the folder gateway. Behind each kill orders have to go on. All the time, PostgreSQL is asked for a row whose stock with its journal, in one
 snapshot, is not what it was at the beginning without the orders. Behind each section of kills the buyers end, and then each order whose COMMIT was
@@ -10,6 +10,9 @@ answered is there, none is there that was rolled back, of no order a part is the
 the server gives just that, and no fold was refused. --straight leaves the proxy out, so that the test itself is tested. --lazy turns
 synchronous_commit off; then a crash of PostgreSQL may lose answered COMMITs, and nothing else. --standby adds a synchronous standby, which is promoted
 at the end. --without takes a rule away from schema escrow, so that something has to be wrong.
+
+For many kills by hand: --processes has that many times ten buyers. With --thinking they wait within their transactions, so that a kill costs half of the
+processor. With --pairs some kills are two at once. If something is wrong, FOLDER gets what all servers have left.
 """
 from __future__ import annotations
 
@@ -17,6 +20,7 @@ import argparse
 import os
 import random
 import re
+import shutil
 import signal
 import statistics
 import subprocess
@@ -24,6 +28,7 @@ import sys
 import threading
 import time
 from collections import Counter
+from concurrent.futures import ThreadPoolExecutor
 from contextlib import ExitStack, contextmanager, suppress
 from dataclasses import dataclass, field
 from pathlib import Path
@@ -43,6 +48,8 @@ PART = Part("proxy_truth")
 PROCESSES, EACH = 4, 10
 # The answered orders that have to come behind a kill, and the seconds in which they do: those, or so many times what the start of all took.
 GOES_ON, LIMIT, STARTS = 40, 60.0, 20
+# The seconds between two questions that each need a connection.
+PAUSE = 0.05
 # The seconds behind which a case kills no more.
 SECONDS = 60.0 * PATIENCE
 # What the proxy's log may not have.
@@ -54,7 +61,7 @@ ALARMS = re.compile(r"(?i)panicked|alarm|fold was refused|cannot be folded|the s
 WITHOUT = {
     "twice": ("coalesce(pg_catalog.sum(taken.change_%s), 0)", "coalesce(2 * pg_catalog.sum(taken.change_%s), 0)"),
     "part": ("WHERE j.key OPERATOR(pg_catalog.=) OLD.%2$I RETURNING",
-             "WHERE j.ctid = (SELECT min(i.ctid) FROM escrow.journal_%1$s AS i WHERE i.key = OLD.%2$I) RETURNING"),
+             "WHERE j.ctid = (SELECT max(i.ctid) FROM escrow.journal_%1$s AS i WHERE i.key = OLD.%2$I) RETURNING"),
     "epoch": ("pg_catalog.pg_sequence_last_value('escrow.epoch') OPERATOR(pg_catalog.=) %6$s_%1$s.epoch "
               "AND NOT pg_catalog.pg_try_advisory_xact_lock_shared(%6$s_%1$s.epoch)", "true"),
     "wait": ("WHERE l.locktype = 'relation' AND l.granted AND l.mode = 'RowExclusiveLock'", "WHERE false"),
@@ -181,15 +188,26 @@ class Watch(threading.Thread):
                 return
 
 
+class ByHand(NamedTuple):
+    """What only a run by hand may ask for: how many processes of buyers there are, how long these wait, whether two things may be killed at once, and
+    which folder gets what servers have left."""
+
+    processes: int = PROCESSES
+    thinking: float = 0.0
+    has_pairs: bool = False
+    kept: Optional[Path] = None
+
+
 class Scene:
     """A cluster with the tables, proxies, and forwarders before and behind each of them."""
 
-    def __init__(self, proxies: int, is_lazy: bool = False, has_standby: bool = False, without: str = "") -> None:
+    def __init__(self, proxies: int, is_lazy: bool = False, has_standby: bool = False, without: str = "", by_hand: ByHand = ByHand()) -> None:
         self.stack = ExitStack()
-        self.is_lazy = is_lazy
+        self.is_lazy, self.by_hand = is_lazy, by_hand
         self.change = WITHOUT.get(without)
+        # A look at all orders would be compiled anew each time, which takes longer than the look.
         settings = ("deadlock_timeout=100ms", f"synchronous_commit={'off' if is_lazy else 'on'}", "log_min_messages=fatal", "max_wal_size=4GB",
-                    "max_connections=400")
+                    "max_connections=400", "jit=off")
         self.cluster = Cluster(*settings)
         self.standby = Standby(self.cluster) if has_standby else None
         self.proxies: List[Proxy] = []
@@ -212,7 +230,17 @@ class Scene:
         return self
 
     def __exit__(self, kind: Optional[Type[BaseException]], value: Optional[BaseException], trace: Optional[TracebackType]) -> None:
+        if value is not None and self.by_hand.kept:
+            self.keep(self.by_hand.kept)
         self.stack.__exit__(kind, value, trace)
+
+    def keep(self, folder: Path) -> None:
+        """Ends all servers, and copies what they have left."""
+        servers = [*self.proxies, *([self.standby] if self.standby else []), self.cluster]
+        for it in servers:
+            it.kill()
+        for at, it in enumerate(servers):
+            shutil.copytree(it.folder, folder / f"{at}-{type(it).__name__}", ignore=shutil.ignore_patterns(".s.*"), dirs_exist_ok=True)
 
     def open(self) -> None:
         """Starts all, which tells how slow the machine is."""
@@ -245,10 +273,10 @@ class Scene:
         """Returns how a role connects: to each, and then the others."""
         return [connection_string(self.fronts[at:] + self.fronts[:at], user) for at in range(len(self.fronts))]
 
-    def wait(self, what: str, is_so: Callable[[], object]) -> None:
+    def wait(self, what: str, is_so: Callable[[], object], pause: float = 0.005) -> None:
         """Waits until something holds. Fails with what PostgreSQL's connections do if it does not hold in time."""
         try:
-            wait_until(what, is_so, self.limit)
+            wait_until(what, is_so, self.limit, pause)
         except AssertionError as late:
             query = ("SELECT count(*) || ' ' || concat_ws(' ', application_name, state, wait_event, left(query, 60)) FROM pg_stat_activity "
                      "WHERE backend_type = 'client backend' GROUP BY application_name, state, wait_event, left(query, 60) ORDER BY count(*) DESC")
@@ -271,7 +299,7 @@ class Scene:
                 return False
             return True
 
-        self.wait(f"PostgreSQL answers {query}", is_answered)
+        self.wait(f"PostgreSQL answers {query}", is_answered, 0.02)
         return found
 
     def found(self) -> Found:
@@ -299,11 +327,11 @@ class Scene:
         said = Said(Lines(self.cluster.folder / f"said-{self.section}"))
         if not self.wanted and not kinds:
             kinds = [it for it in KINDS if it not in WITH_ESCROW]
-        more = [*(["--careless"] if is_careless else []), *(["--kinds", *kinds] if kinds else []), "--"]
+        more = [*(["--careless"] if is_careless else []), *(["--kinds", *kinds] if kinds else []), f"--thinking={self.by_hand.thinking}", "--"]
         words = [sys.executable, "-B", "-m", "proxy.test.buyers"]
         buyers = [
             subprocess.Popen([*words, *more, str(place * EACH), str(EACH), str(seed * 1000 + self.section), str(said.lines.path), *self.dsns()], cwd=TOP)
-            for place in range(PROCESSES)
+            for place in range(self.by_hand.processes)
         ]
         try:
             yield said
@@ -320,8 +348,8 @@ class Scene:
     def examine(self, said: Said) -> List[str]:
         """Returns what is wrong, once the buyers have ended."""
         if self.wanted:
-            self.wait("no hold stands", lambda: self.alarms() or not self.ask("SELECT FROM escrow.hold_lines LIMIT 1"))
-            self.wait("the journals are empty, and nothing is reserved", lambda: self.alarms() or self.is_folded() and self.is_decided())
+            self.wait("no hold stands", lambda: self.alarms() or not self.ask("SELECT FROM escrow.hold_lines LIMIT 1"), PAUSE)
+            self.wait("the journals are empty, and nothing is reserved", lambda: self.alarms() or self.is_folded() and self.is_decided(), PAUSE)
         found = self.found()
         wrong = wrongs(said, found, may_lose=self.is_lazy and self.crashes > 0) + self.alarms()
         return wrong or self.reserved(found.stock)
@@ -392,12 +420,15 @@ def kill(needs_proxy: bool) -> Callable[[Callable[[Scene, random.Random], None]]
     return add
 
 
-def owner(scene: Scene, draw: random.Random) -> Proxy:
-    """Returns the proxy that has said last that it is the owner, mostly; or any."""
-    if draw.random() < 0.3:
-        return draw.choice(scene.proxies)
+def present(scene: Scene) -> Proxy:
+    """Returns the proxy that has said last that it is the owner."""
     number, = scene.ask("SELECT last_value FROM escrow.epoch")[0]
     return next((it for it in scene.proxies if f"epoch {number}" in it.said()), scene.proxies[0])
+
+
+def owner(scene: Scene, draw: random.Random) -> Proxy:
+    """Returns the owner, mostly; or any proxy."""
+    return draw.choice(scene.proxies) if draw.random() < 0.3 else present(scene)
 
 
 @kill(needs_proxy=True)
@@ -429,6 +460,25 @@ def program(scene: Scene, draw: random.Random) -> None:
 def own_backend(scene: Scene, draw: random.Random) -> None:
     """One of the proxy's own connections: keeper, folder, loader."""
     terminate(scene, draw, "application_name LIKE 'escrowd-proxy%'", 1)
+
+
+@kill(needs_proxy=True)
+def deaf(scene: Scene, _draw: random.Random) -> None:
+    """The keeper's backend, and the proxy does not hear of it for a while. What it notes, and what it commits, is of a former epoch."""
+    place, each = scene.proxies.index(present(scene)), len(scene.backs) // len(scene.proxies)
+    links = scene.backs[place * each:][:each]
+    for it in links:
+        it.deafen()
+    scene.ask("SELECT pg_terminate_backend(process) FROM escrow.owner()")
+    # Another has to be the owner before it hears of that. By itself it waits for three seconds.
+    until = time.monotonic() + 2.5
+    while len(scene.proxies) > 1 and present(scene) is scene.proxies[place] and time.monotonic() < until:
+        time.sleep(0.05)
+    # Some of its buyers go to the other one, and the others stay.
+    scene.fronts[place].drop()
+    time.sleep(1.0)
+    for it in links:
+        it.deafen()
 
 
 @kill(needs_proxy=True)
@@ -519,6 +569,16 @@ def stall(it: Forwarder, seconds: float) -> None:
     it.go_on()
 
 
+# Of these one at a time.
+OF_POSTGRES = {"postgres", "restart", "backend"}
+
+
+def drawn(names: Sequence[str], has_pairs: bool, draw: random.Random) -> List[str]:
+    """Returns what is killed next: sometimes two at once."""
+    found = draw.sample(names, 2 if has_pairs and len(names) > 1 and draw.random() < 0.4 else 1)
+    return found[:1] if OF_POSTGRES.issuperset(found) else found
+
+
 def terminate(scene: Scene, draw: random.Random, which: str, count: int) -> None:
     """Ends backends."""
     scene.ask(f"SELECT pg_terminate_backend(pid) FROM (SELECT pid FROM pg_stat_activity WHERE backend_type = 'client backend' AND pid <> pg_backend_pid() "
@@ -554,10 +614,13 @@ class Run:
             self.await_more(said, watch)
             for _ in range(count):
                 time.sleep(draw.uniform(0, 0.5))
-                name = draw.choice(self.names)
-                KILLS[name][1](self.scene, draw)
-                self.kills[name] += 1
-                self.times.setdefault(name, []).append(self.await_more(said, watch))
+                names = drawn(self.names, self.scene.by_hand.has_pairs, draw)
+                with ThreadPoolExecutor(len(names)) as threads:
+                    list(threads.map(lambda name, seed: KILLS[name][1](self.scene, random.Random(seed)), names, [draw.getrandbits(32) for _ in names]))
+                self.kills.update(names)
+                seconds = self.await_more(said, watch)
+                for name in names:
+                    self.times.setdefault(name, []).append(seconds)
                 if self.is_wrong(said, watch) or time.monotonic() > self.end:
                     break
             if fails_over:
@@ -570,7 +633,9 @@ class Run:
         print(f"  section {self.scene.section} has ended", flush=True)  # so that the limit of a case is one of a section
         there = set(self.scene.found().orders)
         unknown = {it for keys in said.unknown for it in keys}
-        self.sums += Counter(answered=said.count(), aborted=len(said.aborted), unknown=len(unknown), of_them_committed=len(unknown & there))
+        holds = self.scene.ask("SELECT count(*) FROM escrow.hold_names")[0][0] if self.scene.wanted else 0  # those of all sections
+        self.sums += Counter(answered=said.count(), aborted=len(said.aborted), unknown=len(unknown), of_them_committed=len(unknown & there),
+                             holds=holds - self.sums["holds"])
         self.refused += said.refused
         if wrong:
             raise AssertionError(f"seed {self.seed}, section {self.scene.section}, kills {dict(self.kills)}:\n  " + "\n  ".join(wrong[:20]))
@@ -601,9 +666,9 @@ def chosen(only: Sequence[str], has_proxy: bool) -> List[str]:
 
 
 def run(seed: int, kills: int, *, proxies: int = 2, only: Sequence[str] = (), seconds: float = SECONDS, is_lazy: bool = False, each: int = 10,
-        has_standby: bool = False, without: str = "", kinds: Sequence[str] = ()) -> str:
+        has_standby: bool = False, without: str = "", kinds: Sequence[str] = (), by_hand: ByHand = ByHand()) -> str:
     """Runs so many kills, and at last a failover if there is a standby. Returns what was done."""
-    with Scene(proxies, is_lazy, has_standby, without) as scene:
+    with Scene(proxies, is_lazy, has_standby, without, by_hand) as scene:
         it = Run(scene, seed, chosen(only, proxies > 0), time.monotonic() + seconds, kinds)
         while sum(it.kills.values()) < kills and time.monotonic() < it.end:
             it.section(min(each, kills - sum(it.kills.values())))
@@ -714,7 +779,7 @@ def buyers_without_transactions_are_found() -> None:
         expect(any("and its orders leave" in it for it in found), True, str(found[:3]))
 
 
-def by_hand() -> None:
+def asked_by_hand() -> None:
     parser = argparse.ArgumentParser(description=__doc__, formatter_class=argparse.RawDescriptionHelpFormatter)
     parser.add_argument("--kills", type=int, default=100)
     parser.add_argument("--seconds", type=float, default=1e9)
@@ -727,15 +792,19 @@ def by_hand() -> None:
     parser.add_argument("--lazy", action="store_true")
     parser.add_argument("--standby", action="store_true")
     parser.add_argument("--without", default="", choices=list(WITHOUT))
+    parser.add_argument("--processes", type=int, default=PROCESSES)
+    parser.add_argument("--thinking", type=float, default=0.0)
+    parser.add_argument("--pairs", action="store_true")
+    parser.add_argument("--kept", type=Path)
     asked = parser.parse_args()
     print(f"seed {asked.seed}", flush=True)
     proxies = 0 if asked.straight else asked.proxies
     print(run(asked.seed, asked.kills, proxies=proxies, only=asked.only, seconds=asked.seconds, is_lazy=asked.lazy, each=asked.each,
-              has_standby=asked.standby, without=asked.without, kinds=asked.kinds))
+              has_standby=asked.standby, without=asked.without, kinds=asked.kinds, by_hand=ByHand(asked.processes, asked.thinking, asked.pairs, asked.kept)))
 
 
 if __name__ == "__main__":
     if any(it.startswith("-") for it in sys.argv[1:]):
-        by_hand()
+        asked_by_hand()
     else:
         main(PART)
