@@ -34,6 +34,9 @@ pub enum Place {
     Signed(char, usize),
     /// A value by itself, or one of a query that reads no table.
     Alone,
+    /// A value by itself, and something else behind it. PostgreSQL settles what is by itself last, as a text, and refuses
+    /// what has another type by then.
+    AloneFirst,
     /// Nothing: the text doesn't have it.
     Unused,
 }
@@ -79,6 +82,11 @@ pub fn places(statement: &Statement, tokens: &[Token]) -> Vec<Place> {
 }
 
 fn note_served(places: &mut [Place], served: &Served) {
+    let shown_first = match served {
+        Served::Select(select) => &select.shown[..],
+        _ => &[],
+    };
+    let alone = note_shown_first(places, shown_first);
     if let Some(keys) = served.keys() {
         for value in &keys.values {
             let column = keys.column.text.clone();
@@ -93,7 +101,6 @@ fn note_served(places: &mut [Place], served: &Served) {
     }
     match served {
         Served::Select(select) => {
-            note_shown(places, &select.shown);
             for bound in select.bounds() {
                 note(places, bound, Place::Bound);
             }
@@ -120,15 +127,41 @@ fn note_served(places: &mut [Place], served: &Served) {
         | Served::Show(Show::Bounds(..))
         | Served::Show(_) => {}
     }
-    note_shown(places, served.returning());
+    for constant in constants(served.returning()) {
+        note(places, constant, Place::Alone);
+    }
+    for place in alone {
+        places[place] = match places[place] {
+            Place::Unused => Place::Alone,
+            Place::Cast(oid::TEXT) => Place::Cast(oid::TEXT),
+            _ => Place::AloneFirst,
+        };
+    }
 }
 
-fn note_shown(places: &mut [Place], shown: &[Shown]) {
-    for shown in shown {
-        if let What::Constant(expression) = &shown.what {
-            note(places, expression, Place::Alone);
+fn constants(shown: &[Shown]) -> impl Iterator<Item = &Expression> {
+    shown.iter().filter_map(|shown| match &shown.what {
+        What::Constant(expression) => Some(expression),
+        _ => None,
+    })
+}
+
+/// Notes what is cast in what a SELECT shows. Returns the parameters that stand there by themselves, before anything tells
+/// their types.
+fn note_shown_first(places: &mut [Place], shown: &[Shown]) -> Vec<usize> {
+    let mut alone = Vec::new();
+    for constant in constants(shown) {
+        match constant.kind {
+            ExpressionKind::Parameter(number) => {
+                let place = usize::from(number) - 1;
+                if places[place] == Place::Unused {
+                    alone.push(place);
+                }
+            }
+            _ => note(places, constant, Place::Alone),
         }
     }
+    alone
 }
 
 /// Notes what the parameter of a value stands for, if it is one and nothing is known of it before.
@@ -170,7 +203,9 @@ pub fn settle_members(parsed: &mut Rc<Parsed>, types: &[Oid]) {
     let members: Vec<usize> = members.collect();
     let places = &mut Rc::make_mut(parsed).places;
     for place in members {
-        places[place] = Place::Cast(oid::NUMERIC);
+        if matches!(places[place], Place::Column(_)) {
+            places[place] = Place::Cast(oid::NUMERIC);
+        }
     }
 }
 
@@ -188,6 +223,13 @@ pub fn check_type(number: usize, place: &Place, oid: Oid) -> Result<(), Failure>
     match place {
         _ if !is_open(oid) => Ok(()),
         Place::Signed(sign, place) => Err(constant::sign_of_unknown(*sign).at(*place)),
+        Place::AloneFirst => {
+            let what = format!(
+                "parameter ${} by itself and elsewhere, without a type,",
+                number
+            );
+            Err(Report::missing(&what).hint("Use two parameters."))
+        }
         Place::Unused => {
             let text = format!("could not determine data type of parameter ${}", number);
             Err(Report::error(SqlState::INDETERMINATE_TYPE, text))
@@ -287,6 +329,22 @@ mod tests {
             (
                 "SELECT $1 FROM t WHERE id IN ($2, $3) LIMIT $4",
                 vec![Place::Alone, column("id"), column("id"), Place::Bound],
+            ),
+            (
+                "SELECT $1, $2::text, $3, $3::text FROM t WHERE id IN ($1, $2) LIMIT $3",
+                vec![
+                    Place::AloneFirst,
+                    Place::Cast(oid::TEXT),
+                    Place::Cast(oid::TEXT),
+                ],
+            ),
+            (
+                "SELECT $1::int, $1, $2 FROM t LIMIT $2",
+                vec![Place::Cast(oid::INT4), Place::AloneFirst],
+            ),
+            (
+                "DELETE FROM t WHERE id = $1 RETURNING $1, $2",
+                vec![key(), Place::Alone],
             ),
             ("SELECT $2", vec![Place::Unused, Place::Alone]),
         ] {
