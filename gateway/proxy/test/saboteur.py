@@ -235,5 +235,138 @@ def a_portal_is_run_once(cluster: Cluster) -> None:
     same((kinds, value(cluster, "SELECT pieces FROM escrow.now_stock WHERE id = 1")), (b"CEZ", 10))
 
 
+@part
+def a_row_that_could_not_be_left_is_left_later(cluster: Cluster) -> None:
+    """A client locks the row before it deletes it. The proxy cannot take the mark away then; a later DELETE must be able to."""
+    stock(cluster).keeper.close()
+    with Proxy(cluster) as proxy, proxy.connect() as it:
+        it.execute("UPDATE stock SET pieces = pieces - 1 WHERE id = 1")
+        with refused(errors.ObjectInUse, "the row of stock is held by escrowd-proxy"):
+            it.execute("BEGIN; SELECT 1 FROM stock WHERE id = 1 FOR UPDATE; DELETE FROM stock WHERE id = 1")
+        it.execute("ROLLBACK")
+        it.execute("DELETE FROM stock WHERE id = 1")
+        same(value(cluster, "SELECT count(*) FROM stock WHERE id = 1"), 0)
+
+
+@part
+def an_index_that_is_refused_leaves_nothing(cluster: Cluster) -> None:
+    """CREATE INDEX CONCURRENTLY has committed an index, which is kept up to date, before the event trigger hears of it."""
+    stock(cluster)
+    with cluster.connect() as it:
+        it.execute("DELETE FROM stock WHERE id > 1")
+        with refused(errors.ObjectInUse, "would change what is declared reservable of stock"):
+            it.execute("CREATE UNIQUE INDEX CONCURRENTLY u ON stock (pieces)")
+        it.execute("INSERT INTO stock VALUES (2, 'x', 10); CREATE TABLE other (id integer); DROP TABLE other")
+
+
+@part
+def a_leave_on_a_lost_connection_comes_late(cluster: Cluster) -> None:
+    """The row was loaded again meanwhile: its mark is that of the later load. A load of before may be late too."""
+    owner = stock(cluster)
+    table, _ = owner.declared("stock")
+    for loads, leave, stays in (([1], 2, False), ([3], 2, True), ([3, 1], 2, True), ([1, 3], 4, False)):
+        for number in loads:
+            same(owner.load("stock", 1, number), ["10"])
+        assert owner.leave("stock", 1, leave)
+        same((loads, leave, value(cluster, f"SELECT count(*) = 1 FROM escrow.held_{table}")), (loads, leave, stays))
+        owner.leave("stock", 1, 9)
+    # A mark of a former epoch goes, whatever its number: its hold has ended.
+    owner.load("stock", 1, 5)
+    later = taken_over(owner)
+    assert later.leave("stock", 1, 1)
+    same(value(cluster, f"SELECT count(*) FROM escrow.held_{table}"), 0)
+
+
+@part
+def the_whole_row_has_its_columns(cluster: Cluster) -> None:
+    """Neither the constraint nor the index depends on a column. A fold would fail by each of them."""
+    all_ordinary(cluster)
+    cluster.run("CREATE TABLE whole (id integer PRIMARY KEY, n integer NOT NULL)", "INSERT INTO whole VALUES (1, 9)",
+                "CREATE FUNCTION n_of(whole) RETURNS integer IMMUTABLE LANGUAGE sql AS 'SELECT $1.n'")
+    in_index = "the column n is in an expression or the condition of the index"
+    for made, gone, why in (
+        ("ALTER TABLE whole ADD CONSTRAINT c CHECK (n_of(whole) > 5)", "ALTER TABLE whole DROP CONSTRAINT c", "the CHECK c names the whole row"),
+        ("CREATE UNIQUE INDEX i ON whole (n_of(whole))", "DROP INDEX i", "the column n is in a unique index"),
+        ("CREATE INDEX i ON whole ((1 / n_of(whole)))", "DROP INDEX i", in_index),
+        ("CREATE INDEX i ON whole (id) WHERE 1 / n_of(whole) = 1", "DROP INDEX i", in_index),
+    ):
+        cluster.run(made)
+        with cluster.connect() as it, refused(errors.InvalidTableDefinition, why):
+            it.execute("SELECT escrow.reservable('whole', 'n')")
+        cluster.run(gone, "SELECT escrow.reservable('whole', 'n')")
+        with cluster.connect() as it, refused(errors.ObjectInUse, "would change what is declared reservable of whole"):
+            it.execute(made.encode())
+        cluster.run("SELECT escrow.ordinary('whole')")
+    cluster.run("DROP TABLE whole CASCADE")
+
+
+@part
+def an_index_is_judged_before_it_is_built(cluster: Cluster) -> None:
+    stock(cluster).keeper.close()
+    cluster.run("CREATE SCHEMA aside", "CREATE TABLE aside.stock (pieces integer)", "CREATE TABLE aside.\"ON stock\" (pieces integer)")
+    refusals = ["UNIQUE INDEX CONCURRENTLY ON stock (pieces)",
+                "UNIQUE INDEX CONCURRENTLY IF NOT EXISTS i ON ONLY public.\"stock\" USING btree (title, Pieces)",
+                "UNIQUE INDEX /* of */ CONCURRENTLY i ON -- the table\n public . stock (title) INCLUDE (\"pieces\")",
+                "INDEX CONCURRENTLY i ON stock ((pieces + 1))",
+                "INDEX CONCURRENTLY i ON stock (title) WHERE pieces % 2 = 0",
+                "INDEX CONCURRENTLY i ON stock ((stock::text))",
+                "UNIQUE INDEX CONCURRENTLY i ON stock (U&\"\\0070ieces\")",
+                "UNIQUE INDEX CONCURRENTLY i ON U&\"\\0073tock\" (pieces)"]
+    passes = ["INDEX CONCURRENTLY i ON stock (pieces DESC)",
+              "UNIQUE INDEX CONCURRENTLY i ON stock (title, id)",
+              "INDEX CONCURRENTLY i ON stock (lower(title)) WHERE id > 5",
+              "INDEX CONCURRENTLY i ON stock USING btree (id) INCLUDE (pieces) WITH (fillfactor = 70)",
+              "UNIQUE INDEX CONCURRENTLY i ON aside.stock (pieces)",
+              "UNIQUE INDEX CONCURRENTLY i ON aside.\"ON stock\" (pieces)"]
+    with cluster.connect() as it:
+        for text in refusals:
+            with refused(errors.ObjectInUse, "would change what is declared reservable of stock"):
+                it.execute(f"CREATE {text}".encode())
+            same((text, value(cluster, "SELECT count(*) FROM pg_index WHERE NOT indisvalid")), (text, 0))
+        for text in passes:
+            it.execute(f"CREATE {text}".encode())
+            it.execute("DROP INDEX IF EXISTS public.i, aside.i")
+        it.execute("SET search_path = aside")
+        it.execute("CREATE UNIQUE INDEX CONCURRENTLY i ON stock (pieces)")
+        it.execute("DROP SCHEMA aside CASCADE")
+
+
+@part
+def a_publication_of_all_tables_stops_nothing(cluster: Cluster) -> None:
+    """PostgreSQL refuses the DELETEs of a table that is published and has no replica identity. Each fold deletes in a journal."""
+    stock(cluster).keeper.close()
+    cluster.run("CREATE PUBLICATION everything FOR ALL TABLES")
+    with Proxy(cluster) as proxy, proxy.connect() as it:
+        it.execute("UPDATE stock SET pieces = pieces - 1 WHERE id = 1")
+        for text in ("BEGIN", "UPDATE stock SET pieces = pieces - 1 WHERE id = 1", "SELECT escrow.hold('h', interval '1 hour')", "COMMIT",
+                     "SELECT escrow.take('h')", "DELETE FROM stock WHERE id = 2"):
+            it.execute(text.encode())
+        wait_until("all is folded", lambda: value(cluster, "SELECT pieces FROM stock WHERE id = 1") == 8)
+    with Proxy(cluster) as proxy, proxy.connect() as it:
+        it.execute("UPDATE stock SET pieces = pieces - 1 WHERE id = 1")
+        wait_until("all is folded", lambda: value(cluster, "SELECT pieces FROM stock WHERE id = 1") == 7)
+    cluster.run("DROP PUBLICATION everything")
+
+
+@part
+def settings_of_texts_and_names_change_nothing(cluster: Cluster) -> None:
+    """Functions are read with the settings of who calls them, and so are names and expressions of the catalog."""
+    stock(cluster).keeper.close()
+    with cluster.connect() as it:
+        for setting in ("quote_all_identifiers = on", "standard_conforming_strings = off"):
+            it.execute(f"SET {setting}; SET escape_string_warning = off".encode())
+            it.execute("CREATE TABLE other (id integer PRIMARY KEY, n integer NOT NULL CHECK (n >= 0 AND 2 * n <= 5))")
+            it.execute("CREATE INDEX ON other (n)")
+            same(it.execute("SELECT escrow.reservable('other', 'n')").fetchall(), [("other_n_check: n >= 0",), ("other_n_check: 2 * n <= 5",)])
+            with refused(errors.FeatureNotSupported, "send the UPDATE by itself"):
+                it.execute("DO 'BEGIN UPDATE stock SET pieces = 1; END'")
+            for text in ("ALTER TABLE stock DROP CONSTRAINT in_stock", "CREATE UNIQUE INDEX CONCURRENTLY ON stock (pieces)"):
+                with refused(errors.ObjectInUse, "would change what is declared reservable of stock"):
+                    it.execute(text.encode())
+            it.execute("ALTER TABLE stock ADD COLUMN more text; ALTER TABLE stock DROP COLUMN more")
+            it.execute("SELECT escrow.ordinary('other'); DROP TABLE other")
+            it.execute("RESET ALL")
+
+
 if __name__ == "__main__":
     main(PART)
