@@ -249,6 +249,17 @@ def a_row_that_could_not_be_left_is_left_later(cluster: Cluster) -> None:
 
 
 @part
+def a_condition_comes_before_other_checks(cluster: Cluster) -> None:
+    """PostgreSQL changes no row where the condition does not hold, whatever CHECKs say of the change."""
+    all_ordinary(cluster)
+    cluster.run("CREATE TABLE two (id integer PRIMARY KEY, n integer NOT NULL, CONSTRAINT a CHECK (n >= 5), CONSTRAINT b CHECK (n >= 0))",
+                "INSERT INTO two VALUES (1, 6)", "SELECT escrow.reservable('two', 'n')")
+    with Proxy(cluster) as proxy, proxy.connect() as it:
+        same(it.execute("UPDATE two SET n = n - 9 WHERE id = 1 AND n >= 9").rowcount, 0)
+    cluster.run("SELECT escrow.ordinary('two')", "DROP TABLE two")
+
+
+@part
 def an_index_that_is_refused_leaves_nothing(cluster: Cluster) -> None:
     """CREATE INDEX CONCURRENTLY has committed an index, which is kept up to date, before the event trigger hears of it."""
     stock(cluster)
@@ -275,6 +286,38 @@ def a_leave_on_a_lost_connection_comes_late(cluster: Cluster) -> None:
     later = taken_over(owner)
     assert later.leave("stock", 1, 1)
     same(value(cluster, f"SELECT count(*) FROM escrow.held_{table}"), 0)
+
+
+@part
+def what_is_no_key_leaves_no_row(cluster: Cluster) -> None:
+    """A cast to the key's type would cut the text, or round it, to the key of another row."""
+    all_ordinary(cluster)
+    for key_type, held, other in (("varchar(3)", "'abc'", "'abcd'"), ("numeric(5,1)", "1.5", "1.54")):
+        cluster.run(f"CREATE TABLE keyed (id {key_type} PRIMARY KEY, n integer NOT NULL CHECK (n >= 0))", f"INSERT INTO keyed VALUES ({held}, 9)",
+                    "SELECT escrow.reservable('keyed', 'n')")
+        with Proxy(cluster) as proxy, proxy.connect() as it, proxy.connect() as other_one:
+            it.execute(f"BEGIN; UPDATE keyed SET n = n - 1 WHERE id = {held}")
+            same(other_one.execute(f"DELETE FROM keyed WHERE id = {other}").rowcount, 0)
+            with cluster.connect() as straight, refused(errors.ObjectInUse, "the row of keyed is held by escrowd-proxy"):
+                straight.execute("DELETE FROM keyed")
+            it.execute("COMMIT")
+        cluster.run("SELECT escrow.ordinary('keyed')", "DROP TABLE keyed")
+
+
+@part
+def a_condition_is_of_its_column_alone(cluster: Cluster) -> None:
+    """A CHECK of the same constraint, over another column, refuses the change as PostgreSQL does."""
+    all_ordinary(cluster)
+    cluster.run("CREATE TABLE two (id integer PRIMARY KEY, n integer NOT NULL, m integer NOT NULL)",
+                "ALTER TABLE two ADD CONSTRAINT both_of CHECK (m >= 0 AND n >= 0 AND n <= 9)", "INSERT INTO two VALUES (1, 5, 0)",
+                "SELECT escrow.reservable('two', 'n', 'm')")
+    with Proxy(cluster) as proxy, proxy.connect() as it:
+        with refused(errors.CheckViolation, "both_of"):
+            it.execute("UPDATE two SET n = n - 1, m = m - 1 WHERE id = 1 AND n >= 1")
+        with refused(errors.CheckViolation, "both_of"):
+            it.execute("UPDATE two SET n = n + 9 WHERE id = 1 AND n >= -9")
+        same(it.execute("UPDATE two SET n = n - 6 WHERE id = 1 AND n >= 6").rowcount, 0)
+    cluster.run("SELECT escrow.ordinary('two')", "DROP TABLE two")
 
 
 @part
@@ -329,6 +372,32 @@ def an_index_is_judged_before_it_is_built(cluster: Cluster) -> None:
         it.execute("SET search_path = aside")
         it.execute("CREATE UNIQUE INDEX CONCURRENTLY i ON stock (pieces)")
         it.execute("DROP SCHEMA aside CASCADE")
+
+
+@part
+def what_a_held_row_stops_passes_when_it_is_repeated(cluster: Cluster) -> None:
+    """The proxy sees no key in these statements. PostgreSQL names the row that stops them, and the proxy leaves it."""
+    all_ordinary(cluster)
+    cluster.run("CREATE TABLE kinds (id integer PRIMARY KEY)", "INSERT INTO kinds VALUES (1)",
+                "CREATE TABLE ware (id numeric(9,2) PRIMARY KEY, kind integer REFERENCES kinds ON DELETE CASCADE, n integer NOT NULL CHECK (n >= 0))",
+                "SELECT escrow.reservable('ware', 'n')")
+    for text, tag in (("DELETE FROM ware WHERE kind = 1", "DELETE 1"), ("DELETE FROM kinds WHERE id = 1", "DELETE 1"),
+                      ("UPDATE ware SET id = 2 WHERE id = 1.5", "UPDATE 1"), ("DELETE FROM ware USING kinds WHERE ware.kind = kinds.id", "DELETE 1")):
+        with Proxy(cluster) as proxy, proxy.connect() as it, proxy.connect() as holder:
+            for first in (text, f"BEGIN; {text}"):
+                cluster.run("INSERT INTO kinds VALUES (1) ON CONFLICT DO NOTHING", "INSERT INTO ware VALUES (1.5, 1, 9)")
+                holder.execute("BEGIN")
+                holder.execute("UPDATE ware SET n = n - 1 WHERE id = 1.5")
+                for _ in range(2):
+                    with refused(errors.ObjectInUse, "Repeat it through escrowd-proxy, which leaves a row that nobody has reserved."):
+                        it.execute(first.encode())
+                    it.execute("ROLLBACK")
+                holder.execute("COMMIT")
+                with refused(errors.ObjectInUse, "The key is 1.50."):
+                    it.execute(text.encode())
+                same(it.execute(text.encode()).statusmessage, tag)
+                it.execute("DELETE FROM ware")
+    cluster.run("SELECT escrow.ordinary('ware')", "DROP TABLE ware, kinds")
 
 
 @part
