@@ -5,6 +5,7 @@
 
 Each piece arrives so many milliseconds later. SIGUSR1: about half of the connections are lost; SIGUSR2: all. For a moment nothing arrives, then one
 side hears of the end, and the other up to two seconds later; what is under way to it arrives just before. SIGSTOP and SIGCONT, as always, stall it.
+SIGHUP: a proxy's keeper hears nothing more of its PostgreSQL, not even the end of its connection; and again: it hears all.
 """
 from __future__ import annotations
 
@@ -17,6 +18,8 @@ from dataclasses import dataclass, field
 from typing import List, Optional, Set
 
 MOMENT, LATE = 0.1, 2.0
+# What the first message of a proxy's keeper has.
+KEEPER = b"escrowd-proxy keeper"
 DELAY = float(sys.argv[3]) / 1000 if len(sys.argv) > 3 else 0.0
 
 
@@ -27,6 +30,8 @@ class Link:
     sides: List[asyncio.StreamWriter]
     tasks: "List[asyncio.Task[None]]" = field(default_factory=list)
     under_way: Optional[List[List[bytes]]] = None
+    is_keeper: bool = False
+    hears: asyncio.Event = field(default_factory=asyncio.Event)
 
     async def lose(self) -> None:
         """Ends one side soon, and the other later."""
@@ -50,6 +55,10 @@ async def carry(source: asyncio.StreamReader, link: Link, side: int) -> None:
     try:
         while True:
             piece = await source.read(65536)
+            if side == 1:
+                link.is_keeper |= KEEPER in piece
+            else:
+                await link.hears.wait()
             if not piece:
                 break
             if link.under_way:
@@ -73,6 +82,7 @@ async def serve(reader: asyncio.StreamReader, writer: asyncio.StreamWriter) -> N
         writer.close()
         return
     link = Link([writer, to_target])
+    link.hears.set()
     link.tasks = [asyncio.ensure_future(carry(it, link, side)) for it, side in ((reader, 1), (from_target, 0))]
     LINKS.add(link)
     await asyncio.gather(*link.tasks, return_exceptions=True)
@@ -89,7 +99,17 @@ async def main() -> None:
                 tasks.add(task)
                 task.add_done_callback(tasks.discard)
 
+    deaf: "List[Link]" = []
+
+    def deafen() -> None:
+        for it in deaf:
+            it.hears.set()
+        deaf[:] = [] if deaf else [it for it in LINKS if it.is_keeper]
+        for it in deaf:
+            it.hears.clear()
+
     loop = asyncio.get_running_loop()
+    loop.add_signal_handler(signal.SIGHUP, deafen)
     loop.add_signal_handler(signal.SIGUSR1, lose, 0.5)
     loop.add_signal_handler(signal.SIGUSR2, lose, 1.0)
     server = await asyncio.start_unix_server(serve, sys.argv[1])

@@ -165,6 +165,10 @@ class Forwarder(Server):
         """Loses about half of the connections, or all, each end of them at a time of its own."""
         self.running().send_signal(signal.SIGUSR2 if are_all else signal.SIGUSR1)
 
+    def deafen(self) -> None:
+        """Lets a proxy's keeper hear nothing, not even the end of its connection; or, the second time, lets it hear all."""
+        self.running().send_signal(signal.SIGHUP)
+
     def stall(self) -> None:
         """Passes nothing on until it is told to."""
         self.running().send_signal(signal.SIGSTOP)

@@ -54,7 +54,7 @@ ALARMS = re.compile(r"(?i)panicked|alarm|fold was refused|cannot be folded|the s
 WITHOUT = {
     "twice": ("coalesce(pg_catalog.sum(taken.change_%s), 0)", "coalesce(2 * pg_catalog.sum(taken.change_%s), 0)"),
     "part": ("WHERE j.key OPERATOR(pg_catalog.=) OLD.%2$I RETURNING",
-             "WHERE j.ctid = (SELECT min(i.ctid) FROM escrow.journal_%1$s AS i WHERE i.key = OLD.%2$I) RETURNING"),
+             "WHERE j.ctid = (SELECT max(i.ctid) FROM escrow.journal_%1$s AS i WHERE i.key = OLD.%2$I) RETURNING"),
     "epoch": ("pg_catalog.pg_sequence_last_value('escrow.epoch') OPERATOR(pg_catalog.=) %6$s_%1$s.epoch "
               "AND NOT pg_catalog.pg_try_advisory_xact_lock_shared(%6$s_%1$s.epoch)", "true"),
     "wait": ("WHERE l.locktype = 'relation' AND l.granted AND l.mode = 'RowExclusiveLock'", "WHERE false"),
@@ -392,12 +392,15 @@ def kill(needs_proxy: bool) -> Callable[[Callable[[Scene, random.Random], None]]
     return add
 
 
-def owner(scene: Scene, draw: random.Random) -> Proxy:
-    """Returns the proxy that has said last that it is the owner, mostly; or any."""
-    if draw.random() < 0.3:
-        return draw.choice(scene.proxies)
+def present(scene: Scene) -> Proxy:
+    """Returns the proxy that has said last that it is the owner."""
     number, = scene.ask("SELECT last_value FROM escrow.epoch")[0]
     return next((it for it in scene.proxies if f"epoch {number}" in it.said()), scene.proxies[0])
+
+
+def owner(scene: Scene, draw: random.Random) -> Proxy:
+    """Returns the owner, mostly; or any proxy."""
+    return draw.choice(scene.proxies) if draw.random() < 0.3 else present(scene)
 
 
 @kill(needs_proxy=True)
@@ -429,6 +432,25 @@ def program(scene: Scene, draw: random.Random) -> None:
 def own_backend(scene: Scene, draw: random.Random) -> None:
     """One of the proxy's own connections: keeper, folder, loader."""
     terminate(scene, draw, "application_name LIKE 'escrowd-proxy%'", 1)
+
+
+@kill(needs_proxy=True)
+def deaf(scene: Scene, _draw: random.Random) -> None:
+    """The keeper's backend, and the proxy does not hear of it for a while. What it notes, and what it commits, is of a former epoch."""
+    place, each = scene.proxies.index(present(scene)), len(scene.backs) // len(scene.proxies)
+    links = scene.backs[place * each:][:each]
+    for it in links:
+        it.deafen()
+    scene.ask("SELECT pg_terminate_backend(process) FROM escrow.owner()")
+    # Another has to be the owner before it hears of that. By itself it waits for three seconds.
+    until = time.monotonic() + 2.5
+    while len(scene.proxies) > 1 and present(scene) is scene.proxies[place] and time.monotonic() < until:
+        time.sleep(0.05)
+    # Some of its buyers go to the other one, and the others stay.
+    scene.fronts[place].drop()
+    time.sleep(1.0)
+    for it in links:
+        it.deafen()
 
 
 @kill(needs_proxy=True)
