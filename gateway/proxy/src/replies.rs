@@ -114,6 +114,7 @@ impl Replies<'_> {
                 if self.shared.is_engaged() {
                     self.hub.handle(Event::Failed { connection });
                 }
+                self.tag.clear();
             }
             _ => return Err(Error::Stray(char::from(kind))),
         }

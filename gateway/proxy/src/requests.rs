@@ -170,6 +170,8 @@ pub(crate) struct Session {
     pub(crate) greeted: i64,
     /// Whether what is declared may have been changed by this client.
     pub(crate) is_old: bool,
+    /// Whether the client has waited until what is declared is known.
+    pub(crate) has_waited: bool,
     /// What the last UPDATE has left of its rows.
     pub(crate) rows_left: Option<Left>,
 }

@@ -528,10 +528,11 @@ impl Requests<'_> {
         }
     }
 
-    /// Returns what is declared, as it was read last. If it was not read yet, it waits for that.
-    pub(crate) async fn first_catalog(&self) -> Arc<Catalog> {
+    /// Returns what is declared, as it was read last. If it was not read yet, it waits for that, once for each client.
+    pub(crate) async fn first_catalog(&mut self) -> Arc<Catalog> {
         match self.hub.declared() {
             Some(known) => known,
+            None if std::mem::replace(&mut self.own.has_waited, true) => Arc::default(),
             None => self.read_catalog().await,
         }
     }
