@@ -14,8 +14,8 @@ from clients.suite import FAILED, PASSED, SKIPPED, Report
 
 PART = "sources"
 CRATES = ["bytes", "clap", "hmac", "mio", "once-cell", "postgres-protocol", "prometheus", "proptest", "proptest+std", "rand", "regex",
-          "rustls-pemfile", "sha2", "signal-hook", "signal-hook-mio", "thiserror", "tokio", "tokio-postgres", "tokio-rustls", "tracing",
-          "tracing-subscriber", "webpki"]
+          "rustls-pemfile", "sha2", "signal-hook", "signal-hook-mio", "socket2", "thiserror", "tokio", "tokio-postgres", "tokio-rustls",
+          "tracing", "tracing-subscriber", "webpki"]
 PACKAGES = [f"librust-{it}-dev" for it in CRATES]
 COMPILER = ["cargo", "rustc", "gcc"]
 OLDEST = (1, 63)  # of rustc

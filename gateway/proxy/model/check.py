@@ -57,6 +57,7 @@ BREAK = [
     Without("14", "a load does not test the epoch", ("LOAD_UNTESTED",)),
     Without("14", "a sweep does not test the epoch", ("SWEEP_UNTESTED",)),
     Without("14", "an owner that leaves a row removes any mark", ("LEAVE_ANY",)),
+    Without("14", "a leave that comes late removes the mark of a later load", ("LEAVE_LATER",)),
     Without("16", "a change without a reservation looks for no mark", ("HERE_UNMARKED",)),
     Without("16", "a change without a reservation does not test its epoch", ("HERE_UNTESTED",)),
 ]

@@ -72,6 +72,8 @@ byte live;           /* the epoch whose lock is held, or 0 */
 byte owner;          /* the proxy that holds OWNER, plus 1, or 0 */
 byte locker;         /* who holds the row's lock: a client plus 1, a folder plus 10, or 0 */
 byte mark;           /* the epoch whose owner holds the row, or 0. A crash needs none: it ends the epoch */
+byte late;           /* the epoch of a leave in a socket whose connection is lost, or 0 */
+bit later;           /* whether the row was loaded since that was sent */
 byte life;           /* how often it has crashed */
 byte losses;
 byte issued;         /* the last epoch that was chosen */
@@ -323,6 +325,11 @@ inline reset(p, j) {
 #else
 #define MAY_UNMARK(p) (mark == proxy[p].epoch)
 #endif
+#if defined(LEAVE_LATER)
+#define IS_BEFORE 1
+#else
+#define IS_BEFORE (!later)
+#endif
 #if defined(SWEEP_UNTESTED)
 #define MAY_SWEEP(p) 1
 #else
@@ -559,6 +566,7 @@ end:	do
 		fold_all();
 		proxy[p].value = row;
 		mark = proxy[p].epoch;
+		later = late != 0 && late == mark;
 		proxy[p].state = SERVING;
 		check() }
 #ifndef HELD
@@ -573,6 +581,24 @@ end:	do
 		proxy[p].state = CLEAR;
 		check() }
 	:: d_step { proxy[p].state == LEAVING && (locker != 0 || proxy[p].life != life) -> proxy[p].state = CLEAR; check() }
+	/* The connection of that is lost, and PostgreSQL reads it later: of one proxy, which is enough. */
+	:: d_step { p == 0 && proxy[p].state == LEAVING && proxy[p].life == life && late == 0 ->
+		late = proxy[p].epoch;
+		proxy[p].state = CLEAR;
+		check() }
+	:: d_step { p == 0 && late != 0 && locker == 0 ->
+		if
+		:: epoch == late ->
+			fold_all();
+			if
+			:: mark == late && IS_BEFORE -> mark = 0
+			:: else
+			fi
+		:: else
+		fi;
+		late = 0;
+		later = 0;
+		check() }
 	:: d_step { (proxy[p].state == CLEAR || proxy[p].state == SERVING) && locker == 0 && proxy[p].life == life &&
 			mark != 0 && mark != proxy[p].epoch && MAY_SWEEP(p) ->
 		fold_all();
@@ -661,6 +687,8 @@ end:	do
 		live = 0;
 		locker = 0;
 		mark = 0;
+		late = 0;
+		later = 0;
 		life++;
 		j = 0;
 		do

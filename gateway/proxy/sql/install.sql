@@ -148,7 +148,8 @@ END
 $$;
 
 -- The form to write in place of the client's statement.
-CREATE OR REPLACE FUNCTION escrow.form() RETURNS text LANGUAGE sql SET search_path = pg_catalog, pg_temp AS $$
+-- This function and others mean the same whatever settings of texts and names the client has.
+CREATE OR REPLACE FUNCTION escrow.form() RETURNS text LANGUAGE sql SET search_path = pg_catalog, pg_temp SET standard_conforming_strings = on SET quote_all_identifiers = off AS $$
 	SELECT 'Connect to escrowd-proxy, and ' || CASE
 		WHEN current_query() ~* '\mON\s+CONFLICT\M' THEN 'write INSERT .. ON CONFLICT DO NOTHING. If that inserts nothing, add by the key in the same transaction: '
 			'UPDATE t SET c = c + 3 WHERE key = 5.'
@@ -579,13 +580,13 @@ END
 $$;
 
 -- The functions of a declared table.
-CREATE OR REPLACE FUNCTION escrow.functions(n integer) RETURNS SETOF oid LANGUAGE sql STABLE SET search_path = pg_catalog, pg_temp AS $$
+CREATE OR REPLACE FUNCTION escrow.functions(n integer) RETURNS SETOF oid LANGUAGE sql STABLE SET search_path = pg_catalog, pg_temp SET standard_conforming_strings = on SET quote_all_identifiers = off AS $$
 	SELECT p.oid FROM pg_proc AS p WHERE p.pronamespace = 'escrow'::regnamespace AND p.proname LIKE '%\_' || n
 $$;
 
 -- Tests a table, and returns what is declared of it. Raises the first reason against it.
 CREATE OR REPLACE FUNCTION escrow.describe(relation regclass, reservable name[]) RETURNS escrow.declared
-LANGUAGE plpgsql SET search_path = pg_catalog, pg_temp AS $$
+LANGUAGE plpgsql SET search_path = pg_catalog, pg_temp SET standard_conforming_strings = on SET quote_all_identifiers = off AS $$
 DECLARE
 	it pg_class;
 	key pg_attribute;
@@ -673,15 +674,17 @@ BEGIN
 			PERFORM escrow.refuse(relation, format('the column %I is in the constraint %I', a.attname, c.conname));
 		END LOOP;
 		-- What a fold evaluates besides the CHECKs may fail, or refuse the new value.
+		-- An expression over the whole row depends on no column.
 		FOR c IN SELECT x.indexrelid::regclass AS index, x.indisunique OR x.indisexclusion AS is_unique, x.indexprs IS NOT NULL AS has_expressions,
-				pg_get_expr(x.indpred, x.indrelid) AS condition
-			FROM pg_index AS x WHERE x.indrelid = relation AND EXISTS (SELECT FROM pg_depend AS d WHERE d.classid = 'pg_class'::regclass
-				AND d.objid = x.indexrelid AND d.refclassid = 'pg_class'::regclass AND d.refobjid = relation AND d.refobjsubid = a.attnum)
+				pg_get_expr(x.indpred, x.indrelid) AS condition, concat(x.indexprs, x.indpred) LIKE '%:varattno 0 %' AS has_row
+			FROM pg_index AS x WHERE x.indrelid = relation AND (concat(x.indexprs, x.indpred) LIKE '%:varattno 0 %'
+				OR EXISTS (SELECT FROM pg_depend AS d WHERE d.classid = 'pg_class'::regclass
+					AND d.objid = x.indexrelid AND d.refclassid = 'pg_class'::regclass AND d.refobjid = relation AND d.refobjsubid = a.attnum))
 		LOOP
 			read := escrow.linear(c.condition, reservable, '{}', ranks);
 			IF c.is_unique THEN
 				PERFORM escrow.refuse(relation, format('the column %I is in a unique index', a.attname));
-			ELSIF c.has_expressions OR jsonb_typeof(read) = 'string' OR read @? '$[*].range' THEN
+			ELSIF c.has_expressions OR c.has_row OR jsonb_typeof(read) = 'string' OR read @? '$[*].range' THEN
 				PERFORM escrow.refuse(relation, format('the column %I is in an expression or the condition of the index %s', a.attname, c.index));
 			END IF;
 		END LOOP;
@@ -703,6 +706,9 @@ BEGIN
 	FOR c IN SELECT oid, conname, conkey, convalidated, pg_get_expr(conbin, conrelid) AS condition FROM pg_constraint
 		WHERE conrelid = relation AND contype = 'c' ORDER BY conname
 	LOOP
+		IF 0 = ANY (c.conkey) THEN
+			PERFORM escrow.refuse(relation, format('the CHECK %I names the whole row: %s', c.conname, c.condition));
+		END IF;
 		names_in_checks := c.conkey && ARRAY(SELECT attnum FROM pg_attribute WHERE attrelid = relation AND attname = ANY (reservable));
 		CONTINUE WHEN names_in_checks IS NOT TRUE; -- left to PostgreSQL
 		IF NOT c.convalidated THEN
@@ -777,6 +783,7 @@ DECLARE
 	fold_text text;
 	kind text;
 	view_name text;
+	plain_type text := regexp_replace(it.key_type, '\(.*\)', ''); -- without a size
 BEGIN
 	UPDATE escrow.declared AS d SET definition = '{}' WHERE d.number = n; -- the event trigger lets it alone
 	texts := ARRAY[
@@ -1019,9 +1026,10 @@ BEGIN
 		$body$
 	$f$, n, it.key_type, texts[1], (SELECT relname FROM pg_class WHERE oid = it.relation), texts[10], escrow.key_text(it.key_type, 'which'));
 	EXECUTE format('ALTER FUNCTION escrow.here_%s OWNER TO escrow_journal', n);
-	-- Rule 14. Returns the row's values, or nothing if there is no such row.
+	-- Rule 14. Returns the row's values, or nothing if there is no such row. A load that comes late, since its connection was
+	-- lost, may find the mark of a later one, and leaves its number alone.
 	EXECUTE format($f$
-		CREATE OR REPLACE FUNCTION escrow.load_%1$s(epoch bigint, which text) RETURNS text[]
+		CREATE OR REPLACE FUNCTION escrow.load_%1$s(epoch bigint, number bigint, which text) RETURNS text[]
 		LANGUAGE plpgsql SECURITY DEFINER SET search_path = pg_catalog, pg_temp AS $body$
 		BEGIN
 			IF current_setting('transaction_isolation') <> 'read committed' THEN
@@ -1031,15 +1039,16 @@ BEGIN
 			IF which::%3$s IS DISTINCT FROM which::%2$s OR escrow.row_%1$s(which::%2$s, false) IS NULL THEN
 				RETURN NULL;
 			END IF;
-			INSERT INTO escrow.held_%1$s AS h (key, epoch) VALUES (which::%2$s, load_%1$s.epoch)
-			ON CONFLICT ON CONSTRAINT held_%1$s_pkey DO UPDATE SET epoch = excluded.epoch;
+			INSERT INTO escrow.held_%1$s AS h (key, epoch, load) VALUES (which::%2$s, load_%1$s.epoch, load_%1$s.number)
+			ON CONFLICT ON CONSTRAINT held_%1$s_pkey DO UPDATE SET epoch = excluded.epoch,
+				load = CASE WHEN h.epoch = excluded.epoch THEN greatest(h.load, excluded.load) ELSE excluded.load END;
 			IF load_%1$s.epoch IS DISTINCT FROM (SELECT last_value FROM escrow.epoch) THEN
 				PERFORM escrow.refuse_stale();
 			END IF;
 			RETURN escrow.value_%1$s(which::%2$s);
 		END
 		$body$
-	$f$, n, it.key_type, regexp_replace(it.key_type, '\(.*\)', ''));
+	$f$, n, it.key_type, plain_type);
 	-- Folds keys that were held in former epochs, at most so many, and removes their marks. It leaves out rows that are
 	-- locked. Returns how many it has done. The take locks the journal before the epoch is tested, so a new owner ends a
 	-- sweep of the former one before it makes marks (rules 7 and 9).
@@ -1073,26 +1082,30 @@ BEGIN
 		$body$
 	$f$, n, it.key_type, escrow.key_text(it.key_type, 'h.key'));
 	-- The key is no longer held. The caller knows that nothing of it is open, but for holds: their mark stays. The epoch is tested as
-	-- in a sweep; so a mark of another epoch is a former one's, of a row that was held while its hold stood.
-	IF to_regprocedure(format('escrow.leave_%s(text)', n)) IS NOT NULL THEN
-		EXECUTE format('DROP FUNCTION escrow.leave_%s(text)', n); -- of before it asked for the epoch
-	END IF;
+	-- in a sweep; so a mark of another epoch is a former one's, of a row that was held while its hold stood. The connection of the
+	-- caller may be lost before this runs, and the row loaded again: the mark of a load with a later number stays. Nothing is written
+	-- of a row that has neither a mark nor anything pending.
 	EXECUTE format($f$
-		CREATE OR REPLACE FUNCTION escrow.leave_%1$s(epoch bigint, which text) RETURNS boolean
+		CREATE OR REPLACE FUNCTION escrow.leave_%1$s(epoch bigint, number bigint, which text) RETURNS boolean
 		LANGUAGE plpgsql SECURITY DEFINER SET search_path = pg_catalog, pg_temp AS $body$
 		BEGIN
 			LOCK TABLE escrow.journal_%1$s IN ROW EXCLUSIVE MODE;
 			IF leave_%1$s.epoch IS DISTINCT FROM (SELECT last_value FROM escrow.epoch) THEN
 				PERFORM escrow.refuse_stale();
 			END IF;
-			IF escrow.row_%1$s(which::%2$s, true) IS NULL THEN
+			-- As in a load: the text may be no key.
+			IF which::%4$s IS DISTINCT FROM which::%2$s OR NOT EXISTS (SELECT FROM escrow.held_%1$s AS h WHERE h.key = which::%2$s)
+				AND NOT EXISTS (SELECT FROM escrow.journal_%1$s AS j WHERE j.key = which::%2$s) THEN
+				RETURN true;
+			ELSIF escrow.row_%1$s(which::%2$s, true) IS NULL THEN
 				RETURN false;
 			END IF;
-			DELETE FROM escrow.held_%1$s AS h WHERE h.key = which::%2$s AND NOT escrow.is_held(%1$s, %3$s);
+			DELETE FROM escrow.held_%1$s AS h WHERE h.key = which::%2$s AND (h.epoch <> leave_%1$s.epoch OR h.load < leave_%1$s.number)
+				AND NOT escrow.is_held(%1$s, %3$s);
 			RETURN true;
 		END
 		$body$
-	$f$, n, it.key_type, escrow.key_text(it.key_type, 'h.key'));
+	$f$, n, it.key_type, escrow.key_text(it.key_type, 'h.key'), plain_type);
 	FOREACH kind IN ARRAY ARRAY['fold', 'load', 'leave', 'sweep'] LOOP
 		EXECUTE format('ALTER FUNCTION escrow.%1$s_%2$s OWNER TO escrow_journal; REVOKE ALL ON FUNCTION escrow.%1$s_%2$s FROM PUBLIC', kind, n);
 	END LOOP;
@@ -1124,7 +1137,7 @@ BEGIN
 				OR EXISTS (SELECT FROM escrow.journal_%1$s AS j WHERE j.key OPERATOR(pg_catalog.=) OLD.%2$I) THEN
 				RAISE EXCEPTION 'the row of %% is held by escrowd-proxy', TG_TABLE_NAME
 					USING ERRCODE = 'object_in_use', SCHEMA = TG_TABLE_SCHEMA, TABLE = TG_TABLE_NAME,
-						DETAIL = pg_catalog.format('The key is %%s.', OLD.%2$I), HINT = CASE WHEN %3$s THEN 'Connect to escrowd-proxy, which leaves a row that nobody has reserved.'
+						DETAIL = pg_catalog.format('The key is %%s.', OLD.%2$I), HINT = CASE WHEN %3$s THEN 'Repeat it through escrowd-proxy, which leaves a row that nobody has reserved.'
 							ELSE escrow.form() END;
 			END IF;
 			PERFORM pg_catalog.set_config('escrow.inserted', pg_catalog.pg_current_xact_id()::pg_catalog.text, true); -- for escrow.hold
@@ -1139,7 +1152,7 @@ BEGIN
 			IF EXISTS (SELECT FROM escrow.held_%1$s WHERE key = OLD.%2$I) OR EXISTS (SELECT FROM escrow.journal_%1$s WHERE key = OLD.%2$I) THEN
 				RAISE EXCEPTION 'the row of %% is held by escrowd-proxy', TG_TABLE_NAME
 					USING ERRCODE = 'object_in_use', SCHEMA = TG_TABLE_SCHEMA, TABLE = TG_TABLE_NAME,
-						DETAIL = format('The key is %%s.', OLD.%2$I), HINT = 'Connect to escrowd-proxy, which leaves a row that nobody has reserved.';
+						DETAIL = format('The key is %%s.', OLD.%2$I), HINT = 'Repeat it through escrowd-proxy, which leaves a row that nobody has reserved.';
 			END IF;
 			RETURN NULL;
 		END
@@ -1459,10 +1472,10 @@ BEGIN
 	-- Loads a row with the lines of it that stand. What is in the journal by the snapshot that shows the lines counts in the
 	-- row's values: so a hold that somebody takes meanwhile is a line or a part of the values, and never both.
 	EXECUTE format($f$
-		CREATE OR REPLACE FUNCTION escrow.open_%1$s(epoch bigint, which text, OUT loaded text[], OUT epochs bigint[], OUT numbers bigint[], OUT changes text[])
+		CREATE OR REPLACE FUNCTION escrow.open_%1$s(epoch bigint, number bigint, which text, OUT loaded text[], OUT epochs bigint[], OUT numbers bigint[], OUT changes text[])
 		LANGUAGE plpgsql SECURITY DEFINER SET search_path = pg_catalog, pg_temp AS $body$
 		BEGIN
-			loaded := escrow.load_%1$s(epoch, which);
+			loaded := escrow.load_%1$s(epoch, open_%1$s.number, which);
 			IF loaded IS NULL THEN
 				RETURN;
 			END IF;
@@ -1484,7 +1497,7 @@ $$;
 
 -- Declares numeric columns of a table reservable. The table's owner calls it. Returns the CHECKs as they were understood.
 CREATE OR REPLACE FUNCTION escrow.reservable(relation regclass, VARIADIC reservable name[]) RETURNS SETOF text
-LANGUAGE plpgsql SECURITY DEFINER SET search_path = pg_catalog, pg_temp AS $$
+LANGUAGE plpgsql SECURITY DEFINER SET search_path = pg_catalog, pg_temp SET standard_conforming_strings = on SET quote_all_identifiers = off AS $$
 DECLARE
 	it escrow.declared;
 	proprietor oid := (SELECT relowner FROM pg_class WHERE oid = relation);
@@ -1509,8 +1522,10 @@ BEGIN
 	EXECUTE format('CREATE TABLE escrow.journal_%s (epoch bigint NOT NULL, tag bigint NOT NULL, number bigint NOT NULL, key %s NOT NULL, %s)', it.number, it.key_type,
 		(SELECT string_agg(format('change_%s numeric NOT NULL', i), ', ') FROM generate_subscripts(reservable, 1) AS i));
 	EXECUTE format('CREATE INDEX ON escrow.journal_%s (key)', it.number);
-	EXECUTE format('CREATE TABLE escrow.held_%s (key %s PRIMARY KEY, epoch bigint NOT NULL)', it.number, it.key_type);
-	EXECUTE format('ALTER TABLE escrow.journal_%1$s OWNER TO escrow_journal; ALTER TABLE escrow.held_%1$s OWNER TO escrow_journal', it.number);
+	EXECUTE format('CREATE TABLE escrow.held_%s (key %s PRIMARY KEY, epoch bigint NOT NULL, load bigint NOT NULL)', it.number, it.key_type);
+	-- A publication of all tables refuses a DELETE otherwise, and so each fold.
+	EXECUTE format('ALTER TABLE escrow.journal_%1$s REPLICA IDENTITY FULL; ALTER TABLE escrow.journal_%1$s OWNER TO escrow_journal; '
+		'ALTER TABLE escrow.held_%1$s OWNER TO escrow_journal', it.number);
 	EXECUTE format('GRANT SELECT ON escrow.journal_%1$s, escrow.held_%1$s TO escrow_proxy', it.number);
 	PERFORM escrow.generate(it);
 	NOTIFY escrow_declared; -- the proxy looks anew
@@ -1521,7 +1536,7 @@ $$;
 
 -- Makes a table ordinary again. It waits for open reservations, and folds what is pending.
 CREATE OR REPLACE FUNCTION escrow.ordinary(relation regclass) RETURNS void
-LANGUAGE plpgsql SECURITY DEFINER SET search_path = pg_catalog, pg_temp AS $$
+LANGUAGE plpgsql SECURITY DEFINER SET search_path = pg_catalog, pg_temp SET standard_conforming_strings = on SET quote_all_identifiers = off AS $$
 DECLARE
 	n integer := (SELECT number FROM escrow.declared AS d WHERE d.relation = ordinary.relation);
 	which text;
@@ -1560,7 +1575,7 @@ $$;
 
 -- Keeps DDL away that would change what was declared. A function is known by its name, since it may have got another schema.
 CREATE OR REPLACE FUNCTION escrow.keep_declared() RETURNS event_trigger
-LANGUAGE plpgsql SECURITY DEFINER SET search_path = pg_catalog, pg_temp AS $$
+LANGUAGE plpgsql SECURITY DEFINER SET search_path = pg_catalog, pg_temp SET standard_conforming_strings = on SET quote_all_identifiers = off AS $$
 DECLARE
 	it escrow.declared;
 	found escrow.declared;
@@ -1588,13 +1603,75 @@ CREATE EVENT TRIGGER escrow_keep_altered ON ddl_command_end
 DROP EVENT TRIGGER IF EXISTS escrow_keep_dropped;
 CREATE EVENT TRIGGER escrow_keep_dropped ON sql_drop EXECUTE FUNCTION escrow.keep_declared();
 
+-- Reads a CREATE INDEX CONCURRENTLY: the table's name, what is behind it, and whether the index is unique. Both texts are null if
+-- it is not understood, and all is null if the text is another statement.
+CREATE OR REPLACE FUNCTION escrow.concurrent_index(statement text, OUT name text, OUT rest text, OUT is_unique boolean)
+LANGUAGE plpgsql IMMUTABLE SET search_path = pg_catalog, pg_temp AS $$
+DECLARE
+	identifier CONSTANT text := '(?:"(?:[^"]|"")+"|[^ "''().,;&]+)';
+	found text[];
+BEGIN
+	-- Without comments, and with one blank between words.
+	statement := (SELECT string_agg(m[1], ' ') FROM regexp_matches(statement,
+			'(--[^\n]*|/\*(?:[^*]|\*+[^*/])*\*+/|"(?:[^"]|"")+"|''(?:[^'']|'''')*''|[^][:space:]"''().,;/-]+|[^[:space:]])', 'g') AS m
+		WHERE m[1] !~ '^(--|/\*.)');
+	IF statement !~* '^CREATE (UNIQUE )?INDEX CONCURRENTLY ' THEN
+		RETURN;
+	END IF;
+	is_unique := statement ~* '^CREATE UNIQUE';
+	found := regexp_match(statement, format('^CREATE (?:UNIQUE )?INDEX CONCURRENTLY (?:(?:IF NOT EXISTS )?%1$s )?ON (?:ONLY )?(%1$s(?: \. %1$s)*) ((?:USING|\().*)$', identifier), 'i');
+	name := replace(found[1], ' . ', '.');
+	rest := found[2];
+END
+$$;
+
+-- CREATE INDEX CONCURRENTLY has committed an index before the trigger above hears of it, and each fold keeps that index up. So its
+-- text is judged before it runs. It is the client's whole message, since PostgreSQL runs it in no block and no function.
+CREATE OR REPLACE FUNCTION escrow.refuse_concurrent(tag text, statement text, relation regclass) RETURNS void
+LANGUAGE plpgsql SET search_path = pg_catalog, pg_temp AS $$
+DECLARE
+	it record;
+	of_index record;
+BEGIN
+	of_index := escrow.concurrent_index(statement);
+	FOR it IN SELECT d.relation, c.relname, ARRAY(SELECT lower(x->>'name') FROM jsonb_array_elements(d.columns) AS x) || lower(c.relname) AS names
+		FROM escrow.declared AS d JOIN pg_class AS c ON c.oid = d.relation
+		WHERE CASE WHEN of_index.rest IS NULL THEN of_index.is_unique IS NOT NULL AND lower(statement) LIKE ANY (ARRAY['%u&%', '%' || lower(c.relname) || '%'])
+			ELSE d.relation = refuse_concurrent.relation END
+	LOOP
+		-- A plain index may have any column.
+		CONTINUE WHEN NOT of_index.is_unique AND of_index.rest ~* '^(USING [^ ]+ )?\([^()]*\)( INCLUDE \([^()]*\))?( WITH \([^()]*\))?( TABLESPACE [^ ]+)?[ ;]*$';
+		CONTINUE WHEN NOT EXISTS (SELECT FROM unnest(it.names || 'u&'::text) AS name WHERE position(name IN lower(coalesce(of_index.rest, name))) > 0);
+		RAISE EXCEPTION '% would change what is declared reservable of %', tag, it.relname
+			USING ERRCODE = 'object_in_use', HINT = format('Create the index without CONCURRENTLY, if it has neither a reservable column nor the whole row. Otherwise call escrow.ordinary(%L) first.', it.relation);
+	END LOOP;
+END
+$$;
+
+-- The table's name is that of the client's path of search.
+CREATE OR REPLACE FUNCTION escrow.keep_concurrent() RETURNS event_trigger
+LANGUAGE plpgsql SET standard_conforming_strings = on SET quote_all_identifiers = off AS $$
+BEGIN
+	PERFORM escrow.refuse_concurrent(TG_TAG, pg_catalog.current_query(), (SELECT pg_catalog.to_regclass(name) FROM escrow.concurrent_index(pg_catalog.current_query())));
+END
+$$;
+DROP EVENT TRIGGER IF EXISTS escrow_keep_concurrent;
+CREATE EVENT TRIGGER escrow_keep_concurrent ON ddl_command_start WHEN TAG IN ('CREATE INDEX') EXECUTE FUNCTION escrow.keep_concurrent();
+
 -- An upgrade makes the functions of declared tables anew, and reads columns and CHECKs again.
 DO $do$
 DECLARE
 	it escrow.declared;
 	found escrow.declared;
+	old regprocedure;
 BEGIN
 	FOR it IN SELECT * FROM escrow.declared LOOP
+		-- Of before loads had numbers, and all tables could be published.
+		EXECUTE format('ALTER TABLE escrow.held_%1$s ADD COLUMN IF NOT EXISTS load bigint NOT NULL DEFAULT 0; '
+			'ALTER TABLE escrow.journal_%1$s REPLICA IDENTITY FULL', it.number);
+		FOR old IN SELECT p.oid FROM escrow.functions(it.number) AS f JOIN pg_proc AS p ON p.oid = f WHERE p.proname ~ '^(load|open|leave)_' LOOP
+			EXECUTE format('DROP FUNCTION %s', old);
+		END LOOP;
 		found := escrow.describe(it.relation, ARRAY(SELECT (c->>'name')::name FROM jsonb_array_elements(it.columns) AS c));
 		UPDATE escrow.declared AS d SET columns = found.columns, checks = found.checks WHERE d.number = it.number RETURNING d.* INTO it;
 		PERFORM escrow.generate(it);

@@ -14,6 +14,7 @@ BEGIN
 	END LOOP;
 	DROP EVENT TRIGGER escrow_keep_altered;
 	DROP EVENT TRIGGER escrow_keep_dropped;
+	DROP EVENT TRIGGER IF EXISTS escrow_keep_concurrent;
 	DROP SCHEMA escrow CASCADE;
 	FOREACH role IN ARRAY ARRAY['escrow_journal', 'escrow_proxy'] LOOP
 		BEGIN

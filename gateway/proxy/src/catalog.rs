@@ -78,6 +78,17 @@ pub struct Table {
 }
 
 impl Table {
+    /// Returns the texts that the proxy alone sends.
+    fn own_texts(&self) -> [&str; 4] {
+        let own = [
+            &self.note_text,
+            &self.direct_text,
+            &self.own_text,
+            &self.here_text,
+        ];
+        own.map(String::as_str)
+    }
+
     /// Returns the place of a reservable column among them.
     pub fn column(&self, name: &str) -> Option<usize> {
         self.columns.iter().position(|column| column.name == name)
@@ -139,16 +150,17 @@ impl Catalog {
 
     /// Returns whether a text is one of the proxy's own, which nobody else may send (rule 19).
     pub fn is_own_text(&self, text: &[u8]) -> bool {
-        self.tables.iter().any(|table| {
-            [
-                &table.note_text,
-                &table.direct_text,
-                &table.own_text,
-                &table.here_text,
-            ]
-            .iter()
-            .any(|own| own.as_bytes() == text)
-        })
+        self.own_texts().any(|own| own == text)
+    }
+
+    /// Returns whether a text of the proxy's own begins so.
+    pub fn begins_own_text(&self, text: &[u8]) -> bool {
+        self.own_texts().any(|own| own.starts_with(text))
+    }
+
+    fn own_texts(&self) -> impl Iterator<Item = &[u8]> {
+        let texts = self.tables.iter().flat_map(|it| it.own_texts());
+        texts.map(str::as_bytes)
     }
 }
 

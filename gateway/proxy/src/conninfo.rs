@@ -10,12 +10,44 @@ use crate::tls::{BadFile, Connector, Mode};
 /// Where PostgreSQL is, how the proxy connects, and who it is there.
 #[derive(Clone, Debug)]
 pub struct Conninfo {
-    /// What `tokio-postgres` knows: all parameters but those of TLS.
+    /// What `tokio-postgres` is to know: all parameters but these of TLS and keepalives.
     pub config: Config,
     /// `sslmode`.
     pub mode: Mode,
     /// `sslrootcert`.
     pub root: Option<PathBuf>,
+    /// How the system asks after a server that says nothing. None: `keepalives=0`.
+    pub keepalives: Option<Keepalives>,
+}
+
+/// How the system asks after a server that says nothing, by libpq's names.
+#[derive(Clone, Copy, Debug, PartialEq, Eq)]
+pub struct Keepalives {
+    /// `keepalives_idle`: the seconds behind which it asks.
+    pub idle: u32,
+    /// `keepalives_interval`: the seconds behind which it asks again.
+    pub interval: u32,
+    /// `keepalives_count`: how many questions without an answer end the connection.
+    pub count: u32,
+}
+
+impl Default for Keepalives {
+    fn default() -> Self {
+        Keepalives {
+            idle: 30,
+            interval: 10,
+            count: 3,
+        }
+    }
+}
+
+impl Keepalives {
+    /// Returns behind how many seconds a connection ends whose server is gone.
+    pub fn longest(self) -> u32 {
+        self.interval
+            .saturating_mul(self.count)
+            .saturating_add(self.idle)
+    }
 }
 
 /// Why a connection string cannot be used.
@@ -30,6 +62,9 @@ pub enum BadConninfo {
     /// A quoted value has no end.
     #[error("a quoted value has no end")]
     Quote,
+    /// A number of keepalives is none.
+    #[error("{0} has a value that is no number")]
+    Number(String),
     /// `sslcert` and `sslkey` would let every client in as the user of the certificate.
     #[error("{0} is not supported: every client would be who the proxy's certificate says")]
     Identity(String),
@@ -60,28 +95,38 @@ impl FromStr for Conninfo {
             .iter()
             .any(|prefix| text.starts_with(prefix));
         let (mut mode, mut root) = (Mode::default(), None);
-        let mut is_of_tls = |name: &str, value: &str| {
+        let (mut asks, mut keepalives) = (true, Keepalives::default());
+        let mut is_taken = |name: &str, value: &str| {
+            let number = || -> Result<u32, BadConninfo> {
+                let number = value.parse();
+                number.map_err(|_| BadConninfo::Number(name.to_owned()))
+            };
             match name {
                 "sslmode" => mode = value.parse()?,
                 "sslrootcert" => root = Some(PathBuf::from(value)),
+                "keepalives" => asks = number()? != 0,
+                "keepalives_idle" => keepalives.idle = number()?.max(1),
+                "keepalives_interval" => keepalives.interval = number()?.max(1),
+                "keepalives_count" => keepalives.count = number()?.max(1),
                 "sslcert" | "sslkey" => return Err(BadConninfo::Identity(name.to_owned())),
                 _ => return Ok(false),
             }
             Ok(true)
         };
         let rest = match is_url {
-            true => rest_of_url(text, &mut is_of_tls)?,
-            false => rest_of_pairs(text, &mut is_of_tls)?,
+            true => rest_of_url(text, &mut is_taken)?,
+            false => rest_of_pairs(text, &mut is_taken)?,
         };
         Ok(Conninfo {
             config: rest.parse()?,
             mode,
             root,
+            keepalives: asks.then_some(keepalives),
         })
     }
 }
 
-/// Takes a parameter and returns whether it is one of TLS.
+/// Takes a parameter and returns whether it is one of the proxy's own.
 type Takes<'a> = &'a mut dyn FnMut(&str, &str) -> Result<bool, BadConninfo>;
 
 /// Returns a URL without the parameters that are taken.

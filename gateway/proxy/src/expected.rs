@@ -4,8 +4,11 @@
 //! reply is: the client's, or the proxy's own. An error takes all away that PostgreSQL skips, up to the next Sync.
 
 use std::collections::{HashMap, VecDeque};
-use std::sync::Arc;
+use std::sync::{Arc, Mutex};
 
+use bytes::Bytes;
+
+use crate::own::{self, KeptRow};
 use crate::protocol::{Status, Tag};
 use crate::update::Statement;
 
@@ -29,6 +32,31 @@ pub struct Bound {
     pub values: Vec<Option<Vec<u8>>>,
     /// The formats of the columns of its result.
     pub results: Vec<i16>,
+    /// What an Execute has left of its rows, once it has run.
+    pub left: Mutex<Option<Left>>,
+}
+
+/// The rows of a portal that its client has not asked for yet.
+#[derive(Debug, Default)]
+pub struct Left {
+    /// The rows, as messages.
+    pub rows: VecDeque<Bytes>,
+    /// The command tag without its number.
+    pub tag: String,
+}
+
+impl Left {
+    /// Takes so many rows, or all for 0, and what tells how they end: that there may be more, or how many they are.
+    pub fn take(&mut self, limit: usize) -> Vec<u8> {
+        let all = self.rows.len();
+        let count = if limit == 0 { all } else { all.min(limit) };
+        let mut out: Vec<u8> = self.rows.drain(..count).flatten().collect();
+        match count == limit && limit > 0 {
+            true => out.extend(own::SUSPENDED),
+            false => out.extend(own::command_complete(&format!("{} {count}", self.tag))),
+        }
+        out
+    }
 }
 
 /// What is expected next.
@@ -54,6 +82,8 @@ pub enum Expect {
     Function,
     /// A ReadyForQuery.
     Sync,
+    /// The end of a COPY that the client has sent. Nothing answers it by itself.
+    CopyEnd,
     /// The acknowledgement, or the description, of a statement of a string, which begins behind so many characters of it.
     Piece(usize),
     /// ParseComplete, of the proxy's own.
@@ -64,8 +94,8 @@ pub enum Expect {
     OwnExecute,
     /// The description of an own result that is the client's.
     OwnDescribe,
-    /// The replies to an Execute of the proxy's own whose rows are the client's.
-    OwnRows,
+    /// The replies to an Execute of the proxy's own whose rows are the client's: all of them, or so many before others are kept.
+    OwnRows(Option<usize>),
     /// CloseComplete, of the proxy's own.
     OwnShut,
     /// CloseComplete, with which an own reply is whole.
@@ -80,7 +110,7 @@ impl Expect {
                 | Expect::OwnBind
                 | Expect::OwnExecute
                 | Expect::OwnDescribe
-                | Expect::OwnRows
+                | Expect::OwnRows(_)
                 | Expect::OwnShut
                 | Expect::OwnClose
         )
@@ -113,6 +143,8 @@ pub enum Reply {
     Ready(Status),
     /// A part of an own reply.
     Own,
+    /// A row of an own request whose rows are the client's, which the client has not asked for yet.
+    Kept,
     /// The command tag of an own request whose rows are the client's.
     OwnTag,
     /// The last part of an own reply.
@@ -143,8 +175,13 @@ pub struct Track {
     deallocated: VecDeque<String>,
     /// Whether the session has kept the proxy's statements and its greeting.
     is_kept: bool,
-    /// Whether a COPY into PostgreSQL is under way by the extended protocol.
+    /// Whether a COPY into PostgreSQL is under way.
     is_copying: bool,
+    /// Rows of the own request that is under way, or was last, which the client has not asked for yet. And whether it has got as
+    /// many as it has asked for.
+    kept_rows: (Vec<Bytes>, bool),
+    /// The rows for which PostgreSQL has refused something to the client, since the proxy holds them.
+    refused_rows: Vec<KeptRow>,
     /// The process that serves the client.
     pub process: i32,
     /// Whether texts have `standard_conforming_strings`.
@@ -174,6 +211,8 @@ impl Track {
             deallocated: VecDeque::new(),
             is_kept: true,
             is_copying: false,
+            kept_rows: (Vec::new(), false),
+            refused_rows: Vec::new(),
             process: 0,
             is_conforming: true,
             is_utf8: false,
@@ -199,14 +238,28 @@ impl Track {
         self.deallocated.push_back(name);
     }
 
-    /// The client ends a COPY.
+    /// The client ends a COPY, which PostgreSQL may not have begun yet.
     pub fn copy_ends(&mut self) {
-        self.is_copying = false;
+        if !std::mem::take(&mut self.is_copying) && !self.is_quiet() {
+            self.expect(Expect::CopyEnd);
+        }
+    }
+
+    /// A COPY into PostgreSQL begins. PostgreSQL ignores each Sync up to its end.
+    fn copy_begins(&mut self) {
+        while matches!(self.queue.get(1), Some(Expect::Sync)) {
+            self.queue.remove(1);
+        }
+        self.is_copying = !matches!(self.queue.get(1), Some(Expect::CopyEnd));
+        if !self.is_copying {
+            self.queue.remove(1);
+        }
     }
 
     /// Returns whether all is answered.
     pub fn is_quiet(&self) -> bool {
-        self.queue.is_empty()
+        let mut queue = self.queue.iter();
+        queue.all(|it| matches!(it, Expect::CopyEnd))
     }
 
     /// Returns whether something is not answered that may change what is reserved, or that may stop errors from being
@@ -215,6 +268,16 @@ impl Track {
         let executes =
             |it: &Expect| it.ends_ready() || matches!(it, Expect::Execute) || it.is_own();
         self.queue.iter().any(executes)
+    }
+
+    /// Returns whether nothing is left of a string but what closes its last statement, and its Sync.
+    pub fn ends_string(&self) -> bool {
+        let mut queue = self.queue.iter();
+        let closes = queue
+            .by_ref()
+            .take(2)
+            .all(|it| matches!(it, Expect::Piece(_)));
+        closes && matches!(queue.next(), Some(Expect::Sync))
     }
 
     /// Returns whether PostgreSQL skips what comes.
@@ -241,6 +304,26 @@ impl Track {
             _ => None,
         });
         last.unwrap_or_else(|| self.portals.get(name).cloned())
+    }
+
+    /// Keeps a row that the client has not asked for yet.
+    pub fn keep_row(&mut self, row: Bytes) {
+        self.kept_rows.0.push(row);
+    }
+
+    /// Returns the rows that were kept, and whether the client has got as many as it has asked for.
+    pub fn take_kept_rows(&mut self) -> (Vec<Bytes>, bool) {
+        std::mem::take(&mut self.kept_rows)
+    }
+
+    /// PostgreSQL has refused something, since the proxy holds this row.
+    pub fn refuse_row(&mut self, row: KeptRow) {
+        self.refused_rows.push(row);
+    }
+
+    /// Returns the rows for which something was refused since the last call.
+    pub fn take_refused_rows(&mut self) -> Vec<KeptRow> {
+        std::mem::take(&mut self.refused_rows)
     }
 
     /// A portal is run: PostgreSQL runs none a second time.
@@ -308,6 +391,9 @@ impl Track {
 
     /// Takes a reply, by its kind and its body.
     pub fn reply(&mut self, kind: u8, body: &[u8]) -> Reply {
+        while matches!(self.queue.front(), Some(Expect::CopyEnd)) {
+            self.queue.pop_front();
+        }
         match kind {
             // They come at any time.
             b'N' | b'A' | b'R' | b'v' => return Reply::Pass,
@@ -372,15 +458,12 @@ impl Track {
                 self.queue.pop_front();
                 Reply::Pass
             }
-            (b'G', Some(Expect::Execute)) => {
-                self.is_copying = true;
-                while matches!(self.queue.get(1), Some(Expect::Sync)) {
-                    self.queue.remove(1);
-                }
+            (b'G', Some(Expect::Execute | Expect::Query)) => {
+                self.copy_begins();
                 Reply::Pass
             }
             (
-                b'D' | b'T' | b'G' | b'H' | b'W' | b'd' | b'c' | b'I',
+                b'D' | b'T' | b'H' | b'W' | b'd' | b'c' | b'I',
                 Some(Expect::Execute | Expect::Query),
             ) => Reply::Pass,
             (b'V', Some(Expect::Function)) => Reply::Pass,
@@ -407,8 +490,9 @@ impl Track {
                 self.queue.pop_front();
                 Reply::Own
             }
-            (b'D', Some(Expect::OwnRows)) => Reply::Pass,
-            (b'C', Some(Expect::OwnRows)) => {
+            (b'D', Some(Expect::OwnRows(_))) => self.own_row(),
+            (b'C', Some(&Expect::OwnRows(left))) => {
+                self.kept_rows.1 = left == Some(0);
                 self.queue.pop_front();
                 Reply::OwnTag
             }
@@ -417,6 +501,18 @@ impl Track {
                 Reply::OwnDone
             }
             _ => Reply::Stray,
+        }
+    }
+
+    /// Takes a row of an own request whose rows are the client's.
+    fn own_row(&mut self) -> Reply {
+        match self.queue.front_mut() {
+            Some(Expect::OwnRows(Some(0))) => Reply::Kept,
+            Some(Expect::OwnRows(Some(left))) => {
+                *left -= 1;
+                Reply::Pass
+            }
+            _ => Reply::Pass,
         }
     }
 
@@ -620,6 +716,7 @@ mod tests {
             formats: Vec::new(),
             values: Vec::new(),
             results: Vec::new(),
+            left: Mutex::default(),
         });
         for is_answered in [true, false] {
             track.expect(Expect::Bind("p".to_owned(), Some(bound.clone())));
@@ -668,5 +765,34 @@ mod tests {
         assert_eq!(track.reply(b'Z', b"I"), Reply::Ready(Status::Idle));
         track.ready(Status::Idle);
         assert!(track.is_quiet());
+    }
+
+    #[test]
+    fn a_copy_that_is_sent_at_once_keeps_the_sync_behind_it() {
+        let mut track = started();
+        track.expect(Expect::Execute);
+        track.expect(Expect::Sync);
+        track.copy_ends();
+        for _ in 0..2 {
+            track.expect(Expect::Sync);
+        }
+        assert_eq!(track.reply(b'G', b""), Reply::Pass);
+        assert_eq!(track.reply(b'C', b"COPY 3\0"), Reply::Completed(Tag::Plain));
+        for is_last in [false, true] {
+            assert!(!track.is_quiet());
+            assert_eq!(track.reply(b'Z', b"I"), Reply::Ready(Status::Idle));
+            track.ready(Status::Idle);
+            assert_eq!(track.is_quiet(), is_last);
+        }
+        // The end of none holds nobody up.
+        track.expect(Expect::Execute);
+        track.copy_ends();
+        assert_eq!(
+            track.reply(b'C', b"SELECT 1\0"),
+            Reply::Completed(Tag::Plain)
+        );
+        assert!(track.is_quiet());
+        track.expect(Expect::Sync);
+        assert_eq!(track.reply(b'Z', b"I"), Reply::Ready(Status::Idle));
     }
 }

@@ -15,7 +15,7 @@ use tokio_postgres::error::SqlState;
 use tokio_postgres::{Error, Statement};
 
 use crate::catalog::Catalog;
-use crate::hub::{FolderTask, Generation, Hub, HubEvent, Left, LoaderTask};
+use crate::hub::{FolderTask, Generation, Hub, HubEvent, Leaving, Left, LoaderTask};
 use crate::protocol::{Event, Line};
 use crate::target::{Session, Target};
 use crate::update::{self, Change, Key};
@@ -418,10 +418,10 @@ pub async fn load(
     let mut own = Own::new(&hub, target, "escrowd-proxy loader", "-c lock_timeout=50");
     loop {
         let task = tasks.lock().await.recv().await;
-        let (generation, key) = match task {
-            Some(LoaderTask::Load(generation, key)) => (generation, key),
-            Some(LoaderTask::Leave(generation, epoch, key, why)) => {
-                leave(&mut own, epoch, &key).await;
+        let (generation, number, key) = match task {
+            Some(LoaderTask::Load(generation, number, key)) => (generation, number, key),
+            Some(LoaderTask::Leave(generation, leaving, key, why)) => {
+                leave(&mut own, leaving, &key).await;
                 let missing = false;
                 let event = match why {
                     Left::Held => Event::Left { key },
@@ -433,11 +433,11 @@ pub async fn load(
             None => return,
         };
         let text = format!(
-            "SELECT loaded, epochs, numbers, changes FROM escrow.open_{}($1, $2)",
+            "SELECT loaded, epochs, numbers, changes FROM escrow.open_{}($1, $2, $3)",
             key.table
         );
         let epoch = hub.epoch();
-        let loaded = own.query(&text, &[&epoch, &&*key.text]).await;
+        let loaded = own.query(&text, &[&epoch, &number, &&*key.text]).await;
         let values: Option<Vec<String>> = match &loaded {
             Ok(rows) => rows.first().and_then(|row| row.get(0)),
             Err(_) => None,
@@ -483,9 +483,9 @@ fn lines(row: &tokio_postgres::Row) -> Vec<(Line, Change)> {
 }
 
 /// Removes the mark of a row that the server of this epoch's owner does not have.
-async fn leave(own: &mut Own, epoch: i64, key: &Key) {
-    let text = format!("SELECT escrow.leave_{}($1, $2)", key.table);
-    match own.query(&text, &[&epoch, &&*key.text]).await {
+async fn leave(own: &mut Own, Leaving { epoch, number }: Leaving, key: &Key) {
+    let text = format!("SELECT escrow.leave_{}($1, $2, $3)", key.table);
+    match own.query(&text, &[&epoch, &number, &&*key.text]).await {
         Ok(_) => {}
         Err(Failure::Lost(why)) => tracing::debug!("a row is not left: {}", why),
         Err(Failure::Refused(error)) => tracing::debug!("a row is not left: {}", error),

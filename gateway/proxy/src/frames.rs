@@ -23,7 +23,7 @@ pub enum Piece {
     /// A whole message: its kind, and all of its bytes.
     Message(u8, Bytes),
     /// Some bytes of a message that is larger than [`LARGEST_WHOLE`], and whether they are the first. These begin with its
-    /// kind.
+    /// kind, and are at least so many.
     Part(Bytes, bool),
 }
 
@@ -61,6 +61,9 @@ impl Frames {
                     return Ok(None);
                 }
                 return Ok(Some(Piece::Message(kind, input.split_to(whole).freeze())));
+            }
+            if input.len() < LARGEST_WHOLE {
+                return Ok(None);
             }
             self.rest = whole;
         }
@@ -131,9 +134,13 @@ mod tests {
                 input.extend_from_slice(chunk);
                 while let Some(piece) = frames.next(&mut input).unwrap() {
                     passed.extend_from_slice(piece.bytes());
-                    if let Piece::Message(kind, bytes) = piece {
-                        assert_eq!(kind, b'd');
-                        whole.push(bytes.len());
+                    match piece {
+                        Piece::Message(kind, bytes) => {
+                            assert_eq!(kind, b'd');
+                            whole.push(bytes.len());
+                        }
+                        Piece::Part(bytes, true) => assert!(bytes.len() >= LARGEST_WHOLE),
+                        Piece::Part(..) => {}
                     }
                 }
             }

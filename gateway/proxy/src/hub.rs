@@ -87,10 +87,19 @@ pub enum FolderTask {
 /// What a loader is asked for.
 #[derive(Debug)]
 pub enum LoaderTask {
-    /// Load a row.
-    Load(Generation, Key),
+    /// Load a row. The load has this number.
+    Load(Generation, i64, Key),
     /// Remove the mark of a row that the server of this epoch's owner does not have, and say so.
-    Leave(Generation, i64, Key, Left),
+    Leave(Generation, Leaving, Key, Left),
+}
+
+/// Which marks of a row are removed: those of other epochs, and of loads before this number.
+#[derive(Clone, Copy, Debug, PartialEq, Eq)]
+pub struct Leaving {
+    /// The epoch of the owner that leaves the row.
+    pub epoch: i64,
+    /// The number.
+    pub number: i64,
 }
 
 /// Why a row's mark is removed.
@@ -138,7 +147,7 @@ struct State {
     /// The number of commits when the last fold began.
     commits: u64,
     epoch: i64,
-    /// The last number that a note, a greeting or a tag has.
+    /// The last number that a note, a greeting, a tag or a load has.
     number: i64,
 }
 
@@ -333,9 +342,7 @@ impl Hub {
 
     /// Returns a number that is above all before.
     pub fn number(&self) -> i64 {
-        let mut state = lock(&self.state);
-        state.number += 1;
-        state.number
+        lock(&self.state).next_number()
     }
 
     /// Goes on with numbers above one that PostgreSQL has had in this epoch.
@@ -474,14 +481,14 @@ impl Hub {
                 state.arriving.insert(key, lines);
                 state.write();
             }
-            Some(why) => self.not_loaded(&state, key, &why),
+            Some(why) => self.not_loaded(&mut state, key, &why),
         }
     }
 
-    fn not_loaded(&self, state: &State, key: Key, why: &str) {
+    fn not_loaded(&self, state: &mut State, key: Key, why: &str) {
         let Key { table, text } = &key;
         tracing::warn!("a row cannot be held (table {table}, key {text}): {why}");
-        let task = LoaderTask::Leave(state.generation, state.epoch, key, Left::Refused);
+        let task = LoaderTask::Leave(state.generation, state.leaving(), key, Left::Refused);
         let _ = self.workers.loader.send(task);
     }
 
@@ -513,14 +520,14 @@ impl Hub {
                     true => self.take(&mut state, Event::Loaded { key, lines }),
                     false => {
                         state.server.delete(&key);
-                        self.not_loaded(&state, key, "too many holds for its sessions");
+                        self.not_loaded(&mut state, key, "too many holds for its sessions");
                         state.write();
                     }
                 }
             }
             Said::NotInserted(key, why) => {
                 state.arriving.remove(&key);
-                self.not_loaded(&state, key, &why);
+                self.not_loaded(&mut state, key, &why);
             }
             Said::Nothing => {}
             Said::Broke(what) => {
@@ -575,12 +582,12 @@ impl Hub {
                 self.generations.send_replace(state.generation);
             }
             Action::Load(key) => {
-                let task = LoaderTask::Load(state.generation, key);
+                let task = LoaderTask::Load(state.generation, state.next_number(), key);
                 let _ = self.workers.loader.send(task);
             }
             Action::Leave(key) => {
                 state.server.delete(&key);
-                let task = LoaderTask::Leave(state.generation, state.epoch, key, Left::Held);
+                let task = LoaderTask::Leave(state.generation, state.leaving(), key, Left::Held);
                 let _ = self.workers.loader.send(task);
             }
             Action::Fold(keys) => {
@@ -670,6 +677,20 @@ impl Hub {
 }
 
 impl State {
+    /// Returns a number that is above all before.
+    fn next_number(&mut self) -> i64 {
+        self.number += 1;
+        self.number
+    }
+
+    /// Returns which marks are removed now.
+    fn leaving(&mut self) -> Leaving {
+        Leaving {
+            epoch: self.epoch,
+            number: self.next_number(),
+        }
+    }
+
     /// Remembers why a table stops, as it was told first.
     fn stop(&mut self, table: i32, why: &str) {
         self.stopped.entry(table).or_insert_with(|| Stop {

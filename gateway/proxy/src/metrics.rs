@@ -386,6 +386,8 @@ mod tests {
         metrics.granted();
         metrics.refused(&Refusal::Check {
             constraint: "in_stock".to_owned(),
+            place: 0,
+            is_high: false,
             worst: "-1".to_owned(),
             limit: "0".to_owned(),
         });

@@ -15,6 +15,9 @@ pub const FLUSH: &[u8] = b"H\0\0\0\x04";
 /// Sync.
 pub const SYNC: &[u8] = b"S\0\0\0\x04";
 
+/// PortalSuspended.
+pub const SUSPENDED: &[u8] = b"s\0\0\0\x04";
+
 /// A value of a parameter.
 #[derive(Clone, Debug)]
 pub enum Value {
@@ -199,6 +202,33 @@ pub fn moved(error: &[u8], by: i64) -> Vec<u8> {
     })
 }
 
+/// A row that PostgreSQL keeps, since the proxy holds it.
+#[derive(Clone, Debug, PartialEq, Eq)]
+pub struct KeptRow {
+    /// The table's schema.
+    pub schema: String,
+    /// The table's name.
+    pub table: String,
+    /// The key, as PostgreSQL writes it.
+    pub key: String,
+}
+
+/// Returns the row that an ErrorResponse of a trigger of schema `escrow` names. None: it is another error.
+pub fn kept_row(error: &[u8]) -> Option<KeptRow> {
+    let fields = error.get(5..).unwrap_or_default().split(|&byte| byte == 0);
+    let fields: Vec<&str> = fields
+        .filter_map(|it| std::str::from_utf8(it).ok())
+        .collect();
+    let field = |kind: char| fields.iter().find_map(|it| it.strip_prefix(kind));
+    let key = field('D')?.strip_prefix("The key is ")?.strip_suffix('.')?;
+    (field('C')? == "55006").then_some(())?;
+    Some(KeptRow {
+        schema: field('s')?.to_owned(),
+        table: field('t')?.to_owned(),
+        key: key.to_owned(),
+    })
+}
+
 /// Returns an ErrorResponse with its fields changed.
 fn changed(error: &[u8], change: impl Fn(&[u8]) -> Option<Vec<u8>>) -> Vec<u8> {
     let fields = error.get(5..).unwrap_or_default().split(|&byte| byte == 0);
@@ -274,6 +304,18 @@ mod tests {
     fn an_error_tells_its_place_in_the_clients_text() {
         let error = b"E\0\0\0\x16SERROR\0C42703\0P9\0\0";
         assert_eq!(moved(error, 3), b"E\0\0\0\x17SERROR\0C42703\0P12\0\0");
+    }
+
+    #[test]
+    fn an_error_tells_which_row_is_kept() {
+        let of = |code: &str, detail: &str| {
+            let fields = format!("SERROR\0{code}\0Mheld\0{detail}\0spublic\0tstock\0\0");
+            kept_row(&[b"E\0\0\0\0", fields.as_bytes()].concat()).map(|it| it.key)
+        };
+        assert_eq!(of("C55006", "DThe key is a.b."), Some("a.b".to_owned()));
+        assert_eq!(of("C55006", "DIt is 5."), None);
+        assert_eq!(of("C23503", "DThe key is 5."), None);
+        assert_eq!(kept_row(b"E\0\0\0\x10C55006\0\0"), None);
     }
 
     #[test]

@@ -204,7 +204,7 @@ pub enum Event<K: Row, C> {
         /// Its key.
         key: K,
     },
-    /// The row's mark is removed, or cannot be.
+    /// The row's mark is removed, or cannot be now.
     Left {
         /// Its key.
         key: K,
@@ -375,7 +375,7 @@ pub enum Action<K: Row, C> {
     RestartServer,
     /// Load a row, and give it to the server.
     Load(K),
-    /// Take a row away from the server, and remove its mark.
+    /// Take a row away from the server, if it has it, and remove its mark. The mark of a load that begins later stays.
     Leave(K),
     /// Fold these keys.
     Fold(Vec<K>),
@@ -443,7 +443,7 @@ pub struct Protocol<K: Row, C> {
     /// Who waits for a row's load.
     loading: BTreeMap<K, Vec<Connection>>,
     /// Who waits until a row is no longer held.
-    leaving: BTreeMap<K, Option<Connection>>,
+    leaving: BTreeMap<K, Vec<Connection>>,
     folds: Folds<K>,
     /// The tables that an alarm has stopped, until an operator lets them go on.
     stopped: BTreeSet<K::Table>,
@@ -608,7 +608,7 @@ impl<K: Row, C: Clone> Protocol<K, C> {
             }
             Event::Leave { connection, key } => self.leave(connection, key, &mut actions),
             Event::Left { key } => {
-                if let Some(Some(connection)) = self.leaving.remove(&key) {
+                for connection in self.leaving.remove(&key).unwrap_or_default() {
                     actions.push(Action::Answer(connection, Answer::Missing));
                 }
                 self.advance_all(&mut actions);
@@ -841,17 +841,23 @@ impl<K: Row, C: Clone> Protocol<K, C> {
         actions.push(Action::Grant(connection, key, change));
     }
 
-    /// Holds a row no longer, if nobody has reserved it, asks for it, or may still commit a change of it (event 16).
+    /// Holds a row no longer, if nobody has reserved it, asks for it, or may still commit a change of it (event 16). If somebody
+    /// waits for that, PostgreSQL is asked also where the server does not have the row: its mark may have stayed.
     fn leave(&mut self, connection: Option<Connection>, key: K, actions: &mut Vec<Action<K, C>>) {
-        let is_wanted =
-            self.holds.has_row(&key) || self.clients.values().any(|client| client.wants(&key));
+        let is_wanted = self.holds.has_row(&key)
+            || self.loading.contains_key(&key)
+            || self.clients.values().any(|client| client.wants(&key));
         let may_leave =
             self.ownership == Ownership::Serving && !is_wanted && !self.is_stopped(&key);
-        if may_leave && self.loaded.remove(&key) {
-            self.leaving.insert(key.clone(), connection);
+        if !may_leave {
+            let answer = |connection| Action::Answer(connection, Answer::Missing);
+            actions.extend(connection.map(answer));
+        } else if let Some(waiting) = self.leaving.get_mut(&key) {
+            waiting.extend(connection);
+        } else if self.loaded.remove(&key) || connection.is_some() {
+            let waiting = connection.into_iter().collect();
+            self.leaving.insert(key.clone(), waiting);
             actions.push(Action::Leave(key));
-        } else if let Some(connection) = connection {
-            actions.push(Action::Answer(connection, Answer::Missing));
         }
     }
 
@@ -1136,7 +1142,7 @@ impl<K: Row, C: Clone> Protocol<K, C> {
             // Its journal is folded, and its mark goes with its last hold. A table that is stopped is swept when it goes on.
             let may_leave = self.leaving.len() < LEAVES && !self.is_stopped(&key);
             if may_leave && !self.leaving.contains_key(&key) {
-                self.leaving.insert(key.clone(), None);
+                self.leaving.insert(key.clone(), Vec::new());
                 actions.push(Action::Leave(key));
             }
         }

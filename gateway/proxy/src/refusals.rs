@@ -26,7 +26,7 @@ pub fn words(table: &Table, answer: Answer, refusal: Option<Refusal>) -> Words {
         about: String::new(),
     };
     match (answer, refusal) {
-        (Answer::Refused, Some(Refusal::Check { constraint, worst, limit })) => Words {
+        (Answer::Refused, Some(Refusal::Check { constraint, worst, limit, .. })) => Words {
             state: "23514",
             message: format!(
                 "new row for relation \"{name}\" violates check constraint \"{constraint}\""

@@ -8,7 +8,7 @@ use std::sync::atomic::{AtomicBool, Ordering};
 use std::sync::{Arc, Mutex, MutexGuard, PoisonError};
 use std::time::Duration;
 
-use bytes::BytesMut;
+use bytes::{Bytes, BytesMut};
 use escrowd_pg::wire::frontend::startup_parameters;
 use tokio::io::{AsyncRead, AsyncReadExt, AsyncWrite, AsyncWriteExt};
 use tokio::sync::mpsc::unbounded_channel;
@@ -294,7 +294,7 @@ async fn reserve(
         resumed,
         fold_wait: service.fold_wait,
         out: Vec::new(),
-        is_followed: false,
+        tag: Bytes::new(),
         row: None,
     };
     let ended = tokio::select! {

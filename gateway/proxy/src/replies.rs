@@ -43,8 +43,8 @@ pub struct Replies<'a> {
     pub fold_wait: Duration,
     /// What is not written yet.
     pub out: Vec<u8>,
-    /// Whether that can wait for the next ReadyForQuery.
-    pub is_followed: bool,
+    /// The command tag at the end of a Query, which goes together with the ReadyForQuery behind it.
+    pub tag: Bytes,
     /// The row of the own reply that is under way.
     pub row: Option<Vec<Option<Bytes>>>,
 }
@@ -68,7 +68,7 @@ impl Replies<'_> {
                     self.flush().await?;
                 }
             }
-            if !self.is_followed {
+            if self.tag.is_empty() {
                 self.flush().await?;
             }
             input.reserve(CHUNK);
@@ -86,8 +86,10 @@ impl Replies<'_> {
     }
 
     fn resume(&mut self, resumed: &Resumed) {
-        self.out.extend_from_slice(&resumed.bytes);
-        self.is_followed = resumed.is_followed;
+        match resumed.is_end {
+            true => self.tag = resumed.bytes.clone(),
+            false => self.out.extend_from_slice(&resumed.bytes),
+        }
     }
 
     async fn flush(&mut self) -> Result<(), Error> {
@@ -104,13 +106,15 @@ impl Replies<'_> {
         let reply = self.shared.track().reply(kind, &[]);
         let connection = self.connection;
         match reply {
-            Reply::Pass => {}
+            // One that the client has not asked for yet is too large to be kept.
+            Reply::Pass | Reply::Kept => {}
             Reply::Failed {
                 skips_own: false, ..
             } => {
                 if self.shared.is_engaged() {
                     self.hub.handle(Event::Failed { connection });
                 }
+                self.tag.clear();
             }
             _ => return Err(Error::Stray(char::from(kind))),
         }
@@ -128,11 +132,18 @@ impl Replies<'_> {
                 if is_engaged {
                     self.hub.handle(Event::Completed { connection, tag });
                 }
-                self.out.extend_from_slice(bytes);
+                match self.shared.track().ends_string() {
+                    true => self.tag = bytes.clone(),
+                    false => self.out.extend_from_slice(bytes),
+                }
             }
             Reply::Failed { skips_own, moved } => {
                 if is_engaged {
                     self.hub.handle(Event::Failed { connection });
+                }
+                self.tag.clear();
+                if let Some(row) = own::kept_row(bytes) {
+                    self.shared.track().refuse_row(row);
                 }
                 match moved {
                     0 => self.out.extend_from_slice(bytes),
@@ -147,9 +158,10 @@ impl Replies<'_> {
                     self.keep_back(status).await?;
                 }
                 self.shared.track().ready(status);
+                self.out.extend(std::mem::take(&mut self.tag));
                 self.out.extend_from_slice(bytes);
-                self.is_followed = false;
             }
+            Reply::Kept => self.shared.track().keep_row(bytes.clone()),
             Reply::Own => {
                 if kind == b'D' {
                     self.row = own::row(bytes);

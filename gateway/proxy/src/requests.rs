@@ -4,15 +4,16 @@
 //! the client's is sent in between.
 
 use std::collections::{HashMap, VecDeque};
-use std::sync::Arc;
+use std::sync::{Arc, Mutex, MutexGuard, PoisonError};
 
 use bytes::{Bytes, BytesMut};
 use escrowd_pg::wire::frontend::{self, Message, Raw};
 use tokio::io::{AsyncReadExt, AsyncWriteExt};
 use tokio::sync::mpsc::{UnboundedReceiver, UnboundedSender};
 
+use crate::catalog::Catalog;
 use crate::error::Error;
-use crate::expected::{Bound, Expect, Prepared};
+use crate::expected::{Bound, Expect, Left, Prepared};
 use crate::frames::{self, Frames};
 use crate::hub::{Hub, Mail};
 use crate::own::{self, Value};
@@ -41,8 +42,9 @@ pub enum OwnReply {
 pub struct Resumed {
     /// What it writes.
     pub bytes: Bytes,
-    /// Whether the client waits for the ReadyForQuery behind it in any case: then both go together.
-    pub is_followed: bool,
+    /// Whether that is the command tag at the end of a Query: it goes together with the ReadyForQuery behind it, and an error takes
+    /// its place.
+    pub is_end: bool,
 }
 
 /// How a client has sent a statement.
@@ -50,10 +52,10 @@ pub struct Resumed {
 pub(crate) enum Sent<'a> {
     /// By itself in a Query, which is here as a whole.
     Query(&'a [u8]),
-    /// By an Execute, which is here as a whole.
-    Execute(&'a [u8]),
-    /// In a Query with others: its text, and how many characters are in front of it.
-    Piece(&'a str, usize),
+    /// By an Execute, which is here as a whole, and how many rows it asks for at most, if it does.
+    Execute(&'a [u8], Option<usize>),
+    /// In a Query with others: its text, how many characters are in front of it, and whether it is the last.
+    Piece(&'a str, usize, bool),
 }
 
 impl Sent<'_> {
@@ -62,9 +64,15 @@ impl Sent<'_> {
         matches!(self, Sent::Query(_))
     }
 
+    /// Returns whether it is the end of a Query. Outside a block its transaction ends then, and PostgreSQL tells an error of that in
+    /// place of the command tag.
+    pub(crate) fn is_end(self) -> bool {
+        matches!(self, Sent::Query(_) | Sent::Piece(_, _, true))
+    }
+
     /// Returns whether an Execute has sent it: then the client describes its rows itself.
     pub(crate) fn is_execute(self) -> bool {
-        matches!(self, Sent::Execute(_))
+        matches!(self, Sent::Execute(..))
     }
 }
 
@@ -74,6 +82,8 @@ pub(crate) struct Rest {
     pub(crate) text: String,
     /// By how many characters the places of its errors are in front of those in the client's text.
     pub(crate) moved: i64,
+    /// Whether it may have rows.
+    pub(crate) has_rows: bool,
     /// Whether its rows are described to the client.
     pub(crate) is_described: bool,
     /// How many rows it has to have. None: it may have any.
@@ -82,6 +92,8 @@ pub(crate) struct Rest {
     pub(crate) formats: Vec<i16>,
     pub(crate) values: Vec<Option<Vec<u8>>>,
     pub(crate) results: Vec<i16>,
+    /// How many rows the client has asked for at most, if it has.
+    pub(crate) limit: Option<usize>,
 }
 
 /// What an own request ends with.
@@ -158,6 +170,10 @@ pub(crate) struct Session {
     pub(crate) greeted: i64,
     /// Whether what is declared may have been changed by this client.
     pub(crate) is_old: bool,
+    /// Whether the client has waited until what is declared is known.
+    pub(crate) has_waited: bool,
+    /// What the last UPDATE has left of its rows.
+    pub(crate) rows_left: Option<Left>,
 }
 
 impl<'a> Requests<'a> {
@@ -193,7 +209,7 @@ impl<'a> Requests<'a> {
             while let Some(piece) = frames.next(&mut input)? {
                 match piece {
                     frames::Piece::Message(kind, bytes) => self.message(kind, bytes).await?,
-                    frames::Piece::Part(bytes, is_first) => self.part(&bytes, is_first),
+                    frames::Piece::Part(bytes, is_first) => self.part(&bytes, is_first)?,
                 }
                 if self.out.len() > CHUNK {
                     self.flush().await?;
@@ -226,9 +242,11 @@ impl<'a> Requests<'a> {
         self.out.extend_from_slice(bytes);
     }
 
-    /// Passes a part of a message that is too large to be looked at.
-    fn part(&mut self, bytes: &[u8], is_first: bool) {
+    /// Passes a part of a message that is too large to be looked at. Its first part has its names, and its text if that is one of
+    /// the proxy's own.
+    fn part(&mut self, bytes: &[u8], is_first: bool) -> Result<(), Error> {
         if is_first {
+            self.check_part(bytes[0], &bytes[5..])?;
             let nameless = String::new;
             match bytes.first() {
                 Some(b'Q') => {
@@ -255,6 +273,36 @@ impl<'a> Requests<'a> {
             }
         }
         self.out.extend_from_slice(bytes);
+        Ok(())
+    }
+
+    /// Ends a client whose message has a name or a text of the proxy's own (rule 19). A name that has no end in the first part of
+    /// it hides what comes behind.
+    fn check_part(&mut self, kind: u8, body: &[u8]) -> Result<(), Error> {
+        let (names, body) = match kind {
+            b'P' | b'E' => (1, body),
+            b'B' => (2, body),
+            // The kind of what is named stands first.
+            b'C' | b'D' => (1, &body[1..]),
+            b'Q' => (0, body),
+            _ => return Ok(()),
+        };
+        let mut words = body.split(|&byte| byte == 0);
+        for name in words.by_ref().take(names) {
+            self.check_prefix(name)?;
+        }
+        let text = match words.next() {
+            Some(text) => text,
+            None => return Err(Error::OwnName),
+        };
+        if !matches!(kind, b'P' | b'Q') {
+            return Ok(());
+        }
+        let begins = |it: Arc<Catalog>| it.begins_own_text(text);
+        if words.next().is_none() && self.hub.declared().map_or(false, begins) {
+            return Err(Error::OwnText);
+        }
+        self.check_text(text)
     }
 
     async fn message(&mut self, kind: u8, bytes: Bytes) -> Result<(), Error> {
@@ -267,6 +315,9 @@ impl<'a> Requests<'a> {
             // PostgreSQL says what is wrong with it.
             Err(_) => return self.unknown(kind, &bytes),
         };
+        if matches!(message, Message::Query(_) | Message::Execute { .. }) {
+            self.leave_refused().await;
+        }
         match message {
             Message::Query(text) => self.query(text, &bytes).await?,
             Message::Parse(parse) => {
@@ -295,6 +346,7 @@ impl<'a> Requests<'a> {
                         values: values.collect(),
                         formats: bind.formats.clone(),
                         results: bind.result_formats.clone(),
+                        left: Mutex::default(),
                     })
                 });
                 self.pass(&bytes, Expect::Bind(bind.portal.to_owned(), bound));
@@ -311,7 +363,8 @@ impl<'a> Requests<'a> {
                 };
                 self.pass(&bytes, expect);
             }
-            Message::Execute { portal, .. } => {
+            Message::Execute { portal, limit } => {
+                let limit = Some(limit as usize).filter(|&limit| limit > 0);
                 self.check_name(portal)?;
                 let bound = self.shared.track().portal(portal);
                 let prepared = bound
@@ -319,14 +372,20 @@ impl<'a> Requests<'a> {
                     .map(|bound| (bound, &bound.statement.statement));
                 match prepared {
                     Some((bound, Statement::Update(form))) => {
-                        self.shared.track().spend_portal(portal);
+                        if self.goes_on(bound, limit).await? {
+                            return Ok(());
+                        }
                         let parameters = Parameters {
                             types: &bound.statement.types,
                             formats: &bound.formats,
                             values: &bound.values,
                         };
-                        self.update(form, parameters, &bound.results, Sent::Execute(&bytes))
-                            .await?;
+                        let sent = Sent::Execute(&bytes, limit);
+                        self.update(form, parameters, &bound.results, sent).await?;
+                        match self.own.rows_left.take() {
+                            None => self.shared.track().spend_portal(portal),
+                            left => *rows_left(bound) = left,
+                        }
                     }
                     Some((bound, Statement::Delete(deletion))) => {
                         let parameters = Parameters {
@@ -341,7 +400,9 @@ impl<'a> Requests<'a> {
                         self.shared.track().deallocates(name.clone());
                         self.pass(&bytes, Expect::Execute);
                     }
-                    Some((_, Statement::Commit)) => self.commit(Sent::Execute(&bytes)).await?,
+                    Some((_, Statement::Commit)) => {
+                        self.commit(Sent::Execute(&bytes, limit)).await?;
+                    }
                     Some((_, Statement::Holds)) => {
                         self.names_holds(true);
                         self.pass(&bytes, Expect::Execute);
@@ -360,6 +421,22 @@ impl<'a> Requests<'a> {
             }
         }
         Ok(())
+    }
+
+    /// Gives the client more of what a portal has left of its rows. Returns false if it has not run yet, or its transaction has
+    /// failed.
+    async fn goes_on(&mut self, bound: &Bound, limit: Option<usize>) -> Result<bool, Error> {
+        if rows_left(bound).is_none() {
+            return Ok(false);
+        }
+        self.settle().await?;
+        if self.has_failed() {
+            return Ok(false);
+        }
+        if let Some(left) = rows_left(bound).as_mut() {
+            self.say(left.take(limit.unwrap_or(0)), false);
+        }
+        Ok(true)
     }
 
     /// Passes a message that is laid out wrongly. PostgreSQL answers it by an error.
@@ -383,7 +460,11 @@ impl<'a> Requests<'a> {
 
     /// Ends a client that uses a name of the proxy's own (rule 19).
     fn check_name(&self, name: &str) -> Result<(), Error> {
-        if name.starts_with(own::PREFIX) {
+        self.check_prefix(name.as_bytes())
+    }
+
+    fn check_prefix(&self, name: &[u8]) -> Result<(), Error> {
+        if name.starts_with(own::PREFIX.as_bytes()) {
             return Err(Error::OwnName);
         }
         Ok(())
@@ -449,7 +530,7 @@ impl<'a> Requests<'a> {
         if names_holds(text) {
             self.names_holds(true);
         }
-        if let Some(pieces) = self.pieces(text) {
+        if let Some(pieces) = self.pieces(text).await {
             return self.string(&pieces).await;
         }
         match self.statement(text) {
@@ -494,23 +575,24 @@ impl<'a> Requests<'a> {
     }
 
     /// Reads a string of several statements, of which one may be a reservation. None: it passes on as it is.
-    fn pieces(&self, text: &[u8]) -> Option<Vec<Piece>> {
+    async fn pieces(&mut self, text: &[u8]) -> Option<Vec<Piece>> {
         let text = self.known_text(text)?;
         if !script::may_be_several(text) {
             return None;
         }
-        script::pieces(text, &*self.hub.declared()?)
+        let catalog = self.first_catalog().await;
+        script::pieces(text, &catalog)
     }
 
     /// Serves a string of several statements, one after another up to the first error. They are a pipeline, which is one
     /// transaction outside a block, as the string is.
     async fn string(&mut self, pieces: &[Piece]) -> Result<(), Error> {
         self.settle().await?;
-        for piece in pieces {
+        for (at, piece) in pieces.iter().enumerate() {
             if self.shared.track().is_skipping() {
                 break;
             }
-            let sent = Sent::Piece(&piece.text, piece.place);
+            let sent = Sent::Piece(&piece.text, piece.place, at + 1 == pieces.len());
             match &piece.statement {
                 Some(Statement::Update(form)) => {
                     self.update(form, Parameters::default(), &[], sent).await?;
@@ -537,8 +619,8 @@ impl<'a> Requests<'a> {
     pub(crate) fn pass_on(&mut self, sent: Sent<'_>) {
         match sent {
             Sent::Query(bytes) => self.pass(bytes, Expect::Query),
-            Sent::Execute(bytes) => self.pass(bytes, Expect::Execute),
-            Sent::Piece(text, place) => {
+            Sent::Execute(bytes, _) => self.pass(bytes, Expect::Execute),
+            Sent::Piece(text, place, _) => {
                 for _ in 0..own::piece(&mut self.out, text) {
                     self.expect(Expect::Piece(place));
                 }
@@ -566,25 +648,24 @@ impl<'a> Requests<'a> {
         self.go_on_to(reply, bytes, false);
     }
 
-    /// Does the same; `is_followed` says that the client waits for the ReadyForQuery behind it in any case.
-    pub(crate) fn go_on_to(&self, reply: &OwnReply, bytes: Vec<u8>, is_followed: bool) {
-        let bytes = match reply {
-            OwnReply::Failed(error) => own::without_context(error),
-            OwnReply::Unsent => return,
-            OwnReply::Row(_) | OwnReply::Skipped => bytes,
-        };
-        self.write(bytes, is_followed);
+    /// Does the same with a command tag; `is_end` says that it ends a Query.
+    pub(crate) fn go_on_to(&self, reply: &OwnReply, tag: Vec<u8>, is_end: bool) {
+        match reply {
+            OwnReply::Failed(error) => self.write(own::without_context(error), false),
+            OwnReply::Unsent => {}
+            OwnReply::Row(_) | OwnReply::Skipped => self.write(tag, is_end),
+        }
     }
 
-    /// Writes to the client, while the other direction waits for nothing of this one.
-    pub(crate) fn say(&self, bytes: Vec<u8>) {
-        self.write(bytes, false);
+    /// Writes to the client, while the other direction waits for nothing of this one. It may be a command tag that ends a Query.
+    pub(crate) fn say(&self, bytes: Vec<u8>, is_end: bool) {
+        self.write(bytes, is_end);
     }
 
-    fn write(&self, bytes: Vec<u8>, is_followed: bool) {
+    fn write(&self, bytes: Vec<u8>, is_end: bool) {
         let bytes = bytes.into();
         // If that fails, the other direction has ended.
-        let _ = self.resume.send(Resumed { bytes, is_followed });
+        let _ = self.resume.send(Resumed { bytes, is_end });
     }
 
     /// Sends a statement whose rows are the client's, and waits for its tag. The other direction waits for
@@ -603,6 +684,7 @@ impl<'a> Requests<'a> {
             values,
             results,
             is_described,
+            limit,
             ..
         } = rest;
         own::parse(&mut self.out, &name, text, types);
@@ -619,7 +701,7 @@ impl<'a> Requests<'a> {
         if *is_described {
             self.expect(Expect::OwnDescribe);
         }
-        self.expect(Expect::OwnRows);
+        self.expect(Expect::OwnRows(*limit));
         self.expect(Expect::OwnShut);
         self.expect(Expect::OwnClose);
         self.flush().await?;
@@ -709,6 +791,11 @@ impl<'a> Requests<'a> {
         self.end_of_closing(&reply, closed);
         Ok(reply)
     }
+}
+
+/// Returns what a portal has left of its rows, once it has run.
+fn rows_left(bound: &Bound) -> MutexGuard<'_, Option<Left>> {
+    bound.left.lock().unwrap_or_else(PoisonError::into_inner)
 }
 
 /// Returns whether a text has a word, which is in small letters, in letters of any case.

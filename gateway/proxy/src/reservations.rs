@@ -7,15 +7,17 @@ use std::sync::Arc;
 use std::time::{Duration, Instant};
 
 use bytes::Bytes;
+use escrowd_pg::decimal::Decimal;
+use escrowd_pg::statement::constant::Datum;
 use tokio::time::timeout;
 
 use crate::catalog::{Catalog, Table};
 use crate::error::Error;
-use crate::expected::Expect;
+use crate::expected::{Expect, Left};
 use crate::hub::Mail;
 use crate::note::{Grant, Noted, Secret};
 use crate::own::{self, Value};
-use crate::parameters::Parameters;
+use crate::parameters::{key_text, Parameters};
 use crate::protocol::{Answer, Event, Line, Status};
 use crate::refusals::{words, Words};
 use crate::requests::{End, OwnReply, Requests, Rest, Sent};
@@ -45,8 +47,8 @@ struct Job<'a> {
     form: &'a Form,
     table: &'a Table,
     change: Change,
-    /// The CHECK that refuses where the statement's condition does not hold.
-    condition: Option<String>,
+    /// The condition of the table's CHECKs that refuses where the statement's condition does not hold.
+    condition: Option<usize>,
     sent: Sent<'a>,
     /// Whether it is a transaction by itself, as far as is known.
     alone: bool,
@@ -58,8 +60,8 @@ impl Job<'_> {
     /// Returns how many characters of the client's text are in front of it.
     fn place(&self) -> i64 {
         match self.sent {
-            Sent::Query(_) | Sent::Execute(_) => 0,
-            Sent::Piece(_, place) => place as i64,
+            Sent::Query(_) | Sent::Execute(..) => 0,
+            Sent::Piece(_, place, _) => place as i64,
         }
     }
 }
@@ -114,7 +116,7 @@ impl Requests<'_> {
                 let values = [Value::Text(format!("{{{}}}", keys.join(",")))];
                 let end = match sent {
                     Sent::Query(bytes) if at == last => End::Query(bytes.to_vec()),
-                    Sent::Execute(bytes) if at == last => End::Execute(bytes.to_vec()),
+                    Sent::Execute(bytes, _) if at == last => End::Execute(bytes.to_vec()),
                     _ => End::Flush,
                 };
                 let reply = self.ask(&table.own_text, &values, &[0], end).await?;
@@ -164,14 +166,16 @@ impl Requests<'_> {
         tables
     }
 
+    /// Returns whether PostgreSQL skips or refuses what comes.
+    pub(crate) fn has_failed(&self) -> bool {
+        let track = self.shared.track();
+        track.is_skipping() || track.status() == Status::Failed && track.is_plain()
+    }
+
     /// Tells PostgreSQL what is reserved, so that `escrow.reservations()` of this client shows it.
     pub(crate) async fn show(&mut self) -> Result<(), Error> {
         self.settle().await?;
-        let is_failed = {
-            let track = self.shared.track();
-            track.is_skipping() || track.status() == Status::Failed && track.is_plain()
-        };
-        if is_failed {
+        if self.has_failed() {
             return Ok(());
         }
         let values = [Value::Text(self.hub.reservations())];
@@ -188,15 +192,36 @@ impl Requests<'_> {
         deletion: &Deletion,
         parameters: Parameters<'_>,
     ) -> Result<(), Error> {
-        let catalog = self.hub.declared().unwrap_or_default();
+        let catalog = self.first_catalog().await;
         for table in catalog.named(deletion.table_name()) {
             if let Some(key) = deletion.key(table, parameters) {
-                let connection = Some(self.connection);
-                self.hub.handle(Event::Leave { connection, key });
-                while !matches!(self.mail.recv().await, Some(Mail::Answer(..)) | None) {}
+                self.leave(key).await;
             }
         }
         Ok(())
+    }
+
+    /// Has the rows left for which PostgreSQL has refused something to the client, as a DELETE by another condition: a repeat
+    /// finds them free.
+    pub(crate) async fn leave_refused(&mut self) {
+        let rows = self.shared.track().take_refused_rows();
+        let catalog = self.hub.declared().unwrap_or_default();
+        for row in rows {
+            let mut tables = catalog.named(&row.table);
+            if let Some(table) = tables.find(|it| it.schema == row.schema) {
+                if let Some(text) = key_text(Datum::Unknown(row.key), table.key_type) {
+                    let (table, text) = (table.number, text.into());
+                    self.leave(Key { table, text }).await;
+                }
+            }
+        }
+    }
+
+    /// Has a row left, unless somebody has reserved it.
+    async fn leave(&mut self, key: Key) {
+        let connection = Some(self.connection);
+        self.hub.handle(Event::Leave { connection, key });
+        while !matches!(self.mail.recv().await, Some(Mail::Answer(..)) | None) {}
     }
 
     /// Serves an UPDATE that may be a reservation.
@@ -210,11 +235,7 @@ impl Requests<'_> {
         if !sent.is_execute() || self.shared.track().is_executing() {
             self.settle().await?;
         }
-        let is_failed = {
-            let track = self.shared.track();
-            track.is_skipping() || track.status() == Status::Failed && track.is_plain()
-        };
-        let table = match is_failed {
+        let table = match self.has_failed() {
             true => None,
             false => self.declared(form).await?,
         };
@@ -256,7 +277,7 @@ impl Requests<'_> {
             match self.row(&job, key).await? {
                 RowEnd::Done(reply, end) if job.is_single => {
                     let tag = own::command_complete("UPDATE 1");
-                    self.go_on_to(&reply, tag, sent.is_query());
+                    self.go_on_to(&reply, tag, sent.is_end());
                     if sent.is_query() && end == End::Flush {
                         self.pass(own::SYNC, Expect::Sync);
                     }
@@ -286,12 +307,17 @@ impl Requests<'_> {
         let rest = plan.rest(count > 0).map(|Part { text, moved }| Rest {
             text,
             moved,
+            has_rows: plan.rest_has_rows(),
             is_described: !sent.is_execute() && plan.rest_has_rows(),
             count: plan.rest_counts().then_some(count),
             types: plan.rest_types(parameters),
             formats: parameters.formats.to_vec(),
             values: parameters.values.to_vec(),
             results: results.to_vec(),
+            limit: match sent {
+                Sent::Execute(_, limit) => limit,
+                Sent::Query(_) | Sent::Piece(..) => None,
+            },
         });
         self.end_update(&job, count, rest).await
     }
@@ -326,13 +352,13 @@ impl Requests<'_> {
                     self.go_on(&reply, Vec::new());
                     return self.refuse(job, changed_row()).await;
                 }
-                match served {
-                    Some(served) if !job.form.is_main() => {
-                        let tag = own::command_complete(served);
-                        self.go_on(&reply, tag);
-                    }
-                    _ => self.go_on(&reply, tag),
-                }
+                let tag = match served {
+                    Some(served) if !job.form.is_main() => own::command_complete(served),
+                    _ => tag,
+                };
+                let served = served.unwrap_or_default();
+                let tag = self.rows_end(job, &rest, served, tag);
+                self.go_on_to(&reply, tag, job.sent.is_end());
             }
             None if count == 0 => {
                 // The client's role may ask for it, or not.
@@ -344,12 +370,29 @@ impl Requests<'_> {
                 };
                 let reply = self.tell(job, words, End::Flush).await?;
                 self.tell_failure(&reply);
-                self.go_on(&reply, tag);
+                self.go_on_to(&reply, tag, job.sent.is_end());
             }
-            None => self.say(tag),
+            None => self.say(tag, job.sent.is_end()),
         }
         self.end_query(job.sent);
         Ok(())
+    }
+
+    /// Returns what tells the client how its rows end: the tag, or that there may be more (as in PostgreSQL, where it has got as
+    /// many as it has asked for). Keeps what is left of them.
+    fn rows_end(&mut self, job: &Job<'_>, rest: &Rest, served: &str, tag: Vec<u8>) -> Vec<u8> {
+        let (rows, is_full) = self.shared.track().take_kept_rows();
+        let may_go_on = is_full || job.form.is_main() && rest.has_rows;
+        if may_go_on && job.sent.is_execute() {
+            let word = served.rsplit_once(' ').map_or(served, |(word, _)| word);
+            let word = if job.form.is_main() { "UPDATE" } else { word };
+            let (rows, tag) = (rows.into(), word.to_owned());
+            self.own.rows_left = Some(Left { rows, tag });
+        }
+        match is_full {
+            true => own::SUSPENDED.to_vec(),
+            false => tag,
+        }
     }
 
     /// Reserves a change of a row.
@@ -378,10 +421,10 @@ impl Requests<'_> {
                 Decided::Missing => return Ok(RowEnd::Missing),
                 Decided::Refused(answer, refusal) => (answer, refusal),
             };
-            if let (Some(Refusal::Check { constraint, .. }), Some(condition)) =
-                (&refusal, &job.condition)
+            if let (Answer::Refused, Some(refusal), Some(condition)) =
+                (answer, &refusal, job.condition)
             {
-                if answer == Answer::Refused && constraint == condition {
+                if refuses_too(job.table, refusal, condition) {
                     return Ok(RowEnd::NotSo);
                 }
             }
@@ -479,11 +522,23 @@ impl Requests<'_> {
 
     /// Returns what is declared, at least as new as what this client has changed of it.
     pub(crate) async fn known_catalog(&mut self) -> Arc<Catalog> {
-        if !std::mem::take(&mut self.own.is_old) {
-            if let Some(known) = self.hub.declared() {
-                return known;
-            }
+        match std::mem::take(&mut self.own.is_old) {
+            true => self.read_catalog().await,
+            false => self.first_catalog().await,
         }
+    }
+
+    /// Returns what is declared, as it was read last. If it was not read yet, it waits for that, once for each client.
+    pub(crate) async fn first_catalog(&mut self) -> Arc<Catalog> {
+        match self.hub.declared() {
+            Some(known) => known,
+            None if std::mem::replace(&mut self.own.has_waited, true) => Arc::default(),
+            None => self.read_catalog().await,
+        }
+    }
+
+    /// Has what is declared read anew, and returns it.
+    async fn read_catalog(&self) -> Arc<Catalog> {
         let mut catalog = self.hub.catalog();
         drop(catalog.borrow_and_update());
         self.hub.refresh();
@@ -675,7 +730,7 @@ impl Requests<'_> {
     async fn refuse(&mut self, job: &Job<'_>, words: Words) -> Result<(), Error> {
         let end = match job.sent {
             Sent::Query(_) => End::Sync,
-            Sent::Execute(_) | Sent::Piece(..) => End::Flush,
+            Sent::Execute(..) | Sent::Piece(..) => End::Flush,
         };
         let reply = self.tell(job, words, end).await?;
         self.tell_failure(&reply);
@@ -703,6 +758,29 @@ impl Requests<'_> {
         ];
         self.ask(&job.table.refusal_text, &values, &[], end).await
     }
+}
+
+/// Returns whether a refusal says that a condition of the table's CHECKs does not hold either: it is of that, or tells how low
+/// the same sum would be.
+fn refuses_too(table: &Table, refusal: &Refusal, condition: usize) -> bool {
+    let (place, worst) = match refusal {
+        Refusal::Check {
+            place,
+            is_high: false,
+            worst,
+            ..
+        } => (*place, worst),
+        _ => return false,
+    };
+    let (broken, asked) = match (table.checks.get(place), table.checks.get(condition)) {
+        (Some(broken), Some(asked)) => (broken, asked),
+        _ => return false,
+    };
+    let is_below = || {
+        let order = Decimal::parse(worst)?.compare(&Decimal::parse(&asked.limit)?);
+        Some(order.is_lt() || order.is_eq() && asked.comparison == ">")
+    };
+    place == condition || broken.coefficients == asked.coefficients && is_below().unwrap_or(false)
 }
 
 /// Returns whether a value is a boolean in text that is true.

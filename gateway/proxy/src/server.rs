@@ -50,6 +50,10 @@ pub enum Refusal {
     Check {
         /// Its name.
         constraint: String,
+        /// Which of the table's conditions it is.
+        place: usize,
+        /// Whether its sum would be too high, otherwise too low.
+        is_high: bool,
         /// What its sum would come to.
         worst: String,
         /// Its limit.
@@ -574,9 +578,12 @@ fn broken_check(table: &Table, broken: Broken<'_>) -> Option<Refusal> {
             column.type_name.clone(),
         ));
     }
-    let check = table.checks.get(at(name.strip_prefix('X')?)?)?;
+    let place = at(name.strip_prefix('X')?)?;
+    let check = table.checks.get(place)?;
     Some(Refusal::Check {
         constraint: check.name.clone(),
+        place,
+        is_high: broken.high,
         worst: broken.worst.to_owned(),
         limit: broken.limit.to_owned(),
     })

@@ -66,6 +66,8 @@ pub(crate) enum Without {
     SweepTested,
     /// Rule 14: a row that is left loses its mark, in whose epoch ever.
     LeavesOwn,
+    /// Rule 14: a row that is left loses the mark of a later load too.
+    LeavesBefore,
     /// Rule 14: a DELETE looks for no mark.
     DeleteLooks,
     /// Rule 16: a change of a row of its own looks for no mark.
@@ -260,7 +262,7 @@ fn no_step_breaks_the_invariant() {
     assert!(seen.holds > runs && 4 * seen.taken > runs && 8 * seen.reserved_again > runs);
     let own = seen.own;
     assert!(own.own_folds > 0 && own.direct > 0 && own.here > 0 && own.changed > 0);
-    assert!(own.deleted > 0 && own.left > 0 && own.swept > 0);
+    assert!(own.deleted > 0 && own.left > 0 && own.swept > 0 && own.late > 0);
     assert!(own.held_deletes > 0 && own.held_here > 0 && own.held_marks > 0);
 }
 
@@ -285,6 +287,7 @@ fn a_rule_that_is_taken_away_is_missed() {
         Without::LoadsTested,
         Without::SweepTested,
         Without::LeavesOwn,
+        Without::LeavesBefore,
         Without::DeleteLooks,
         Without::GuardLooks,
         Without::HereLooks,

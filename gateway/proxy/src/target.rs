@@ -9,6 +9,7 @@ use std::sync::Arc;
 use std::time::Duration;
 
 use futures_util::future::poll_fn;
+use socket2::{SockRef, TcpKeepalive};
 use tokio::net::{TcpStream, UnixStream};
 use tokio::sync::mpsc::UnboundedSender;
 use tokio::task::JoinHandle;
@@ -17,7 +18,7 @@ use tokio_postgres::config::{Host, SslMode, TargetSessionAttrs};
 use tokio_postgres::tls::NoTlsStream;
 use tokio_postgres::{AsyncMessage, Client, Config, Connection, NoTls};
 
-use crate::conninfo::Conninfo;
+use crate::conninfo::{Conninfo, Keepalives};
 use crate::stream::Stream;
 use crate::tls::{BadFile, Connector};
 
@@ -40,6 +41,7 @@ pub struct Target {
     addresses: Vec<Address>,
     connector: Connector,
     config: Config,
+    keepalives: Option<Keepalives>,
     /// Whether the proxy's role was seen to be no superuser.
     is_ordinary: Arc<AtomicBool>,
 }
@@ -155,6 +157,7 @@ impl Target {
             addresses,
             connector: conninfo.connector()?,
             config,
+            keepalives: conninfo.keepalives,
             is_ordinary: Arc::default(),
         })
     }
@@ -207,6 +210,9 @@ impl Target {
             match address {
                 Address::Tcp(name, port) => {
                     let socket = TcpStream::connect((name.as_str(), *port)).await?;
+                    if let Some(keepalives) = self.keepalives {
+                        keep_alive(&socket, keepalives)?;
+                    }
                     self.connector.encrypt(socket, name).await
                 }
                 Address::Unix(path) => Ok(Stream::Unix(UnixStream::connect(path).await?)),
@@ -281,9 +287,52 @@ impl Target {
     }
 }
 
+/// Lets the system ask after a server that says nothing, and end the connection of one that is gone, also if it has not taken
+/// what was sent.
+fn keep_alive(socket: &TcpStream, keepalives: Keepalives) -> io::Result<()> {
+    let seconds = |it: u32| Duration::from_secs(it.into());
+    let asked = TcpKeepalive::new()
+        .with_time(seconds(keepalives.idle))
+        .with_interval(seconds(keepalives.interval))
+        .with_retries(keepalives.count);
+    let socket = SockRef::from(socket);
+    socket.set_tcp_keepalive(&asked)?;
+    socket.set_tcp_user_timeout(Some(seconds(keepalives.longest())))
+}
+
 #[cfg(test)]
 mod tests {
     use super::*;
+
+    #[tokio::test]
+    async fn connections_are_kept_alive_as_the_string_says() {
+        let listener = tokio::net::TcpListener::bind("127.0.0.1:0").await.unwrap();
+        let port = listener.local_addr().unwrap().port();
+        let served = format!("host=127.0.0.1 port={port} sslmode=disable");
+        for (more, expected) in [
+            ("", Some((30, 10, 3, 60))),
+            ("keepalives_idle=7 keepalives_count=2", Some((7, 10, 2, 27))),
+            ("keepalives_interval=1", Some((30, 1, 3, 33))),
+            ("keepalives=0", None),
+        ] {
+            let target = Target::of(&format!("{served} {more}").parse().unwrap()).unwrap();
+            let stream = target.connect().await.unwrap();
+            let socket = match &stream {
+                Stream::Tcp(socket) => SockRef::from(socket),
+                _ => panic!("it is no TCP"),
+            };
+            let found = socket.keepalive().unwrap().then(|| {
+                let seconds = |it: Duration| it.as_secs();
+                (
+                    seconds(socket.keepalive_time().unwrap()),
+                    seconds(socket.keepalive_interval().unwrap()),
+                    socket.keepalive_retries().unwrap(),
+                    seconds(socket.tcp_user_timeout().unwrap().unwrap_or_default()),
+                )
+            });
+            assert_eq!(found, expected, "{more}");
+        }
+    }
 
     fn of(text: &str) -> Option<Vec<Address>> {
         Some(Target::of(&text.parse().unwrap()).ok()?.addresses)

@@ -242,8 +242,9 @@ pub struct Asked {
     pub keys: Vec<Key>,
     /// What each of them changes by.
     pub change: Change,
-    /// The CHECK that says the same as the statement's condition: where it refuses, the condition does not hold.
-    pub condition: Option<String>,
+    /// The place of the condition of the table's CHECKs that says the same as the statement's condition: where it refuses, that
+    /// does not hold.
+    pub condition: Option<usize>,
 }
 
 impl Form {
@@ -448,7 +449,7 @@ impl Plan<'_> {
         at_least: &AtLeast,
         changes: &[Option<String>],
         parameters: Parameters<'_>,
-    ) -> Option<String> {
+    ) -> Option<usize> {
         let table = self.table;
         let at = table.column(at_least.column.last()?)?;
         let column = &table.columns[at];
@@ -466,7 +467,7 @@ impl Plan<'_> {
         let least = parameters.evaluate(&at_least.value, column.oid())?;
         let least = above(number(least, column.oid())?, at_least.is_above)?;
         let change = Decimal::parse(changes[at].as_deref()?)?;
-        let says_the_same = |check: &&crate::catalog::Check| {
+        let says_the_same = |check: &crate::catalog::Check| {
             let mut coefficients = check.coefficients.iter().enumerate();
             let is_of_it =
                 coefficients.all(|(place, it)| it == if place == at { "1" } else { "0" });
@@ -478,8 +479,7 @@ impl Plan<'_> {
             let same = limit.and_then(|limit| limit.subtract(change));
             is_of_it && same.map_or(false, |same| same.compare(&least).is_eq())
         };
-        let mut found = table.checks.iter().filter(says_the_same);
-        Some(found.next()?.name.clone())
+        table.checks.iter().position(says_the_same)
     }
 
     /// Returns the statement that PostgreSQL has to serve beside the reservation, with the same parameters: the UPDATE of
@@ -908,7 +908,8 @@ mod tests {
             .map(|it| it.as_deref().unwrap_or("_"))
             .collect();
         let keys: Vec<&str> = keys.iter().map(|it| &*it.text).collect();
-        let condition = condition.map_or_else(String::new, |it| format!(" unless {}", it));
+        let condition = condition.map(|it| format!(" unless {}", table.checks[it].name));
+        let condition = condition.unwrap_or_default();
         let words = |it: Part| it.text.split_whitespace().collect::<Vec<_>>().join(" ");
         let rest = plan
             .rest(true)

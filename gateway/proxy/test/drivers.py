@@ -31,9 +31,12 @@ TABLES = (
     "CREATE TABLE account (id uuid PRIMARY KEY, owner text NOT NULL, balance numeric(12,2) NOT NULL, held numeric(12,2) NOT NULL, "
     "CONSTRAINT enough CHECK (balance - held >= 0))",
     "CREATE TABLE shelf (code text PRIMARY KEY, room bigint NOT NULL CONSTRAINT has_room CHECK (room BETWEEN 0 AND 100))",
+    "CREATE TABLE kinds (id integer PRIMARY KEY)",
+    "CREATE TABLE wares (id integer PRIMARY KEY, n integer NOT NULL CHECK (n >= 0), kind integer REFERENCES kinds DEFERRABLE INITIALLY DEFERRED)",
+    "CREATE TABLE lines (id integer)",
 )
 DECLARED = ("SELECT escrow.reservable('stock', 'pieces')", "SELECT escrow.reservable('account', 'balance', 'held')",
-            "SELECT escrow.reservable('shelf', 'room')")
+            "SELECT escrow.reservable('shelf', 'room')", "SELECT escrow.reservable('wares', 'n')")
 
 
 class Database(Cluster):
@@ -61,6 +64,7 @@ class Both:
             f"INSERT INTO stock SELECT {first} + i, 'row ' || i, 100 FROM generate_series(1, 5) AS i",
             f"INSERT INTO account VALUES ('00000000-0000-0000-0000-{first:012}', 'Ann', 50, 0)",
             f"INSERT INTO shelf VALUES ('it''s {first} ä', 0)",
+            f"INSERT INTO wares SELECT {first} + i, 100 FROM generate_series(1, 5) AS i",
         )
         self.cluster.run(*statements)
         self.plain.run(*statements)
@@ -128,6 +132,11 @@ def psycopg3(both: Both) -> None:
 def asyncpg(both: Both) -> None:
     needs("python3-asyncpg")
     both.compare(lambda host, port, name, first: [PYTHON, "-B", FOLDER / "with_asyncpg.py", first, host, port, name])
+
+
+@PART.case
+def raw_bytes(both: Both) -> None:
+    both.compare(lambda host, port, name, first: [PYTHON, "-B", FOLDER / "with_bytes.py", first, host, port, name])
 
 
 @PART.case

@@ -485,9 +485,13 @@ def what_is_refused_as_it_stands(cluster: Cluster, proxy: Proxy) -> None:
         it.execute("ROLLBACK")
     with cluster.connect() as straight:
         text = straight.execute("SELECT note_text FROM escrow.declared LIMIT 1").fetchall()[0][0]
-    it = proxy.connect()
-    expect(it.pgconn.prepare(b"mine", text.encode()).status, ExecStatus.FATAL_ERROR)
-    it.close()
+    # A message that the proxy does not look at whole has many types, or a long name.
+    many, long = [23] * 20_000, b"n" * 65_300
+    for name, asked, types in ((b"mine", text.encode(), None), (b"mine", text.encode(), many), (b"escrowd-proxy 1", b"SELECT 1", many),
+                               (long, text.encode(), None), (long + long, b"SELECT 1", None)):
+        it = proxy.connect()
+        expect(it.pgconn.prepare(name, asked, types).status, ExecStatus.FATAL_ERROR)
+        expect(it.closed, True)
 
 
 @case

@@ -235,5 +235,207 @@ def a_portal_is_run_once(cluster: Cluster) -> None:
     same((kinds, value(cluster, "SELECT pieces FROM escrow.now_stock WHERE id = 1")), (b"CEZ", 10))
 
 
+@part
+def a_row_that_could_not_be_left_is_left_later(cluster: Cluster) -> None:
+    """A client locks the row before it deletes it. The proxy cannot take the mark away then; a later DELETE must be able to."""
+    stock(cluster).keeper.close()
+    with Proxy(cluster) as proxy, proxy.connect() as it:
+        it.execute("UPDATE stock SET pieces = pieces - 1 WHERE id = 1")
+        with refused(errors.ObjectInUse, "the row of stock is held by escrowd-proxy"):
+            it.execute("BEGIN; SELECT 1 FROM stock WHERE id = 1 FOR UPDATE; DELETE FROM stock WHERE id = 1")
+        it.execute("ROLLBACK")
+        it.execute("DELETE FROM stock WHERE id = 1")
+        same(value(cluster, "SELECT count(*) FROM stock WHERE id = 1"), 0)
+
+
+@part
+def a_condition_comes_before_other_checks(cluster: Cluster) -> None:
+    """PostgreSQL changes no row where the condition does not hold, whatever CHECKs say of the change."""
+    all_ordinary(cluster)
+    cluster.run("CREATE TABLE two (id integer PRIMARY KEY, n integer NOT NULL, CONSTRAINT a CHECK (n >= 5), CONSTRAINT b CHECK (n >= 0))",
+                "INSERT INTO two VALUES (1, 6)", "SELECT escrow.reservable('two', 'n')")
+    with Proxy(cluster) as proxy, proxy.connect() as it:
+        same(it.execute("UPDATE two SET n = n - 9 WHERE id = 1 AND n >= 9").rowcount, 0)
+    cluster.run("SELECT escrow.ordinary('two')", "DROP TABLE two")
+
+
+@part
+def an_index_that_is_refused_leaves_nothing(cluster: Cluster) -> None:
+    """CREATE INDEX CONCURRENTLY has committed an index, which is kept up to date, before the event trigger hears of it."""
+    stock(cluster)
+    with cluster.connect() as it:
+        it.execute("DELETE FROM stock WHERE id > 1")
+        with refused(errors.ObjectInUse, "would change what is declared reservable of stock"):
+            it.execute("CREATE UNIQUE INDEX CONCURRENTLY u ON stock (pieces)")
+        it.execute("INSERT INTO stock VALUES (2, 'x', 10); CREATE TABLE other (id integer); DROP TABLE other")
+
+
+@part
+def a_leave_on_a_lost_connection_comes_late(cluster: Cluster) -> None:
+    """The row was loaded again meanwhile: its mark is that of the later load. A load of before may be late too."""
+    owner = stock(cluster)
+    table, _ = owner.declared("stock")
+    for loads, leave, stays in (([1], 2, False), ([3], 2, True), ([3, 1], 2, True), ([1, 3], 4, False)):
+        for number in loads:
+            same(owner.load("stock", 1, number), ["10"])
+        assert owner.leave("stock", 1, leave)
+        same((loads, leave, value(cluster, f"SELECT count(*) = 1 FROM escrow.held_{table}")), (loads, leave, stays))
+        owner.leave("stock", 1, 9)
+    # A mark of a former epoch goes, whatever its number: its hold has ended.
+    owner.load("stock", 1, 5)
+    later = taken_over(owner)
+    assert later.leave("stock", 1, 1)
+    same(value(cluster, f"SELECT count(*) FROM escrow.held_{table}"), 0)
+
+
+@part
+def what_is_no_key_leaves_no_row(cluster: Cluster) -> None:
+    """A cast to the key's type would cut the text, or round it, to the key of another row."""
+    all_ordinary(cluster)
+    for key_type, held, other in (("varchar(3)", "'abc'", "'abcd'"), ("numeric(5,1)", "1.5", "1.54")):
+        cluster.run(f"CREATE TABLE keyed (id {key_type} PRIMARY KEY, n integer NOT NULL CHECK (n >= 0))", f"INSERT INTO keyed VALUES ({held}, 9)",
+                    "SELECT escrow.reservable('keyed', 'n')")
+        with Proxy(cluster) as proxy, proxy.connect() as it, proxy.connect() as other_one:
+            it.execute(f"BEGIN; UPDATE keyed SET n = n - 1 WHERE id = {held}")
+            same(other_one.execute(f"DELETE FROM keyed WHERE id = {other}").rowcount, 0)
+            with cluster.connect() as straight, refused(errors.ObjectInUse, "the row of keyed is held by escrowd-proxy"):
+                straight.execute("DELETE FROM keyed")
+            it.execute("COMMIT")
+        cluster.run("SELECT escrow.ordinary('keyed')", "DROP TABLE keyed")
+
+
+@part
+def a_condition_is_of_its_column_alone(cluster: Cluster) -> None:
+    """A CHECK of the same constraint, over another column, refuses the change as PostgreSQL does."""
+    all_ordinary(cluster)
+    cluster.run("CREATE TABLE two (id integer PRIMARY KEY, n integer NOT NULL, m integer NOT NULL)",
+                "ALTER TABLE two ADD CONSTRAINT both_of CHECK (m >= 0 AND n >= 0 AND n <= 9)", "INSERT INTO two VALUES (1, 5, 0)",
+                "SELECT escrow.reservable('two', 'n', 'm')")
+    with Proxy(cluster) as proxy, proxy.connect() as it:
+        with refused(errors.CheckViolation, "both_of"):
+            it.execute("UPDATE two SET n = n - 1, m = m - 1 WHERE id = 1 AND n >= 1")
+        with refused(errors.CheckViolation, "both_of"):
+            it.execute("UPDATE two SET n = n + 9 WHERE id = 1 AND n >= -9")
+        same(it.execute("UPDATE two SET n = n - 6 WHERE id = 1 AND n >= 6").rowcount, 0)
+    cluster.run("SELECT escrow.ordinary('two')", "DROP TABLE two")
+
+
+@part
+def the_whole_row_has_its_columns(cluster: Cluster) -> None:
+    """Neither the constraint nor the index depends on a column. A fold would fail by each of them."""
+    all_ordinary(cluster)
+    cluster.run("CREATE TABLE whole (id integer PRIMARY KEY, n integer NOT NULL)", "INSERT INTO whole VALUES (1, 9)",
+                "CREATE FUNCTION n_of(whole) RETURNS integer IMMUTABLE LANGUAGE sql AS 'SELECT $1.n'")
+    in_index = "the column n is in an expression or the condition of the index"
+    for made, gone, why in (
+        ("ALTER TABLE whole ADD CONSTRAINT c CHECK (n_of(whole) > 5)", "ALTER TABLE whole DROP CONSTRAINT c", "the CHECK c names the whole row"),
+        ("CREATE UNIQUE INDEX i ON whole (n_of(whole))", "DROP INDEX i", "the column n is in a unique index"),
+        ("CREATE INDEX i ON whole ((1 / n_of(whole)))", "DROP INDEX i", in_index),
+        ("CREATE INDEX i ON whole (id) WHERE 1 / n_of(whole) = 1", "DROP INDEX i", in_index),
+    ):
+        cluster.run(made)
+        with cluster.connect() as it, refused(errors.InvalidTableDefinition, why):
+            it.execute("SELECT escrow.reservable('whole', 'n')")
+        cluster.run(gone, "SELECT escrow.reservable('whole', 'n')")
+        with cluster.connect() as it, refused(errors.ObjectInUse, "would change what is declared reservable of whole"):
+            it.execute(made.encode())
+        cluster.run("SELECT escrow.ordinary('whole')")
+    cluster.run("DROP TABLE whole CASCADE")
+
+
+@part
+def an_index_is_judged_before_it_is_built(cluster: Cluster) -> None:
+    stock(cluster).keeper.close()
+    cluster.run("CREATE SCHEMA aside", "CREATE TABLE aside.stock (pieces integer)", "CREATE TABLE aside.\"ON stock\" (pieces integer)")
+    refusals = ["UNIQUE INDEX CONCURRENTLY ON stock (pieces)",
+                "UNIQUE INDEX CONCURRENTLY IF NOT EXISTS i ON ONLY public.\"stock\" USING btree (title, Pieces)",
+                "UNIQUE INDEX /* of */ CONCURRENTLY i ON -- the table\n public . stock (title) INCLUDE (\"pieces\")",
+                "INDEX CONCURRENTLY i ON stock ((pieces + 1))",
+                "INDEX CONCURRENTLY i ON stock (title) WHERE pieces % 2 = 0",
+                "INDEX CONCURRENTLY i ON stock ((stock::text))",
+                "UNIQUE INDEX CONCURRENTLY i ON stock (U&\"\\0070ieces\")",
+                "UNIQUE INDEX CONCURRENTLY i ON U&\"\\0073tock\" (pieces)"]
+    passes = ["INDEX CONCURRENTLY i ON stock (pieces DESC)",
+              "UNIQUE INDEX CONCURRENTLY i ON stock (title, id)",
+              "INDEX CONCURRENTLY i ON stock (lower(title)) WHERE id > 5",
+              "INDEX CONCURRENTLY i ON stock USING btree (id) INCLUDE (pieces) WITH (fillfactor = 70)",
+              "UNIQUE INDEX CONCURRENTLY i ON aside.stock (pieces)",
+              "UNIQUE INDEX CONCURRENTLY i ON aside.\"ON stock\" (pieces)"]
+    with cluster.connect() as it:
+        for text in refusals:
+            with refused(errors.ObjectInUse, "would change what is declared reservable of stock"):
+                it.execute(f"CREATE {text}".encode())
+            same((text, value(cluster, "SELECT count(*) FROM pg_index WHERE NOT indisvalid")), (text, 0))
+        for text in passes:
+            it.execute(f"CREATE {text}".encode())
+            it.execute("DROP INDEX IF EXISTS public.i, aside.i")
+        it.execute("SET search_path = aside")
+        it.execute("CREATE UNIQUE INDEX CONCURRENTLY i ON stock (pieces)")
+        it.execute("DROP SCHEMA aside CASCADE")
+
+
+@part
+def what_a_held_row_stops_passes_when_it_is_repeated(cluster: Cluster) -> None:
+    """The proxy sees no key in these statements. PostgreSQL names the row that stops them, and the proxy leaves it."""
+    all_ordinary(cluster)
+    cluster.run("CREATE TABLE kinds (id integer PRIMARY KEY)", "INSERT INTO kinds VALUES (1)",
+                "CREATE TABLE ware (id numeric(9,2) PRIMARY KEY, kind integer REFERENCES kinds ON DELETE CASCADE, n integer NOT NULL CHECK (n >= 0))",
+                "SELECT escrow.reservable('ware', 'n')")
+    for text, tag in (("DELETE FROM ware WHERE kind = 1", "DELETE 1"), ("DELETE FROM kinds WHERE id = 1", "DELETE 1"),
+                      ("UPDATE ware SET id = 2 WHERE id = 1.5", "UPDATE 1"), ("DELETE FROM ware USING kinds WHERE ware.kind = kinds.id", "DELETE 1")):
+        with Proxy(cluster) as proxy, proxy.connect() as it, proxy.connect() as holder:
+            for first in (text, f"BEGIN; {text}"):
+                cluster.run("INSERT INTO kinds VALUES (1) ON CONFLICT DO NOTHING", "INSERT INTO ware VALUES (1.5, 1, 9)")
+                holder.execute("BEGIN")
+                holder.execute("UPDATE ware SET n = n - 1 WHERE id = 1.5")
+                for _ in range(2):
+                    with refused(errors.ObjectInUse, "Repeat it through escrowd-proxy, which leaves a row that nobody has reserved."):
+                        it.execute(first.encode())
+                    it.execute("ROLLBACK")
+                holder.execute("COMMIT")
+                with refused(errors.ObjectInUse, "The key is 1.50."):
+                    it.execute(text.encode())
+                same(it.execute(text.encode()).statusmessage, tag)
+                it.execute("DELETE FROM ware")
+    cluster.run("SELECT escrow.ordinary('ware')", "DROP TABLE ware, kinds")
+
+
+@part
+def a_publication_of_all_tables_stops_nothing(cluster: Cluster) -> None:
+    """PostgreSQL refuses the DELETEs of a table that is published and has no replica identity. Each fold deletes in a journal."""
+    stock(cluster).keeper.close()
+    cluster.run("CREATE PUBLICATION everything FOR ALL TABLES")
+    with Proxy(cluster) as proxy, proxy.connect() as it:
+        it.execute("UPDATE stock SET pieces = pieces - 1 WHERE id = 1")
+        for text in ("BEGIN", "UPDATE stock SET pieces = pieces - 1 WHERE id = 1", "SELECT escrow.hold('h', interval '1 hour')", "COMMIT",
+                     "SELECT escrow.take('h')", "DELETE FROM stock WHERE id = 2"):
+            it.execute(text.encode())
+        wait_until("all is folded", lambda: value(cluster, "SELECT pieces FROM stock WHERE id = 1") == 8)
+    with Proxy(cluster) as proxy, proxy.connect() as it:
+        it.execute("UPDATE stock SET pieces = pieces - 1 WHERE id = 1")
+        wait_until("all is folded", lambda: value(cluster, "SELECT pieces FROM stock WHERE id = 1") == 7)
+    cluster.run("DROP PUBLICATION everything")
+
+
+@part
+def settings_of_texts_and_names_change_nothing(cluster: Cluster) -> None:
+    """Functions are read with the settings of who calls them, and so are names and expressions of the catalog."""
+    stock(cluster).keeper.close()
+    with cluster.connect() as it:
+        for setting in ("quote_all_identifiers = on", "standard_conforming_strings = off"):
+            it.execute(f"SET {setting}; SET escape_string_warning = off".encode())
+            it.execute("CREATE TABLE other (id integer PRIMARY KEY, n integer NOT NULL CHECK (n >= 0 AND 2 * n <= 5))")
+            it.execute("CREATE INDEX ON other (n)")
+            same(it.execute("SELECT escrow.reservable('other', 'n')").fetchall(), [("other_n_check: n >= 0",), ("other_n_check: 2 * n <= 5",)])
+            with refused(errors.FeatureNotSupported, "send the UPDATE by itself"):
+                it.execute("DO 'BEGIN UPDATE stock SET pieces = 1; END'")
+            for text in ("ALTER TABLE stock DROP CONSTRAINT in_stock", "CREATE UNIQUE INDEX CONCURRENTLY ON stock (pieces)"):
+                with refused(errors.ObjectInUse, "would change what is declared reservable of stock"):
+                    it.execute(text.encode())
+            it.execute("ALTER TABLE stock ADD COLUMN more text; ALTER TABLE stock DROP COLUMN more")
+            it.execute("SELECT escrow.ordinary('other'); DROP TABLE other")
+            it.execute("RESET ALL")
+
+
 if __name__ == "__main__":
     main(PART)

@@ -397,8 +397,8 @@ def notes_need_a_grant(cluster: Cluster) -> None:
     for text in (
         "SELECT * FROM escrow.secret", "INSERT INTO escrow.journal_{n} VALUES (1, 1, 1, 1, 1)", "DELETE FROM escrow.journal_{n}", "SELECT escrow.mac('a')",
         "SELECT escrow.is_fresh(1)", "SELECT setval('escrow.heard', 1)", "SELECT currval('escrow.heard')", "SELECT setval('escrow.epoch', 1)",
-        "SELECT escrow.fold_{n}('{{1}}')", "SELECT escrow.row_{n}(1, true)", "SELECT escrow.lock_{n}(1, true)", "SELECT escrow.load_{n}(1, '1')",
-        "SELECT escrow.leave_{n}(1, '1')", "SELECT escrow.set_epoch(3)", "DELETE FROM escrow.held_{n}", "UPDATE escrow.declared SET note_text = ''",
+        "SELECT escrow.fold_{n}('{{1}}')", "SELECT escrow.row_{n}(1, true)", "SELECT escrow.lock_{n}(1, true)", "SELECT escrow.load_{n}(1, 1, '1')",
+        "SELECT escrow.leave_{n}(1, 1, '1')", "SELECT escrow.set_epoch(3)", "DELETE FROM escrow.held_{n}", "UPDATE escrow.declared SET note_text = ''",
     ):
         with refused(errors.InsufficientPrivilege, "permission denied"):
             buyer.execute(text.format(n=table))

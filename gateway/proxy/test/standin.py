@@ -144,16 +144,16 @@ class Owner:
         """Returns number and note's text of a table."""
         return self.one("SELECT number, note_text FROM escrow.declared WHERE relation = %s::regclass", relation)
 
-    def load(self, relation: str, key: object) -> Optional[List[str]]:
-        """Loads a row. Returns its reservable values."""
-        number, _ = self.declared(relation)
-        found = self.one(f"SELECT escrow.load_{number}(%s, %s)", self.epoch, str(key))[0]
+    def load(self, relation: str, key: object, number: Optional[int] = None) -> Optional[List[str]]:
+        """Loads a row. Returns its reservable values. The load has a number, or the next one."""
+        table, _ = self.declared(relation)
+        found = self.one(f"SELECT escrow.load_{table}(%s, %s, %s)", self.epoch, number or self.next(), str(key))[0]
         return None if found is None else list(found)
 
-    def leave(self, relation: str, key: object) -> bool:
-        """Leaves a row, of which nothing is open. Returns whether it could lock it."""
-        number, _ = self.declared(relation)
-        return bool(self.one(f"SELECT escrow.leave_{number}(%s, %s)", self.epoch, str(key))[0])
+    def leave(self, relation: str, key: object, number: Optional[int] = None) -> bool:
+        """Leaves a row, of which nothing is open. Returns whether it could lock it. It has a number, or the next one."""
+        table, _ = self.declared(relation)
+        return bool(self.one(f"SELECT escrow.leave_{table}(%s, %s, %s)", self.epoch, number or self.next(), str(key))[0])
 
     def fold(self, relation: str, *keys: object) -> List[str]:
         """Folds keys on the keeper, as no proxy does. Returns those of which nothing is left."""

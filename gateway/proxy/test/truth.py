@@ -630,13 +630,14 @@ class Run:
         watch.join()
         self.looks += watch.looks
         wrong = self.scene.examine(said) + ([watch.wrong] if watch.wrong else [])
-        print(f"  section {self.scene.section} has ended", flush=True)  # so that the limit of a case is one of a section
         there = set(self.scene.found().orders)
         unknown = {it for keys in said.unknown for it in keys}
         holds = self.scene.ask("SELECT count(*) FROM escrow.hold_names")[0][0] if self.scene.wanted else 0  # those of all sections
         self.sums += Counter(answered=said.count(), aborted=len(said.aborted), unknown=len(unknown), of_them_committed=len(unknown & there),
                              holds=holds - self.sums["holds"])
         self.refused += said.refused
+        # It is said, so that the limit of a case is one of a section.
+        print(f"  section {self.scene.section} has ended: {sum(self.kills.values())} kills, {dict(self.sums)}", flush=True)
         if wrong:
             raise AssertionError(f"seed {self.seed}, section {self.scene.section}, kills {dict(self.kills)}:\n  " + "\n  ".join(wrong[:20]))
 

@@ -399,6 +399,27 @@ fn a_row_that_nobody_wants_is_left_and_loaded_anew() {
 }
 
 #[test]
+fn a_row_whose_mark_may_have_stayed_is_left_again() {
+    let mut it = serving();
+    let key = "a";
+    let leave = |connection| Event::Leave { connection, key };
+    let answer = |connection| Action::Answer(connection, Answer::Missing);
+    let (two, three) = (Connection(2), Connection(3));
+    assert_eq!(it.handle(leave(Some(two))), [Action::Leave(key)]);
+    assert_eq!(it.handle(leave(Some(three))), [], "it waits for the same");
+    let left = [answer(two), answer(three)];
+    assert_eq!(it.handle(Event::Left { key }), left);
+    // PostgreSQL may not have got the lock.
+    assert_eq!(it.handle(leave(Some(two))), [Action::Leave(key)]);
+    it.handle(Event::Left { key });
+    assert_eq!(it.handle(leave(None)), [], "nobody waits for it");
+    // While it is loaded its mark is made, whoever asked for it is there or not.
+    assert_eq!(reserve(&mut it, key, false), [Action::Load(key)]);
+    it.handle(Event::Lost { connection: ONE });
+    assert_eq!(it.handle(leave(Some(two))), [answer(two)]);
+}
+
+#[test]
 fn a_fold_that_is_refused_stops_its_table_alone() {
     let mut it = serving();
     hold(&mut it, true, 7);

@@ -199,9 +199,24 @@ struct Record {
     /// What a transaction has written into rows by other ways than folds.
     own: Own,
     /// Marks that are made and removed (rule 14).
-    marked: Vec<(Key, Option<u64>)>,
+    marked: Vec<(Key, Option<Mark>)>,
     ids: Vec<u64>,
     is_visible: bool,
+}
+
+/// By whom a row is held: the owner of an epoch, by a load of this number.
+#[derive(Clone, Copy, Debug, PartialEq, Eq)]
+pub(super) struct Mark {
+    pub(super) epoch: u64,
+    pub(super) load: u64,
+}
+
+/// What a loader has sent on a connection that is lost, and that PostgreSQL still reads.
+#[derive(Clone, Copy)]
+pub(super) enum Late {
+    Load(Key, Mark),
+    /// With the epoch, and a number that is above those of the loads whose marks it may remove.
+    Leave(Key, Mark),
 }
 
 /// What is committed.
@@ -210,8 +225,8 @@ struct Image {
     rows: [Option<i64>; KEYS],
     /// How often each row was written.
     versions: [u64; KEYS],
-    /// The epochs whose owners hold the rows.
-    marks: [Option<u64>; KEYS],
+    /// Who holds the rows.
+    marks: [Option<Mark>; KEYS],
     journal: BTreeMap<Grant, Row>,
     /// What commits have added to each row, by folds or not.
     truth: [Option<i64>; KEYS],
@@ -250,7 +265,13 @@ impl Image {
         }
         self.change(&record.own);
         for &(key, mark) in &record.marked {
-            self.marks[key] = mark;
+            // A load may be late.
+            let last = self.marks[key].filter(|last| Some(last.epoch) == mark.map(|it| it.epoch));
+            let least = last.map_or(0, |last| last.load);
+            self.marks[key] = mark.map(|it| Mark {
+                load: it.load.max(least),
+                ..it
+            });
         }
         self.ids.extend(&record.ids);
     }
@@ -292,8 +313,8 @@ pub(super) struct Postgres {
     alarm: Option<String>,
     /// How often each happened: own folds, direct notes that fold, changes without a reservation, rows that are deleted.
     pub(super) own_counts: Counts,
-    /// Rows that are to be left, in sockets whose proxy reads no answer any more.
-    late: Vec<(Key, u64)>,
+    /// What is in sockets whose proxy reads no answer any more.
+    late: Vec<Late>,
     without: Option<Without>,
 }
 
@@ -473,7 +494,7 @@ impl Postgres {
     pub(super) fn fold(
         &mut self,
         keys: &[Key],
-        mark: Option<u64>,
+        mark: Option<Mark>,
         random: &mut StdRng,
     ) -> Result<Folding, String> {
         let may_be_locked =
@@ -676,8 +697,8 @@ impl Postgres {
         let is_gone = |backend: &Backend| !backend.is_alive && backend.is_cut;
         self.backends.retain(|_, backend| !is_gone(backend));
         if !self.late.is_empty() && random.gen_range(0..50) == 0 {
-            let (key, epoch) = self.late.remove(0);
-            self.leave(key, epoch);
+            let late = self.late.swap_remove(random.gen_range(0..self.late.len()));
+            self.read_late(late, random);
         }
         if self.log.len() > 50 && self.log.iter().all(|record| record.is_visible) {
             // A checkpoint: all of it is durable.

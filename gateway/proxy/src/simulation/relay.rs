@@ -6,7 +6,7 @@ use rand::rngs::StdRng;
 use rand::seq::{IteratorRandom, SliceRandom};
 use rand::Rng;
 
-use super::postgres::{Folding, Message, Note, Postgres, Reply, Statement};
+use super::postgres::{Folding, Late, Mark, Message, Note, Postgres, Reply, Statement};
 use super::server::{Grant, Server};
 use super::{Change, Key, Seen, Without, CLIENTS, KEYS};
 use crate::protocol::{
@@ -80,7 +80,7 @@ enum Job {
     /// With the lines that the snapshot of the value shows. None: another snapshot shows them.
     Loaded(Key, i64, Option<Vec<(Line, Change)>>),
     Looked(Vec<News<Key, Change>>),
-    Leave(Key, u64),
+    Leave(Key, Mark),
     Fold(Folding),
     Granted(Connection, bool),
     Holders(bool),
@@ -154,8 +154,8 @@ impl Relay {
                 Job::Fold(folding) | Job::Load(_, Some(folding), _) => {
                     postgres.folded(&folding);
                 }
-                Job::Leave(key, epoch) if self.life == postgres.life => {
-                    postgres.leave_late(key, epoch);
+                Job::Leave(key, before) if self.life == postgres.life => {
+                    postgres.keep_late(Late::Leave(key, before));
                 }
                 _ => {}
             }
@@ -267,6 +267,17 @@ impl Relay {
         self.life == postgres.life
     }
 
+    /// Returns whether the connection of a loader is lost, with what it has just sent.
+    fn loses_loader(&self, random: &mut StdRng) -> bool {
+        !self.is_finishing && random.gen_range(0..10) == 0
+    }
+
+    /// Returns the mark of a load that begins now.
+    fn mark(&self, postgres: &mut Postgres) -> Mark {
+        let (epoch, load) = (self.epoch, postgres.number());
+        Mark { epoch, load }
+    }
+
     fn act(
         &mut self,
         action: Action<Key, Change>,
@@ -347,15 +358,21 @@ impl Relay {
                 let is_present =
                     postgres.is_present(self.epoch) || self.without == Some(Without::LoadsTested);
                 let may = self.is_connected(postgres) && is_present && !postgres.is_locked(key);
-                let folding = match may && !is_missing {
-                    true => Some(postgres.fold(&[key], Some(self.epoch), random)?),
+                let mark = self.mark(postgres);
+                let is_lost = self.is_connected(postgres) && self.loses_loader(random);
+                let folding = match may && !is_missing && !is_lost {
+                    true => Some(postgres.fold(&[key], Some(mark), random)?),
                     false => None,
                 };
-                self.jobs[LOADER].push_back(Job::Load(key, folding, is_missing));
+                if is_lost {
+                    postgres.keep_late(Late::Load(key, mark));
+                }
+                self.jobs[LOADER].push_back(Job::Load(key, folding, is_missing && !is_lost));
             }
             Action::Leave(key) => {
                 self.server.leave(key)?;
-                self.jobs[LOADER].push_back(Job::Leave(key, self.epoch));
+                let before = self.mark(postgres);
+                self.jobs[LOADER].push_back(Job::Leave(key, before));
             }
             Action::Fold(keys) => {
                 if self.is_connected(postgres) {
@@ -526,9 +543,11 @@ impl Relay {
                 Event::Loaded { key, lines }
             }
             Job::Looked(news) => Event::Looked { news },
-            Job::Leave(key, epoch) => {
-                if self.is_connected(postgres) {
-                    postgres.leave(key, epoch);
+            Job::Leave(key, before) => {
+                if self.is_connected(postgres) && self.loses_loader(random) {
+                    postgres.keep_late(Late::Leave(key, before));
+                } else if self.is_connected(postgres) {
+                    postgres.leave(key, before);
                 }
                 Event::Left { key }
             }

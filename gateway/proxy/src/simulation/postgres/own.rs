@@ -5,9 +5,11 @@ use std::collections::BTreeSet;
 
 use super::super::server::Grant;
 use super::super::{Change, Key, Without, KEYS, START};
+use rand::rngs::StdRng;
+
 use super::{
-    meets, Backend, HoldId, Image, Level, Locker, Note, Postgres, Record, Reply, Statement, Then,
-    Work,
+    meets, Backend, HoldId, Image, Late, Level, Locker, Mark, Note, Postgres, Record, Reply,
+    Statement, Then, Work,
 };
 
 /// What a transaction, or a part of it, has written into rows.
@@ -106,7 +108,7 @@ impl Image {
 pub(super) struct Snapshot {
     rows: [Option<i64>; KEYS],
     versions: [u64; KEYS],
-    marks: [Option<u64>; KEYS],
+    marks: [Option<Mark>; KEYS],
     /// The keys of which the journal has rows.
     journal: BTreeSet<Key>,
     /// The holds that stand.
@@ -123,6 +125,8 @@ pub(crate) struct Counts {
     pub(crate) deleted: u64,
     pub(crate) left: u64,
     pub(crate) swept: u64,
+    /// What was read late, and has done something.
+    pub(crate) late: u64,
     /// What a hold has stopped: a DELETE, a change without a reservation, the end of a mark.
     pub(crate) held_deletes: u64,
     pub(crate) held_here: u64,
@@ -138,6 +142,7 @@ impl std::ops::AddAssign for Counts {
         self.deleted += other.deleted;
         self.left += other.left;
         self.swept += other.swept;
+        self.late += other.late;
         self.held_deletes += other.held_deletes;
         self.held_here += other.held_here;
         self.held_marks += other.held_marks;
@@ -305,7 +310,7 @@ impl Postgres {
                 let is_pending = seen.journal.contains(&note.key);
                 mark.is_some() || is_pending || own.any(|row| row.key == note.key)
             }
-            false => mark == Some(self.epoch),
+            false => mark.map(|it| it.epoch) == Some(self.epoch),
         };
         let is_marked = is_marked && self.without != Some(Without::HereLooks);
         let is_held = !backend.sees_one()
@@ -415,8 +420,10 @@ impl Postgres {
 
     /// Folds a row that nobody has locked, and removes its mark, if that is for `is_its` to remove and no hold of the row stands
     /// (rule 27). Returns whether it has removed it.
-    fn unmark(&mut self, key: Key, is_its: impl Fn(u64) -> bool) -> bool {
-        if self.locks[key].is_some() || !self.has_row(key) {
+    fn unmark(&mut self, key: Key, is_its: impl Fn(Mark) -> bool) -> bool {
+        let mut journal = self.visible.journal.values();
+        let has_any = self.visible.marks[key].is_some() || journal.any(|row| row.key == key);
+        if self.locks[key].is_some() || !self.has_row(key) || !has_any {
             return false;
         }
         let is_free = !self.is_held(key) || self.without == Some(Without::MarksOfHolds);
@@ -441,25 +448,47 @@ impl Postgres {
         is_its && is_free
     }
 
-    /// A row is to be left by a connection whose proxy reads no answer any more.
-    pub(crate) fn leave_late(&mut self, key: Key, epoch: u64) {
-        self.late.push((key, epoch));
+    /// A loader has sent this on a connection that is lost.
+    pub(crate) fn keep_late(&mut self, late: Late) {
+        self.late.push(late);
     }
 
-    /// A row is no longer held, by word of the owner of an epoch (event 16). A mark may be a former owner's, of a row that had holds.
-    pub(crate) fn leave(&mut self, key: Key, epoch: u64) {
-        let is_tested = self.without != Some(Without::LeavesOwn);
-        let may = self.is_present(epoch) || !is_tested;
-        if may && self.unmark(key, |_| true) {
-            self.own_counts.left += 1;
+    /// Reads what a loader has sent on a connection that is lost.
+    pub(super) fn read_late(&mut self, late: Late, random: &mut StdRng) {
+        match late {
+            Late::Leave(key, mark) => {
+                self.own_counts.late += u64::from(self.leave(key, mark));
+            }
+            Late::Load(key, mark) => {
+                if !self.is_present(mark.epoch) || !self.has_row(key) || self.is_locked(key) {
+                    return;
+                }
+                self.own_counts.late += 1;
+                match self.fold(&[key], Some(mark), random) {
+                    Ok(folding) => drop(self.folded(&folding)),
+                    Err(text) => self.alarm = Some(text),
+                }
+            }
         }
+    }
+
+    /// A row is no longer held, by word of the owner of an epoch (event 16), who has loaded it before this number. A mark may be a
+    /// former owner's, of a row that had holds. Returns whether it has removed it.
+    pub(crate) fn leave(&mut self, key: Key, before: Mark) -> bool {
+        let is_tested = self.without != Some(Without::LeavesOwn);
+        let may = self.is_present(before.epoch) || !is_tested;
+        let are_all = self.without == Some(Without::LeavesBefore);
+        let is_its = |mark: Mark| mark.epoch != before.epoch || mark.load < before.load || are_all;
+        let is_left = may && self.unmark(key, is_its);
+        self.own_counts.left += u64::from(is_left);
+        is_left
     }
 
     /// Removes a mark of a former epoch (rule 14), if something may be there to do.
     pub(crate) fn sweep(&mut self, key: Key, epoch: u64) {
         let may = self.is_present(epoch) || self.without == Some(Without::SweepTested);
-        let is_marked = self.visible.marks[key].map_or(false, |mark| mark != epoch);
-        if may && is_marked && self.unmark(key, |mark| mark != epoch) {
+        let is_marked = self.visible.marks[key].map_or(false, |mark| mark.epoch != epoch);
+        if may && is_marked && self.unmark(key, |mark| mark.epoch != epoch) {
             self.own_counts.swept += 1;
         }
     }
