@@ -1128,6 +1128,9 @@ BEGIN
 				END IF;
 				RETURN NEW;
 			END IF;
+			IF (OLD.%2$I OPERATOR(pg_catalog.=) NEW.%2$I AND %3$s) IS NULL THEN
+				RETURN NEW; -- PostgreSQL refuses a NULL in these columns
+			END IF;
 			IF NOT (%3$s) AND (folds OR NOT escrow.is_own(OLD.xmin)) THEN
 				RAISE EXCEPTION 'reservable columns of %% are changed by escrowd-proxy alone', TG_TABLE_NAME
 					USING ERRCODE = 'feature_not_supported', SCHEMA = TG_TABLE_SCHEMA, TABLE = TG_TABLE_NAME,

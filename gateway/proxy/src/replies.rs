@@ -127,7 +127,13 @@ impl Replies<'_> {
         let connection = self.connection;
         let is_engaged = self.shared.is_engaged();
         match reply {
-            Reply::Pass => self.out.extend_from_slice(bytes),
+            Reply::Pass => {
+                // Settings and notifications come behind the end of a transaction.
+                if matches!(kind, b'S' | b'A') {
+                    self.out.extend(std::mem::take(&mut self.tag));
+                }
+                self.out.extend_from_slice(bytes);
+            }
             Reply::Completed(tag) => {
                 if is_engaged {
                     self.hub.handle(Event::Completed { connection, tag });

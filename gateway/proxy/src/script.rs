@@ -36,9 +36,7 @@ pub struct Piece {
 /// Returns whether a text may have several statements.
 pub fn may_be_several(text: &str) -> bool {
     let parts = text.split_once(';');
-    parts.map_or(false, |(first, rest)| {
-        !first.is_empty() && !rest.trim().is_empty()
-    })
+    parts.map_or(false, |(_, rest)| !rest.trim().is_empty())
 }
 
 /// Reads a string of several statements. None: it is one statement, PostgreSQL has nothing to reserve in it, or it has
@@ -71,7 +69,9 @@ pub fn pieces(text: &str, catalog: &Catalog) -> Option<Vec<Piece>> {
         end = span.end;
     }
     let is_served = |piece: &Piece| piece.statement.is_some();
-    (pieces.len() > 1 && pieces.iter().any(is_served)).then_some(pieces)
+    // One by itself may have an empty statement in front.
+    let are_several = pieces.len() > 1 || text.trim_start().starts_with(';');
+    (are_several && pieces.iter().any(is_served)).then_some(pieces)
 }
 
 /// Returns whether a statement of a string does the same in a pipeline.

@@ -62,6 +62,9 @@ EXCHANGES: List[Tuple[str, List[Tuple[bytes, int]]]] = [
     ("an error at the end of a Sync", [(bound(LATE) + execute() + SYNC, 1)]),
     ("an error at the end of a string", [(query(f"{TAKE}; {LATE}"), 1), (query(f"{LATE}; SELECT 1"), 1), (query(f"SELECT 1; {LATE}; {TAKE}"), 1)]),
     ("an error at the end of a block", [(query(f"BEGIN; {LATE}"), 1), (query("COMMIT"), 1), (query(f"BEGIN; {LATE}; COMMIT"), 1)]),
+    ("a NULL", [(query(f"UPDATE wares SET n = n - NULL WHERE id = {ONE}"), 1), (query(f"UPDATE wares SET id = NULL WHERE id = {ONE}"), 1)]),
+    ("empty statements", [(query(f" ; {TAKE}"), 1), (query(f"{TAKE};;"), 1), (query(f";{TAKE}; ; {LATE};"), 1), (query(" ; "), 1)]),
+    ("a setting at the end of a string", [(query(f"{TAKE}; SET application_name = 'x'"), 1), (query(f"SET application_name = 'y'; {TAKE}"), 1)]),
     ("what is left", [(query(f"SELECT n FROM wares WHERE id > {FIRST} AND id < {FIRST + 9} ORDER BY id"), 1)]),
 ]
 
@@ -73,7 +76,7 @@ def replies(stream: "socket.SocketIO") -> Iterator[str]:
         body = stream.read(length - 4)
         fields = [it[1:].decode() for it in body.split(b"\0") if it[:1] in (b"C", b"M")]
         shown = {b"C": body.decode, b"E": lambda fields=fields: " ".join(fields), b"Z": body.decode}.get(kind, str)()
-        if kind not in b"SKRN":
+        if kind not in b"KRN":
             yield f"{kind.decode()} {shown}"
 
 
