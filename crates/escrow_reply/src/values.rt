@@ -93,14 +93,33 @@ fn push_quoted(line: &mut Vec<u8>, text: &str) -> Result<(), AllocError>
     ensures { OnOk result (line.new.items ≡ line.old.items ++ quoted text.now) }
 {
     push_text(line, "'")?;
-    for byte in text.as_bytes() {
-        push_doubled(line, *byte)?;
-    }
+    push_inner(line, text)?;
     push_text(line, "'")
 }
 
+/// Adds a text with each quote in it doubled. Most have none.
+fn push_inner(line: &mut Vec<u8>, text: &str) -> Result<(), AllocError>
+    ensures { OnOk result (line.new.items ≡ line.old.items ++ doubled text.now) }
+{
+    if text.as_bytes().contains(&b'\'') {
+        push_doubled(line, text)
+    } else {
+        push_text(line, text)
+    }
+}
+
+/// Adds a text with each quote in it doubled, byte by byte.
+fn push_doubled(line: &mut Vec<u8>, text: &str) -> Result<(), AllocError>
+    ensures { OnOk result (line.new.items ≡ line.old.items ++ doubled text.now) }
+{
+    for byte in text.as_bytes() {
+        push_byte(line, *byte)?;
+    }
+    Ok(())
+}
+
 /// Adds a byte of a text in quotes. A quote is doubled.
-fn push_doubled(line: &mut Vec<u8>, byte: u8) -> Result<(), AllocError>
+fn push_byte(line: &mut Vec<u8>, byte: u8) -> Result<(), AllocError>
     ensures { OnOk result (line.new.items ≡ line.old.items ++ doubled (byte ∷ [])) }
 {
     if byte == b'\'' {
