@@ -13,7 +13,7 @@ use crate::catalog::{Catalog, Table};
 use crate::error::Error;
 use crate::expected::Expect;
 use crate::hub::Mail;
-use crate::note::{Grant, Noted, Secret};
+use crate::note::{changes_array, Grant, Noted, Secret};
 use crate::own::{self, Value};
 use crate::parameters::Parameters;
 use crate::protocol::{Answer, Event, Line, Status};
@@ -412,7 +412,6 @@ impl Requests<'_> {
             table: job.table.number,
             epoch,
             process: self.shared.track().process,
-            tag: 0,
             number: self.hub.number(),
             key: &key.text,
             changes: &job.change,
@@ -574,7 +573,6 @@ impl Requests<'_> {
             table: job.table.number,
             epoch,
             process: self.shared.track().process,
-            tag: number,
             number,
             key: &key.text,
             changes: &job.change,
@@ -582,7 +580,6 @@ impl Requests<'_> {
         let proved = secret.of_note(&grant);
         let values = [
             Value::Text(epoch.to_string()),
-            Value::Text(grant.tag.to_string()),
             Value::Text(number.to_string()),
             Value::Text(key.text.to_string()),
             Value::Text(changes_array(&job.change)),
@@ -734,15 +731,6 @@ fn changed_row() -> Words {
             .to_owned(),
         about: String::new(),
     }
-}
-
-/// Writes changes as an array.
-fn changes_array(change: &Change) -> String {
-    let changes: Vec<&str> = change
-        .iter()
-        .map(|it| it.as_deref().unwrap_or("NULL"))
-        .collect();
-    format!("{{{}}}", changes.join(","))
 }
 
 /// Writes a text as an element of an array.
