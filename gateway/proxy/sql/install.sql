@@ -775,8 +775,13 @@ DECLARE
 	-- As a cast writes it under any path of search. Other types have names that are words of the grammar.
 	key_cast text := CASE WHEN it.key_type IN ('text', 'uuid') THEN 'pg_catalog.' || it.key_type ELSE it.key_type END;
 	texts text[];   -- of the parts that repeat for each column
+	may text;
+	may_key text;
+	may_each text[];
+	may_note text;
 	allowed text;
 	meant text;
+	former regprocedure;
 	note_call text;
 	direct_call text;
 	own_call text;
@@ -787,14 +792,14 @@ DECLARE
 BEGIN
 	UPDATE escrow.declared AS d SET definition = '{}' WHERE d.number = n; -- the event trigger lets it alone
 	texts := ARRAY[
-		-- 1: the values that a note writes
+		-- 1: the values that are written into the journal
 		(SELECT string_agg(format('coalesce(changes[%s]::pg_catalog.numeric, 0)', i), ', ') FROM generate_subscripts(names, 1) AS i),
 		-- 2: what a fold adds to a row
 		(SELECT string_agg(format('OLD.%I OPERATOR(pg_catalog.+) coalesce(pg_catalog.sum(taken.change_%s), 0)', names[i], i), ', ') FROM generate_subscripts(names, 1) AS i),
 		-- 3: what it sets, before the guard adds to it
 		(SELECT string_agg(format('%1$I = t.%1$I', names[i]), ', ') FROM generate_subscripts(names, 1) AS i),
-		-- 4: whether a role may change what a note changes
-		(SELECT string_agg(format('(changes[%1$s] IS NULL OR allowed[%1$s])', i), ' AND ') FROM generate_subscripts(names, 1) AS i),
+		-- 4: the same of changes that are numbers
+		(SELECT string_agg(format('coalesce(changes[%s], 0)', i), ', ') FROM generate_subscripts(names, 1) AS i),
 		-- 5: whether a row keeps its values
 		(SELECT string_agg(format('OLD.%1$I OPERATOR(pg_catalog.=) NEW.%1$I', names[i]), ' AND ') FROM generate_subscripts(names, 1) AS i),
 		-- 6: the columns of a new row
@@ -809,69 +814,75 @@ BEGIN
 		-- 10: columns of the journal
 		(SELECT string_agg('change_' || i, ', ') FROM generate_subscripts(names, 1) AS i)];
 
-	-- Rule 20: what an UPDATE needs is UPDATE and SELECT of the column, and SELECT of the key.
-	allowed := (SELECT string_agg(format('pg_catalog.has_column_privilege(%1$s::pg_catalog.oid, %2$s::pg_catalog.int2, ''UPDATE'') AND '
-				'pg_catalog.has_column_privilege(%1$s::pg_catalog.oid, %2$s::pg_catalog.int2, ''SELECT'') AND '
-				'pg_catalog.has_column_privilege(%1$s::pg_catalog.oid, %3$s::pg_catalog.int2, ''SELECT'')',
-				relation::oid, c->>'place', (SELECT attnum FROM pg_attribute WHERE attrelid = it.relation AND attname = k)), ', ')
-			FROM jsonb_array_elements(it.columns) AS c);
+	-- Rule 20: what an UPDATE needs is UPDATE and SELECT of the column, and SELECT of the key. A note changes some of the columns, and
+	-- a fold all; the fold tells whether there is such a key, and no value.
+	may := format('pg_catalog.has_column_privilege(%s::pg_catalog.oid, %%s::pg_catalog.int2, ''%%s'')', relation::oid);
+	may_key := format(may, (SELECT attnum FROM pg_attribute WHERE attrelid = it.relation AND attname = k), 'SELECT');
+	may_each := ARRAY(SELECT format(may, c->>'place', 'UPDATE') || ' AND ' || format(may, c->>'place', 'SELECT') FROM jsonb_array_elements(it.columns) AS c);
+	may_note := (SELECT string_agg(CASE cardinality(names) WHEN 1 THEN e ELSE format('(($4::pg_catalog.numeric[])[%s] IS NULL OR %s)', place, e) END, ' AND ' ORDER BY place)
+			FROM unnest(may_each) WITH ORDINALITY AS u (e, place)) || ' AND ' || may_key;
+	allowed := (SELECT string_agg(e || ' AND ' || may_key, ', ' ORDER BY place) FROM unnest(may_each) WITH ORDINALITY AS u (e, place));
 	-- The client's path of search decides what its name of the table means.
 	meant := format('::pg_catalog.text)::pg_catalog.oid OPERATOR(pg_catalog.=) %s::pg_catalog.oid', relation::oid);
-	note_call := format('SELECT escrow.note_%s($1, $2, $3, $4, $5, $6, ARRAY[%s], (pg_catalog.to_regclass($7%s) IS TRUE)', n, allowed, meant);
-	direct_call := format('SELECT escrow.direct_%s($1, $2, $3, $4, $5, $6, ARRAY[%s], (pg_catalog.to_regclass($7%s) IS TRUE)', n, allowed, meant);
-	own_call := format('SELECT escrow.own_%s($1, ARRAY[%s])', n, allowed);
+	note_call := format('SELECT escrow.note_%s($1, $2, $3, $4, $5, (%s) IS TRUE, (pg_catalog.to_regclass($6%s) IS TRUE)', n, may_note, meant);
+	direct_call := format('SELECT escrow.direct_%s($1, $2, $3, $4, $5, (%s) IS TRUE, (pg_catalog.to_regclass($6%s) IS TRUE)', n, may_note, meant);
+	own_call := format('SELECT escrow.own_%s($1, %s)', n, (SELECT string_agg(format(may, c->>'place', 'UPDATE') || ' AND ', '') FROM jsonb_array_elements(it.columns) AS c) || may_key);
 	UPDATE escrow.declared AS d SET note_text = note_call, own_text = own_call, direct_text = direct_call,
 		refusal_text = format('SELECT escrow.refuse_change(%s, $1, $2, $3, $4, $5, ARRAY[%s], pg_catalog.to_regclass($6%s)', n, allowed, meant),
 		here_text = format('SELECT escrow.here_%s($1, $2, $3, $4, $5, ARRAY[%s], pg_catalog.to_regclass($6%s)', n, allowed, meant) WHERE d.number = n;
+	-- Those of before took other arguments.
+	FOR former IN SELECT f::regprocedure FROM escrow.functions(n) AS f JOIN pg_proc AS p ON p.oid = f WHERE p.proname ~ '^(note|direct|own)_' LOOP
+		EXECUTE format('DROP FUNCTION %s', former);
+	END LOOP;
 
 	-- Functions that are called for each order set no path of search, where they can do without: that costs more than the rest
 	-- of a call. Each name, type and operator in them says its schema.
 
-	-- The note: rules 3, 4, 7, 10 and 17 to 20. A direct note, of an UPDATE that is a transaction by itself, folds it at once,
+	-- The note: rules 3, 4, 7, 10 and 17 to 20. Each function that an expression calls costs more before it runs than it does then,
+	-- so there are few; what is passed has its type already. A direct note, of an UPDATE that is a transaction by itself, folds it at once,
 	-- if it gets the row's lock, and in READ COMMITTED. RETURNING is evaluated behind the write (rule 7). They return the
 	-- transaction's id, that of what wrote the row of the journal, and the half of the hash that the proxy has not sent; a
 	-- direct note also whether it has folded.
 	FOREACH kind IN ARRAY ARRAY['note', 'direct'] LOOP
 	EXECUTE format($f$
-		CREATE OR REPLACE FUNCTION escrow.%6$s_%1$s(epoch bigint, tag bigint, number bigint, key text, changes text[], proof bytea, allowed boolean[], is_meant boolean) RETURNS bytea
+		CREATE OR REPLACE FUNCTION escrow.%6$s_%1$s(epoch bigint, number bigint, key %4$s, changes numeric[], proof bytea, may_change boolean, is_meant boolean) RETURNS bytea
 		LANGUAGE plpgsql SECURITY DEFINER STRICT AS $body$
 		DECLARE
 			hash pg_catalog.bytea;
 			noted pg_catalog.bytea;
-			is_so boolean;
 		BEGIN
-			SELECT pg_catalog.sha512(pg_catalog.convert_to(pg_catalog.concat_ws('|', 'note', '%1$s', %6$s_%1$s.epoch, pg_catalog.pg_backend_pid(), tag, %6$s_%1$s.number,
-					pg_catalog.octet_length(%6$s_%1$s.key), %6$s_%1$s.key, pg_catalog.array_to_string(changes, ',', '')), 'UTF8') OPERATOR(pg_catalog.||) s.key)
-				INTO hash FROM escrow.secret AS s;
+			SELECT pg_catalog.sha512(pg_catalog.convert_to(pg_catalog.concat_ws('|', 'note|%1$s', %6$s_%1$s.epoch, pg_catalog.pg_backend_pid(), %6$s_%1$s.number, changes,
+				%6$s_%1$s.key), 'UTF8') OPERATOR(pg_catalog.||) s.key) INTO hash FROM escrow.secret AS s;
 			-- A number that is proved is used up, whatever comes then.
 			IF (CASE WHEN proof OPERATOR(pg_catalog.=) pg_catalog.substr(hash, 1, 32) AND pg_catalog.current_query() OPERATOR(pg_catalog.=) %7$L
 					AND %6$s_%1$s.number OPERATOR(pg_catalog.>) pg_catalog.currval('escrow.heard')
 				THEN pg_catalog.setval('escrow.heard', %6$s_%1$s.number) END) IS NULL THEN
 				RAISE EXCEPTION 'escrow.note is for escrowd-proxy' USING ERRCODE = 'insufficient_privilege';
 			END IF;
-			IF (is_meant AND %8$s) IS NOT TRUE THEN
+			IF (is_meant AND may_change) IS NOT TRUE THEN
 				PERFORM escrow.refuse_other(%2$L, is_meant);
 				RAISE EXCEPTION 'permission denied for table %%', %2$L USING ERRCODE = 'insufficient_privilege';
 			END IF;
-			-- As escrow.forbid_prepare does.
-			is_so := pg_catalog.pg_try_advisory_lock_shared(1702064994, pg_catalog.pg_backend_pid())
-				AND pg_catalog.pg_try_advisory_xact_lock_shared(1702064994, pg_catalog.pg_backend_pid());
-			-- The epoch is nothing if it was never set, and if nobody holds its lock, this transaction gets it: rules 8 and 10.
+			-- The epoch is nothing if it was never set, and if nobody holds its lock, this transaction gets it: rules 8 and 10. The
+			-- other two locks are those of escrow.forbid_prepare; one key for all would have all wait for one of PostgreSQL's latches.
 			INSERT INTO escrow.journal_%1$s (epoch, tag, number, key, %3$s)
-			VALUES (%6$s_%1$s.epoch, %6$s_%1$s.tag, %6$s_%1$s.number, %6$s_%1$s.key::%4$s, %5$s)
-			RETURNING pg_catalog.xid8send(pg_catalog.pg_current_xact_id()) OPERATOR(pg_catalog.||) pg_catalog.xidsend(xmin),
-				pg_catalog.pg_sequence_last_value('escrow.epoch') OPERATOR(pg_catalog.=) %6$s_%1$s.epoch AND NOT pg_catalog.pg_try_advisory_xact_lock_shared(%6$s_%1$s.epoch)
-				INTO noted, is_so;
-			IF is_so IS NOT TRUE THEN
+			VALUES (%6$s_%1$s.epoch, %6$s_%1$s.number, %6$s_%1$s.number, %6$s_%1$s.key, %5$s)
+			RETURNING CASE WHEN pg_catalog.pg_sequence_last_value('escrow.epoch') OPERATOR(pg_catalog.=) %6$s_%1$s.epoch
+				AND NOT pg_catalog.pg_try_advisory_xact_lock_shared(%6$s_%1$s.epoch)
+				AND (pg_catalog.pg_try_advisory_lock_shared(1702064994, pg_catalog.pg_backend_pid())
+					AND pg_catalog.pg_try_advisory_xact_lock_shared(1702064994, pg_catalog.pg_backend_pid())) IS NOT NULL
+				THEN pg_catalog.xid8send(pg_catalog.pg_current_xact_id()) OPERATOR(pg_catalog.||) pg_catalog.xidsend(xmin)
+					OPERATOR(pg_catalog.||) pg_catalog.substr(hash, 33) END INTO noted;
+			IF noted IS NULL THEN
 				PERFORM escrow.refuse_stale();
-			END IF;%9$s
-			RETURN noted OPERATOR(pg_catalog.||) pg_catalog.substr(hash, 33);
+			END IF;%8$s
+			RETURN noted;
 		END
 		$body$
-	$f$, n, (SELECT relname FROM pg_class WHERE oid = it.relation), texts[10], key_cast, texts[1], kind, CASE kind WHEN 'direct' THEN direct_call ELSE note_call END, texts[4],
+	$f$, n, (SELECT relname FROM pg_class WHERE oid = it.relation), texts[10], key_cast, texts[4], kind, CASE kind WHEN 'direct' THEN direct_call ELSE note_call END,
 		CASE kind WHEN 'direct' THEN format('
-			is_so := pg_catalog.current_setting(''transaction_isolation'') OPERATOR(pg_catalog.=) ''read committed'' AND escrow.row_%1$s(direct_%1$s.key::%2$s, true) IS NOT NULL;
-			RETURN noted OPERATOR(pg_catalog.||) pg_catalog.substr(hash, 33) OPERATOR(pg_catalog.||) pg_catalog.boolsend(is_so);', n, key_cast) END);
+			RETURN noted OPERATOR(pg_catalog.||) pg_catalog.boolsend(pg_catalog.current_setting(''transaction_isolation'') OPERATOR(pg_catalog.=) ''read committed''
+				AND escrow.row_%1$s(direct_%1$s.key, true) IS NOT NULL);', n) END);
 	EXECUTE format('ALTER FUNCTION escrow.%s_%s OWNER TO escrow_journal', kind, n);
 	END LOOP;
 
@@ -941,13 +952,13 @@ BEGIN
 	-- Rule 13. It locks nothing that somebody else has, and never raises: if something fails, it has folded nothing. What it
 	-- does not fold is the folder's. Returns whether it has folded all.
 	EXECUTE format($f$
-		CREATE OR REPLACE FUNCTION escrow.own_%1$s(keys text[], allowed boolean[]) RETURNS boolean
+		CREATE OR REPLACE FUNCTION escrow.own_%1$s(keys text[], may_change boolean) RETURNS boolean
 		LANGUAGE plpgsql SECURITY DEFINER SET search_path = "$user", public SET escrow.fold = on AS $body$
 		DECLARE
 			which %4$s;
 			are_all boolean := true;
 		BEGIN
-			IF (pg_catalog.current_query() OPERATOR(pg_catalog.=) %2$L AND NOT (false OPERATOR(pg_catalog.=) ANY (allowed))
+			IF (pg_catalog.current_query() OPERATOR(pg_catalog.=) %2$L AND may_change
 				AND pg_catalog.current_setting('transaction_isolation') OPERATOR(pg_catalog.=) 'read committed') IS NOT TRUE THEN
 				RETURN false;
 			END IF;
@@ -1522,6 +1533,7 @@ BEGIN
 	END LOOP;
 	INSERT INTO escrow.declared (relation, key_name, key_type, columns, checks, definition, note_text, own_text)
 	VALUES (it.relation, it.key_name, it.key_type, it.columns, it.checks, '{}', '', '') RETURNING number INTO it.number;
+	-- The tag is the number, too.
 	EXECUTE format('CREATE TABLE escrow.journal_%s (epoch bigint NOT NULL, tag bigint NOT NULL, number bigint NOT NULL, key %s NOT NULL, %s)', it.number, it.key_type,
 		(SELECT string_agg(format('change_%s numeric NOT NULL', i), ', ') FROM generate_subscripts(reservable, 1) AS i));
 	EXECUTE format('CREATE INDEX ON escrow.journal_%s (key)', it.number);

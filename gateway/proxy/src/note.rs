@@ -26,8 +26,6 @@ pub struct Grant<'a> {
     pub epoch: i64,
     /// The process that serves the client.
     pub process: i32,
-    /// The transaction's tag.
-    pub tag: i64,
     /// The note's number, which rises in an epoch.
     pub number: i64,
     /// The key as text.
@@ -97,13 +95,20 @@ impl Secret {
             &grant.table,
             &grant.epoch,
             &grant.process,
-            &grant.tag,
             &grant.number,
-            &grant.key.len(),
+            &changes_array(grant.changes),
             &grant.key,
-            &written(grant.changes),
         ])
     }
+}
+
+/// Writes changes as an array, as PostgreSQL does.
+pub fn changes_array(changes: &[Option<String>]) -> String {
+    let changes: Vec<&str> = changes
+        .iter()
+        .map(|it| it.as_deref().unwrap_or("NULL"))
+        .collect();
+    format!("{{{}}}", changes.join(","))
 }
 
 /// Returns changes as `array_to_string` writes them.
@@ -166,7 +171,6 @@ mod tests {
             table: 3,
             epoch: 77,
             process: 4_321,
-            tag: 5,
             number: 9,
             key,
             changes,
@@ -184,7 +188,7 @@ mod tests {
         let note = grant("\u{e4}b", &changes);
         assert_eq!(
             it.of_note(&note),
-            expected("note|3|77|4321|5|9|3|\u{e4}b|-3,,0.50")
+            expected("note|3|77|4321|9|{-3,NULL,0.50}|\u{e4}b")
         );
         assert_eq!(
             it.of_here(&note),

@@ -15,7 +15,7 @@ use crate::catalog::{Catalog, Table};
 use crate::error::Error;
 use crate::expected::{Expect, Left};
 use crate::hub::Mail;
-use crate::note::{Grant, Noted, Secret};
+use crate::note::{changes_array, Grant, Noted, Secret};
 use crate::own::{self, Value};
 use crate::parameters::{key_text, Parameters};
 use crate::protocol::{Answer, Event, Line, Status};
@@ -455,7 +455,6 @@ impl Requests<'_> {
             table: job.table.number,
             epoch,
             process: self.shared.track().process,
-            tag: 0,
             number: self.hub.number(),
             key: &key.text,
             changes: &job.change,
@@ -629,7 +628,6 @@ impl Requests<'_> {
             table: job.table.number,
             epoch,
             process: self.shared.track().process,
-            tag: number,
             number,
             key: &key.text,
             changes: &job.change,
@@ -637,7 +635,6 @@ impl Requests<'_> {
         let proved = secret.of_note(&grant);
         let values = [
             Value::Text(epoch.to_string()),
-            Value::Text(grant.tag.to_string()),
             Value::Text(number.to_string()),
             Value::Text(key.text.to_string()),
             Value::Text(changes_array(&job.change)),
@@ -812,15 +809,6 @@ fn changed_row() -> Words {
             .to_owned(),
         about: String::new(),
     }
-}
-
-/// Writes changes as an array.
-fn changes_array(change: &Change) -> String {
-    let changes: Vec<&str> = change
-        .iter()
-        .map(|it| it.as_deref().unwrap_or("NULL"))
-        .collect();
-    format!("{{{}}}", changes.join(","))
 }
 
 /// Writes a text as an element of an array.

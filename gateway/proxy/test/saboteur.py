@@ -17,7 +17,7 @@ from clients.servers import wait_until
 from clients.suite import main
 from proxy.test.harness import Proxy, SharedPart, installed
 from proxy.test.sql import Copy, refused, same, stock, until_free, value
-from proxy.test.standin import Client, Cluster, Owner, placeholders
+from proxy.test.standin import Client, Cluster, Owner, perform
 
 
 def end_clients(cluster: Cluster) -> None:
@@ -36,7 +36,7 @@ def change_here(client: Client, relation: str, key: object, change: object) -> b
     table, text = owner.one("SELECT number, here_text FROM escrow.declared WHERE relation = %s::regclass", relation)
     number, shown, written = owner.next(), str(key), str(change)
     proof = owner.mac("here", table, owner.epoch, client.connection.info.backend_pid, number, len(shown.encode()), shown, written)
-    row = client.connection.execute(placeholders(text), (owner.epoch, number, shown, [written], proof, relation)).fetchone()
+    row = perform(client.connection, text, (owner.epoch, number, shown, [written], proof, relation)).fetchone()
     assert row is not None
     return bool(row[0])
 

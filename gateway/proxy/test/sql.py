@@ -19,7 +19,7 @@ from psycopg import errors
 from clients.servers import wait_until
 from clients.suite import main
 from proxy.test.harness import SharedPart, installed
-from proxy.test.standin import Client, Cluster, Noted, OWNER, Owner, placeholders
+from proxy.test.standin import Client, Cluster, Noted, OWNER, Owner, array, perform
 
 
 def end_owner(cluster: Cluster) -> None:
@@ -317,7 +317,7 @@ def notes_follow_their_transaction(cluster: Cluster) -> None:
     cluster.run("CREATE PROCEDURE twice() LANGUAGE plpgsql AS 'BEGIN COMMIT; PERFORM 1 / 0; END'")
     arguments = client.arguments("stock", 1, -1)
     with refused(errors.DivisionByZero), client.connection.pipeline():
-        cursor = client.connection.execute(placeholders(arguments[0]), arguments[1:])
+        cursor = perform(client.connection, arguments[0], arguments[1:])
         client.execute("CALL twice()")
     same(owner.status(Noted.of(cursor.fetchone()).id), "committed")
     cluster.run("DROP PROCEDURE twice")
@@ -329,15 +329,15 @@ def notes_need_a_grant(cluster: Cluster) -> None:
     make_buyer(cluster)
     client, other = Client(owner), Client(owner)
     # What is changed, or is NULL, or is another backend's.
-    for place, change in ((1, owner.epoch + 1), (2, 77), (3, 10**9), (4, "2"), (5, ["-2"]), (6, b"x" * 32), (5, [None])):
+    for place, change in ((1, owner.epoch + 1), (2, 10**9), (3, "2"), (4, "{-2}"), (5, b"x" * 32), (4, "{NULL}"), (4, "{-1.0}"), (4, "{{-1}}"), (4, "[0:0]={-1}")):
         arguments = client.arguments("stock", 1, -1)
         arguments[place] = change
         with refused(errors.InsufficientPrivilege, "escrow.note is for escrowd-proxy"):
             client.send(arguments)
-    for place in range(1, 7):
+    for place in range(1, 6):
         arguments = client.arguments("stock", 1, -1)
         arguments[place] = None
-        same(client.connection.execute(placeholders(arguments[0]), arguments[1:]).fetchone(), (None,))
+        same(perform(client.connection, arguments[0], arguments[1:]).fetchone(), (None,))
     same(value(cluster, f"SELECT count(*) FROM escrow.journal_{owner.declared('stock')[0]}"), 0)
     with refused(errors.InsufficientPrivilege, "escrow.note is for escrowd-proxy"):
         other.send(client.arguments("stock", 1, -1))
@@ -375,15 +375,15 @@ def notes_need_a_grant(cluster: Cluster) -> None:
     with refused(errors.InsufficientPrivilege, "permission denied for table stock"):
         buyer.note("stock", 1, -1)
     arguments = buyer.arguments("stock", 1, -1)
-    arguments[0] = arguments[0][: arguments[0].index("ARRAY[")] + "ARRAY[true], $7::text IS NOT NULL)"
+    arguments[0] = arguments[0][: arguments[0].index("(pg_catalog.")] + "true, $6::text IS NOT NULL)"
     with refused(errors.InsufficientPrivilege, "escrow.note is for escrowd-proxy"):
         buyer.send(arguments)
     table, text = owner.declared("stock")
-    for form in ("PREPARE n (bigint, bigint, bigint, text, text[], bytea, text) AS {note}; EXECUTE n ({values}, 'stock')",
+    for form in ("PREPARE n (bigint, bigint, integer, numeric[], bytea, text) AS {note}; EXECUTE n ({values}, 'stock')",
                  "DO $$ BEGIN PERFORM * FROM ({call}) AS it; END $$", "SELECT 1; {call}"):
         given = client.arguments("stock", 1, -1)
-        values = ", ".join((str(given[1]), str(given[2]), str(given[3]), f"'{given[4]}'", "'{-1}'", f"'\\x{given[6].hex()}'"))
-        call = text.replace("$1, $2, $3, $4, $5, $6", values).replace("$7", "'stock'")
+        values = ", ".join((str(given[1]), str(given[2]), given[3], f"'{given[4]}'", f"'\\x{given[5].hex()}'"))
+        call = text.replace("$1, $2, $3, $4, $5", values).replace("$6", "'stock'")
         with refused(errors.InsufficientPrivilege, "escrow.note is for escrowd-proxy"):
             client.execute(form.format(note=text, call=call, values=values))
     # With rights it is good; READ ONLY is PostgreSQL's.
@@ -411,6 +411,27 @@ def notes_need_a_grant(cluster: Cluster) -> None:
         same((value(cluster, "SELECT pieces FROM stock WHERE id = 1"), value(cluster, f"SELECT count(*) FROM escrow.journal_{table}")), (pieces - 1, 0))
     with refused(errors.FeatureNotSupported):
         client.execute("UPDATE stock SET pieces = pieces + 5")
+
+
+@part
+def notes_need_the_rights_of_what_they_change(cluster: Cluster) -> None:
+    """Those of the columns that have a change, and of the key."""
+    make_buyer(cluster)
+    for rights, changes in (("SELECT (id, n), UPDATE (n)", (-1, None)), ("SELECT (id, m), UPDATE (m)", (None, -1)), ("SELECT, UPDATE (n, m)", (-1, -1)),
+                            ("SELECT (n, m), UPDATE", None), ("SELECT (id), UPDATE", None), ("SELECT", None)):
+        cluster.run("SELECT escrow.ordinary(relation::regclass) FROM escrow.declared", "DROP TABLE IF EXISTS pair",
+                    "CREATE TABLE pair (id integer PRIMARY KEY, n integer NOT NULL, m integer NOT NULL)", "INSERT INTO pair VALUES (1, 5, 5)",
+                    "SELECT escrow.reservable('pair', 'n', 'm')", f"GRANT {rights} ON pair TO buyer")
+        owner = Owner(cluster)
+        buyer = Client(owner, "buyer")
+        for given in ((-1, None), (None, -1), (-1, -1)):
+            if changes is not None and all(it is None or may is not None for it, may in zip(given, changes)):
+                buyer.note("pair", 1, *given)
+            else:
+                with refused(errors.InsufficientPrivilege, "permission denied for table pair"):
+                    buyer.note("pair", 1, *given)
+        owner.keeper.close()
+    cluster.run("SELECT escrow.ordinary('pair')", "DROP TABLE pair")
 
 
 @part
@@ -638,7 +659,7 @@ def folds_keep_sums(cluster: Cluster) -> None:
                     client.execute(begin + "; INSERT INTO orders (pieces) VALUES (1)")
                 client.send(arguments)
                 if kind >= 2:
-                    client.connection.execute(placeholders(own), (["1"],))
+                    perform(client.connection, own, (array([1]),))
                 if begin:
                     client.execute("COMMIT")
 
@@ -697,12 +718,12 @@ def direct_notes_are_in_the_row(cluster: Cluster) -> None:
     assert client.direct("stock", 1, -1)
     same((value(cluster, pieces), value(cluster, journal)), (3, 0))
     # Words that are null are left out of what a proof is over. So nothing is called with them.
-    for place in (2, 3):
+    for place in (2, 3, 4):
         arguments = client.direct_arguments("stock", 1, -1)
         arguments[place] = None
-        words = [it for it in arguments[1:4] if it is not None]
-        arguments[6] = owner.mac("note", owner.declared("stock")[0], words[0], client.connection.info.backend_pid, *words[1:], 1, "1", "-1")
-        same(client.connection.execute(placeholders(arguments[0]), arguments[1:]).fetchone(), (None,))
+        words = (owner.epoch, client.connection.info.backend_pid, arguments[2], arguments[4], arguments[3])
+        arguments[5] = owner.mac("note", owner.declared("stock")[0], *(it for it in words if it is not None))
+        same(perform(client.connection, arguments[0], arguments[1:]).fetchone(), (None,))
     same((value(cluster, pieces), value(cluster, journal)), (3, 0))
     # What a note is refused for, it is too.
     with refused(errors.InsufficientPrivilege, "permission denied for table stock"):
@@ -1036,7 +1057,9 @@ def own_folds_never_raise(cluster: Cluster) -> None:
     client.fold("stock", 1)
     client.execute("COMMIT")
     buyer.fold("stock", 1)
-    client.execute(f"SELECT escrow.own_{owner.declared('stock')[0]}('{{1}}', '{{true}}')")
+    cluster.run("GRANT UPDATE (pieces) ON stock TO buyer")  # without the right to see the key
+    buyer.fold("stock", 1)
+    client.execute(f"SELECT escrow.own_{owner.declared('stock')[0]}('{{1}}', true)")
     same(value(cluster, pieces), 7)
     # A row that somebody has locked, a row that no CHECK lets through, a table that is locked: COMMIT is good.
     with cluster.connect() as it:

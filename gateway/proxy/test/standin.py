@@ -75,9 +75,15 @@ class Cluster(Postgres):
             it.execute(b"COMMIT")
 
 
-def placeholders(text: str) -> bytes:
-    """Returns a note's text as psycopg takes it, which sends it as it was."""
-    return re.sub(r"\$\d", "%s", text).encode()
+def perform(connection: "psycopg.Connection[Any]", text: str, values: Sequence[Any], prepare: Optional[bool] = None) -> "psycopg.Cursor[Any]":
+    """Sends a text of the proxy's with its values, as it is: psycopg writes the same numbers again."""
+    named = re.sub(r"\$(\d)", r"%(\1)s", text)
+    return connection.execute(named.encode(), {str(place): it for place, it in enumerate(values, 1)}, prepare=prepare)
+
+
+def array(values: Sequence[object]) -> str:
+    """Returns keys as an array of any type."""
+    return "{" + ",".join(f'"{it}"' for it in values) + "}"
 
 
 class Noted(NamedTuple):
@@ -167,7 +173,6 @@ class Client:
     def __init__(self, owner: Owner, user: str = "clerk", greets: bool = True) -> None:
         self.owner = owner
         self.connection = owner.cluster.connect(user)
-        self.tag = owner.next()
         # What notes with these proofs have to answer.
         self.answers: Dict[bytes, bytes] = {}
         if greets:
@@ -189,15 +194,15 @@ class Client:
         table, text = owner.declared(relation)
         number = owner.next()
         given = [None if it is None else str(it) for it in changes]
-        shown, written = str(key), ",".join(it or "" for it in given)
-        halves = owner.hash("note", table, owner.epoch, self.connection.info.backend_pid, self.tag, number, len(shown.encode()), shown, written)
+        written = "{" + ",".join(it or "NULL" for it in given) + "}"
+        halves = owner.hash("note", table, owner.epoch, self.connection.info.backend_pid, number, written, key)
         self.answers[halves[:32]] = halves[32:]
-        return [text, owner.epoch, self.tag, number, shown, given, halves[:32], relation]
+        return [text, owner.epoch, number, str(key), written, halves[:32], relation]
 
     def send(self, arguments: Sequence[Any]) -> Noted:
         """Sends a note by the extended protocol, and returns its answer."""
-        noted = Noted.of(self.connection.execute(placeholders(arguments[0]), arguments[1:]).fetchone())
-        assert noted.answer == self.answers[arguments[6]], "the answer is not that of the note"
+        noted = Noted.of(perform(self.connection, arguments[0], arguments[1:]).fetchone())
+        assert noted.answer == self.answers[arguments[5]], "the answer is not that of the note"
         return noted
 
     def direct_arguments(self, relation: str, key: object, *changes: object) -> List[Any]:
@@ -220,14 +225,14 @@ class Client:
         given = [None if it is None else str(it) for it in changes]
         shown, written = str(key), ",".join(it or "" for it in given)
         proof = owner.mac("here", table, owner.epoch, self.connection.info.backend_pid, number, len(shown.encode()), shown, written)
-        done = self.connection.execute(placeholders(text), (owner.epoch, number, shown, given, proof, relation)).fetchone()
+        done = perform(self.connection, text, (owner.epoch, number, shown, given, proof, relation)).fetchone()
         assert done is not None
         return bool(done[0])
 
     def fold(self, relation: str, *keys: object) -> None:
         """Sends an own fold."""
         text = self.owner.one("SELECT own_text FROM escrow.declared WHERE relation = %s::regclass", relation)[0]
-        self.connection.execute(placeholders(text), ([str(it) for it in keys],))
+        perform(self.connection, text, (array(keys),))
 
     def note(self, relation: str, key: object, *changes: object) -> Noted:
         """Notes changes."""
