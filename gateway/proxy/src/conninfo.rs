@@ -20,7 +20,7 @@ pub struct Conninfo {
     pub keepalives: Option<Keepalives>,
 }
 
-/// How the system asks after a server that says nothing, by libpq's names.
+/// How the system asks after a side of a connection that says nothing, by libpq's names.
 #[derive(Clone, Copy, Debug, PartialEq, Eq)]
 pub struct Keepalives {
     /// `keepalives_idle`: the seconds behind which it asks.
@@ -38,15 +38,6 @@ impl Default for Keepalives {
             interval: 10,
             count: 3,
         }
-    }
-}
-
-impl Keepalives {
-    /// Returns behind how many seconds a connection ends whose server is gone.
-    pub fn longest(self) -> u32 {
-        self.interval
-            .saturating_mul(self.count)
-            .saturating_add(self.idle)
     }
 }
 

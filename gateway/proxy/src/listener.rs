@@ -6,7 +6,8 @@ use escrowd_pg::system::socket::{Socket, SocketError};
 use tokio::net::{TcpListener, UnixListener};
 
 use crate::args::Place;
-use crate::stream::Stream;
+use crate::conninfo::Keepalives;
+use crate::stream::{keep_alive, Stream};
 
 /// A socket that clients connect to. A Unix socket's file is removed with it.
 pub enum Listener {
@@ -60,14 +61,19 @@ impl Listener {
         }
     }
 
-    /// Waits for the next client.
+    /// Waits for the next client. The system asks after one that says nothing, since what a client has reserved and locked is
+    /// kept until its connection ends.
     ///
     /// # Errors
     ///
     /// Fails if the system refuses it, for instance because too many files are open. The next call may succeed.
     pub async fn accept(&self) -> io::Result<Stream> {
         match self {
-            Listener::Tcp(listener) => Stream::tcp(listener.accept().await?.0),
+            Listener::Tcp(listener) => {
+                let (socket, _) = listener.accept().await?;
+                keep_alive(&socket, Keepalives::default())?;
+                Stream::tcp(socket)
+            }
             Listener::Unix(listener, _) => Ok(Stream::Unix(listener.accept().await?.0)),
         }
     }

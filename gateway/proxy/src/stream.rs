@@ -3,11 +3,14 @@
 use std::io::{self, IoSlice};
 use std::pin::Pin;
 use std::task::{Context, Poll};
+use std::time::Duration;
 
+use socket2::{SockRef, TcpKeepalive};
 use tokio::io::{split, AsyncRead, AsyncWrite, ReadBuf, ReadHalf, WriteHalf};
 use tokio::net::{tcp, TcpStream, UnixStream};
 use tokio_rustls::TlsStream;
 
+use crate::conninfo::Keepalives;
 use crate::unix;
 
 /// A connection. What is written to it has to be flushed: TLS keeps what the socket did not take at once.
@@ -19,6 +22,20 @@ pub enum Stream {
     Unix(UnixStream),
     /// TLS over TCP, with the certificate of the side that accepted, in DER.
     Tls(Box<TlsStream<TcpStream>>, Vec<u8>),
+}
+
+/// Lets the system ask after the other side of a connection when it says nothing, and end the connection if that side is gone.
+///
+/// # Errors
+///
+/// Fails if the system refuses an option.
+pub fn keep_alive(socket: &TcpStream, keepalives: Keepalives) -> io::Result<()> {
+    let seconds = |it: u32| Duration::from_secs(it.into());
+    let asked = TcpKeepalive::new()
+        .with_time(seconds(keepalives.idle))
+        .with_interval(seconds(keepalives.interval))
+        .with_retries(keepalives.count);
+    SockRef::from(socket).set_tcp_keepalive(&asked)
 }
 
 /// The half of a connection that is read.

@@ -9,7 +9,6 @@ use std::sync::Arc;
 use std::time::Duration;
 
 use futures_util::future::poll_fn;
-use socket2::{SockRef, TcpKeepalive};
 use tokio::net::{TcpStream, UnixStream};
 use tokio::sync::mpsc::UnboundedSender;
 use tokio::task::JoinHandle;
@@ -19,7 +18,7 @@ use tokio_postgres::tls::NoTlsStream;
 use tokio_postgres::{AsyncMessage, Client, Config, Connection, NoTls};
 
 use crate::conninfo::{Conninfo, Keepalives};
-use crate::stream::Stream;
+use crate::stream::{keep_alive, Stream};
 use crate::tls::{BadFile, Connector};
 
 /// How long a host may take to accept a connection, and to let the proxy in, if the connection string has no
@@ -287,22 +286,13 @@ impl Target {
     }
 }
 
-/// Lets the system ask after a server that says nothing, and end the connection of one that is gone, also if it has not taken
-/// what was sent.
-fn keep_alive(socket: &TcpStream, keepalives: Keepalives) -> io::Result<()> {
-    let seconds = |it: u32| Duration::from_secs(it.into());
-    let asked = TcpKeepalive::new()
-        .with_time(seconds(keepalives.idle))
-        .with_interval(seconds(keepalives.interval))
-        .with_retries(keepalives.count);
-    let socket = SockRef::from(socket);
-    socket.set_tcp_keepalive(&asked)?;
-    socket.set_tcp_user_timeout(Some(seconds(keepalives.longest())))
-}
-
 #[cfg(test)]
 mod tests {
+    use socket2::SockRef;
+
     use super::*;
+    use crate::args::Place;
+    use crate::listener::Listener;
 
     #[tokio::test]
     async fn connections_are_kept_alive_as_the_string_says() {
@@ -310,28 +300,43 @@ mod tests {
         let port = listener.local_addr().unwrap().port();
         let served = format!("host=127.0.0.1 port={port} sslmode=disable");
         for (more, expected) in [
-            ("", Some((30, 10, 3, 60))),
-            ("keepalives_idle=7 keepalives_count=2", Some((7, 10, 2, 27))),
-            ("keepalives_interval=1", Some((30, 1, 3, 33))),
+            ("", Some((30, 10, 3))),
+            ("keepalives_idle=7 keepalives_count=2", Some((7, 10, 2))),
+            ("keepalives_interval=1", Some((30, 1, 3))),
             ("keepalives=0", None),
         ] {
             let target = Target::of(&format!("{served} {more}").parse().unwrap()).unwrap();
-            let stream = target.connect().await.unwrap();
-            let socket = match &stream {
-                Stream::Tcp(socket) => SockRef::from(socket),
-                _ => panic!("it is no TCP"),
-            };
-            let found = socket.keepalive().unwrap().then(|| {
-                let seconds = |it: Duration| it.as_secs();
-                (
-                    seconds(socket.keepalive_time().unwrap()),
-                    seconds(socket.keepalive_interval().unwrap()),
-                    socket.keepalive_retries().unwrap(),
-                    seconds(socket.tcp_user_timeout().unwrap().unwrap_or_default()),
-                )
-            });
-            assert_eq!(found, expected, "{more}");
+            assert_eq!(kept(&target.connect().await.unwrap()), expected, "{more}");
         }
+    }
+
+    #[tokio::test]
+    async fn clients_are_asked_whether_they_are_there() {
+        let place = Place::Address("127.0.0.1:0".to_owned());
+        let listener = Listener::open(&place, 0, 0).await.unwrap();
+        let address = match &listener {
+            Listener::Tcp(socket) => socket.local_addr().unwrap(),
+            Listener::Unix(..) => panic!("it is no TCP"),
+        };
+        let _client = TcpStream::connect(address).await.unwrap();
+        assert_eq!(kept(&listener.accept().await.unwrap()), Some((30, 10, 3)));
+    }
+
+    /// Returns how a connection is kept alive: `keepalives_idle`, `keepalives_interval` and `keepalives_count`. The time in which
+    /// what was sent has to be taken has no limit: a side that waits for a lock takes nothing.
+    fn kept(stream: &Stream) -> Option<(u64, u64, u32)> {
+        let socket = match stream {
+            Stream::Tcp(socket) => SockRef::from(socket),
+            Stream::Unix(_) | Stream::Tls(..) => panic!("it is no TCP"),
+        };
+        assert_eq!(socket.tcp_user_timeout().unwrap(), None);
+        socket.keepalive().unwrap().then(|| {
+            (
+                socket.keepalive_time().unwrap().as_secs(),
+                socket.keepalive_interval().unwrap().as_secs(),
+                socket.keepalive_retries().unwrap(),
+            )
+        })
     }
 
     fn of(text: &str) -> Option<Vec<Address>> {
