@@ -11,10 +11,10 @@ use std::fmt;
 const SMALL: u64 = 64 * 1024;
 
 /// How many bytes a turn frees at least, if there are as many.
-const LEAST: u64 = 512 * 1024;
+const LEAST: u64 = 256 * 1024;
 
 /// Which part of all that waits a turn frees at least.
-const PART: u64 = 32;
+const PART: u64 = 64;
 
 /// How many bytes wait at the most: what is beyond is freed by the next turn.
 const MOST: u64 = 64 * 1024 * 1024;
@@ -115,7 +115,7 @@ mod tests {
         assert!(leftovers.free_some());
         assert_eq!(Rc::strong_count(&first), 501 - per_turn);
         let turns = std::iter::from_fn(|| leftovers.free_some().then_some(())).count();
-        assert!((50..100).contains(&turns), "{turns}");
+        assert!((100..250).contains(&turns), "{turns}");
         assert_eq!(Rc::strong_count(&first) + Rc::strong_count(&second), 2);
         assert!(!leftovers.free_some() && leftovers.bytes() == 0);
     }

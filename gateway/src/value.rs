@@ -494,6 +494,7 @@ pub fn append_cell(
     match (format, oid) {
         (Format::Binary, oid::INT8) => append_integer::<i64, 8>(out, text, i64::to_be_bytes)?,
         (Format::Binary, oid::INT4) => append_integer::<i32, 4>(out, text, i32::to_be_bytes)?,
+        (Format::Binary, oid::INT2) => append_integer::<i16, 2>(out, text, i16::to_be_bytes)?,
         (Format::Binary, oid::OID) => append_integer::<u32, 4>(out, text, u32::to_be_bytes)?,
         (Format::Binary, oid::BOOL) => out.push(u8::from(text == "t")),
         (Format::Binary, oid::NUMERIC) => append_numeric(out, text)?,
@@ -736,6 +737,7 @@ mod tests {
     fn writes_whole_numbers_and_truth_in_binary() {
         assert_eq!(cell("-2", oid::INT8), (-2_i64).to_be_bytes());
         assert_eq!(cell("70000", oid::INT4), 70_000_i32.to_be_bytes());
+        assert_eq!(cell("-32768", oid::INT2), i16::MIN.to_be_bytes());
         assert_eq!(cell("t", oid::BOOL), [1]);
         assert_eq!(cell("a\u{e4}", oid::VARCHAR), "a\u{e4}".as_bytes());
         let mut out = Vec::new();

@@ -1199,6 +1199,12 @@ fn definitions_may_be_conditional() {
         ),
         ["NOTICE 42P07", "complete CREATE TABLE", "ready I"]
     );
+    // In PostgreSQL a key is a relation too.
+    for (table, key) in [("u", "t"), ("u", "u"), ("t", "t")] {
+        let text =
+            format!("CREATE TABLE {table} (id BIGINT CONSTRAINT {key} PRIMARY KEY, n BIGINT)");
+        assert_eq!(client.ask(&text, &[]), ["ERROR 42P07", "ready I"], "{text}");
+    }
     assert_eq!(
         client.ask("DROP TABLE IF EXISTS other.x", &[]),
         ["NOTICE 00000", "complete DROP TABLE", "ready I"]

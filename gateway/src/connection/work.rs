@@ -15,7 +15,7 @@ use crate::rows::{Definition, Reader, ResultSet};
 use crate::sqlstate::{self, Failure, Refused, Report, SqlState};
 use crate::statement::constant::Input;
 use crate::statement::query::Name;
-use crate::statement::served::{Insert, Served, Show, Verb};
+use crate::statement::served::{Define, Insert, Served, Show, Verb};
 use crate::statement::{explain, line, select, Cursor, Parsed, Statement, Step};
 use crate::wire::backend;
 
@@ -462,7 +462,24 @@ impl Connection {
         if verb.commits_by_itself() && is_inside {
             return Err(sqlstate::commits_by_itself(verb.words()));
         }
-        Ok(())
+        match served {
+            Served::Define(define) => self.may_name_key(define),
+            _ => Ok(()),
+        }
+    }
+
+    /// Checks that no table has the name of a new table's key. In PostgreSQL both are relations.
+    fn may_name_key(&self, define: &Define) -> Result<(), Failure> {
+        let is_known = |name: &str| self.definitions().get(name).is_some();
+        let is_there = define.is_conditional && is_known(&define.table.text);
+        let mut key = define.key.iter().filter(|_| !is_there);
+        match key.find(|key| key.text == define.table.text || is_known(&key.text)) {
+            Some(key) => Err(Report::error(
+                SqlState::DUPLICATE_TABLE,
+                format!("relation \"{}\" already exists", key.text),
+            )),
+            None => Ok(()),
+        }
     }
 
     /// Takes a line of a reply that is not its last one.

@@ -2,7 +2,7 @@
 //!
 //! The program serves one statement after another. One SELECT of a large table takes it as long as thousands of other
 //! statements. So no more than one of these is on its way at a time, and behind it the others have the program for
-//! themselves, if one of them had to wait for it: for as long as it took, or four times as long if that is felt.
+//! themselves, if one of them had to wait for it: for as long as it took, or 25 times as long if that is felt.
 //!
 //! Each statement passes [`LongSelects::admit`]. If its asker has a statement that waits, the new one waits behind it,
 //! whatever their sessions are. So the statements of a client reach the program in the order in which they were asked.
@@ -20,9 +20,9 @@ const LONG: u64 = 250;
 /// Who waits so long for a SELECT feels it.
 const FELT: Duration = Duration::from_millis(20);
 
-/// How many times as long others have the program for themselves behind a SELECT that was felt. So these get a fifth of
-/// its time.
-const OTHERS: u32 = 4;
+/// How many times as long others have the program for themselves behind a SELECT that was felt. So of a hundred of their
+/// statements about one meets such a SELECT, if they come every ten milliseconds.
+const OTHERS: u32 = 25;
 
 /// How long others have the program for themselves at the most.
 const MOST_PAUSE: Duration = Duration::from_secs(4);

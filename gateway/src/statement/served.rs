@@ -457,6 +457,8 @@ pub struct Define {
     pub table: Name,
     /// The constraint that is dropped.
     pub constraint: Option<Name>,
+    /// The name of a new table's key, if it has one. The program has no names of keys.
+    pub key: Option<Name>,
     /// IF EXISTS, IF NOT EXISTS: that there is one, or none, is told as a notice.
     pub is_conditional: bool,
     /// What is told beside the tag: types that hold less than what was written.

@@ -25,6 +25,8 @@ struct Items {
     /// The items, as the program reads them.
     list: Vec<String>,
     notices: Vec<String>,
+    /// The name of the key.
+    key: Option<Name>,
 }
 
 impl<'a> Parser<'a> {
@@ -64,6 +66,7 @@ impl<'a> Parser<'a> {
             verb: Verb::CreateTable,
             table: name,
             constraint: None,
+            key: items.key,
             is_conditional,
             notices: items.notices,
             line,
@@ -124,6 +127,7 @@ impl<'a> Parser<'a> {
             verb: Verb::AlterTable,
             table,
             constraint,
+            key: None,
             is_conditional,
             notices: Vec::new(),
             line,
@@ -152,6 +156,7 @@ impl<'a> Parser<'a> {
                     verb: Verb::DropTable,
                     table: name,
                     constraint: None,
+                    key: None,
                     is_conditional,
                     notices: vec![format!("{}, skipping", report.message)],
                     line: String::new(),
@@ -163,6 +168,7 @@ impl<'a> Parser<'a> {
             verb: Verb::DropTable,
             table,
             constraint: None,
+            key: None,
             is_conditional,
             notices: Vec::new(),
             line,
@@ -232,6 +238,7 @@ impl<'a> Parser<'a> {
             if let Some(column) = columns.get(1) {
                 return Err(missing("a key of several columns", column.span.start));
             }
+            items.key = name;
             let columns: Vec<String> = columns.into_iter().map(|column| column.text).collect();
             items
                 .list
@@ -292,6 +299,7 @@ impl<'a> Parser<'a> {
                 item.push(' ');
                 item.push_str(&check);
             } else if self.keywords(&["PRIMARY", "KEY"]) {
+                items.key = constraint;
                 item.push_str(" PRIMARY KEY");
             } else if self.keywords(&["NOT", "NULL"]) {
                 item.push_str(" NOT NULL");
