@@ -329,7 +329,8 @@ def notes_need_a_grant(cluster: Cluster) -> None:
     make_buyer(cluster)
     client, other = Client(owner), Client(owner)
     # What is changed, or is NULL, or is another backend's.
-    for place, change in ((1, owner.epoch + 1), (2, 10**9), (3, "2"), (4, "{-2}"), (5, b"x" * 32), (4, "{NULL}"), (4, "{-1.0}"), (4, "{{-1}}"), (4, "[0:0]={-1}")):
+    others = [(4, changes) for changes in ("{-2}", "{NULL}", "{-1.0}", "{{-1}}", "[0:0]={-1}")]
+    for place, change in ((1, owner.epoch + 1), (2, 10**9), (3, "2"), (5, b"x" * 32), *others):
         arguments = client.arguments("stock", 1, -1)
         arguments[place] = change
         with refused(errors.InsufficientPrivilege, "escrow.note is for escrowd-proxy"):
