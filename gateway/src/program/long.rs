@@ -239,19 +239,19 @@ mod tests {
     }
 
     #[test]
-    fn long_ones_are_asked_one_by_one_and_others_have_as_much_time() {
+    fn long_ones_are_asked_one_by_one_and_others_have_time() {
         let mut turns = Turns::new();
-        let second = Duration::from_secs(1);
         assert!(turns.select(0, BIG));
         assert!(!turns.select(1, BIG));
         assert!(!turns.select(2, SMALL), "it may be long");
         assert!(turns.asked_now().is_empty() && turns.long.deadline().is_none());
         let begin = turns.now;
-        turns.now += second / (1 + OTHERS);
+        turns.now += 2 * FELT;
         turns.answer(Some(LONG + 1), true);
         assert!(turns.asked_now().is_empty());
-        assert_eq!(turns.long.deadline(), Some(begin + second));
-        turns.now = begin + second;
+        let end = begin + 2 * FELT * (1 + OTHERS);
+        assert_eq!(turns.long.deadline(), Some(end));
+        turns.now = end;
         assert_eq!(turns.asked_now(), [(1, BIG.to_vec())]);
         // A client that left waits no more.
         assert_eq!(turns.long.leave(client(2)), [Number::SHARED]);
