@@ -364,6 +364,7 @@ fn boolean(text: &str) -> Option<bool> {
 
 /// Returns a value as SHOW prints it.
 fn canonical(known: &Known, value: &str) -> Result<String, Failure> {
+    let written = value;
     let value = value.trim();
     if value.len() > LONGEST_VALUE {
         return Err(invalid(
@@ -410,11 +411,12 @@ fn canonical(known: &Known, value: &str) -> Result<String, Failure> {
             _ => Err(bad().hint("Texts are in UTF8.")),
         },
         Domain::Messages => {
-            let level = value.to_ascii_lowercase();
+            // PostgreSQL drops no blanks around a word.
+            let level = written.to_ascii_lowercase();
             match level.as_str() {
                 "debug5" | "debug4" | "debug3" | "debug2" | "debug1" | "debug" | "log" | "info"
                 | "notice" | "warning" | "error" | "fatal" | "panic" => Ok(level),
-                _ => Err(bad()),
+                _ => Err(invalid(known, written)),
             }
         }
         Domain::Isolation => match value.to_ascii_lowercase().as_str() {

@@ -365,6 +365,12 @@ impl Connection {
             }
         };
         if let Some(query) = parsed.as_ref().and_then(|parsed| parsed.statement.query()) {
+            let used = parsed.as_ref().map_or(&[][..], |parsed| &parsed.places);
+            for (at, oid) in types.iter().enumerate() {
+                if matches!(used.get(at), None | Some(Place::Unused)) {
+                    parameters::check_type(at + 1, &Place::Unused, *oid)?;
+                }
+            }
             let types = self.describe_query(query, types)?.parameters;
             return Ok(Statement::new(text, parsed, types));
         }

@@ -1175,6 +1175,18 @@ fn cursors_are_read_in_steps() {
 }
 
 #[test]
+fn blanks_around_a_level_and_types_of_nothing_are_refused() {
+    let mut client = Client::connected();
+    let set = "SET client_min_messages = ' warning'";
+    assert_eq!(client.ask(set, &[]), ["ERROR 22023", "ready I"]);
+    // A parameter that the text doesn't have needs a type.
+    for (oid, told) in [(0, "ERROR 42P18"), (23, "parsed")] {
+        client.send(&[parse("", "SELECT 1", &[oid]), sync()].concat());
+        assert_eq!(client.output(), [told, "ready I"]);
+    }
+}
+
+#[test]
 fn definitions_may_be_conditional() {
     let mut client = Client::connected();
     let create =
