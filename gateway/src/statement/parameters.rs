@@ -132,7 +132,7 @@ fn note_served(places: &mut [Place], served: &Served) {
     }
     for place in alone {
         places[place] = match places[place] {
-            Place::Unused => Place::Alone,
+            Place::Unused | Place::Alone => Place::Alone,
             Place::Cast(oid::TEXT) => Place::Cast(oid::TEXT),
             _ => Place::AloneFirst,
         };
@@ -347,6 +347,7 @@ mod tests {
                 vec![key(), Place::Alone],
             ),
             ("SELECT $2", vec![Place::Unused, Place::Alone]),
+            ("SELECT $1, $1 FROM t", vec![Place::Alone]),
         ] {
             assert_eq!(places_of(text), expected, "{}", text);
         }
