@@ -1261,7 +1261,7 @@ END
 $$;
 
 -- Locks a standing hold, and returns it. Raises unless it stands and the caller may use it: as its maker, or as the owner
--- of a table of its if that is enough. A hold that has ended is told by codes of their own.
+-- of one of its tables, if that is enough. Holds that have ended have codes of their own.
 CREATE OR REPLACE FUNCTION escrow.standing(name text, may_own boolean) RETURNS escrow.hold_names
 LANGUAGE plpgsql SET search_path = pg_catalog, pg_temp AS $$
 DECLARE
