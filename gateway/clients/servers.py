@@ -7,6 +7,7 @@ import hashlib
 import hmac
 import os
 import pwd
+import secrets
 import shutil
 import signal
 import socket
@@ -14,6 +15,7 @@ import subprocess
 import tempfile
 import threading
 import time
+from contextlib import suppress
 from pathlib import Path
 from types import MappingProxyType
 from types import TracebackType
@@ -28,8 +30,8 @@ PORT = 5432
 # The part of each load that is tried: below 1 for a program that is built without a proof, which is slow and gets more time.
 LOAD = float(os.environ.get("ESCROWD_LOAD", "1"))
 PATIENCE = 1 if LOAD >= 1 else 5
-# The seconds that a server may take to start and to end.
-START = END = 60.0 * PATIENCE
+# The seconds that a server may take to start and to end. What a test waits for is an event; these end a wait that hangs, within the limit of a case.
+START = END = 120.0 * PATIENCE
 IN_MEMORY: Mapping[str, Optional[Path]] = MappingProxyType({"bank": None})
 IN_A_STORE: Mapping[str, Optional[Path]] = {"bank": Path("bank.db")}
 
@@ -48,6 +50,7 @@ def wait_until(what: str, is_so: Callable[[], object], seconds: float = START, p
 def is_answered(path: Path) -> bool:
     """Returns whether a server accepts connections at a Unix socket."""
     with socket.socket(socket.AF_UNIX) as it:
+        it.settimeout(END)  # so that no full line of others holds it up
         try:
             it.connect(str(path))
         except OSError:
@@ -161,7 +164,11 @@ class Server:
         """Sends a signal that ends the process, if it runs, and waits for its end."""
         if self.process is not None and self.process.poll() is None:
             self.process.send_signal(number)
-            self.process.wait()
+            try:
+                self.process.wait(END)
+            except subprocess.TimeoutExpired:
+                self.process.kill()
+                raise
 
 
 # The sessions that a gateway gets, unless a test says otherwise, and the transactions that may have one at a time: few enough that a test takes all.
@@ -255,7 +262,7 @@ class Postgres(Server):
         home = data if user else self.folder
         cluster = home / "cluster"
         initdb = [postgres_binary("initdb"), "-D", cluster, "-U", "clerk", "-A", "trust", "-E", "UTF8", "--locale=C", "--no-sync"]
-        subprocess.run([str(it) for it in initdb], check=True, user=user, cwd="/", stdout=subprocess.DEVNULL)
+        subprocess.run([str(it) for it in initdb], check=True, user=user, cwd="/", stdout=subprocess.DEVNULL, timeout=START)
         settings = ("listen_addresses=", f"port={self.port}", f"unix_socket_directories={home}", "max_connections=120", *self.settings)
         chosen = [word for it in settings for word in ("-c", it)]
         self.sockets, self.socket = home, home / f".s.PGSQL.{self.port}"
@@ -270,18 +277,33 @@ class Postgres(Server):
     def psql(self, database: str, *statements: str) -> int:
         """Runs statements, and returns the status of psql."""
         words = ["psql", "-XAqtd", self.dsn(database), "-v", "ON_ERROR_STOP=1"] + [word for it in statements for word in ("-c", it)]
-        return subprocess.run(words, stdout=subprocess.DEVNULL, stderr=subprocess.DEVNULL, check=False).returncode
+        return subprocess.run(words, stdout=subprocess.DEVNULL, stderr=subprocess.DEVNULL, timeout=END, check=False).returncode
 
     def dsn(self, database: str = "bank") -> str:
         """Returns a connection string for libpq."""
         return f"host={self.sockets} port={self.port} dbname={database} user=clerk"
 
 
+# The ports that this process has been given. Each is kept by a name that goes with the process.
+CLAIMS: List[socket.socket] = []
+
+
 def free_port() -> int:
-    """Returns a TCP port of this machine that nobody uses."""
-    with socket.socket() as it:
-        it.bind(("127.0.0.1", 0))
-        return int(it.getsockname()[1])
+    """Returns a TCP port of this machine that nobody uses, that no client gets by itself while its server is away, and that no other test is given while
+    this process lives."""
+    least = int(Path("/proc/sys/net/ipv4/ip_local_port_range").read_text(encoding="utf-8").split()[0])
+    while True:
+        port = secrets.choice(range(10_000, max(least, 11_000)))
+        claim = socket.socket(socket.AF_UNIX)
+        try:
+            claim.bind(f"\0escrowd-tests-port-{port}")
+            with socket.socket() as it:
+                it.bind(("127.0.0.1", port))
+        except OSError:
+            claim.close()
+            continue
+        CLAIMS.append(claim)
+        return port
 
 
 class Relay:
@@ -313,22 +335,27 @@ class Relay:
             except OSError:
                 return
             server = socket.socket(socket.AF_UNIX)
-            server.connect(str(self.path))
+            try:
+                server.connect(str(self.path))
+            except OSError:  # the server is away
+                client.close()
+                server.close()
+                continue
             self.start(self.carry, client, server)
             self.start(self.carry, server, client)
 
     @staticmethod
     def carry(source: socket.socket, target: socket.socket) -> None:
-        """Passes bytes on in one direction, and then the end."""
+        """Passes bytes on in one direction, and then the end. A side that ends with bytes that it has not read resets its connection: the other side
+        hears of that end too."""
         try:
-            while True:
-                piece = source.recv(65536)
-                if not piece:
-                    break
+            while piece := source.recv(65536):
                 target.sendall(piece)
             target.shutdown(socket.SHUT_WR)
         except OSError:
-            pass
+            for it in (target, source):
+                with suppress(OSError):
+                    it.shutdown(socket.SHUT_RDWR)
 
 
 def scram_secret(password: str, iterations: int) -> str:

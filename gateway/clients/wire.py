@@ -3,8 +3,11 @@ from __future__ import annotations
 
 import socket
 import struct
+import time
 from pathlib import Path
 from typing import Dict, Iterable, List, NamedTuple, Optional, Sequence, Tuple, Union
+
+from clients.servers import END
 
 PROTOCOL = 196608
 SSL_REQUEST, GSS_REQUEST, CANCEL_REQUEST = 80877103, 80877104, 80877102
@@ -150,10 +153,10 @@ def run(statement: str, values: Sequence[Value] = (), **more: Sequence[int]) -> 
 class Connection:
     """A connection to a server at a Unix socket."""
 
-    def __init__(self, path: Path, timeout: float = 60.0, ready: bool = True, database: str = "bank", options: str = "") -> None:
+    def __init__(self, path: Path, timeout: float = END, ready: bool = True, database: str = "bank", options: str = "") -> None:
         self.socket = socket.socket(socket.AF_UNIX)
         self.socket.settimeout(timeout)
-        self.socket.connect(str(path))
+        self.connect(path, time.monotonic() + timeout)
         self.unread = b""
         if ready:
             self.send(startup(database, options=options) if options else startup(database))
@@ -164,6 +167,17 @@ class Connection:
 
     def __exit__(self, *_: object) -> None:
         self.close()
+
+    def connect(self, path: Path, end: float) -> None:
+        """Connects. If many others have come, and the server has not looked since, the line is full for a while."""
+        while True:
+            try:
+                self.socket.connect(str(path))
+                return
+            except BlockingIOError:
+                if time.monotonic() > end:
+                    raise
+                time.sleep(0.005)
 
     def close(self) -> None:
         """Closes the socket, without Terminate."""
