@@ -1,6 +1,7 @@
 """Cases and the parts that hold them. A part runs in a process of its own and reports each case as a line of JSON."""
 from __future__ import annotations
 
+import faulthandler
 import json
 import signal
 import sys
@@ -117,6 +118,8 @@ def load(count: int) -> int:
 
 
 def main(part: Part) -> None:
-    """Runs a part from its own module: `python3 -m clients.with_psql [CASE ..]`. SIGTERM ends it, and what it has started."""
+    """Runs a part from its own module: `python3 -m clients.with_psql [CASE ..]`. SIGTERM ends it, and what it has started. Before that it shows where each
+    of its threads stands, the main one last: what a case that hangs has waited for."""
     signal.signal(signal.SIGTERM, lambda *_: sys.exit(1))
+    faulthandler.register(signal.SIGTERM, chain=True)
     part.run(sys.argv[1:])
