@@ -5,16 +5,17 @@ import hashlib
 import random
 import re
 import struct
-import time
 from pathlib import Path
 from typing import Any, Dict, List, NamedTuple, Optional, Sequence, Tuple
 
 import psycopg
 
-from clients.servers import Postgres
+from clients.servers import PATIENCE, Postgres, wait_until
 
 SQL = Path(__file__).resolve().parents[1] / "sql"
 OWNER = (1702064993, 1)
+# The seconds behind which a statement is not slow: it waits for what does not come.
+LONGEST = 60.0 * PATIENCE
 # The role of the proxy's own connections. It has the rights that the page says, and no others.
 ROLE = "escrowd"
 
@@ -28,7 +29,7 @@ class Cluster(Postgres):
     """A PostgreSQL that can crash and start again over its files, with schema escrow."""
 
     def __init__(self, *settings: str) -> None:
-        super().__init__("max_prepared_transactions=5", "fsync=off", "statement_timeout=20s", *settings)
+        super().__init__("max_prepared_transactions=5", "fsync=off", f"statement_timeout={round(LONGEST)}s", *settings)
         self.words: Sequence[object] = ()
         self.user: Optional[str] = None
 
@@ -44,12 +45,18 @@ class Cluster(Postgres):
         """Starts it again, and waits until it serves."""
         super().launch(self.words, self.user)
         self.await_socket(self.socket)
-        while True:
-            try:
-                self.connect().close()
-                return
-            except psycopg.OperationalError:
-                time.sleep(0.01)
+        wait_until("PostgreSQL serves again", self.serves, pause=0.01)
+
+    def serves(self) -> bool:
+        """Returns whether it serves. Fails if it has ended."""
+        status = self.running().poll()
+        if status is not None:
+            raise AssertionError(f"PostgreSQL ended with status {status}: {self.said()[-2000:]}")
+        try:
+            self.connect().close()
+        except psycopg.OperationalError:
+            return False
+        return True
 
     def connect(self, user: str = "clerk") -> "psycopg.Connection[Any]":
         """Connects as a role. Statements commit by themselves."""
