@@ -316,6 +316,7 @@ def one_snapshot(till: Till) -> None:
 @kind(5)
 def chained(till: Till) -> None:
     """The order is that of a block that begins with the end of another."""
+    is_first = till.order.is_first
     till.begin()
     till.run("SELECT 1")
     till.run("COMMIT AND CHAIN")
@@ -323,6 +324,7 @@ def chained(till: Till) -> None:
     if till.draw.random() < 0.3:
         till.run("ROLLBACK AND CHAIN")
         take_back(till.order)
+        till.order.is_first = is_first  # no try keeps the line that could be written, so it tells nothing of an earlier one
         till.buy()
     if till.draw.random() < 0.5:
         till.commit()
