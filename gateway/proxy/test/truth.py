@@ -12,7 +12,8 @@ synchronous_commit off; then a crash of PostgreSQL may lose answered COMMITs, an
 at the end. --without takes a rule away from schema escrow, so that something has to be wrong.
 
 For many kills by hand: --processes has that many times ten buyers. With --thinking they wait within their transactions, so that a kill costs half of the
-processor. With --pairs some kills are two at once. If something is wrong, FOLDER gets what all servers have left.
+processor. With --pairs some kills are two at once. If something is wrong, FOLDER gets what all servers have left; for the cases, a new folder in that
+which ESCROWD_KEPT names.
 """
 from __future__ import annotations
 
@@ -25,6 +26,7 @@ import signal
 import statistics
 import subprocess
 import sys
+import tempfile
 import threading
 import time
 from collections import Counter
@@ -52,8 +54,11 @@ GOES_ON, LIMIT, STARTS = 40, 60.0, 20
 PAUSE = 0.05
 # The seconds behind which a case kills no more.
 SECONDS = 60.0 * PATIENCE
+# The lines of what is wrong that are shown, and which of them tell of a sum.
+MOST_SHOWN = 20
+SUM = re.compile(r"stock and orders differed|^item [0-9]+ |were taken alone")
 # What the proxy's log may not have.
-ALARMS = re.compile(r"(?i)panicked|alarm|fold was refused|cannot be folded|the server lacks a row|that no note gives|was not expected")
+ALARMS = re.compile(r"(?i)panicked|alarm|fold was refused|the server lacks a row|that no note gives|was not expected")
 
 
 # Rules that are taken away from schema escrow, as a text in it and what takes its place. The test has to find that: `twice` and `taken` at once, the
@@ -157,6 +162,14 @@ def wrongs(said: Said, found: Found, may_lose: bool = False) -> List[str]:
     return wrong
 
 
+def listed(wrong: Sequence[str]) -> str:
+    """Returns what is wrong as lines: alarms first, then the first wrong sum, then the rest."""
+    alarms = [it for it in wrong if ALARMS.search(it)]
+    others = [it for it in wrong if it not in alarms]
+    sums = [it for it in others if SUM.search(it)][:1]
+    return "\n  ".join([*alarms, *sums, *(it for it in others if it not in sums)][:MOST_SHOWN])
+
+
 class Watch(threading.Thread):
     """Asks all the time whether stock and orders fit, in one snapshot."""
 
@@ -165,6 +178,14 @@ class Watch(threading.Thread):
         self.cluster, self.table = cluster, table  # of before a failover
         self.looks, self.wrong = 0, ""
         self.is_off = threading.Event()
+
+    def __enter__(self) -> "Watch":
+        return self
+
+    def __exit__(self, *fault: object) -> None:
+        self.is_off.set()
+        if self.is_alive():
+            self.join()
 
     def run(self) -> None:
         query = (
@@ -230,8 +251,11 @@ class Scene:
         return self
 
     def __exit__(self, kind: Optional[Type[BaseException]], value: Optional[BaseException], trace: Optional[TracebackType]) -> None:
-        if value is not None and self.by_hand.kept:
-            self.keep(self.by_hand.kept)
+        if value is not None:
+            kept = os.environ.get("ESCROWD_KEPT")
+            folder = self.by_hand.kept or (Path(tempfile.mkdtemp(prefix="truth-", dir=kept)) if kept else None)
+            if folder:
+                self.keep(folder)
         self.stack.__exit__(kind, value, trace)
 
     def keep(self, folder: Path) -> None:
@@ -274,7 +298,7 @@ class Scene:
         return [connection_string(self.fronts[at:] + self.fronts[:at], user) for at in range(len(self.fronts))]
 
     def wait(self, what: str, is_so: Callable[[], object], pause: float = 0.005) -> None:
-        """Waits until something holds. Fails with what PostgreSQL's connections do if it does not hold in time."""
+        """Waits until something holds. Fails with alarms, and with what PostgreSQL's connections do, if it does not hold in time."""
         try:
             wait_until(what, is_so, self.limit, pause)
         except AssertionError as late:
@@ -285,7 +309,7 @@ class Scene:
                     state = ", ".join(text for text, in it.execute(query.encode()))
             except psycopg.Error as error:
                 state = str(error)
-            raise AssertionError(f"{late}; PostgreSQL: {' '.join(state.split())}") from late
+            raise AssertionError("; ".join([*self.alarms(), f"{late}; PostgreSQL: {' '.join(state.split())}"])) from late
 
     def ask(self, query: str) -> List[Any]:
         """Returns the rows of a query of PostgreSQL, as soon as it serves."""
@@ -517,10 +541,11 @@ def backend(scene: Scene, draw: random.Random) -> None:
         found = scene.ask("SELECT pid FROM pg_stat_activity WHERE backend_type = 'client backend' AND pid <> pg_backend_pid() "
                           "ORDER BY wait_event IS NULL DESC, random() LIMIT 10")
         try:
-            os.kill(draw.choice(found)[0], signal.SIGKILL)
+            if found:
+                os.kill(draw.choice(found)[0], signal.SIGKILL)
         except ProcessLookupError:
             return False  # it has ended meanwhile
-        return True
+        return bool(found)
 
     with scene.cluster.connect() as witness:
         scene.wait("a backend is killed", is_killed)
@@ -607,8 +632,33 @@ class Run:
 
     def section(self, count: int, fails_over: bool = False) -> None:
         """Kills some times, and examines."""
+        with Watch(self.scene.cluster, self.scene.table) as watch:
+            try:
+                said = self.kill_some(watch, count, fails_over)
+                wrong = self.scene.examine(said)
+            except AssertionError as late:
+                wrong = [*self.scene.alarms(), *([watch.wrong] if watch.wrong else []), str(late)]
+                raise AssertionError(self.headed(wrong)) from late
+        self.looks += watch.looks
+        wrong += [watch.wrong] if watch.wrong else []
+        there = set(self.scene.found().orders)
+        unknown = {it for keys in said.unknown for it in keys}
+        holds = self.scene.ask("SELECT count(*) FROM escrow.hold_names")[0][0] if self.scene.wanted else 0  # those of all sections
+        self.sums += Counter(answered=said.count(), aborted=len(said.aborted), unknown=len(unknown), of_them_committed=len(unknown & there),
+                             holds=holds - self.sums["holds"])
+        self.refused += said.refused
+        # It is said, so that the limit of a case is one of a section.
+        print(f"  section {self.scene.section} has ended: {sum(self.kills.values())} kills, {dict(self.sums)}", flush=True)
+        if wrong:
+            raise AssertionError(self.headed(wrong))
+
+    def headed(self, wrong: Sequence[str]) -> str:
+        """Returns what is wrong, behind what was done."""
+        return f"seed {self.seed}, section {self.scene.section}, kills {dict(self.kills)}:\n  {listed(wrong)}"
+
+    def kill_some(self, watch: Watch, count: int, fails_over: bool) -> Said:
+        """Kills some times while buyers order. Returns what they have said."""
         draw = random.Random(f"{self.seed} {self.scene.section}")
-        watch = Watch(self.scene.cluster, self.scene.table)
         with self.scene.buying(self.seed, self.kinds) as said:
             watch.start()
             self.await_more(said, watch)
@@ -626,20 +676,7 @@ class Run:
             if fails_over:
                 failover(self.scene, draw)
                 self.times["failover"] = [self.await_more(said, watch)]
-        watch.is_off.set()
-        watch.join()
-        self.looks += watch.looks
-        wrong = self.scene.examine(said) + ([watch.wrong] if watch.wrong else [])
-        there = set(self.scene.found().orders)
-        unknown = {it for keys in said.unknown for it in keys}
-        holds = self.scene.ask("SELECT count(*) FROM escrow.hold_names")[0][0] if self.scene.wanted else 0  # those of all sections
-        self.sums += Counter(answered=said.count(), aborted=len(said.aborted), unknown=len(unknown), of_them_committed=len(unknown & there),
-                             holds=holds - self.sums["holds"])
-        self.refused += said.refused
-        # It is said, so that the limit of a case is one of a section.
-        print(f"  section {self.scene.section} has ended: {sum(self.kills.values())} kills, {dict(self.sums)}", flush=True)
-        if wrong:
-            raise AssertionError(f"seed {self.seed}, section {self.scene.section}, kills {dict(self.kills)}:\n  " + "\n  ".join(wrong[:20]))
+        return said
 
     def is_wrong(self, said: Said, watch: Watch) -> bool:
         """Returns whether something is wrong already."""
@@ -680,8 +717,8 @@ def run(seed: int, kills: int, *, proxies: int = 2, only: Sequence[str] = (), se
 
 
 def shown(what: str) -> None:
-    """Prints what a run has done."""
-    print(what, file=sys.stderr, flush=True)
+    """Prints what a run has done. A line that is printed puts the limit of a case off."""
+    print(what, flush=True)
 
 
 @PART.alone
@@ -693,9 +730,10 @@ def nothing_is_lost_or_taken_twice() -> None:
 def neither_proxies_nor_buyers_are_superusers() -> None:
     with Scene(1) as scene, scene.buying(7) as said:
         scene.wait("buyers are served", lambda: said.now().count() > 0)
-        served = scene.ask("SELECT DISTINCT a.usename, r.rolsuper FROM pg_stat_activity AS a JOIN pg_roles AS r ON r.rolname = a.usename "
-                           "WHERE a.backend_type = 'client backend' AND a.pid <> pg_backend_pid()")
-        expect(sorted(served), sorted([(BUYER, False), (ROLE, False)]))
+        served = ("SELECT DISTINCT a.usename, r.rolsuper FROM pg_stat_activity AS a JOIN pg_roles AS r ON r.rolname = a.usename "
+                  "WHERE a.backend_type = 'client backend' AND a.pid <> pg_backend_pid()")
+        # The backend of a connection that this test has closed may still end.
+        scene.wait("nobody else is connected", lambda: sorted(scene.ask(served)) == sorted([(BUYER, False), (ROLE, False)]), PAUSE)
 
 
 @PART.alone
@@ -728,7 +766,7 @@ def missed(without: str, *kinds: str) -> None:
     try:
         run(5, 2, proxies=1, without=without, only=("before",), kinds=kinds)
     except AssertionError as error:
-        expect(any(it in str(error) for it in ("stock and orders differed", "its orders leave", "A FOLD WAS REFUSED")), True, str(error)[:500])
+        expect(any(it in str(error) for it in ("stock and orders differed", "its orders leave", "a fold was refused")), True, str(error)[:500])
     else:
         raise AssertionError("it is not missed")
 
@@ -765,12 +803,14 @@ def the_test_finds_wrongs() -> None:
         expect(any(text in it for it in found), True, f"{text}: {found}")
     said.hear("fault", "one_row", "x")
     expect(wrongs(said, Found(orders, before, stock)), ["fault: one_row x"])
+    many = [f"an answered order is missing: {it}" for it in range(MOST_SHOWN)]
+    first = listed([*many, "item 1 has 7, and its orders leave 6", "item 3 has -1", "the proxy says: ALARM: FoldRefused"]).splitlines()[:3]
+    expect([it.split()[:2] for it in first], [["the", "proxy"], ["item", "1"], ["an", "answered"]])
 
 
 @PART.alone
 def buyers_without_transactions_are_found() -> None:
-    with Scene(0) as scene:
-        watch = Watch(scene.cluster, scene.table)
+    with Scene(0) as scene, Watch(scene.cluster, scene.table) as watch:
         with scene.buying(1, is_careless=True) as said:
             watch.start()
             scene.wait("it is seen while they run", lambda: watch.wrong)
