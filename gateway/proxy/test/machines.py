@@ -32,17 +32,20 @@ from pathlib import Path
 from typing import AbstractSet, Callable, Dict, Iterable, List, Mapping, NamedTuple, Sequence
 
 import psycopg
+from psycopg import errors
 
 from clients.servers import children, heard, wait_until
 from clients.suite import Part, expect, main
 from proxy.test.buyers import BUYER, MERCHANT, RIGHTS, ROLES, TABLES
 from proxy.test.harness import PROXY
 from proxy.test.nodes import PASSWORD, READY, Elected, Etcd, Front, Host, Namespace, Network, Node
-from proxy.test.truth import GOES_ON, ByHand, Lines, Said, Scene, Watch, shown
+from proxy.test.truth import GOES_ON, ByHand, Lines, Said, Scene, Watch, listed, shown
 
 PART = Part("proxy_machines")
 # The seconds in which others notice a failure, and in which orders go on behind it.
-LIMIT = 300.0
+LIMIT = READY
+# The seconds between two questions that cost a server something.
+PAUSE = 0.1
 # How a client notices within some seconds that a machine is silent.
 PATIENT = "connect_timeout=2 keepalives_idle=2 keepalives_interval=1 keepalives_count=3 tcp_user_timeout=5000"
 # Which PostgreSQL wrote an order: each that is promoted begins another timeline.
@@ -88,9 +91,8 @@ class Machines(Scene):
         for it in (self.cluster, *self.etcds, *self.nodes):
             self.stack.enter_context(it)
         self.leader()
-        with psycopg.connect(self.elected.dsn("postgres"), autocommit=True) as superuser:
-            superuser.execute("CREATE DATABASE bank")
-        subprocess.run([PROXY, "install", "--apply", "--postgres", self.cluster.dsn()], check=True, stdout=subprocess.DEVNULL)
+        wait_until("the database is created", self.has_database, READY, PAUSE)
+        wait_until("schema escrow is installed", self.is_installed, READY, PAUSE)
         passwords = [f"ALTER ROLE {it} PASSWORD '{PASSWORD}'" for it in (MERCHANT, BUYER)]
         self.cluster.run(f"CREATE ROLE escrowd LOGIN PASSWORD '{PASSWORD}'", "GRANT escrow_proxy TO escrowd", *ROLES, *passwords,
                          "CREATE TABLE base (id integer PRIMARY KEY, pieces integer NOT NULL)")
@@ -101,6 +103,21 @@ class Machines(Scene):
         self.logs = [Lines(it.folder / "said") for it in self.proxies]
         self.await_whole()
         self.connect().close()
+
+    def has_database(self) -> bool:
+        """Creates the database, unless it is there. Returns whether it is. A connection has two seconds, which a busy machine may need for itself."""
+        with suppress(errors.DuplicateDatabase, psycopg.OperationalError):
+            with psycopg.connect(self.elected.dsn("postgres"), autocommit=True) as superuser:
+                superuser.execute("CREATE DATABASE bank")
+        with suppress(psycopg.OperationalError):
+            self.elected.connect().close()
+            return True
+        return False
+
+    def is_installed(self) -> bool:
+        """Installs schema escrow. Returns whether it is there."""
+        words = [PROXY, "install", "--apply", "--postgres", self.cluster.dsn()]
+        return subprocess.run(words, stdout=subprocess.DEVNULL, timeout=READY, check=False).returncode == 0
 
     def dsns(self, user: str = BUYER) -> List[str]:
         places = [it.address.split(":") for it in self.proxies]
@@ -115,7 +132,7 @@ class Machines(Scene):
             found.extend(it for it in self.nodes if it.plays("primary"))
             return bool(found)
 
-        wait_until("a PostgreSQL leads", is_found, READY)
+        wait_until("a PostgreSQL leads", is_found, READY, PAUSE)
         return found[0]
 
     def owner(self) -> Front:
@@ -127,12 +144,12 @@ class Machines(Scene):
             found.extend(it for it in self.machines if f"owner of epoch {number}" in it.said())
             return bool(found)
 
-        wait_until("a proxy grants", is_found, READY)
+        wait_until("a proxy grants", is_found, READY, PAUSE)
         return found[0]
 
     def await_whole(self) -> None:
         """Waits until one PostgreSQL leads, and the other follows it."""
-        wait_until("a standby follows", self.is_whole, READY)
+        wait_until("a standby follows", self.is_whole, READY, PAUSE)
 
     def is_whole(self) -> bool:
         """Returns whether one PostgreSQL leads, and the other follows: if replication is synchronous, COMMITs wait for it."""
@@ -421,7 +438,7 @@ def fail(scene: Machines, pace: Pace, name: str, is_last: bool = False) -> float
     pace.begin()
     scene.crashes += 1
     is_noticed = all_failures()[name](scene)
-    wait_until(f"{name} is noticed", is_noticed, LIMIT)
+    wait_until(f"{name} is noticed", is_noticed, LIMIT, PAUSE)
     pace.await_more(f"behind {name}")
     if not is_last:
         scene.revive()
@@ -440,9 +457,8 @@ class Outcome(NamedTuple):
 
 def section(scene: Machines, seed: int, names: Sequence[str], is_last: bool = False) -> Outcome:
     """Has some things fail one after another while buyers order, and examines."""
-    watch = Watch(scene.cluster, scene.table)
     pauses: Dict[str, List[float]] = defaultdict(list)
-    with scene.buying(seed) as said, Pace(said) as pace:
+    with Watch(scene.cluster, scene.table) as watch, scene.buying(seed) as said, Pace(said) as pace:
         watch.start()
         wrong: List[str] = []
         for at, name in enumerate(names, 1):
@@ -453,11 +469,9 @@ def section(scene: Machines, seed: int, names: Sequence[str], is_last: bool = Fa
                 shown(f"  {wrong}")
                 break
             shown(f"  {name}: {pauses[name][-1]:.1f} s without service")
-    watch.is_off.set()
-    watch.join()
     wrong += scene.examine(said) + ([watch.wrong] if watch.wrong else [])
     if wrong:
-        raise AssertionError(f"seed {seed}, {names}:\n  " + "\n  ".join(wrong[:20]))
+        raise AssertionError(f"seed {seed}, {names}:\n  {listed(wrong)}")
     return Outcome(pauses, said.count(), len(said.answered - set(scene.found().orders)))
 
 

@@ -6,9 +6,7 @@ import contextlib
 import json
 import os
 import pwd
-import random
 import signal
-import socket
 import subprocess
 import urllib.request
 from pathlib import Path
@@ -17,14 +15,14 @@ from typing import Any, Dict, List, Optional, Sequence, Tuple, Type
 
 import psycopg
 
-from clients.servers import Postgres, Server, postgres_binary, unprivileged, wait_until
+from clients.servers import PATIENCE, Postgres, Server, free_port, postgres_binary, unprivileged, wait_until
 from proxy.test.harness import TOP, Proxy
 from proxy.test.standin import Cluster
 
 SETTINGS = TOP.parent / "packaging"
 PASSWORD = "secret"
 # The seconds in which a machine serves.
-READY = 300.0
+READY = 240.0 * PATIENCE
 # What `state` gives of a process that has ended.
 ENDED = ("", "postgres Z")
 # Where the clients are in a network of namespaces, and an address of Ethernet that nobody has.
@@ -42,7 +40,7 @@ class Host:
 
     def place(self, _usual: int) -> str:
         """Returns where a server of it listens."""
-        return f"{self.address}:{quiet_port()}"
+        return f"{self.address}:{free_port()}"
 
     def entered(self, words: Sequence[object], user: Optional[str]) -> Tuple[List[object], Optional[str]]:
         """Returns how a program is started on it as a user."""
@@ -134,7 +132,8 @@ class Etcd(OnHost):
     def start(self) -> None:
         client, peer = f"http://{self.address}", f"http://{self.peer}"
         members = ",".join(f"{it.host.name}=http://{it.peer}" for it in self.members)
-        own = {"NAME": self.host.name, "DATA_DIR": str(self.folder / "data"), "LISTEN_CLIENT_URLS": client, "ADVERTISE_CLIENT_URLS": client,
+        # What was written outlives the process without a flush, for which a busy machine may need longer than a leader's place lasts.
+        own = {"UNSAFE_NO_FSYNC": "true", "NAME": self.host.name, "DATA_DIR": str(self.folder / "data"), "LISTEN_CLIENT_URLS": client, "ADVERTISE_CLIENT_URLS": client,
                "LISTEN_PEER_URLS": peer, "INITIAL_ADVERTISE_PEER_URLS": peer, "INITIAL_CLUSTER": members}
         self.launch(["etcd"], env={**os.environ, **settings("etcd.env"), **{f"ETCD_{name}": value for name, value in own.items()}})
 
@@ -197,7 +196,8 @@ class Node(OnHost):
         """Returns PostgreSQL's first process, if it runs."""
         lines = self.locked()
         process = int(lines[0]) if lines and lines[0].isdigit() else 0
-        return process if state(process) not in ENDED and state(process).startswith("postgres") else None
+        # If it was killed, its file stays, and another PostgreSQL's process may have its number by now.
+        return process if state(process) not in ENDED and is_in(process, self.data) else None
 
     def fail(self, by: int = signal.SIGKILL) -> None:
         """Ends PostgreSQL at once; Patroni goes on."""
@@ -293,6 +293,14 @@ def is_ok(url: str) -> bool:
         return False
 
 
+def is_in(process: int, folder: Path) -> bool:
+    """Returns whether a process works in a folder, as a PostgreSQL does in that of its data."""
+    try:
+        return os.readlink(f"/proc/{process}/cwd") == os.path.realpath(folder)
+    except OSError:
+        return False
+
+
 def state(process: Optional[int]) -> str:
     """Returns a process's name and the letter of its state, or nothing if there is none."""
     try:
@@ -300,13 +308,3 @@ def state(process: Optional[int]) -> str:
     except (OSError, IndexError):
         return ""
     return f"{name} {rest.split()[0]}"
-
-
-def quiet_port() -> int:
-    """Returns a TCP port that nobody uses, and that no client gets by itself while its server is away."""
-    least = int(Path("/proc/sys/net/ipv4/ip_local_port_range").read_text(encoding="utf-8").split()[0])
-    while True:
-        port = random.randrange(10_000, max(least, 11_000))
-        with socket.socket() as it, contextlib.suppress(OSError):
-            it.bind(("127.0.0.1", port))
-            return port
