@@ -15,12 +15,14 @@ from typing import Any, Callable, ContextManager, Iterator, List, Optional, Tupl
 import psycopg
 from psycopg import errors
 
-from clients.servers import BUILT, PROGRAM, Postgres, Server, postgres_binary, unprivileged, wait_until
+from clients.servers import BUILT, PATIENCE, PROGRAM, START, Postgres, Server, postgres_binary, unprivileged, wait_until
 from clients.suite import Alone, Part
 from proxy.test.standin import Cluster, of_proxy
 
 PROXY = Path(os.environ.get("ESCROWD_PROXY", BUILT / "release/escrowd-proxy"))
 PORT = 6000
+# The milliseconds that a COMMIT waits for its fold where a test reads the row behind it: a busy machine folds within them too.
+FOLDED = ("--fold-wait", round(20_000 * PATIENCE))
 # The proxy starts the server that the other tests have too.
 ENVIRONMENT = {**os.environ, "ESCROWD": str(PROGRAM)}
 TOP = Path(__file__).resolve().parents[2]
@@ -87,23 +89,30 @@ class Proxy(Server):
         host, port = self.address.split(":") if self.address else (str(self.folder), str(PORT))
         return " ".join(f"{name}={value}" for name, value in {"host": host, "port": port, "dbname": "bank", "user": "clerk", **words}.items())
 
+    def await_owner(self) -> None:
+        """Waits until it is the owner, so that it knows what is declared."""
+        wait_until("the proxy is the owner", lambda: "owner of epoch" in self.said())
+
     def connect(self, **words: str) -> "psycopg.Connection[Any]":
         """Connects through the proxy."""
         return psycopg.connect(self.dsn(**words), autocommit=True)
 
 
 def expect_cancel(connection: "psycopg.Connection[Any]") -> None:
-    """Fails unless a cancel ends a statement of the connection. It is sent until it does: one before the beginning ends nothing."""
+    """Fails unless a cancel ends a statement of the connection. It is sent until it does: one before the beginning ends nothing. The next one comes late,
+    since one that is on its way when the statement ends would end another."""
     is_over = threading.Event()
 
     def cancel() -> None:
-        while not is_over.wait(0.2):
+        pause = 0.2
+        while not is_over.wait(pause):
             connection.cancel()
+            pause = 5.0
 
     thread = threading.Thread(target=cancel)
     thread.start()
     try:
-        connection.execute("SELECT pg_sleep(60)")
+        connection.execute("SELECT pg_sleep(600)")
         raise AssertionError("it was not cancelled")
     except errors.QueryCanceled as error:
         assert "user request" in str(error), error
@@ -127,7 +136,7 @@ class Standby(Cluster):
         if user:
             shutil.chown(home, user)
         copy = [postgres_binary("pg_basebackup"), "-D", home / "cluster", "-R", "-c", "fast", "-d", self.primary.dsn("postgres")]
-        subprocess.run([str(it) for it in copy], check=True, user=user, cwd="/", capture_output=True)
+        subprocess.run([str(it) for it in copy], check=True, user=user, cwd="/", capture_output=True, timeout=START)
         self.sockets, self.socket = home, home / f".s.PGSQL.{self.port}"
         settings = ("listen_addresses=", f"port={self.port}", f"unix_socket_directories={home}", "max_connections=120", *self.settings,
                     f"primary_conninfo=host={self.through or self.primary.sockets} port={self.port} user=clerk application_name=standby")

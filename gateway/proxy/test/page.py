@@ -12,7 +12,7 @@ import psycopg
 from clients.servers import wait_until
 from clients.suite import Part, main
 from clients.with_pages import DATABASE, Terminal
-from proxy.test.harness import TOP, Proxy, installed
+from proxy.test.harness import FOLDED, TOP, Proxy, installed
 from proxy.test.standin import ROLE, SQL, Cluster, of_proxy
 
 PART = Part("proxy_page")
@@ -44,8 +44,8 @@ def the_page_shows_what_psql_shows() -> None:
         with psycopg.connect(dsn) as it:
             it.execute((SQL / "install.sql").read_bytes())
             it.execute(f"GRANT escrow_proxy TO {ROLE}".encode())
-        with Proxy(cluster, "", "--fold-wait", 2000, postgres=of_proxy(dsn)) as proxy:
-            wait_until("it is the owner", lambda: "owner of epoch" in proxy.said())
+        with Proxy(cluster, "", *FOLDED, postgres=of_proxy(dsn)) as proxy:
+            proxy.await_owner()
             terminals: Dict[str, Terminal] = {}
             shown = BLOCK.sub(lambda block: replayed(block, terminals, proxy, cluster), page)
             for terminal in terminals.values():
@@ -68,18 +68,18 @@ def replayed(block: "re.Match[str]", terminals: Dict[str, Terminal], proxy: Prox
         if typed:
             shown += (it.rstrip() for it in terminals[number].type(typed[1]))
             if "escrow.reservable" in typed[1]:
-                wait_until("the proxy knows the table", lambda: is_known(proxy))
+                wait_until("the proxy knows the table", lambda: is_known(proxy, 1, dbname=DATABASE, user="ada"))
     text = "\n".join(shown)
     return f"<!-- psql {number} -->\n```\n{text}\n```\n"
 
 
-def is_known(proxy: Proxy) -> bool:
-    """Returns whether the proxy reserves: PostgreSQL itself refuses a change by nothing as any other."""
-    with proxy.connect(dbname=DATABASE, user="ada") as it:
+def is_known(proxy: Proxy, key: int, **words: str) -> bool:
+    """Returns whether the proxy reserves of a row: PostgreSQL itself refuses a change by nothing as any other."""
+    with proxy.connect(**words) as it:
         try:
             it.execute("UPDATE stock SET pieces = pieces + 1 WHERE id = -1 AND pieces >= 0")
             it.execute("BEGIN")
-            it.execute("UPDATE stock SET pieces = pieces + 1 WHERE id = 1")
+            it.execute(f"UPDATE stock SET pieces = pieces + 1 WHERE id = {key}".encode())
             it.execute("ROLLBACK")
         except psycopg.errors.FeatureNotSupported:
             return False
@@ -90,10 +90,12 @@ def is_known(proxy: Proxy) -> bool:
 def what_the_page_on_holds_shows_runs() -> None:
     """A transaction holds two pieces, and one of another connection buys them, over the page's tables."""
     with installed() as (cluster,):
-        with Proxy(cluster) as proxy:
+        with Proxy(cluster, "", *FOLDED) as proxy:
+            proxy.await_owner()
             cluster.run("CREATE TABLE carts (id integer PRIMARY KEY, person text, pieces integer)", "CREATE TABLE orders (LIKE carts INCLUDING ALL)",
                         "CREATE TABLE stock (id integer PRIMARY KEY, pieces integer NOT NULL CHECK (pieces >= 0))", "INSERT INTO stock VALUES (5, 10)",
                         "SELECT escrow.reservable('stock', 'pieces')")
+            wait_until("the proxy knows the table", lambda: is_known(proxy, 5))
             held, bought = SQL_BLOCK.findall(HOLDS.read_text())
             with proxy.connect() as it:
                 for statement in held.rstrip(";\n").split(";"):

@@ -8,14 +8,14 @@ import signal
 import socket
 import subprocess
 import time
-from contextlib import contextmanager
+from contextlib import contextmanager, suppress
 from pathlib import Path
 from typing import Iterator, Tuple
 
 import psycopg
 from psycopg import errors
 
-from clients.servers import PORT, children, wait_until
+from clients.servers import END, PORT, children, free_port, wait_until
 from clients.suite import main
 from proxy.test.harness import Proxy, SharedPart, Standby, expect_cancel
 from proxy.test.standin import Cluster
@@ -155,23 +155,18 @@ def ends_reach_the_other_side(cluster: Cluster, proxy: Proxy) -> None:
         with socket.socket(socket.AF_UNIX) as raw:
             raw.connect(str(proxy.folder / ".s.PGSQL.6000"))
             raw.sendall(sent)
-            raw.settimeout(60)
+            raw.settimeout(END)
             got = b""
-            while True:
-                more = raw.recv(100)
-                if not more:
-                    break
-                got += more
+            with suppress(ConnectionResetError):  # it ends with bytes that it has not read
+                while more := raw.recv(100):
+                    got += more
             assert got in (b"", b"NNN"), got
     assert opens(proxy)
 
 
 @part
 def it_listens_on_tcp_too(cluster: Cluster, proxy: Proxy) -> None:
-    with socket.socket() as it:
-        it.bind(("127.0.0.1", 0))
-        port = it.getsockname()[1]
-    with Proxy(cluster, f"127.0.0.1:{port}") as tcp:
+    with Proxy(cluster, f"127.0.0.1:{free_port()}") as tcp:
         wait_until("it listens", lambda: opens(tcp, sslmode="prefer"))
         with tcp.connect() as connection:
             assert connection.execute("SELECT 7").fetchone() == (7,)

@@ -14,7 +14,7 @@ import psycopg
 from psycopg import errors
 from psycopg.pq import ExecStatus
 
-from clients.servers import wait_until
+from clients.servers import END, PATIENCE, wait_until
 from clients.suite import expect, main
 from proxy.test.harness import Proxy, SharedPart
 from proxy.test.sql import refused
@@ -30,7 +30,7 @@ FREE = iter(range(1, 10_000))
 
 
 # How many seconds a COMMIT waits for its fold.
-FOLD_WAIT = 2.0
+FOLD_WAIT = 5.0 * PATIENCE
 
 
 @contextmanager
@@ -41,6 +41,7 @@ def served() -> Iterator[Tuple[Cluster, Proxy]]:
         cluster.run(*TABLES, "SELECT escrow.reservable('stock', 'pieces')", "SELECT escrow.reservable('money', 'small', 'amount', 'fee')")
         # A busy machine folds within the limit too.
         with Proxy(cluster, "", "--fold-wait", round(1000 * FOLD_WAIT)) as proxy:
+            proxy.await_owner()
             yield cluster, proxy
 
 
@@ -114,12 +115,14 @@ def a_single_update_wakes_its_client_once(cluster: Cluster, proxy: Proxy) -> Non
     startup = b"user\0clerk\0database\0bank\0\0"
     text = f"UPDATE stock SET pieces = pieces - 1 WHERE id = {key}\0".encode()
     with socket.socket(socket.AF_UNIX) as it:
-        it.settimeout(20)
+        it.settimeout(END)
         it.connect(str(proxy.socket))
         it.sendall(struct.pack("!ii", 8 + len(startup), 196_608) + startup)
         answer = b""
         while not answer.endswith(b"Z\0\0\0\5I"):
-            answer += it.recv(65_536)
+            more = it.recv(65_536)
+            assert more, f"the connection has ended behind {answer!r}"
+            answer += more
         for _ in range(3):
             it.sendall(b"Q" + struct.pack("!i", 4 + len(text)) + text)
             expect(it.recv(65_536), b"C\0\0\0\rUPDATE 1\0Z\0\0\0\5I")
@@ -206,7 +209,7 @@ def savepoints_give_back(cluster: Cluster, proxy: Proxy) -> None:
             it.execute("ROLLBACK TO a")
             take(it, key, 10)
             it.execute("ROLLBACK TO a")
-            wait_until(f"{back} gives back to others", lambda: is_given(other, key, 10), 20)
+            wait_until(f"{back} gives back to others", lambda: is_given(other, key, 10))
             take(other, key, -10)
             take(it, key, 1)
             it.execute("RELEASE a; COMMIT")
@@ -292,7 +295,7 @@ def what_others_see(cluster: Cluster, proxy: Proxy) -> None:
         begin = time.monotonic()
         take(it, key, 2)
         took = time.monotonic() - begin
-        assert FOLD_WAIT / 2 < took < 20, took
+        assert FOLD_WAIT / 2 < took < END, took
         expect((pieces(cluster, key), pieces(cluster, key, "escrow.now_stock")), (10, 8))
         it.execute("SET escrow.wait = off")
         begin = time.monotonic()
@@ -300,7 +303,7 @@ def what_others_see(cluster: Cluster, proxy: Proxy) -> None:
             take(it, key, -1)
         assert time.monotonic() - begin < 10 * FOLD_WAIT, "it waits"
         straight.execute("ROLLBACK")
-        wait_until("it is folded", lambda: pieces(cluster, key) == 18, 20)
+        wait_until("it is folded", lambda: pieces(cluster, key) == 18)
 
 
 @case
@@ -335,7 +338,7 @@ def a_locked_row_can_be_reserved_by_who_locked_it(cluster: Cluster, proxy: Proxy
                 expect(take(it, key, 2), "UPDATE 1", f"{lock}, {is_held}")
                 expect(take(it, key, 2), "UPDATE 1", f"{lock}, {is_held}")
                 it.execute("COMMIT")
-                wait_until("it is folded", partial(has_pieces, cluster, key, 6), 20)
+                wait_until("it is folded", partial(has_pieces, cluster, key, 6))
 
 
 @case
@@ -387,9 +390,10 @@ def a_table_whose_fold_is_refused_stops_alone(cluster: Cluster, proxy: Proxy) ->
         it.execute("BEGIN")
         take(it, key, 2)
         it.execute("COMMIT")
-        wait_until("the table is stopped", lambda: it.execute(stopped).fetchall(), 20)
+        wait_until("the table is stopped", lambda: it.execute(stopped).fetchall())
         expect(it.execute(stopped).fetchall(), [("stock", "a fold was refused: not today")])
-        assert "ALARM: FoldRefused: a fold was refused: not today: table public.stock" in proxy.said(), proxy.said()
+        alarm = "ALARM: FoldRefused: a fold was refused: not today: table public.stock"
+        wait_until("the log says so", lambda: alarm in proxy.said())
         with refused(errors.ObjectNotInPrerequisiteState, 'escrowd-proxy has stopped reservations of table "stock"'):
             take(it, key, 1)
         expect((pieces(cluster, key), pieces(cluster, key, "escrow.now_stock")), (10, 8))
@@ -398,10 +402,10 @@ def a_table_whose_fold_is_refused_stops_alone(cluster: Cluster, proxy: Proxy) ->
             expect(it.execute("SELECT amount FROM money WHERE id = 7").fetchone(), (left,))
         # Nothing is changed by an operator who has not removed the cause.
         it.execute("SELECT escrow.resume('stock')")
-        wait_until("it is stopped again", lambda: proxy.said().count("ALARM") > 1, 20)
+        wait_until("it is stopped again", lambda: proxy.said().count("ALARM") > 1)
         cluster.run("DROP TRIGGER not_today ON stock", "DROP FUNCTION not_today")
         it.execute("SELECT escrow.resume('stock')")
-        wait_until("the change is in the row", lambda: pieces(cluster, key) == 8, 20)
+        wait_until("the change is in the row", lambda: pieces(cluster, key) == 8)
         expect(take(it, key, 8), "UPDATE 1")
         expect(it.execute(stopped).fetchall(), [])
 
@@ -421,7 +425,7 @@ def a_table_is_known_once_it_is_declared(cluster: Cluster, proxy: Proxy) -> None
             return True
 
         # The proxy also looks by itself, but not as often.
-        wait_until("the table is known", is_taken, 20)
+        wait_until("the table is known", is_taken)
     cluster.run("SELECT escrow.ordinary('late')", "DROP TABLE late")
 
 

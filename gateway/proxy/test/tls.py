@@ -17,7 +17,7 @@ from typing import Iterator, List, Optional, Sequence, Tuple
 
 import psycopg
 
-from clients.servers import Server, free_port, wait_until
+from clients.servers import END, Server, free_port, wait_until
 from clients.suite import main
 from proxy.test.harness import ENVIRONMENT, PROXY, SharedPart, expect_cancel
 from proxy.test.standin import Cluster
@@ -115,12 +115,12 @@ class Proxy(Server):
     def psql(self, parameters: str, command: str = "SELECT ssl FROM pg_stat_ssl WHERE pid = pg_backend_pid()") -> str:
         """Runs psql with these parameters as `buyer`, and returns what it says."""
         dsn = f"host=localhost port={self.port} dbname=bank user=buyer password=secret {parameters}"
-        it = subprocess.run(["psql", "-XAqtd", dsn, "-c", command], stdout=subprocess.PIPE, stderr=subprocess.STDOUT, text=True, timeout=60, check=False)
+        it = subprocess.run(["psql", "-XAqtd", dsn, "-c", command], stdout=subprocess.PIPE, stderr=subprocess.STDOUT, text=True, timeout=END, check=False)
         return it.stdout.strip()
 
     def hears(self) -> socket.socket:
         """Connects without a driver."""
-        return socket.create_connection(("127.0.0.1", self.port), timeout=30)
+        return socket.create_connection(("127.0.0.1", self.port), timeout=END)
 
 
 def expect(found: str, what: str) -> None:
@@ -301,7 +301,7 @@ def files_that_cannot_be_used_are_told(cluster: Encrypted) -> None:
     ]
     for parameters, words, why in wrong:
         line = [str(PROXY), "--listen", "localhost:1", "--postgres", f"host=localhost {parameters}", *map(str, words)]
-        it = subprocess.run(line, stderr=subprocess.PIPE, text=True, timeout=60, check=False)
+        it = subprocess.run(line, stderr=subprocess.PIPE, text=True, timeout=END, check=False)
         assert it.returncode != 0
         expect(it.stderr, why)
 
