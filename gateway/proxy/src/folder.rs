@@ -1,10 +1,11 @@
 //! The connections that move what is noted into the rows of tables, that load rows, and that look what is declared.
 //!
-//! A fold skips rows that somebody else has locked. A load waits for a lock for a short time (rule 21).
+//! A fold skips rows that somebody else has locked. A load waits for a lock for a short time (rule 21). COMMITs of all tables
+//! wait for one connection that folds, so it leaves a table whose fold is held up to a second connection, which has patience.
 
-use std::collections::HashMap;
+use std::collections::{HashMap, HashSet};
 use std::future::Future;
-use std::sync::Arc;
+use std::sync::{Arc, Mutex, PoisonError};
 use std::time::{Duration, Instant};
 
 use tokio::sync::mpsc::error::TryRecvError;
@@ -15,7 +16,7 @@ use tokio_postgres::error::SqlState;
 use tokio_postgres::{Error, Statement};
 
 use crate::catalog::Catalog;
-use crate::hub::{FolderTask, Generation, Hub, HubEvent, Leaving, Left, LoaderTask};
+use crate::hub::{FolderTask, Folding, Generation, Hub, Leaving, Left, LoaderTask};
 use crate::protocol::{Event, Line};
 use crate::target::{Session, Target};
 use crate::update::{self, Change, Key};
@@ -39,8 +40,8 @@ const RETRY: Duration = Duration::from_secs(1);
 /// On which PostgreSQL notifies of what is declared.
 const CHANNEL: &str = "escrow_declared";
 
-/// How many keys of a journal are folded at once by a sweep.
-const PIECE: i32 = 1_000;
+/// How many keys of a journal are folded at once.
+const PIECE: usize = 1_000;
 
 /// How many connections load.
 pub const LOADERS: usize = 4;
@@ -190,14 +191,113 @@ async fn in_time<T>(
     }
 }
 
+/// The tables whose folds are held up: the patient connection has them, and the other one leaves them out.
+#[derive(Clone, Default)]
+struct Late(Arc<Mutex<HashSet<i32>>>);
+
+impl Late {
+    fn add(&self, table: i32) {
+        self.tables(|tables| tables.insert(table));
+    }
+
+    fn has(&self, table: i32) -> bool {
+        self.tables(|tables| tables.contains(&table))
+    }
+
+    fn remove(&self, table: i32) {
+        self.tables(|tables| tables.remove(&table));
+    }
+
+    fn tables(&self, act: impl FnOnce(&mut HashSet<i32>) -> bool) -> bool {
+        // What is kept is whole after each change.
+        act(&mut self.0.lock().unwrap_or_else(PoisonError::into_inner))
+    }
+}
+
+/// What the patient connection is asked for.
+enum PatientTask {
+    /// Fold keys of a table that is late.
+    Fold(Folding, i32, Vec<Key>),
+    /// Fold whatever journals have, for the owner of this epoch.
+    Sweep(i64),
+}
+
 /// Folds, one fold after another.
 pub async fn fold(hub: Arc<Hub>, target: Arc<Target>, mut tasks: UnboundedReceiver<FolderTask>) {
-    let mut own = Own::new(
-        &hub,
+    let options = "-c synchronous_commit=off -c lock_timeout=10";
+    let mut own = Own::new(&hub, target.clone(), "escrowd-proxy folder", options);
+    let late = Late::default();
+    let (patient, to_patient) = unbounded_channel();
+    tokio::spawn(fold_patiently(
+        hub.clone(),
         target,
-        "escrowd-proxy folder",
-        "-c synchronous_commit=off -c lock_timeout=300",
-    );
+        late.clone(),
+        to_patient,
+    ));
+    let mut pause = AGAIN;
+    while let Some(task) = tasks.recv().await {
+        let (folding, keys) = match task {
+            FolderTask::Fold(folding, keys) => (folding, keys),
+            FolderTask::Sweep(epoch) => {
+                let _ = patient.send(PatientTask::Sweep(epoch));
+                continue;
+            }
+        };
+        let begun = Instant::now();
+        let count = keys.len();
+        let mut folded = Vec::with_capacity(count);
+        let mut is_lost = false;
+        for (table, keys) in by_table(keys) {
+            if late.has(table) {
+                continue;
+            }
+            match fold_table(&hub, &mut own, table, &keys).await {
+                Tried::Folded(some) => folded.extend(some),
+                Tried::Refused => {}
+                Tried::HeldUp => {
+                    late.add(table);
+                    let _ = patient.send(PatientTask::Fold(folding, table, keys));
+                }
+                Tried::Lost => {
+                    is_lost = true;
+                    break;
+                }
+            }
+        }
+        if is_lost {
+            hub.metrics().fold_failed();
+            sleep(PAUSE).await;
+            hub.report(folding.generation, Event::FoldFailed);
+            continue;
+        }
+        hub.metrics().folded(begun.elapsed());
+        if folded.len() < count {
+            again(hub.clone(), folding.generation, pause);
+            pause = LONGEST_AGAIN.min(2 * pause);
+        } else {
+            pause = AGAIN;
+        }
+        hub.report(folding.generation, Event::Folded { keys: folded });
+    }
+}
+
+/// Lets a fold try again, after a short while, what was locked.
+fn again(hub: Arc<Hub>, generation: Generation, pause: Duration) {
+    tokio::spawn(async move {
+        sleep(pause).await;
+        hub.report(generation, Event::FoldAgain);
+    });
+}
+
+/// Folds tables that are late, and what former owners have left. Nobody but they wait for it.
+async fn fold_patiently(
+    hub: Arc<Hub>,
+    target: Arc<Target>,
+    late: Late,
+    mut tasks: UnboundedReceiver<PatientTask>,
+) {
+    let options = "-c synchronous_commit=off -c lock_timeout=300";
+    let mut own = Own::new(&hub, target, "escrowd-proxy sweeper", options);
     let mut sweep = Sweep::default();
     let mut pause = AGAIN;
     loop {
@@ -214,73 +314,83 @@ pub async fn fold(hub: Arc<Hub>, target: Arc<Target>, mut tasks: UnboundedReceiv
             }
         };
         match task {
-            Some(FolderTask::Fold(generation, keys)) => {
-                let begun = Instant::now();
-                let event = fold_keys(&hub, &mut own, &keys).await;
-                match &event {
-                    Event::FoldFailed => hub.metrics().fold_failed(),
-                    _ => hub.metrics().folded(begun.elapsed()),
-                }
-                match &event {
-                    Event::FoldFailed => sleep(PAUSE).await,
-                    Event::Folded { keys: folded } if folded.len() < keys.len() => {
-                        again(hub.clone(), generation, pause);
+            Some(PatientTask::Fold(folding, table, keys)) => {
+                match fold_table(&hub, &mut own, table, &keys).await {
+                    Tried::Folded(keys) => {
+                        let commits = folding.commits;
+                        let event = Event::FoldedLate { keys, commits };
+                        hub.report(folding.generation, event);
+                        pause = AGAIN;
+                    }
+                    Tried::Refused => pause = AGAIN,
+                    Tried::HeldUp | Tried::Lost => {
+                        hub.metrics().fold_failed();
                         pause = LONGEST_AGAIN.min(2 * pause);
                     }
-                    _ => pause = AGAIN,
                 }
-                hub.report(generation, event);
+                let (hub, late) = (hub.clone(), late.clone());
+                tokio::spawn(async move {
+                    sleep(pause).await;
+                    late.remove(table);
+                    hub.report(folding.generation, Event::FoldAgain);
+                });
             }
-            Some(FolderTask::Sweep(epoch)) => sweep = Sweep::of(&hub, epoch).await,
+            Some(PatientTask::Sweep(epoch)) => sweep = Sweep::of(&hub, epoch).await,
             None => sweep.go_on(&hub, &mut own).await,
         }
     }
 }
 
-/// Lets a fold try again, after a short while, what was locked.
-fn again(hub: Arc<Hub>, generation: Generation, pause: Duration) {
-    tokio::spawn(async move {
-        sleep(pause).await;
-        hub.report(generation, Event::FoldAgain);
-    });
+fn by_table(keys: Vec<Key>) -> HashMap<i32, Vec<Key>> {
+    let mut tables: HashMap<i32, Vec<Key>> = HashMap::new();
+    for key in keys {
+        tables.entry(key.table).or_default().push(key);
+    }
+    tables
 }
 
-/// Folds keys, and returns what came of it. A table whose fold is refused stops, and the others go on.
-async fn fold_keys(hub: &Hub, own: &mut Own, keys: &[Key]) -> HubEvent {
-    let mut tables: HashMap<i32, Vec<&str>> = HashMap::new();
-    for key in keys {
-        tables.entry(key.table).or_default().push(&key.text);
-    }
-    let mut folded = Vec::new();
-    for (table, keys) in tables {
-        match own.query(&fold_text(table), &[&keys]).await {
+/// What came of a fold of a table.
+enum Tried {
+    /// These keys are folded.
+    Folded(Vec<Key>),
+    /// It is refused, and the table stops.
+    Refused,
+    /// Something stands in its way, which passes: a lock of the table, for instance.
+    HeldUp,
+    /// The connection is lost.
+    Lost,
+}
+
+/// Folds keys of a table, some at a time. If PostgreSQL refuses it, the table stops.
+async fn fold_table(hub: &Hub, own: &mut Own, table: i32, keys: &[Key]) -> Tried {
+    let text = format!("SELECT escrow.fold_{table}($1::text[])");
+    let mut folded = Vec::with_capacity(keys.len());
+    for piece in keys.chunks(PIECE) {
+        let texts: Vec<&str> = piece.iter().map(|key| &*key.text).collect();
+        match own.query(&text, &[&texts]).await {
             Ok(rows) => folded.extend(rows.iter().map(|row| Key {
                 table,
                 text: row.get::<_, &str>(0).into(),
             })),
             Err(Failure::Lost(why)) => {
-                tracing::debug!("a fold failed: {}", why);
-                return Event::FoldFailed;
+                tracing::debug!("a fold failed: {why}");
+                return Tried::Lost;
             }
             Err(Failure::Refused(error)) if is_passing(&error) => {
-                tracing::debug!("a fold failed: {}", error);
-                return Event::FoldFailed;
+                tracing::debug!("a fold failed (table {table}): {error}");
+                return Tried::HeldUp;
             }
-            Err(Failure::Refused(error)) if is_gone(&error) && is_ordinary(own, table).await => {
-                // Its declaration was taken back, which folded all.
-                folded.extend(keys.iter().map(|&text| Key {
-                    table,
-                    text: text.into(),
-                }));
+            // Its declaration was taken back, which folded all. If that was amid the fold, the error may be any.
+            Err(Failure::Refused(_)) if is_ordinary(own, table).await => {
+                return Tried::Folded(keys.to_vec())
             }
-            Err(Failure::Refused(error)) => hub.fold_refused(table, &words(&error)),
+            Err(Failure::Refused(error)) => {
+                hub.fold_refused(table, &words(&error));
+                return Tried::Refused;
+            }
         }
     }
-    Event::Folded { keys: folded }
-}
-
-fn fold_text(table: i32) -> String {
-    format!("SELECT escrow.fold_{}($1::text[])", table)
+    Tried::Folded(folded)
 }
 
 /// Returns PostgreSQL's words for an error.
@@ -325,12 +435,14 @@ impl Sweep {
             Ok(Swept::Some) => return,
             Ok(Swept::AllButLocked) => self.is_left = true,
             Ok(Swept::All) => {}
-            Err(Failure::Refused(error)) if is_gone(&error) && is_ordinary(own, table).await => {}
             Err(Failure::Refused(error)) if !is_passing(&error) => {
-                hub.fold_refused(table, &words(&error));
+                if !is_ordinary(own, table).await {
+                    hub.fold_refused(table, &words(&error));
+                }
             }
             Err(failure) => {
                 tracing::warn!("a journal is not folded yet (table {table}): {failure}");
+                self.tables.rotate_right(1); // the others go on
                 return sleep(PAUSE).await;
             }
         }
@@ -358,7 +470,7 @@ enum Swept {
 /// Folds some of what former owners have left, and removes their marks.
 async fn sweep_piece(own: &mut Own, table: i32, epoch: i64) -> Result<Swept, Failure> {
     let text = format!("SELECT escrow.sweep_{table}($1, $2)");
-    let rows = own.query(&text, &[&epoch, &PIECE]).await?;
+    let rows = own.query(&text, &[&epoch, &(PIECE as i32)]).await?;
     let count = rows.first().map_or(0, |row| row.get::<_, i32>(0));
     if count > 0 {
         tracing::info!("{count} rows of a former owner are folded (table {table})");

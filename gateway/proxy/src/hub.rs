@@ -75,11 +75,20 @@ pub enum KeeperTask {
     Abandon,
 }
 
+/// When a fold began.
+#[derive(Clone, Copy, Debug)]
+pub struct Folding {
+    /// Whose generation it is of.
+    pub generation: Generation,
+    /// How many commits were known.
+    pub commits: u64,
+}
+
 /// What the folder is asked for.
 #[derive(Debug)]
 pub enum FolderTask {
     /// Fold these keys.
-    Fold(Generation, Vec<Key>),
+    Fold(Folding, Vec<Key>),
     /// Fold whatever journals have, for the owner of this epoch.
     Sweep(i64),
 }
@@ -591,13 +600,16 @@ impl Hub {
                 let _ = self.workers.loader.send(task);
             }
             Action::Fold(keys) => {
-                let commits = state.protocol.counts().commits;
+                let commits = state.protocol.commits();
                 // A new epoch counts anew.
                 let before = std::mem::replace(&mut state.commits, commits);
                 self.metrics
                     .fold_begins(commits.checked_sub(before).unwrap_or(commits));
-                let task = FolderTask::Fold(state.generation, keys);
-                let _ = self.workers.folder.send(task);
+                let folding = Folding {
+                    generation: state.generation,
+                    commits,
+                };
+                let _ = self.workers.folder.send(FolderTask::Fold(folding, keys));
             }
             Action::Tell(connection, told) => {
                 let is_end = matches!(told, Told::Commit | Told::Rollback);

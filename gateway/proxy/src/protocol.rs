@@ -171,6 +171,13 @@ pub enum Event<K: Row, C> {
     },
     /// A fold's connection was lost, or it waited too long.
     FoldFailed,
+    /// What a fold had left out was folded behind it after all.
+    FoldedLate {
+        /// The keys whose row was locked.
+        keys: Vec<K>,
+        /// How many commits were known when it began.
+        commits: u64,
+    },
     /// Rows that a fold could not lock may be free again.
     FoldAgain,
     /// A transaction has folded all that it holds itself (rule 13), and its COMMIT is on the way.
@@ -510,6 +517,11 @@ impl<K: Row, C: Clone> Protocol<K, C> {
         }
     }
 
+    /// Returns how many transactions with reservations were committed and left to the folder in this epoch.
+    pub fn commits(&self) -> u64 {
+        self.folds.commits()
+    }
+
     /// Returns whether an alarm has stopped a row's table.
     fn is_stopped(&self, key: &K) -> bool {
         self.stopped.contains(&key.table())
@@ -620,6 +632,11 @@ impl<K: Row, C: Clone> Protocol<K, C> {
                 self.fold(false, &mut actions);
             }
             Event::FoldFailed => self.folds.failed(),
+            Event::FoldedLate { keys, commits } => {
+                for connection in self.folds.folded_late(&keys, commits) {
+                    self.deliver(connection, &mut actions);
+                }
+            }
             Event::FoldAgain => self.fold(true, &mut actions),
             Event::OwnFolded { connection } => {
                 if let Some(client) = self.clients.get_mut(&connection) {

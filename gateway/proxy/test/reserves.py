@@ -411,6 +411,31 @@ def a_table_whose_fold_is_refused_stops_alone(cluster: Cluster, proxy: Proxy) ->
 
 
 @case
+def a_lock_of_a_table_holds_up_no_other(cluster: Cluster, proxy: Proxy) -> None:
+    """Its own changes wait, and reach their rows once the lock is gone."""
+    key, money = row(cluster), next(FREE)
+    cluster.run(f"INSERT INTO money VALUES ({money}, 5, 1000, 0)")
+    # The folder folds what a string of several statements commits.
+    late = f"BEGIN; UPDATE stock SET pieces = pieces - 1 WHERE id = {key}; COMMIT"
+    other = f"BEGIN; UPDATE money SET amount = amount - 1 WHERE id = {money}; COMMIT"
+    with proxy.connect() as it, proxy.connect() as hasty, cluster.connect() as locking:
+        hasty.execute("SET escrow.wait = off")
+        hasty.execute(late.encode())
+        it.execute(other.encode())
+        for left, mode in ((8, "SHARE"), (7, "ACCESS EXCLUSIVE")):
+            locking.execute(f"BEGIN; LOCK TABLE stock IN {mode} MODE".encode())
+            hasty.execute(late.encode())
+            begin = time.monotonic()
+            for _ in range(30):
+                it.execute(other.encode())
+            took = time.monotonic() - begin
+            assert took < 3, f"30 COMMITs of another table: {took:.1f} s"
+            locking.execute("COMMIT")
+            wait_until("the change is in the row", partial(has_pieces, cluster, key, left), 20)
+        expect(it.execute("SELECT amount FROM money WHERE id = %s", (money,)).fetchone(), (1000 - 61,))
+
+
+@case
 def a_table_is_known_once_it_is_declared(cluster: Cluster, proxy: Proxy) -> None:
     """Also if a session has declared it that does not pass the proxy."""
     table = "CREATE TABLE late (id integer PRIMARY KEY, n integer NOT NULL CHECK (n >= 0))"

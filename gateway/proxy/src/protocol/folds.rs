@@ -1,6 +1,6 @@
 //! What is committed and not yet in the tables' rows, and who waits for that.
 
-use std::collections::BTreeMap;
+use std::collections::{BTreeMap, BTreeSet};
 
 use super::Connection;
 
@@ -140,6 +140,7 @@ impl<K: Clone + Ord> Folds<K> {
             Some(folding) => folding,
             None => return Vec::new(),
         };
+        let moved: BTreeSet<&K> = moved.iter().collect();
         for key in keys {
             if self.pending.get(&key).map_or(true, |&last| last > turn) {
                 continue;
@@ -147,6 +148,20 @@ impl<K: Clone + Ord> Folds<K> {
             let last = self.pending.remove(&key);
             if let (false, Some(last)) = (moved.contains(&key), last) {
                 self.skipped.insert(key, last);
+            }
+        }
+        self.free(|key, since| since <= turn && moved.contains(key))
+    }
+
+    /// Notes that keys which an earlier fold had left out are folded, as of the turn at which it began. Returns who waits no
+    /// longer.
+    pub(super) fn folded_late(&mut self, moved: &[K], turn: Turn) -> Vec<Connection> {
+        let moved: BTreeSet<&K> = moved.iter().collect();
+        for late in [&mut self.pending, &mut self.skipped] {
+            for &key in &moved {
+                if late.get(key).map_or(false, |&last| last <= turn) {
+                    late.remove(key);
+                }
             }
         }
         self.free(|key, since| since <= turn && moved.contains(key))
@@ -200,6 +215,25 @@ mod tests {
         assert_eq!(folds.begin(false, all), Some(vec!["a"]));
         assert_eq!(folds.folded(&["a"]), vec![ONE]);
         assert!(folds.is_empty());
+    }
+
+    #[test]
+    fn a_late_fold_has_moved_what_had_committed_when_it_began() {
+        let mut folds = Folds::new();
+        folds.committed(vec!["a", "b"], Some(ONE), all);
+        assert_eq!(folds.begin(false, all), Some(vec!["a", "b"]));
+        let late = folds.commits();
+        assert_eq!(folds.folded(&["b"]), vec![]);
+        folds.committed(vec!["b"], Some(TWO), all);
+        assert_eq!(folds.begin(true, all), Some(vec!["a", "b"]));
+        assert_eq!(folds.folded_late(&["a"], late), vec![ONE]);
+        assert_eq!(folds.folded(&["b"]), vec![TWO]);
+        assert!(folds.is_empty());
+        // A commit behind its beginning is none of it.
+        let late = folds.commits();
+        folds.committed(vec!["a"], Some(ONE), all);
+        assert_eq!(folds.folded_late(&["a"], late), vec![]);
+        assert_eq!(folds.begin(false, all), Some(vec!["a"]));
     }
 
     #[test]
