@@ -168,10 +168,12 @@ impl Own {
         self.generations.clone()
     }
 
-    /// Leaves a connection that is lost.
+    /// Leaves a connection that is lost, or whose server takes no writes.
     fn end<T>(&mut self, result: Result<T, Failure>) -> Result<T, Failure> {
-        if let Err(Failure::Lost(_)) = &result {
-            self.session = None;
+        match &result {
+            Err(Failure::Lost(_)) => self.session = None,
+            Err(Failure::Refused(error)) if is_read_only(error) => self.session = None,
+            _ => {}
         }
         result
     }
@@ -486,11 +488,17 @@ async fn sweep_piece(own: &mut Own, table: i32, epoch: i64) -> Result<Swept, Fai
     })
 }
 
+/// Returns whether a server takes no writes.
+fn is_read_only(error: &Error) -> bool {
+    error.code() == Some(&SqlState::READ_ONLY_SQL_TRANSACTION)
+}
+
 /// Returns whether an error says nothing of what was to be folded, so that it is tried again: a lock, a deadlock, a
-/// connection that is ended, want of room.
+/// connection that is ended, want of room, a server that takes no writes.
 fn is_passing(error: &Error) -> bool {
     error.code().map_or(true, |code| {
         *code == SqlState::LOCK_NOT_AVAILABLE
+            || is_read_only(error)
             || ["40", "53", "57", "58", "08"]
                 .iter()
                 .any(|class| code.code().starts_with(class))

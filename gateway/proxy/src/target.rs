@@ -67,7 +67,7 @@ pub enum LoginError {
     /// PostgreSQL refused it.
     #[error("{0}")]
     Postgres(#[from] tokio_postgres::Error),
-    /// The servers that answer are standbys, and the string has `target_session_attrs=read-write`.
+    /// The servers that answer are standbys, or by default read-only where the string has `target_session_attrs=read-write`.
     #[error("no server takes writes")]
     ReadOnly,
 }
@@ -229,9 +229,8 @@ impl Target {
         chosen.copied().unwrap_or(PATIENCE)
     }
 
-    /// Opens a connection of the proxy's own at the first server that lets it in within the time of a host and, with
-    /// `target_session_attrs=read-write`, takes writes. It begins with `first`, if that is given. `name` and `options` are
-    /// its `application_name` and `options`.
+    /// Opens a connection of the proxy's own at the first server that lets it in within the time of a host, and takes writes. It
+    /// begins with `first`, if that is given. `name` and `options` are its `application_name` and `options`.
     ///
     /// # Errors
     ///
@@ -268,19 +267,20 @@ impl Target {
         let (client, mut connection) = config.connect_raw(stream, NoTls).await?;
         let is_ordinary = connection.parameter("is_superuser") == Some("off");
         self.is_ordinary.store(is_ordinary, Ordering::Relaxed);
-        if self.config.get_target_session_attrs() == TargetSessionAttrs::ReadWrite {
-            let query = "SELECT pg_catalog.current_setting('transaction_read_only')";
-            let asked = client.query_one(query, &[]);
-            let answer = tokio::select! {
-                row = asked => row?,
-                ended = &mut connection => return Err(match ended {
-                    Ok(()) => LoginError::Unreachable(io::ErrorKind::ConnectionReset.into()),
-                    Err(error) => error.into(),
-                }),
-            };
-            if answer.get::<_, &str>(0) == "on" {
-                return Err(LoginError::ReadOnly);
-            }
+        // The proxy writes whatever the default of its role or its database is.
+        let query = "SELECT pg_catalog.pg_is_in_recovery(), pg_catalog.current_setting('transaction_read_only') = 'on', \
+            pg_catalog.set_config('default_transaction_read_only', 'off', false)";
+        let asked = client.query_one(query, &[]);
+        let answer = tokio::select! {
+            row = asked => row?,
+            ended = &mut connection => return Err(match ended {
+                Ok(()) => LoginError::Unreachable(io::ErrorKind::ConnectionReset.into()),
+                Err(error) => error.into(),
+            }),
+        };
+        let asks = self.config.get_target_session_attrs() == TargetSessionAttrs::ReadWrite;
+        if answer.get(0) || asks && answer.get(1) {
+            return Err(LoginError::ReadOnly);
         }
         Ok((client, connection))
     }

@@ -9,8 +9,9 @@ import socket
 import subprocess
 import time
 from contextlib import contextmanager, suppress
+from functools import partial
 from pathlib import Path
-from typing import Iterator, Tuple
+from typing import Any, Iterator, Tuple
 
 import psycopg
 from psycopg import errors
@@ -18,7 +19,7 @@ from psycopg import errors
 from clients.servers import END, PORT, children, free_port, wait_until
 from clients.suite import main
 from proxy.test.harness import Proxy, SharedPart, Standby, expect_cancel
-from proxy.test.standin import Cluster
+from proxy.test.standin import ROLE, Cluster
 
 
 @contextmanager
@@ -203,6 +204,17 @@ def a_standby_gets_no_client(cluster: Cluster, proxy: Proxy) -> None:
     """Where the connection string asks for a server that takes writes, a client is refused until there is one."""
     with Cluster() as first, Standby(first) as second:
         first.script("install.sql")
+        # The proxy itself passes over a standby that is named first, and over what its role may do by default.
+        first.run(f"ALTER ROLE {ROLE} SET default_transaction_read_only = on", "CREATE TABLE stock (id integer PRIMARY KEY, n integer NOT NULL)",
+                  "INSERT INTO stock VALUES (1, 9)", "SELECT escrow.reservable('stock', 'n')")
+        with Proxy(first, postgres=f"host={second.sockets},{first.sockets} port={PORT} dbname=bank user={ROLE}") as it:
+            wait_until("it is the owner", lambda: "owner of epoch" in it.said())
+            for left in (8, 7):
+                with it.connect() as client, first.connect() as direct:
+                    client.execute("BEGIN; UPDATE stock SET n = n - 1 WHERE id = 1; COMMIT")
+                    wait_until("it is folded", partial(is_left, direct, left))
+                    direct.execute("SELECT pg_terminate_backend(pid) FROM pg_stat_activity WHERE application_name = 'escrowd-proxy folder'")
+            assert "ALARM" not in it.said(), it.said()
         target = f"host={first.sockets},{second.sockets} port={PORT} dbname=bank user=clerk target_session_attrs=read-write"
         with Proxy(first, postgres=target) as it:
             wait_until("it serves", lambda: opens(it))
@@ -214,6 +226,11 @@ def a_standby_gets_no_client(cluster: Cluster, proxy: Proxy) -> None:
             wait_until("it serves again", lambda: opens(it))
             with it.connect() as client:
                 client.execute("CREATE TABLE written (id integer)")
+
+
+def is_left(it: "psycopg.Connection[Any]", count: int) -> bool:
+    """Returns whether so much is in the row."""
+    return it.execute("SELECT n FROM stock").fetchall() == [(count,)]
 
 
 if __name__ == "__main__":
