@@ -82,6 +82,8 @@ pub enum Expect {
     Function,
     /// A ReadyForQuery.
     Sync,
+    /// Data of a COPY that the client has sent. Nothing answers them.
+    CopyData,
     /// The end of a COPY that the client has sent. Nothing answers it by itself.
     CopyEnd,
     /// The acknowledgement, or the description, of a statement of a string, which begins behind so many characters of it.
@@ -114,6 +116,11 @@ impl Expect {
                 | Expect::OwnShut
                 | Expect::OwnClose
         )
+    }
+
+    /// Returns whether nothing answers it by itself.
+    fn is_of_copy(&self) -> bool {
+        matches!(self, Expect::CopyData | Expect::CopyEnd)
     }
 
     /// Returns whether a ReadyForQuery ends it.
@@ -177,6 +184,9 @@ pub struct Track {
     is_kept: bool,
     /// Whether a COPY into PostgreSQL is under way.
     is_copying: bool,
+    /// How many Syncs in front of the data of COPYs that have failed were taken for ignored. PostgreSQL has answered one if a
+    /// trigger failed before it read anything.
+    spare_syncs: usize,
     /// Rows of the own request that is under way, or was last, which the client has not asked for yet. And whether it has got as
     /// many as it has asked for.
     kept_rows: (Vec<Bytes>, bool),
@@ -211,6 +221,7 @@ impl Track {
             deallocated: VecDeque::new(),
             is_kept: true,
             is_copying: false,
+            spare_syncs: 0,
             kept_rows: (Vec::new(), false),
             refused_rows: Vec::new(),
             process: 0,
@@ -221,9 +232,6 @@ impl Track {
 
     /// Notes what a message that is sent expects.
     pub fn expect(&mut self, expect: Expect) {
-        if self.is_copying && matches!(expect, Expect::Sync) {
-            return; // PostgreSQL ignores it amid a COPY
-        }
         if self.is_skipping {
             if !matches!(expect, Expect::Sync) {
                 return;
@@ -238,28 +246,52 @@ impl Track {
         self.deallocated.push_back(name);
     }
 
+    /// The client sends data of a COPY, which PostgreSQL may not have begun yet.
+    pub fn copy_goes_on(&mut self) {
+        if !self.is_quiet() && !matches!(self.queue.back(), Some(Expect::CopyData)) {
+            self.expect(Expect::CopyData);
+        }
+    }
+
     /// The client ends a COPY, which PostgreSQL may not have begun yet.
     pub fn copy_ends(&mut self) {
-        if !std::mem::take(&mut self.is_copying) && !self.is_quiet() {
+        if !self.is_quiet() {
             self.expect(Expect::CopyEnd);
         }
     }
 
-    /// A COPY into PostgreSQL begins. PostgreSQL ignores each Sync up to its end.
-    fn copy_begins(&mut self) {
+    /// A COPY into PostgreSQL was done. PostgreSQL has ignored each Sync up to its end.
+    fn copy_is_done(&mut self) {
+        let is_in_it = |it: &&Expect| matches!(it, Expect::Sync | Expect::CopyData);
+        let ignored = self.queue.iter().skip(1).take_while(is_in_it).count();
+        if matches!(self.queue.get(1 + ignored), Some(Expect::CopyEnd)) {
+            self.queue.drain(1..=1 + ignored);
+        }
+    }
+
+    /// A COPY into PostgreSQL has failed, most likely by its data: PostgreSQL has ignored each Sync in front of them.
+    fn copy_has_failed(&mut self) {
+        self.spare_syncs = 0;
         while matches!(self.queue.get(1), Some(Expect::Sync)) {
             self.queue.remove(1);
+            self.spare_syncs += 1;
         }
-        self.is_copying = !matches!(self.queue.get(1), Some(Expect::CopyEnd));
-        if !self.is_copying {
-            self.queue.remove(1);
-        }
+    }
+
+    /// Returns whether PostgreSQL waits for data of a COPY whose end the client has not sent: it answers nothing else then.
+    fn is_fed(&self) -> bool {
+        self.is_copying && !self.queue.iter().any(|it| matches!(it, Expect::CopyEnd))
     }
 
     /// Returns whether all is answered.
     pub fn is_quiet(&self) -> bool {
         let mut queue = self.queue.iter();
-        queue.all(|it| matches!(it, Expect::CopyEnd))
+        queue.all(Expect::is_of_copy)
+    }
+
+    /// Returns whether all is answered, or PostgreSQL answers nothing more before the client goes on.
+    pub fn is_settled(&self) -> bool {
+        self.is_quiet() || self.is_fed()
     }
 
     /// Returns whether something is not answered that may change what is reserved, or that may stop errors from being
@@ -283,6 +315,11 @@ impl Track {
     /// Returns whether PostgreSQL skips what comes.
     pub fn is_skipping(&self) -> bool {
         self.is_skipping
+    }
+
+    /// Returns whether PostgreSQL serves nothing that comes: it skips it, or ends the session since it waits for data.
+    pub fn is_deaf(&self) -> bool {
+        self.is_skipping || self.is_fed()
     }
 
     /// Returns the status of the last ReadyForQuery.
@@ -391,7 +428,7 @@ impl Track {
 
     /// Takes a reply, by its kind and its body.
     pub fn reply(&mut self, kind: u8, body: &[u8]) -> Reply {
-        while matches!(self.queue.front(), Some(Expect::CopyEnd)) {
+        while self.queue.front().map_or(false, Expect::is_of_copy) {
             self.queue.pop_front();
         }
         match kind {
@@ -404,6 +441,11 @@ impl Track {
             b'K' => {
                 let process = body.get(..4).and_then(|it| it.try_into().ok());
                 self.process = process.map_or(0, i32::from_be_bytes);
+                return Reply::Pass;
+            }
+            b'Z' if self.is_spare() => {
+                self.spare_syncs -= 1;
+                self.is_skipping &= !self.queue.is_empty();
                 return Reply::Pass;
             }
             b'Z' => {
@@ -449,6 +491,11 @@ impl Track {
                 Reply::Pass
             }
             (b't', Some(Expect::Describe)) => Reply::Pass,
+            (b'C', Some(Expect::Execute | Expect::Query)) if self.is_copying => {
+                self.is_copying = false;
+                self.copy_is_done();
+                self.reply(kind, body)
+            }
             (b'C', Some(Expect::Execute)) => {
                 self.queue.pop_front();
                 Reply::Completed(self.completed(body))
@@ -459,7 +506,7 @@ impl Track {
                 Reply::Pass
             }
             (b'G', Some(Expect::Execute | Expect::Query)) => {
-                self.copy_begins();
+                self.is_copying = true;
                 Reply::Pass
             }
             (
@@ -504,6 +551,12 @@ impl Track {
         }
     }
 
+    /// Returns whether a ReadyForQuery answers a Sync that was taken for ignored.
+    fn is_spare(&self) -> bool {
+        let front = self.queue.front();
+        self.spare_syncs > 0 && !front.map_or(false, Expect::ends_ready)
+    }
+
     /// Takes a row of an own request whose rows are the client's.
     fn own_row(&mut self) -> Reply {
         match self.queue.front_mut() {
@@ -519,7 +572,9 @@ impl Track {
     /// Takes an error: PostgreSQL skips all of the extended protocol up to the next Sync.
     fn error(&mut self) -> Reply {
         self.is_plain = false;
-        self.is_copying = false;
+        if std::mem::take(&mut self.is_copying) {
+            self.copy_has_failed();
+        }
         let (is_own, moved) = match self.queue.front() {
             Some(Expect::Piece(place)) => (false, *place),
             Some(front) if !front.ends_ready() => (front.is_own(), 0),

@@ -187,7 +187,7 @@ impl Replies<'_> {
             }
             Reply::Stray => return Err(Error::Stray(char::from(kind))),
         }
-        if reply != Reply::Pass || self.shared.track().is_quiet() {
+        if reply != Reply::Pass || self.shared.track().is_settled() {
             self.shared.changed.notify_one();
         }
         Ok(())

@@ -265,6 +265,7 @@ impl<'a> Requests<'a> {
                 Some(b'F') => self.expect(Expect::Function),
                 Some(b'D') => self.expect(Expect::Describe),
                 Some(b'E') => self.expect(Expect::Execute),
+                Some(b'd') => self.shared.track().copy_goes_on(),
                 Some(b'C') => {
                     self.shared.track().forget_statements();
                     self.expect(Expect::CloseStatement(nameless()));
@@ -414,8 +415,9 @@ impl<'a> Requests<'a> {
             Message::FunctionCall => self.pass(&bytes, Expect::Function),
             Message::Flush | Message::Terminate => self.out.extend_from_slice(&bytes),
             Message::Copy => {
-                if kind != b'd' {
-                    self.shared.track().copy_ends();
+                match kind {
+                    b'd' => self.shared.track().copy_goes_on(),
+                    _ => self.shared.track().copy_ends(),
                 }
                 self.out.extend_from_slice(&bytes);
             }
@@ -531,7 +533,7 @@ impl<'a> Requests<'a> {
             self.names_holds(true);
         }
         if let Some(pieces) = self.pieces(text).await {
-            return self.string(&pieces).await;
+            return self.string(&pieces, bytes).await;
         }
         match self.statement(text) {
             Some(Statement::Update(form)) => {
@@ -551,7 +553,7 @@ impl<'a> Requests<'a> {
             }
             Some(Statement::Commit) => self.commit(Sent::Query(bytes)).await,
             Some(Statement::Holds) | None => {
-                if contains(text, b"escrow.reservations") {
+                if contains(text, b"escrow.reservations") && self.is_heard().await? {
                     self.show().await?;
                     if self.shared.track().is_skipping() {
                         // Its error has answered the client.
@@ -586,8 +588,11 @@ impl<'a> Requests<'a> {
 
     /// Serves a string of several statements, one after another up to the first error. They are a pipeline, which is one
     /// transaction outside a block, as the string is.
-    async fn string(&mut self, pieces: &[Piece]) -> Result<(), Error> {
-        self.settle().await?;
+    async fn string(&mut self, pieces: &[Piece], bytes: &[u8]) -> Result<(), Error> {
+        if !self.is_heard().await? {
+            self.pass(bytes, Expect::Query);
+            return Ok(());
+        }
         for (at, piece) in pieces.iter().enumerate() {
             if self.shared.track().is_skipping() {
                 break;
@@ -629,14 +634,21 @@ impl<'a> Requests<'a> {
         }
     }
 
-    /// Waits until all that was sent is answered.
+    /// Waits until all that was sent is answered. Returns whether PostgreSQL serves what comes: it does not behind an error of the
+    /// extended protocol, up to the client's Sync, and while it waits for data of a COPY.
+    pub(crate) async fn is_heard(&mut self) -> Result<bool, Error> {
+        self.settle().await?;
+        Ok(!self.shared.track().is_deaf())
+    }
+
+    /// Waits until all that was sent is answered, or PostgreSQL waits for data of the client's.
     pub(crate) async fn settle(&mut self) -> Result<(), Error> {
-        if self.shared.track().is_quiet() {
+        if self.shared.track().is_settled() {
             return Ok(());
         }
         self.out.extend_from_slice(own::FLUSH);
         self.flush().await?;
-        while !self.shared.track().is_quiet() {
+        while !self.shared.track().is_settled() {
             self.shared.changed.notified().await;
         }
         Ok(())

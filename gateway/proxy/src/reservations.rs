@@ -147,7 +147,7 @@ impl Requests<'_> {
     fn own_folds(&self) -> Vec<(Arc<Table>, Vec<Key>)> {
         let is_sure = {
             let track = self.shared.track();
-            !track.is_skipping() && track.status() == Status::InBlock && track.is_plain()
+            !track.is_deaf() && track.status() == Status::InBlock && track.is_plain()
         };
         let catalog = self.hub.declared().unwrap_or_default();
         let mut tables: Vec<(Arc<Table>, Vec<Key>)> = Vec::new();
@@ -169,7 +169,7 @@ impl Requests<'_> {
     /// Returns whether PostgreSQL skips or refuses what comes.
     pub(crate) fn has_failed(&self) -> bool {
         let track = self.shared.track();
-        track.is_skipping() || track.status() == Status::Failed && track.is_plain()
+        track.is_deaf() || track.status() == Status::Failed && track.is_plain()
     }
 
     /// Tells PostgreSQL what is reserved, so that `escrow.reservations()` of this client shows it.
@@ -232,8 +232,10 @@ impl Requests<'_> {
         results: &[i16],
         sent: Sent<'_>,
     ) -> Result<(), Error> {
-        if !sent.is_execute() || self.shared.track().is_executing() {
-            self.settle().await?;
+        let settles = !sent.is_execute() || self.shared.track().is_executing();
+        if settles && !self.is_heard().await? {
+            self.pass_on(sent);
+            return Ok(());
         }
         let table = match self.has_failed() {
             true => None,
