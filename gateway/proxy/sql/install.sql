@@ -1,4 +1,4 @@
--- Installs schema escrow, version 2, or brings an older version to it. A superuser runs it, in one transaction, since it
+-- Installs schema escrow, version 3, or brings an older version to it. A superuser runs it, in one transaction, since it
 -- creates event triggers. Rules are those of PROTOCOL.md.
 
 DO $do$
@@ -7,11 +7,11 @@ BEGIN
 		RAISE EXCEPTION 'escrowd-proxy needs PostgreSQL 15 or later' USING ERRCODE = 'feature_not_supported';
 	END IF;
 	IF to_regprocedure('escrow.version()') IS NOT NULL THEN
-		IF escrow.version() > 2 THEN
-			RAISE EXCEPTION 'schema escrow has version %, which is newer than 2', escrow.version()
+		IF escrow.version() > 3 THEN
+			RAISE EXCEPTION 'schema escrow has version %, which is newer than 3', escrow.version()
 				USING ERRCODE = 'object_not_in_prerequisite_state';
 		END IF;
-		IF escrow.version() < 2 AND escrow.is_live((SELECT nullif(last_value, 0) FROM escrow.epoch)) THEN
+		IF escrow.version() < 3 AND escrow.is_live((SELECT nullif(last_value, 0) FROM escrow.epoch)) THEN
 			RAISE EXCEPTION 'an escrowd-proxy is running' USING ERRCODE = 'object_in_use', HINT = 'Stop it first.';
 		END IF;
 		-- Where a dump was restored, columns may have got other numbers. The event trigger leaves these tables alone until the end
@@ -34,7 +34,7 @@ CREATE SCHEMA IF NOT EXISTS escrow;
 GRANT USAGE ON SCHEMA escrow TO PUBLIC;
 GRANT CREATE ON SCHEMA escrow TO escrow_journal;
 
-CREATE OR REPLACE FUNCTION escrow.version() RETURNS integer LANGUAGE sql IMMUTABLE AS 'SELECT 2';
+CREATE OR REPLACE FUNCTION escrow.version() RETURNS integer LANGUAGE sql IMMUTABLE AS 'SELECT 3';
 
 -- Rule 8. Unlogged, so that it is 0 after a crash, a promotion and a restore.
 CREATE UNLOGGED SEQUENCE IF NOT EXISTS escrow.epoch MINVALUE 0 START 0;
@@ -889,8 +889,8 @@ BEGIN
 	-- Rule 11. A fold locks the row, and the guard adds to it what it takes out of the journal. It runs with the rights of the
 	-- table's owner, as triggers on the table do then, and with the usual path of search for these. No caller tells it what
 	-- to change, so anybody's fold is harmless (rule 12). It returns the transaction or subtransaction that has written the
-	-- row anew, or nothing if the row is locked or not there. It waits for a lock unless it skips it. The text finds the row
-	-- once, by its place. A row that somebody has written anew since the snapshot was taken has another place then, which the
+	-- row anew, or nothing if row or table is locked or the row is not there. It waits for a lock unless it skips it. The text finds
+	-- the row once, by its place. A row that somebody has written anew since the snapshot was taken has another place then, which the
 	-- snapshot does not see: its fold is left to what comes behind.
 	fold_text := format('UPDATE %1$s AS t SET %2$s WHERE t.ctid OPERATOR(pg_catalog.=)
 				(SELECT s.ctid FROM %1$s AS s WHERE s.%3$I OPERATOR(pg_catalog.=) which FOR NO KEY UPDATE SKIP LOCKED)', relation, texts[3], k);
@@ -901,6 +901,11 @@ BEGIN
 			writer pg_catalog.xid;
 		BEGIN
 			IF skips THEN
+				BEGIN
+					LOCK TABLE %4$s IN ROW EXCLUSIVE MODE NOWAIT;
+				EXCEPTION WHEN lock_not_available THEN
+					RETURN NULL;
+				END;
 				%3$s RETURNING t.xmin INTO writer;
 			END IF;
 			IF writer IS NULL AND escrow.lock_%1$s(which, skips) IS NOT NULL THEN
@@ -950,10 +955,11 @@ BEGIN
 			kind, n, proprietor);
 	END LOOP;
 	-- Rule 13. It locks nothing that somebody else has, and never raises: if something fails, it has folded nothing. What it
-	-- does not fold is the folder's. Returns whether it has folded all.
+	-- does not fold is the folder's. Returns whether it has folded all. The timeout, the shortest that there is, is for locks that are
+	-- not skipped: that of the table, and what triggers and foreign keys wait for. OTHERS has neither a cancel nor a failed ASSERT.
 	EXECUTE format($f$
 		CREATE OR REPLACE FUNCTION escrow.own_%1$s(keys text[], may_change boolean) RETURNS boolean
-		LANGUAGE plpgsql SECURITY DEFINER SET search_path = "$user", public SET escrow.fold = on AS $body$
+		LANGUAGE plpgsql SECURITY DEFINER SET search_path = "$user", public SET escrow.fold = on SET lock_timeout = '1ms' AS $body$
 		DECLARE
 			which %4$s;
 			are_all boolean := true;
@@ -967,7 +973,7 @@ BEGIN
 				are_all := FOUND AND are_all;
 			END LOOP;
 			RETURN are_all;
-		EXCEPTION WHEN OTHERS OR query_canceled THEN
+		EXCEPTION WHEN OTHERS OR query_canceled OR assert_failure THEN
 			RETURN false;
 		END
 		$body$
@@ -1030,7 +1036,8 @@ BEGIN
 				RETURN false;
 			END IF;
 			INSERT INTO escrow.journal_%1$s (epoch, tag, number, key, %5$s) VALUES (here_%1$s.epoch, here_%1$s.number, here_%1$s.number, which, %3$s);
-			PERFORM escrow.row_%1$s(which, true);
+			-- It may wait for the table's lock. Only the fold has the CHECKs judge this change.
+			PERFORM escrow.row_%1$s(which, false);
 			PERFORM set_config('escrow.here', pg_current_xact_id()::text, true); -- for escrow.hold
 			RETURN true;
 		END

@@ -12,7 +12,7 @@ use crate::args::Script;
 use crate::target::{BadTarget, LoginError, Own, Target};
 
 /// The version that this program works with.
-pub const VERSION: i32 = 2;
+pub const VERSION: i32 = 3;
 
 /// The scripts.
 const INSTALL: &str = include_str!("../sql/install.sql");

@@ -563,6 +563,14 @@ def a_change_without_a_reservation_is_one_of_its_epoch(cluster: Cluster) -> None
     late, client = Client(former), Client(former)
     same(late.here("stock", 2, -1), True)
     same(value(cluster, "SELECT pieces FROM stock WHERE id = 2"), 9)
+    # Nobody but PostgreSQL has judged it. So it is folded in any case, and waits for a lock of the table.
+    with cluster.connect() as it:
+        it.execute("BEGIN; LOCK TABLE stock IN SHARE MODE")
+        late.execute("SET lock_timeout = 50")
+        with refused(errors.LockNotAvailable):
+            late.here("stock", 2, -10)
+    with refused(errors.CheckViolation):
+        late.here("stock", 2, -10)
     former.load("stock", 1)
     same(late.here("stock", 1, -10), False)
     client.execute("BEGIN")
@@ -709,15 +717,18 @@ def direct_notes_are_in_the_row(cluster: Cluster) -> None:
     same((value(cluster, pieces), value(cluster, journal)), (6, 0))
     # Where somebody has the row's lock, and in another isolation, it is a note.
     with cluster.connect() as it:
-        it.execute("BEGIN; UPDATE stock SET title = 'locked' WHERE id = 1")
-        assert not client.direct("stock", 1, -1)
-        it.execute("COMMIT")
+        for lock in ("UPDATE stock SET title = 'locked' WHERE id = 1", "LOCK TABLE stock IN SHARE MODE"):
+            it.execute(f"BEGIN; {lock}".encode())
+            assert not client.direct("stock", 1, -1)
+            it.execute("COMMIT")
+    assert client.direct("stock", 1, 1)
     client.execute("SET default_transaction_isolation = 'repeatable read'")
     assert not client.direct("stock", 1, -1)
-    same((value(cluster, pieces), value(cluster, journal)), (6, 2))
+    assert not client.direct("stock", 1, -1)
+    same((value(cluster, pieces), value(cluster, journal)), (5, 2))
     client.execute("RESET default_transaction_isolation")
     assert client.direct("stock", 1, -1)
-    same((value(cluster, pieces), value(cluster, journal)), (3, 0))
+    same((value(cluster, pieces), value(cluster, journal)), (2, 0))
     # Words that are null are left out of what a proof is over. So nothing is called with them.
     for place in (2, 3, 4):
         arguments = client.direct_arguments("stock", 1, -1)
@@ -725,7 +736,7 @@ def direct_notes_are_in_the_row(cluster: Cluster) -> None:
         words = (owner.epoch, client.connection.info.backend_pid, arguments[2], arguments[4], arguments[3])
         arguments[5] = owner.mac("note", owner.declared("stock")[0], *(it for it in words if it is not None))
         same(perform(client.connection, arguments[0], arguments[1:]).fetchone(), (None,))
-    same((value(cluster, pieces), value(cluster, journal)), (3, 0))
+    same((value(cluster, pieces), value(cluster, journal)), (2, 0))
     # What a note is refused for, it is too.
     with refused(errors.InsufficientPrivilege, "permission denied for table stock"):
         buyer.direct("stock", 1, -1)
@@ -738,7 +749,7 @@ def direct_notes_are_in_the_row(cluster: Cluster) -> None:
     owner.keeper.execute(f"SELECT pg_advisory_unlock({owner.epoch})".encode())
     with refused(errors.SerializationFailure, "not the owner any more"):
         client.direct("stock", 1, -1)
-    same((value(cluster, pieces), value(cluster, journal)), (3, 0))
+    same((value(cluster, pieces), value(cluster, journal)), (2, 0))
     second.close()
 
 
@@ -1031,6 +1042,8 @@ def folds_wait_for_nobody(cluster: Cluster) -> None:
         Client(owner).note("stock", 1, -1)
         Client(owner).note("stock", 2, -1)
         same(owner.fold("stock", 1, 2), ["2"])
+        it.execute("COMMIT; BEGIN; LOCK TABLE stock")
+        same(owner.fold("stock", 1, 2), ["2"])
         it.execute("COMMIT")
     same(owner.fold("stock", 1), ["1"])
     with cluster.connect() as it, refused(errors.InvalidTransactionState, "READ COMMITTED"):
@@ -1062,29 +1075,30 @@ def own_folds_never_raise(cluster: Cluster) -> None:
     buyer.fold("stock", 1)
     client.execute(f"SELECT escrow.own_{owner.declared('stock')[0]}('{{1}}', true)")
     same(value(cluster, pieces), 7)
-    # A row that somebody has locked, a row that no CHECK lets through, a table that is locked: COMMIT is good.
-    with cluster.connect() as it:
-        for lock in ("UPDATE stock SET title = 'x' WHERE id = 1", "LOCK TABLE stock"):
-            it.execute(f"BEGIN; {lock}".encode())
-            client.execute("BEGIN; SET LOCAL lock_timeout = 50; INSERT INTO orders (pieces) VALUES (1)")
-            client.note("stock", 1, -1)
-            client.fold("stock", 1)
-            client.execute("COMMIT")
-            it.execute("ROLLBACK")
-        it.execute("BEGIN; LOCK TABLE stock")
-        client.execute("BEGIN; SET LOCAL statement_timeout = 100")
+    # A row, a table or what a trigger writes that somebody has locked: COMMIT is good, and waits for nobody. An error, of any kind: it is good.
+    cluster.run("CREATE FUNCTION acts() RETURNS trigger LANGUAGE plpgsql AS 'BEGIN UPDATE audit SET n = n + 1; RETURN NEW; END'",
+                "CREATE TABLE audit (n integer)", "INSERT INTO audit VALUES (0)", "CREATE TRIGGER acts BEFORE UPDATE ON stock FOR EACH ROW EXECUTE FUNCTION acts()")
+
+    def commits() -> None:
+        begin = time.monotonic()
+        client.execute("BEGIN; INSERT INTO orders (pieces) VALUES (1)")
         client.note("stock", 1, -1)
         client.fold("stock", 1)
         client.execute("COMMIT")
-        it.execute("ROLLBACK")
-    cluster.run("CREATE FUNCTION fails() RETURNS trigger LANGUAGE plpgsql AS 'BEGIN RAISE EXCEPTION ''no''; END'",
-                "CREATE TRIGGER fails BEFORE UPDATE ON stock FOR EACH ROW EXECUTE FUNCTION fails()")
-    client.execute("BEGIN")
-    client.note("stock", 1, -1)
+        assert time.monotonic() - begin < 10, "it has waited until its statement_timeout"
+
+    with cluster.connect() as it:
+        for lock in ("UPDATE stock SET title = 'x' WHERE id = 1", "LOCK TABLE stock", "LOCK TABLE stock IN SHARE MODE", "UPDATE audit SET n = 5"):
+            it.execute(f"BEGIN; {lock}".encode())
+            commits()
+            it.execute("ROLLBACK")
+    for act in ("RAISE EXCEPTION ''no''", "ASSERT false", "RAISE query_canceled"):
+        cluster.run(f"CREATE OR REPLACE FUNCTION acts() RETURNS trigger LANGUAGE plpgsql AS 'BEGIN {act}; END'")
+        commits()
     client.fold("stock", 1, "no number")
-    client.execute("COMMIT")
-    same((value(cluster, pieces), value(cluster, "SELECT pieces FROM escrow.now_stock WHERE id = 1")), (7, 2))
-    cluster.run("DROP TRIGGER fails ON stock", "DROP FUNCTION fails")
+    same((value(cluster, pieces), value(cluster, "SELECT pieces FROM escrow.now_stock WHERE id = 1")), (7, -1))
+    cluster.run("DROP TRIGGER acts ON stock", "DROP FUNCTION acts", "DROP TABLE audit")
+    Client(owner).note("stock", 1, 3)
     client.fold("stock", 1)
     same(value(cluster, pieces), 2)
     # A row that the transaction has written itself, by an UPDATE of another column.
