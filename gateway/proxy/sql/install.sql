@@ -914,6 +914,8 @@ BEGIN
 					RAISE EXCEPTION 'a trigger has kept a change of %% away', %7$L USING ERRCODE = 'triggered_data_change_violation';
 				END IF;
 			END IF;
+			-- A SET of a trigger's outlives this function's own. Its callers have other rights.
+			PERFORM pg_catalog.set_config('search_path', 'pg_catalog, pg_temp', true);
 			RETURN writer;
 		END
 		$body$

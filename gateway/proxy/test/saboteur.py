@@ -125,6 +125,41 @@ def nobody_acts_for_others(cluster: Cluster) -> None:
     cluster.run("DROP OWNED BY mallory", "DROP ROLE mallory, keeper")
 
 
+# Acts of a role that owns a declared table: each = and <> of its own writes down with whose rights it is called.
+MALLORY = """SET search_path = mallory, pg_catalog;
+    CREATE TABLE t (id integer PRIMARY KEY, n integer NOT NULL); INSERT INTO t VALUES (1, 9), (2, 9); CREATE TABLE loot (who name);
+    GRANT USAGE ON SCHEMA mallory TO PUBLIC; GRANT INSERT ON loot TO PUBLIC;
+    CREATE FUNCTION sets() RETURNS trigger LANGUAGE plpgsql AS $$ BEGIN
+        PERFORM pg_catalog.set_config('search_path', 'mallory, pg_catalog', false); RETURN NULL; END $$;
+    CREATE TRIGGER sets AFTER UPDATE ON t FOR EACH ROW EXECUTE FUNCTION sets();
+    DO $do$ DECLARE it record; BEGIN
+        FOR it IN SELECT t, o, 'f' || n AS f FROM unnest('{integer,bigint,text,oid,name}'::text[], '{1,2,3,4,5}'::int[]) AS u (t, n), unnest('{=,<>}'::text[]) AS o LOOP
+            EXECUTE format('CREATE FUNCTION mallory.%1$s(a %2$s, b %2$s) RETURNS boolean LANGUAGE plpgsql AS $f$ BEGIN INSERT INTO mallory.loot VALUES (current_user); '
+                'RETURN a OPERATOR(pg_catalog.%3$s) b; END $f$; CREATE OPERATOR mallory.%3$s (LEFTARG = %2$s, RIGHTARG = %2$s, FUNCTION = mallory.%1$s)',
+                it.f || ascii(it.o), it.t, it.o);
+        END LOOP; END $do$; SET search_path = public; SELECT escrow.reservable('mallory.t', 'n')"""
+
+
+@part
+def a_path_that_a_trigger_sets_is_nobody_elses(cluster: Cluster) -> None:
+    """PostgreSQL keeps a SET beyond the function with a SET of its own in which a trigger does it: the caller went on by the path of another role's."""
+    all_ordinary(cluster)
+    cluster.run("CREATE ROLE mallory LOGIN", "CREATE SCHEMA mallory AUTHORIZATION mallory")
+    with cluster.connect("mallory") as it:
+        it.execute(MALLORY.encode())
+    owner = Owner(cluster)
+    client = Client(owner)
+    for act in (lambda: owner.load("mallory.t", 1), lambda: (client.note("mallory.t", 1, -1), client.note("mallory.t", 2, -1), owner.fold("mallory.t", 1, 2)),
+                lambda: (client.note("mallory.t", 1, -1), owner.leave("mallory.t", 1)), lambda: change_here(client, "mallory.t", 2, -1),
+                lambda: (client.note("mallory.t", 1, -1), cluster.run("SELECT escrow.ordinary('mallory.t')", user="mallory"))):
+        act()
+        same(value(cluster, "SELECT array_agg(DISTINCT who) FROM mallory.loot"), None)
+        for one in (owner.keeper, client.connection):
+            one.execute("RESET ALL")
+    same(value(cluster, "SELECT array_agg(n ORDER BY id) FROM mallory.t"), [6, 7])
+    cluster.run("DROP OWNED BY mallory", "DROP ROLE mallory")
+
+
 @part
 def an_owner_gets_another_name(cluster: Cluster) -> None:
     """No event trigger hears of it. So it may change nothing that DDL of any table is compared with."""
