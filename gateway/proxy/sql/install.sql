@@ -1220,13 +1220,15 @@ $$;
 ALTER FUNCTION escrow.is_held OWNER TO escrow_journal;
 REVOKE ALL ON FUNCTION escrow.is_held FROM PUBLIC;
 
--- Refuses a time that does not lie ahead.
+-- Refuses a time that does not lie ahead. PostgreSQL compares intervals as if each month had 30 days.
 CREATE OR REPLACE FUNCTION escrow.end_of_hold(lasting interval) RETURNS timestamptz LANGUAGE plpgsql SET search_path = pg_catalog, pg_temp AS $$
+DECLARE
+	clock timestamptz := clock_timestamp();
 BEGIN
-	IF (lasting > '0') IS NOT TRUE THEN
+	IF (clock + lasting > clock) IS NOT TRUE THEN
 		RAISE EXCEPTION 'a hold needs a time above 0' USING ERRCODE = 'invalid_parameter_value';
 	END IF;
-	RETURN clock_timestamp() + lasting;
+	RETURN clock + lasting;
 END
 $$;
 
@@ -1277,7 +1279,11 @@ DECLARE
 	asker regrole := escrow.caller();
 	it escrow.hold_names;
 BEGIN
-	SELECT * INTO it FROM escrow.hold_names AS h WHERE h.name = standing.name AND h.state = 'standing' FOR UPDATE;
+	-- Who had its lock may have taken it and held again under the same name. That hold came behind the snapshot.
+	LOOP
+		SELECT * INTO it FROM escrow.hold_names AS h WHERE h.name = standing.name AND h.state = 'standing' FOR UPDATE;
+		EXIT WHEN it.number IS NOT NULL OR NOT EXISTS (SELECT FROM escrow.hold_names AS h WHERE h.name = standing.name AND h.state = 'standing');
+	END LOOP;
 	IF it.number IS NULL THEN
 		SELECT * INTO it FROM escrow.hold_names AS h WHERE h.name = standing.name AND h.state <> 'standing' ORDER BY h.number DESC LIMIT 1;
 	END IF;

@@ -168,7 +168,7 @@ def its_time_is_postgres_time(cluster: Cluster, proxy: Proxy) -> None:
         time.sleep(3.2)
         it.execute("COMMIT")
         expect(pieces(cluster, key), 5)
-        for lasting in ("0", "-1 second", None):
+        for lasting in ("0", "-1 second", "-1 year 361 days", None):
             it.execute("BEGIN")
             take(it, key, 1)
             coded(it, "22023", "hold", name(), lasting)
@@ -260,6 +260,21 @@ def savepoints_and_several_holds(cluster: Cluster, proxy: Proxy) -> None:
         it.execute("ROLLBACK")
         expect(pieces(cluster, key), 39)
         gives_just(other, key, 39)
+        # So it stands for who has waited for that transaction.
+        it.execute("BEGIN")
+        take(it, key, 1)
+        called(it, "hold", two, "10 minutes")
+        it.execute("COMMIT")
+        it.execute("BEGIN")
+        called(it, "take", two)
+        called(it, "hold", two, "10 minutes")
+        found = []
+        waiting = threading.Thread(target=lambda: found.append(called(other, "release", two)))
+        waiting.start()
+        wait_until("it waits", lambda: it.execute("SELECT count(*) FROM pg_locks WHERE NOT granted AND pid = %s", (other.info.backend_pid,)).fetchall() == [(1,)])
+        it.execute("COMMIT")
+        waiting.join()
+        expect(found, [True])
         # It ends in the transaction that has made it.
         for end, left in (("take", 38), ("release", 38)):
             it.execute("BEGIN")
