@@ -831,7 +831,7 @@ BEGIN
 		refusal_text = format('SELECT escrow.refuse_change(%s, $1, $2, $3, $4, $5, ARRAY[%s], pg_catalog.to_regclass($6%s)', n, allowed, meant),
 		here_text = format('SELECT escrow.here_%s($1, $2, $3, $4, $5, ARRAY[%s], pg_catalog.to_regclass($6%s)', n, allowed, meant) WHERE d.number = n;
 	-- Those of before took other arguments.
-	FOR former IN SELECT f::regprocedure FROM escrow.functions(n) AS f JOIN pg_proc AS p ON p.oid = f WHERE p.proname ~ '^(note|direct|own)_' LOOP
+	FOR former IN SELECT f::regprocedure FROM escrow.functions(n) AS f JOIN pg_proc AS p ON p.oid = f WHERE p.proname ~ '^(note|direct|own|row)_' LOOP
 		EXECUTE format('DROP FUNCTION %s', former);
 	END LOOP;
 
@@ -882,30 +882,32 @@ BEGIN
 	$f$, n, (SELECT relname FROM pg_class WHERE oid = it.relation), texts[10], key_cast, texts[4], kind, CASE kind WHEN 'direct' THEN direct_call ELSE note_call END,
 		CASE kind WHEN 'direct' THEN format('
 			RETURN noted OPERATOR(pg_catalog.||) pg_catalog.boolsend(pg_catalog.current_setting(''transaction_isolation'') OPERATOR(pg_catalog.=) ''read committed''
-				AND escrow.row_%1$s(direct_%1$s.key, true) IS NOT NULL);', n) END);
+				AND escrow.row_%1$s(direct_%1$s.key, true, true) IS NOT NULL);', n) END);
 	EXECUTE format('ALTER FUNCTION escrow.%s_%s OWNER TO escrow_journal', kind, n);
 	END LOOP;
 
 	-- Rule 11. A fold locks the row, and the guard adds to it what it takes out of the journal. It runs with the rights of the
 	-- table's owner, as triggers on the table do then, and with the usual path of search for these. No caller tells it what
 	-- to change, so anybody's fold is harmless (rule 12). It returns the transaction or subtransaction that has written the
-	-- row anew, or nothing if row or table is locked or the row is not there. It waits for a lock unless it skips it. The text finds
-	-- the row once, by its place. A row that somebody has written anew since the snapshot was taken has another place then, which the
-	-- snapshot does not see: its fold is left to what comes behind.
+	-- row anew, or nothing if the row is locked or not there. It waits for the row's lock unless it skips it, and for the table's unless
+	-- it has to have that at once. The text finds the row once, by its place. A row that somebody has written anew since the snapshot
+	-- was taken has another place then, which the snapshot does not see: its fold is left to what comes behind.
 	fold_text := format('UPDATE %1$s AS t SET %2$s WHERE t.ctid OPERATOR(pg_catalog.=)
 				(SELECT s.ctid FROM %1$s AS s WHERE s.%3$I OPERATOR(pg_catalog.=) which FOR NO KEY UPDATE SKIP LOCKED)', relation, texts[3], k);
 	EXECUTE format($f$
-		CREATE OR REPLACE FUNCTION escrow.row_%1$s(which %2$s, skips boolean) RETURNS xid
+		CREATE OR REPLACE FUNCTION escrow.row_%1$s(which %2$s, skips boolean, at_once boolean DEFAULT false) RETURNS xid
 		LANGUAGE plpgsql SECURITY DEFINER SET search_path = "$user", public SET escrow.fold = on AS $body$
 		DECLARE
 			writer pg_catalog.xid;
 		BEGIN
-			IF skips THEN
+			IF at_once THEN
 				BEGIN
 					LOCK TABLE %4$s IN ROW EXCLUSIVE MODE NOWAIT;
 				EXCEPTION WHEN lock_not_available THEN
 					RETURN NULL;
 				END;
+			END IF;
+			IF skips THEN
 				%3$s RETURNING t.xmin INTO writer;
 			END IF;
 			IF writer IS NULL AND escrow.lock_%1$s(which, skips) IS NOT NULL THEN

@@ -205,7 +205,7 @@ def definitions_stay_on_other_ways(cluster: Cluster) -> None:
                 "SELECT escrow.reservable('mallory.t', 'n')")
     n = value(cluster, "SELECT number FROM escrow.declared")
     texts: List[str] = ["ALTER SCHEMA mallory RENAME TO m", "CREATE SCHEMA more CREATE TABLE child () INHERITS (mallory.t)",
-                        f"ALTER FUNCTION escrow.row_{n}(integer, boolean) SET SCHEMA mallory"]
+                        f"ALTER FUNCTION escrow.row_{n}(integer, boolean, boolean) SET SCHEMA mallory"]
     for user, text in (("clerk", texts[0]), ("clerk", texts[1]), ("mallory", texts[2])):
         with cluster.connect(user) as it, refused(errors.ObjectInUse, "would change what is declared reservable of t"):
             it.execute(text.encode())
