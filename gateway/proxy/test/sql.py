@@ -1043,7 +1043,9 @@ def folds_wait_for_nobody(cluster: Cluster) -> None:
         Client(owner).note("stock", 2, -1)
         same(owner.fold("stock", 1, 2), ["2"])
         it.execute("COMMIT; BEGIN; LOCK TABLE stock")
-        same(owner.fold("stock", 1, 2), ["2"])
+        owner.keeper.execute("SET lock_timeout = 10")  # as the folder has it
+        with refused(errors.LockNotAvailable):
+            owner.fold("stock", 1)
         it.execute("COMMIT")
     same(owner.fold("stock", 1), ["1"])
     with cluster.connect() as it, refused(errors.InvalidTransactionState, "READ COMMITTED"):
