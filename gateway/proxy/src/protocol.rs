@@ -467,6 +467,10 @@ pub(crate) enum Fault {
     LossIsRollback,
     /// Rule 4: an end is what the last tag says.
     EndByTag,
+    /// Rule 4: the end of a later transaction is taken for that of one whose outcome is not known yet.
+    LaterCycles,
+    /// Rule 4: outcomes of different moments are taken for those of one.
+    TornAnswers,
     /// Rule 5: a ROLLBACK TO passes unseen.
     RollbackUnseen,
     /// Rule 9: nobody is waited for.
@@ -989,7 +993,11 @@ impl<K: Row, C: Clone> Protocol<K, C> {
             }
         };
         client.keep();
-        let is_plain = client.is_plain_commit();
+        // A client may go on before the outcome of its last transaction is known. What its next ones say is of these.
+        let is_later = client.is_ending();
+        #[cfg(test)]
+        let is_later = is_later && self.fault != Some(Fault::LaterCycles);
+        let is_plain = client.is_plain_commit() && !is_later;
         #[cfg(test)]
         let is_plain = is_plain || self.fault == Some(Fault::EndByTag) && client.ends_with_commit();
         client.next_cycle();
@@ -1069,12 +1077,15 @@ impl<K: Row, C: Clone> Protocol<K, C> {
             Some(client) => client,
             None => return,
         };
-        if !client.answered(verdicts) {
-            // Something was said since the question, so it is asked once more.
-            if let Some(ids) = client.ask() {
-                actions.push(Action::Ask(connection, ids));
-                return;
-            }
+        let is_new = client.answered(verdicts);
+        let is_torn = client.is_torn();
+        #[cfg(test)]
+        let is_torn = is_torn && self.fault != Some(Fault::TornAnswers);
+        if is_new && !is_torn {
+            client.be_sure();
+        } else if let Some(ids) = client.ask() {
+            actions.push(Action::Ask(connection, ids));
+            return;
         }
         self.settle(connection, actions);
         self.advance(connection, actions);

@@ -161,6 +161,7 @@ impl World {
             21..=26 if faults => self.postgres.end_one(&mut self.random),
             27..=29 if faults => proxy.stop(self.random.gen_range(1..300)),
             30..=35 if faults => self.postgres.stall_one(&mut self.random),
+            36..=38 if faults => proxy.stall_keeper(self.random.gen_range(1..300)),
             36..=499 => self.postgres.step(&mut self.random),
             _ => proxy.step(&mut self.postgres, &mut self.random, &mut self.seen)?,
         }
@@ -271,6 +272,8 @@ fn a_rule_that_is_taken_away_is_missed() {
     let rules = [
         Without::Rule(Fault::LossIsRollback),
         Without::Rule(Fault::EndByTag),
+        Without::Rule(Fault::LaterCycles),
+        Without::Rule(Fault::TornAnswers),
         Without::Rule(Fault::RollbackUnseen),
         Without::Rule(Fault::NoWait),
         Without::Rule(Fault::HoldUnseen),

@@ -340,6 +340,10 @@ impl<K: Clone + Ord, C> Client<K, C> {
             Tag::Other => self.cycle.others = true,
         }
         self.needs_mark = true;
+        if self.has_ended {
+            // It is said of a later transaction.
+            return;
+        }
         self.is_unsure = true;
         if let Some(question) = &mut self.question {
             question.is_stale = true;
@@ -364,6 +368,9 @@ impl<K: Clone + Ord, C> Client<K, C> {
 
     /// Nothing more is heard of the transaction of what is held.
     pub(super) fn end(&mut self) {
+        if self.is_ending() {
+            return;
+        }
         self.has_ended = !self.held.is_empty();
         self.is_unsure = false;
         self.needs_mark = true;
@@ -409,7 +416,7 @@ impl<K: Clone + Ord, C> Client<K, C> {
         }
     }
 
-    /// Takes the answer to the question. Returns false if it is to be asked once more.
+    /// Takes the answer to the question. Returns false if something was said since that may end what is alive.
     pub(super) fn answered(&mut self, verdicts: &[Verdict]) -> bool {
         let question = match self.question.take() {
             Some(question) => question,
@@ -421,12 +428,21 @@ impl<K: Clone + Ord, C> Client<K, C> {
                 reservation.verdict = verdict;
             }
         }
-        if question.is_stale {
-            return false;
-        }
+        !question.is_stale
+    }
+
+    /// Returns whether the outcomes are of different moments: something is in progress that is not in front of all that is
+    /// decided, or has something committed behind it.
+    pub(super) fn is_torn(&self) -> bool {
+        let is_open = |it: &Reservation<K, C>| it.verdict == Verdict::InProgress;
+        let mut behind = self.held.iter().skip_while(|it| is_open(it));
+        self.held.iter().any(is_open) && !behind.all(|it| it.verdict == Verdict::Aborted)
+    }
+
+    /// What is held is alive, but for what is known to be dead.
+    pub(super) fn be_sure(&mut self) {
         self.is_unsure = false;
         self.was_unsure = false;
-        true
     }
 
     /// Returns what the server is to be told by the outcomes that are known, and forgets what is over.

@@ -237,6 +237,55 @@ fn what_survives_and_is_no_prefix_is_an_alarm() {
     );
 }
 
+/// The outcomes of one question are found out one after another, and the COMMIT may come between two of them.
+#[test]
+fn torn_outcomes_are_asked_again() {
+    let mut it = serving();
+    hold(&mut it, false, 7);
+    completed(&mut it, "SAVEPOINT");
+    hold(&mut it, false, 8);
+    completed(&mut it, "ROLLBACK");
+    let both = [Action::Ask(ONE, vec![Id(7), Id(8)]), Action::Deliver(ONE)];
+    assert_eq!(ready(&mut it, Status::InBlock), both);
+    let torn = [Verdict::InProgress, Verdict::Committed];
+    assert_eq!(verdicts(&mut it, &torn), [Action::Ask(ONE, vec![Id(7)])]);
+    let told = [Action::Tell(ONE, Told::Commit), Action::Fold(vec!["a"])];
+    assert_eq!(verdicts(&mut it, &[Verdict::Committed]), told);
+    // What is decided is judged.
+    let mut it = serving();
+    hold(&mut it, false, 7);
+    completed(&mut it, "SAVEPOINT");
+    hold(&mut it, false, 8);
+    completed(&mut it, "ROLLBACK");
+    ready(&mut it, Status::InBlock);
+    let torn = [Verdict::Aborted, Verdict::InProgress];
+    assert_eq!(verdicts(&mut it, &torn), [Action::Ask(ONE, vec![Id(8)])]);
+    let alarm = [Action::Alarm(Alarm::NoPrefix, None)];
+    assert_eq!(verdicts(&mut it, &[Verdict::Committed]), alarm);
+}
+
+/// Its wait is over before the keeper answers. The COMMIT of a later block says nothing of what was rolled back.
+#[test]
+fn goes_on_before_its_outcome_is_known() {
+    let mut it = serving();
+    hold(&mut it, false, 7);
+    completed(&mut it, "ROLLBACK");
+    assert_eq!(
+        ready(&mut it, Status::Idle),
+        [Action::Ask(ONE, vec![Id(7)])]
+    );
+    let over = Event::WaitOver { connection: ONE };
+    assert_eq!(it.handle(over), [Action::Deliver(ONE)]);
+    completed(&mut it, "BEGIN");
+    assert_eq!(ready(&mut it, Status::InBlock), [Action::Deliver(ONE)]);
+    completed(&mut it, "COMMIT");
+    assert!(!ready(&mut it, Status::Idle).contains(&Action::Tell(ONE, Told::Commit)));
+    assert_eq!(reserve(&mut it, "a", false), []);
+    let told = verdicts(&mut it, &[Verdict::Aborted]);
+    assert_eq!(told[0], Action::Tell(ONE, Told::Rollback));
+    assert_eq!(told.last(), Some(&Action::Grant(ONE, "a", 1)));
+}
+
 #[test]
 fn an_error_frees_at_once_what_it_has_ended() {
     let mut it = serving();

@@ -6,7 +6,7 @@ mod own;
 use std::collections::{BTreeMap, BTreeSet, VecDeque};
 
 use rand::rngs::StdRng;
-use rand::seq::{IteratorRandom, SliceRandom};
+use rand::seq::IteratorRandom;
 use rand::Rng;
 
 use super::server::Grant;
@@ -161,6 +161,12 @@ struct Backend {
 }
 
 impl Backend {
+    /// Returns whether it has something to do.
+    fn has_work(&self) -> bool {
+        let waits = self.inbox.is_empty() && matches!(self.work, Work::Read);
+        self.is_alive && (self.is_cut || !waits)
+    }
+
     fn rows(&self) -> impl Iterator<Item = Note> + '_ {
         self.levels.iter().flat_map(|it| it.rows.iter().copied())
     }
@@ -602,6 +608,12 @@ impl Postgres {
         }
     }
 
+    /// Returns whether something is left to read, or the connection has ended.
+    pub(super) fn has_news(&self, number: u32) -> bool {
+        let has = |backend: &Backend| !backend.outbox.is_empty() || !backend.is_alive;
+        self.backends.get(&number).map_or(true, has)
+    }
+
     /// Closes a connection at the proxy's side. The backend reads first what was sent.
     pub(super) fn cut(&mut self, number: u32) {
         if let Some(backend) = self.backends.get_mut(&number) {
@@ -705,14 +717,9 @@ impl Postgres {
             self.base = self.visible.clone();
             self.log.clear();
         }
-        let numbers: Vec<u32> = self
-            .backends
-            .iter()
-            .filter(|(_, it)| it.is_alive)
-            .map(|(&it, _)| it)
-            .collect();
-        let number = match numbers.choose(random) {
-            Some(&number) => number,
+        let mut busy = self.backends.iter().filter(|(_, it)| it.has_work());
+        let number = match busy.by_ref().choose(random) {
+            Some((&number, _)) => number,
             None => return,
         };
         let mut backend = match self.backends.remove(&number) {

@@ -59,6 +59,15 @@ struct Client {
 }
 
 impl Client {
+    /// Returns whether it may go on without a reply.
+    fn has_next(&self) -> bool {
+        match self.waits {
+            Waits::Nothing => true,
+            Waits::Replies | Waits::Ready => self.expected == 0,
+            Waits::Answer | Waits::Here | Waits::Note => false,
+        }
+    }
+
     /// Sends the Sync of an UPDATE by itself.
     fn end_alone(&mut self, postgres: &mut Postgres, without: Option<Without>) {
         if !self.alone {
@@ -75,7 +84,8 @@ impl Client {
 
 /// What is under way outside of the state machine.
 enum Job {
-    Verdicts(Connection, Vec<Verdict>),
+    /// Ids that are asked, and the outcomes of the first ones: others come later.
+    Verdicts(Connection, Vec<Id>, Vec<Verdict>),
     Load(Key, Option<Folding>, bool),
     /// With the lines that the snapshot of the value shows. None: another snapshot shows them.
     Loaded(Key, i64, Option<Vec<(Line, Change)>>),
@@ -102,6 +112,8 @@ pub(super) struct Relay {
     /// In order, as each connection of the proxy's own answers: the place says which.
     jobs: [VecDeque<Job>; 4],
     stopped: u32,
+    /// The keeper is not answered for so many of its steps.
+    keeper_stalled: u32,
     is_finishing: bool,
     without: Option<Without>,
 }
@@ -128,6 +140,7 @@ impl Relay {
             next: 1,
             jobs: Default::default(),
             stopped: 0,
+            keeper_stalled: 0,
             is_finishing: false,
             without,
         }
@@ -167,10 +180,16 @@ impl Relay {
         self.stopped = steps;
     }
 
+    /// PostgreSQL does not answer its keeper for so many of its steps.
+    pub(super) fn stall_keeper(&mut self, steps: u32) {
+        self.keeper_stalled = steps;
+    }
+
     /// Its clients begin nothing more.
     pub(super) fn finish(&mut self) {
         self.is_finishing = true;
         self.stopped = 0;
+        self.keeper_stalled = 0;
     }
 
     pub(super) fn is_quiet(&self, postgres: &Postgres) -> bool {
@@ -232,6 +251,7 @@ impl Relay {
             self.stopped -= 1;
             return Ok(());
         }
+        self.keeper_stalled = self.keeper_stalled.saturating_sub(1);
         match random.gen_range(0..20) {
             0 if !self.is_finishing && random.gen_range(0..5) == 0 => {
                 let (connection, key) = (None, random.gen_range(0..KEYS));
@@ -307,8 +327,7 @@ impl Relay {
             }
             Action::Ask(connection, ids) if postgres.is_owner(self.place, self.epoch) => {
                 seen.questions += 1;
-                let verdicts = ids.iter().map(|id| postgres.verdict(id.0)).collect();
-                self.jobs[KEEPER].push_back(Job::Verdicts(connection, verdicts));
+                self.jobs[KEEPER].push_back(Job::Verdicts(connection, ids, Vec::new()));
             }
             // The keeper is gone, which it will see.
             Action::Look { done, asked } if postgres.is_owner(self.place, self.epoch) => {
@@ -507,7 +526,7 @@ impl Relay {
             return Ok(());
         }
         let queue = match (0..self.jobs.len())
-            .filter(|&it| !self.jobs[it].is_empty())
+            .filter(|&it| !self.jobs[it].is_empty() && (it != KEEPER || self.keeper_stalled == 0))
             .choose(random)
         {
             Some(queue) => queue,
@@ -522,7 +541,14 @@ impl Relay {
             Job::OwnerElsewhere => Event::OwnerElsewhere,
             Job::EpochSet => Event::EpochSet,
             Job::Holders(any) => Event::Holders { any },
-            Job::Verdicts(connection, verdicts) => Event::Verdicts {
+            Job::Verdicts(connection, ids, mut verdicts) if verdicts.len() < ids.len() => {
+                if postgres.is_owner(self.place, self.epoch) {
+                    verdicts.push(postgres.verdict(ids[verdicts.len()].0));
+                    self.jobs[queue].push_front(Job::Verdicts(connection, ids, verdicts));
+                }
+                return Ok(());
+            }
+            Job::Verdicts(connection, _, verdicts) => Event::Verdicts {
                 connection,
                 verdicts,
             },
@@ -581,12 +607,10 @@ impl Relay {
             };
             self.clients.insert(connection, client);
         }
-        let connection = match self.clients.keys().copied().choose(random) {
-            Some(connection) => connection,
-            None => return Ok(()),
-        };
-        let client = match self.clients.get_mut(&connection) {
-            Some(client) => client,
+        let is_busy = |it: &Client| it.has_next() || postgres.has_news(it.backend);
+        let mut busy = self.clients.iter_mut().filter(|it| is_busy(it.1));
+        let (connection, client) = match busy.by_ref().choose(random) {
+            Some((&connection, client)) => (connection, client),
             None => return Ok(()),
         };
         match postgres.receive(client.backend) {
@@ -821,6 +845,38 @@ fn with_hold(random: &mut StdRng, hot: impl Fn(&mut StdRng) -> Step, steps: &mut
     steps.push_back(Step::Statement(Statement::Commit));
 }
 
+/// A block with savepoints, whose client may wait for each reply.
+fn with_savepoints(
+    random: &mut StdRng,
+    hot: impl Fn(&mut StdRng) -> Step,
+    steps: &mut VecDeque<Step>,
+) {
+    use Statement::*;
+    let mut add = |random: &mut StdRng, step: Step| {
+        steps.push_back(step);
+        if random.gen() {
+            steps.push_back(Step::Sync);
+        }
+    };
+    add(random, Step::Statement(Begin));
+    for _ in 0..random.gen_range(1..3) {
+        let change = hot(random);
+        add(random, change);
+        add(random, Step::Statement(Savepoint));
+    }
+    let change = hot(random);
+    add(random, change);
+    let depth = random.gen_range(1..3);
+    let ways = [RollbackTo(depth), RollbackTo(depth), ReleaseTo(depth), Fail];
+    let way = *ways.choose(random).unwrap_or(&Fail);
+    add(random, Step::Statement(way));
+    if random.gen() {
+        let change = hot(random);
+        add(random, change);
+    }
+    steps.push_back(Step::Statement(Commit));
+}
+
 /// A block that locks, writes, inserts or deletes a row, and changes it.
 fn with_row(random: &mut StdRng, steps: &mut VecDeque<Step>) {
     use Statement::*;
@@ -891,10 +947,11 @@ fn cycle(status: Status, random: &mut StdRng) -> VecDeque<Step> {
         *all.choose(random).unwrap_or(&Select)
     };
     let mut steps = VecDeque::new();
-    let kinds = if status == Status::Idle { 20 } else { 10 };
+    let kinds = if status == Status::Idle { 24 } else { 10 };
     match (status, random.gen_range(0..kinds)) {
         (Status::Idle, 10..=15) => with_hold(random, hot, &mut steps),
         (Status::Idle, 16..=19) => with_row(random, &mut steps),
+        (Status::Idle, 20..=23) => with_savepoints(random, hot, &mut steps),
         (Status::Idle, 0..=2) => return VecDeque::from(vec![hot(random)]),
         (Status::Idle, 3..=4) => {
             // A pipeline without a block, with foreign parts.
