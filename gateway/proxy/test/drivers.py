@@ -17,7 +17,7 @@ from clients.packages import NODE_MODULES, is_here, unpack_node_pg
 from clients.servers import END, PORT, Relay
 from clients.suite import Skipped, expect, main
 from proxy.test.harness import PORT as PROXYS
-from proxy.test.harness import Proxy, SharedPart
+from proxy.test.harness import FOLDED, Proxy, SharedPart
 from proxy.test.standin import Cluster
 
 FOLDER = Path(__file__).with_name("programs")
@@ -101,7 +101,9 @@ def opened() -> Iterator[Tuple[Both]]:
             it.run(*TABLES)
         cluster.script("install.sql")
         cluster.run(*DECLARED)
-        yield (Both(cluster, plain, stack.enter_context(Proxy(cluster, "", "--fold-wait", 2000, "--threads", 3))),)
+        proxy = stack.enter_context(Proxy(cluster, "", *FOLDED, "--threads", 3))
+        proxy.await_owner()
+        yield (Both(cluster, plain, proxy),)
 
 
 PART = SharedPart("proxy_drivers", opened)

@@ -157,11 +157,11 @@ def a_standby_that_is_promoted_at_once() -> None:
 
 
 def is_taken(proxy: Proxy) -> bool:
-    """Returns whether a piece is taken through a proxy, which may not be the owner yet."""
+    """Returns whether a piece is taken through a proxy, which may not be the owner yet, or not know the table."""
     try:
         with proxy.connect() as it:
             return it.execute("UPDATE stock SET pieces = pieces - 1 WHERE id = 1").rowcount == 1
-    except psycopg.OperationalError:
+    except (psycopg.OperationalError, psycopg.errors.FeatureNotSupported):
         return False
 
 

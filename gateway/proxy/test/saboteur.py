@@ -8,14 +8,15 @@ from __future__ import annotations
 import socket
 import struct
 import subprocess
-from typing import List, Tuple
+from contextlib import contextmanager
+from typing import Iterator, List, Tuple
 
 import psycopg
 from psycopg import errors
 
-from clients.servers import wait_until
+from clients.servers import END, wait_until
 from clients.suite import main
-from proxy.test.harness import Proxy, SharedPart, installed
+from proxy.test.harness import FOLDED, Proxy, SharedPart, installed
 from proxy.test.sql import Copy, refused, same, stock, until_free, value
 from proxy.test.standin import Client, Cluster, Owner, perform
 
@@ -28,6 +29,14 @@ def end_clients(cluster: Cluster) -> None:
 
 PART = SharedPart("proxy_saboteur", installed, end_clients)
 part = PART.case
+
+
+@contextmanager
+def owner_of(cluster: Cluster) -> Iterator[Proxy]:
+    """Opens a proxy that is the owner, and whose COMMITs wait for their folds however busy the machine is."""
+    with Proxy(cluster, "", *FOLDED) as proxy:
+        proxy.await_owner()
+        yield proxy
 
 
 def change_here(client: Client, relation: str, key: object, change: object) -> bool:
@@ -222,7 +231,7 @@ def a_trigger_that_lacks_its_table_stops_the_table(cluster: Cluster) -> None:
                 "CREATE TABLE ware (id integer PRIMARY KEY, n integer NOT NULL CHECK (n >= 0))", "INSERT INTO ware VALUES (1, 9), (2, 9)",
                 "CREATE TRIGGER logs AFTER UPDATE ON ware FOR EACH ROW EXECUTE FUNCTION logs()", "SELECT escrow.reservable('ware', 'n')")
     take = "UPDATE ware SET n = n - 1 WHERE id = "
-    with Proxy(cluster) as proxy, proxy.connect() as it:
+    with owner_of(cluster) as proxy, proxy.connect() as it:
         it.execute(f"{take}1".encode())
         wait_until("it is folded", lambda: value(cluster, "SELECT n FROM ware WHERE id = 1") == 8)
         cluster.run("DROP TABLE log")
@@ -259,7 +268,8 @@ def answered(it: socket.socket) -> List[Tuple[bytes, bytes]]:
 def a_portal_is_run_once(cluster: Cluster) -> None:
     """PostgreSQL refuses the second Execute of a portal. The change must not be made twice."""
     stock(cluster).keeper.close()
-    with Proxy(cluster) as proxy, socket.socket(socket.AF_UNIX) as it:
+    with owner_of(cluster) as proxy, socket.socket(socket.AF_UNIX) as it:
+        it.settimeout(END)
         it.connect(str(proxy.socket))
         it.sendall(said(b"", struct.pack(">I", 196608) + b"user\0clerk\0database\0bank\0\0"))
         answered(it)
@@ -274,7 +284,7 @@ def a_portal_is_run_once(cluster: Cluster) -> None:
 def a_row_that_could_not_be_left_is_left_later(cluster: Cluster) -> None:
     """A client locks the row before it deletes it. The proxy cannot take the mark away then; a later DELETE must be able to."""
     stock(cluster).keeper.close()
-    with Proxy(cluster) as proxy, proxy.connect() as it:
+    with owner_of(cluster) as proxy, proxy.connect() as it:
         it.execute("UPDATE stock SET pieces = pieces - 1 WHERE id = 1")
         with refused(errors.ObjectInUse, "the row of stock is held by escrowd-proxy"):
             it.execute("BEGIN; SELECT 1 FROM stock WHERE id = 1 FOR UPDATE; DELETE FROM stock WHERE id = 1")
@@ -289,7 +299,7 @@ def a_condition_comes_before_other_checks(cluster: Cluster) -> None:
     all_ordinary(cluster)
     cluster.run("CREATE TABLE two (id integer PRIMARY KEY, n integer NOT NULL, CONSTRAINT a CHECK (n >= 5), CONSTRAINT b CHECK (n >= 0))",
                 "INSERT INTO two VALUES (1, 6)", "SELECT escrow.reservable('two', 'n')")
-    with Proxy(cluster) as proxy, proxy.connect() as it:
+    with owner_of(cluster) as proxy, proxy.connect() as it:
         same(it.execute("UPDATE two SET n = n - 9 WHERE id = 1 AND n >= 9").rowcount, 0)
     cluster.run("SELECT escrow.ordinary('two')", "DROP TABLE two")
 
@@ -330,7 +340,7 @@ def what_is_no_key_leaves_no_row(cluster: Cluster) -> None:
     for key_type, held, other in (("varchar(3)", "'abc'", "'abcd'"), ("numeric(5,1)", "1.5", "1.54")):
         cluster.run(f"CREATE TABLE keyed (id {key_type} PRIMARY KEY, n integer NOT NULL CHECK (n >= 0))", f"INSERT INTO keyed VALUES ({held}, 9)",
                     "SELECT escrow.reservable('keyed', 'n')")
-        with Proxy(cluster) as proxy, proxy.connect() as it, proxy.connect() as other_one:
+        with owner_of(cluster) as proxy, proxy.connect() as it, proxy.connect() as other_one:
             it.execute(f"BEGIN; UPDATE keyed SET n = n - 1 WHERE id = {held}")
             same(other_one.execute(f"DELETE FROM keyed WHERE id = {other}").rowcount, 0)
             with cluster.connect() as straight, refused(errors.ObjectInUse, "the row of keyed is held by escrowd-proxy"):
@@ -346,7 +356,7 @@ def a_condition_is_of_its_column_alone(cluster: Cluster) -> None:
     cluster.run("CREATE TABLE two (id integer PRIMARY KEY, n integer NOT NULL, m integer NOT NULL)",
                 "ALTER TABLE two ADD CONSTRAINT both_of CHECK (m >= 0 AND n >= 0 AND n <= 9)", "INSERT INTO two VALUES (1, 5, 0)",
                 "SELECT escrow.reservable('two', 'n', 'm')")
-    with Proxy(cluster) as proxy, proxy.connect() as it:
+    with owner_of(cluster) as proxy, proxy.connect() as it:
         with refused(errors.CheckViolation, "both_of"):
             it.execute("UPDATE two SET n = n - 1, m = m - 1 WHERE id = 1 AND n >= 1")
         with refused(errors.CheckViolation, "both_of"):
@@ -418,7 +428,7 @@ def what_a_held_row_stops_passes_when_it_is_repeated(cluster: Cluster) -> None:
                 "SELECT escrow.reservable('ware', 'n')")
     for text, tag in (("DELETE FROM ware WHERE kind = 1", "DELETE 1"), ("DELETE FROM kinds WHERE id = 1", "DELETE 1"),
                       ("UPDATE ware SET id = 2 WHERE id = 1.5", "UPDATE 1"), ("DELETE FROM ware USING kinds WHERE ware.kind = kinds.id", "DELETE 1")):
-        with Proxy(cluster) as proxy, proxy.connect() as it, proxy.connect() as holder:
+        with owner_of(cluster) as proxy, proxy.connect() as it, proxy.connect() as holder:
             for first in (text, f"BEGIN; {text}"):
                 cluster.run("INSERT INTO kinds VALUES (1) ON CONFLICT DO NOTHING", "INSERT INTO ware VALUES (1.5, 1, 9)")
                 holder.execute("BEGIN")
@@ -440,13 +450,13 @@ def a_publication_of_all_tables_stops_nothing(cluster: Cluster) -> None:
     """PostgreSQL refuses the DELETEs of a table that is published and has no replica identity. Each fold deletes in a journal."""
     stock(cluster).keeper.close()
     cluster.run("CREATE PUBLICATION everything FOR ALL TABLES")
-    with Proxy(cluster) as proxy, proxy.connect() as it:
+    with owner_of(cluster) as proxy, proxy.connect() as it:
         it.execute("UPDATE stock SET pieces = pieces - 1 WHERE id = 1")
         for text in ("BEGIN", "UPDATE stock SET pieces = pieces - 1 WHERE id = 1", "SELECT escrow.hold('h', interval '1 hour')", "COMMIT",
                      "SELECT escrow.take('h')", "DELETE FROM stock WHERE id = 2"):
             it.execute(text.encode())
         wait_until("all is folded", lambda: value(cluster, "SELECT pieces FROM stock WHERE id = 1") == 8)
-    with Proxy(cluster) as proxy, proxy.connect() as it:
+    with owner_of(cluster) as proxy, proxy.connect() as it:
         it.execute("UPDATE stock SET pieces = pieces - 1 WHERE id = 1")
         wait_until("all is folded", lambda: value(cluster, "SELECT pieces FROM stock WHERE id = 1") == 7)
     cluster.run("DROP PUBLICATION everything")

@@ -637,10 +637,13 @@ class Load:
         self.threads.append(threading.Thread(target=repeat))
         self.threads[-1].start()
 
-    def end(self, seconds: float) -> None:
-        """Waits, stops all threads, and fails if one of them failed."""
+    def end(self, seconds: float, **counts: int) -> None:
+        """Waits so long, and until each name has so many steps. Stops all threads then, and fails if one of them failed."""
         self.stop.wait(seconds)
-        self.stop.set()
+        try:
+            wait_until(f"steps {counts}", lambda: self.stop.is_set() or all(self.counts.get(it, 0) > least for it, least in counts.items()))
+        finally:
+            self.stop.set()
         for thread in self.threads:
             thread.join()
         if self.faults:
@@ -691,8 +694,7 @@ def folds_keep_sums(cluster: Cluster) -> None:
     load.add("looks", asks("SELECT pieces FROM escrow.now_stock WHERE id = 1", lambda row: bool(0 <= row[0] <= 8)))
     load.add("late looks", asks("SELECT pieces FROM stock WHERE id = 1", lambda row: bool(0 <= row[0] <= 8)))
     load.add("titles", asks("UPDATE stock SET title = clock_timestamp()::text WHERE id = 1", lambda _: True))
-    load.end(4)
-    assert load.counts["writers"] > 100 and load.counts["folders"] > 50, load.counts
+    load.end(4, writers=100, folders=50)
     owner.fold("stock", 1)
     same(value(cluster, "SELECT pieces FROM stock WHERE id = 1"), 0)
     same(value(cluster, f"SELECT count(*) FROM escrow.journal_{table}"), 0)

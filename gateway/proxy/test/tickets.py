@@ -16,7 +16,7 @@ from typing import Any, List
 
 import psycopg
 
-from clients.servers import TOP, wait_until
+from clients.servers import PATIENCE, TOP, wait_until
 from clients.suite import Part, expect, main
 from proxy.test.harness import Proxy
 from proxy.test.standin import Cluster
@@ -30,6 +30,7 @@ class Shop:
     """A shop that is started again when it was killed."""
 
     def __init__(self, proxy: Proxy, people: int, lasting: str) -> None:
+        self.why = "it has not ended"  # the last reason for which it could not go on
         self.words = ["/usr/bin/python3", "-B", str(SHOP), proxy.dsn(), str(people), lasting]
         self.start()
 
@@ -46,7 +47,7 @@ class Shop:
         """Returns whether it has done its work. It starts again if it could not."""
         status = self.process.poll()
         if status:
-            self.process.communicate()
+            self.why = self.process.communicate()[1][-1000:]
             time.sleep(0.5)
             self.start()
         return status == 0
@@ -79,7 +80,10 @@ def run(people: int, lasting: str, kills: int, seed: int) -> str:
                 else:
                     cluster.kill()
                     cluster.again()
-            wait_until("the shop has ended", shop.has_ended, 60 + people / 5)
+            try:
+                wait_until("the shop has ended", shop.has_ended, (120 + people / 5) * PATIENCE, 0.05)
+            except AssertionError as late:
+                raise AssertionError(f"{late}: {shop.why}") from late
             said = shop.process.communicate()[0]
         finally:
             shop.kill()
@@ -99,6 +103,8 @@ def examine(cluster: Cluster, proxy: Proxy, said: str, people: int) -> None:
                          f"GROUP BY n.id, n.free HAVING n.free + coalesce(sum(o.seats), 0) <> {SEATS}"), [])
     # Each stand gives what is neither sold nor held, and not one seat more.
     with psycopg.connect(proxy.dsn(), autocommit=True) as it:
+        # A shop that was killed may have left a transaction, of whose end PostgreSQL hears later.
+        wait_until("nothing is reserved", lambda: it.execute("SELECT FROM escrow.reservations()").fetchall() == [], pause=0.05)
         it.execute("SELECT escrow.prolong(name, '1 hour') FROM (SELECT DISTINCT name FROM escrow.holds) AS h")
         held = dict(rows(cluster, "SELECT key, -sum(change) FROM escrow.holds GROUP BY key"))
         for stand, free in rows(cluster, "SELECT id, free FROM escrow.now_stands ORDER BY id"):

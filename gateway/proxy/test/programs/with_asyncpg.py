@@ -32,7 +32,7 @@ async def stock(what: str, it: Any, first: int) -> None:
 
 async def main() -> None:
     first = int(sys.argv[1])
-    words: Any = {"host": sys.argv[2], "port": int(sys.argv[3]), "database": sys.argv[4], "user": "clerk", "command_timeout": 30}
+    words: Any = {"host": sys.argv[2], "port": int(sys.argv[3]), "database": sys.argv[4], "user": "clerk", "command_timeout": 120}
     one, two, three = first + 1, first + 2, first + 3
     it = await asyncpg.connect(**words)
     print("one", await it.execute(TAKE, 2, one), await it.execute(TAKE, -1, one), await it.execute(TAKE, 1, first + 98))

@@ -69,11 +69,21 @@ EXCHANGES: List[Tuple[str, List[Tuple[bytes, int]]]] = [
 ]
 
 
+def exactly(stream: "socket.SocketIO", count: int) -> bytes:
+    """Reads so many bytes, which may come in pieces."""
+    found = b""
+    while len(found) < count:
+        more = stream.read(count - len(found))
+        assert more, f"the connection has ended behind {found!r}"
+        found += more
+    return found
+
+
 def replies(stream: "socket.SocketIO") -> Iterator[str]:
     """Reads messages, and says what each is."""
     while True:
-        kind, length = struct.unpack(">cI", stream.read(5))
-        body = stream.read(length - 4)
+        kind, length = struct.unpack(">cI", exactly(stream, 5))
+        body = exactly(stream, length - 4)
         fields = [it[1:].decode() for it in body.split(b"\0") if it[:1] in (b"C", b"M")]
         shown = {b"C": body.decode, b"E": lambda fields=fields: " ".join(fields), b"Z": body.decode}.get(kind, str)()
         if kind not in b"KRN":
@@ -81,7 +91,7 @@ def replies(stream: "socket.SocketIO") -> Iterator[str]:
 
 
 with socket.socket(socket.AF_UNIX) as it:
-    it.settimeout(60)
+    it.settimeout(120)
     it.connect(f"{sys.argv[2]}/.s.PGSQL.{sys.argv[3]}")
     it.sendall(message("", struct.pack(">I", 196_608) + f"user\0clerk\0database\0{sys.argv[4]}\0\0".encode()))
     answers = replies(it.makefile("rb", buffering=0))
