@@ -23,7 +23,7 @@ from pathlib import Path
 from typing import Callable, Dict, FrozenSet, Iterator, List, Optional, Sequence, Tuple
 
 from clients import honest, wire
-from clients.servers import PATIENCE, TRANSACTIONS, Gateway, holds, keeps, resident, wait_until
+from clients.servers import END, PATIENCE, TRANSACTIONS, Gateway, holds, keeps, resident, wait_until
 from clients.suite import Part, expect, main
 from clients.wire import Connection
 
@@ -527,7 +527,8 @@ TAKES: Dict[str, float] = {
     "statements_of_many_tokens": 96,
     "statements_of_many_types": 96,
 }
-LEAVES = 16.0
+# The seconds behind which a busy machine has freed it.
+LEAVES, FREED = 16.0, 30.0 * PATIENCE
 # Those that ask for the large table.
 OF_BIG = ("readers_that_are_never_level", "results_that_nobody_reads", "whole_results", "portals_with_rows_left")
 # No attack may take the machine: past this the gateway gets no memory.
@@ -543,7 +544,7 @@ def attacked(gateway: Gateway, name: str, seconds: float) -> Tuple[float, float,
     if gateway.running().poll() is not None:
         raise AssertionError(f"{name}: the gateway ended with status {gateway.running().poll()}: {gateway.said()[-300:]}")
     most = resident(process) - before
-    end = time.monotonic() + 3.0
+    end = time.monotonic() + FREED
     while holds(process) - before > LEAVES * MB and time.monotonic() < end:
         time.sleep(0.1)
     return most / MB, (holds(process) - before) / MB, said
@@ -607,17 +608,27 @@ def want_of_memory_ends_a_connection() -> None:
             "results_that_nobody_reads",
         ):
             finish(begin(name, gateway.socket, 2.0, ALL))
-            expect(gateway.running().poll(), None, f"{name}: the gateway ended: {gateway.said()[-300:]}")
-            with Connection(gateway.socket) as it:
-                expect(len(it.rows("SELECT * FROM hot")), honest.ROWS, name)
+            # What the attackers had is freed in turns, and until then others may get no memory either.
+            wait_until(f"behind {name} others are served", partial(serves, gateway))
         gateway.expect_clean_end()
+
+
+def serves(gateway: Gateway) -> bool:
+    """Returns whether a client gets its rows. Fails if the gateway has ended."""
+    expect(gateway.running().poll(), None, f"the gateway ended: {gateway.said()[-300:]}")
+    try:
+        with Connection(gateway.socket) as it:
+            return len(it.rows("SELECT * FROM hot")) == honest.ROWS
+    except (wire.Ended, AssertionError, ConnectionError):
+        return False
 
 
 # Time
 
 # The milliseconds that the 99th of 100 statements of honest clients may take beside an attack in the gate, also if the server has to read the large
-# table for it, and how many clients they are there.
+# table for it, and how many clients they are there. A busy machine takes longer now and then: what stops others does so each time of as many.
 COARSE, COARSE_OF_BIG, HONEST = 500.0 * PATIENCE, 1500.0 * PATIENCE, 39
+TRIES = 3
 
 
 @PART.alone
@@ -627,30 +638,37 @@ def others_are_served_beside_each_attack() -> None:
         resource.prlimit(gateway.running().pid, resource.RLIMIT_AS, (MOST_MEMORY, MOST_MEMORY))
         honest.prepare(gateway.socket)
         fill_big(gateway.socket, 1000, 200)
-        wrong = []
-        for name in ATTACKS:
-            attacker = begin(name, gateway.socket, 2.0)
-            measured = honest.result(honest.apart(gateway.socket, HONEST, 1.2))
-            said = finish(attacker)
-            if measured.p99 > (COARSE_OF_BIG if name in OF_BIG else COARSE) or said:
-                wrong.append(f"{name}: {measured.shown()} {said}")
-        if wrong:
-            raise AssertionError("\n".join(wrong))
+        found = {name: [what] for name in ATTACKS if (what := stops_others(gateway, name))}
+        for _ in range(1, TRIES):
+            found = {name: [*before, what] for name, before in found.items() if (what := stops_others(gateway, name))}
+        if found:
+            raise AssertionError("\n".join(f"{name}: {'; '.join(each)}" for name, each in found.items()))
         gateway.expect_clean_end()
+
+
+def stops_others(gateway: Gateway, name: str) -> str:
+    """Returns how an attack stops others, or nothing."""
+    attacker = begin(name, gateway.socket, 2.0)
+    measured = honest.result(honest.apart(gateway.socket, HONEST, 1.2))
+    said = finish(attacker)
+    return f"{measured.shown()} {said}" if measured.p99 > (COARSE_OF_BIG if name in OF_BIG else COARSE) or said else ""
 
 
 @PART.served
 def a_new_client_beside_half_open_ones(gateway: Gateway) -> None:
     """300 connections without a startup keep a new one out for no second."""
-    attacker = begin("connections_half_open", gateway.socket, 6.0)
-    time.sleep(1.5)
-    longest = 0.0
-    for _ in range(10):
-        asked = time.monotonic()
-        Connection(gateway.socket).close()
-        longest = max(longest, time.monotonic() - asked)
-    finish(attacker)
-    expect(longest < 1.0 * PATIENCE, True, f"{longest:.2f} s")
+    longest: List[float] = []
+    while not longest or (longest[-1] >= 1.0 * PATIENCE and len(longest) < TRIES):
+        attacker = begin("connections_half_open", gateway.socket, 6.0)
+        time.sleep(1.5)
+        took = 0.0
+        for _ in range(10):
+            asked = time.monotonic()
+            Connection(gateway.socket).close()
+            took = max(took, time.monotonic() - asked)
+        longest.append(took)
+        finish(attacker)
+    expect(longest[-1] < 1.0 * PATIENCE, True, f"{longest} s")
 
 
 # Faults
@@ -697,7 +715,7 @@ def a_rollback_that_is_refused_for_a_client_that_has_gone() -> None:
             it = Connection(gateway.socket)
             it.do("BEGIN", "UPDATE stock SET pieces = pieces - 1 WHERE id = 5", "COMMIT")
             others.append(it)
-        wait_until("nothing is reserved", lambda: watch.rows("SHOW JOURNAL") == [], 20)
+        wait_until("nothing is reserved", lambda: watch.rows("SHOW JOURNAL") == [])
         expect(watch.rows("SELECT * FROM stock")[:2], [UNCHANGED, ("5", str(100 - len(others)), "1.50", "tea")])
         closed([*others, watch])
         gateway.expect_clean_end()
@@ -724,7 +742,7 @@ def a_rollback_that_is_never_done() -> None:
         with Connection(gateway.socket) as holder:
             holder.do("BEGIN", TAKE.format(7))
         expect([it.fields()["C"] for it in watch.until_end()], ["57P01"])
-        expect(gateway.running().wait(20.0 * PATIENCE), 5)
+        expect(gateway.running().wait(END), 5)
         expect("has refused for 10 s to roll back" in gateway.said(), True, gateway.said())
 
 
@@ -745,7 +763,7 @@ def a_rollback_that_is_refused_behind_an_error() -> None:
             except (wire.Ended, AssertionError, OSError):
                 wanted = "100"  # the client was told
             it.close()
-            wait_until("nothing is reserved", partial(holds_nothing, watch), 20)
+            wait_until("nothing is reserved", partial(holds_nothing, watch))
             expect(watch.rows("SELECT * FROM stock")[0][1], wanted, f"{count} refused")
             watch.close()
             gateway.expect_clean_end()

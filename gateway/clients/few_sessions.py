@@ -15,7 +15,7 @@ from dataclasses import dataclass
 from typing import Callable, Dict, List, Tuple
 
 from clients import wire
-from clients.limits import AT_ONCE, STOCK, TAKE, last_words, with_stock
+from clients.limits import STOCK, TAKE, last_words, with_stock
 from clients.servers import END, SESSIONS, TRANSACTIONS, Gateway, holds, wait_until
 from clients.suite import Part, expect, load, main
 from clients.wire import Connection
@@ -24,6 +24,8 @@ PART = Part("few_sessions")
 # The seconds that a statement waits for a session.
 WAIT = 1.0
 NO_SESSION = ["ERROR 53300", "ready E"]
+# How often is tried what this machine may miss by standing still for a while. What is wrong fails each time.
+TRIES = 5
 SESSIONS_OF_ALL = "SELECT pid, session, state FROM pg_stat_activity WHERE session IS NOT NULL ORDER BY session"
 
 
@@ -73,14 +75,13 @@ def beside_as_many_holders_as_there_may_be(gateway: Gateway) -> None:
     """Whoever wants to hold too waits for a second and is refused. All else is served at once."""
     watch = with_stock(gateway, 1000)
     many = holders(gateway, TRANSACTIONS)
-    begin = time.monotonic()
     reads = Connection(gateway.socket)
     reads.do("BEGIN", "SELECT * FROM stock", "COMMIT", "SHOW BOUNDS stock WHERE id = 1", "INSERT INTO stock VALUES (2, 5)", "DELETE FROM stock WHERE id = 2")
     for _ in range(20):
         reads.do(TAKE.format(1))
     reads.send(wire.run(TAKE.format(1)), wire.sync())
     expect([it.shown() for it in reads.until_ready()][-2:], ["complete UPDATE 1", "ready I"])
-    expect(time.monotonic() - begin < AT_ONCE, True, "at once")
+    # None of them has waited for a session: none was free, and so it would have been refused.
     lates = [Connection(gateway.socket) for _ in range(3)]
     begin = time.monotonic()
     for late, statement in zip(lates, (TAKE.format(1), "SAVEPOINT a")):
@@ -98,34 +99,63 @@ def beside_as_many_holders_as_there_may_be(gateway: Gateway) -> None:
     for _ in range(2):
         expect([it.shown() for it in lates[2].until_ready()], ["ERROR 53300", "ready I"])
     expect(time.monotonic() - begin >= 2 * WAIT, True, "it waits twice")
-    # A session that comes in time is its.
-    late = lates[0]
+    tries = 1
+    while not comes_in_time(lates[0], many[0]):
+        tries += 1
+        expect(tries <= TRIES, True, "a session that comes in time is its")
+    for it in many[1:]:
+        it.do("ROLLBACK")
+    expect(watch.rows("SELECT * FROM stock"), [("1", str(1000 - 20 - 1 - tries - 1))])
+
+
+def comes_in_time(late: Connection, holder: Connection) -> bool:
+    """Has a client wait for a session while a holder commits. Returns whether it gets the holder's, which comes too late if this machine stands still for as
+    long as it waits: then the holder holds again."""
     late.do("BEGIN")
     late.send(wire.query(TAKE.format(1)))
     time.sleep(WAIT / 4)
-    many.pop().do("COMMIT")
-    expect([it.shown() for it in late.until_ready()], ["complete UPDATE 1", "ready T"])
+    holder.do("COMMIT")
+    found = [it.shown() for it in late.until_ready()]
+    if found == NO_SESSION:
+        late.do("ROLLBACK")
+        holder.do("BEGIN", TAKE.format(1))
+        return False
+    expect(found, ["complete UPDATE 1", "ready T"])
     late.do("COMMIT")
-    for it in many:
-        it.do("ROLLBACK")
-    expect(watch.rows("SELECT * FROM stock"), [("1", str(1000 - 20 - 1 - 2))])
+    return True
 
 
 @PART.served
 def those_who_wait_come_in_their_order(gateway: Gateway) -> None:
     watch = with_stock(gateway, 1000)
+    expect(any(come_in_order(gateway, watch) for _ in range(TRIES)), True, "each gets a session in time")
+
+
+def come_in_order(gateway: Gateway, watch: Connection) -> bool:
+    """Has five clients wait for a session, of whom one leaves, while as many holders end. Fails unless they get a session in their order. Returns False if
+    one of them was refused: this machine may have stood still for as long as it waits."""
+    wait_until("nobody has a session", lambda: watch.rows(SESSIONS_OF_ALL) == [])
     many = holders(gateway, TRANSACTIONS)
     waiting = [Connection(gateway.socket) for _ in range(5)]
+    opened = [*many, *waiting]
     for it in waiting:
         it.do("BEGIN")
     for it in waiting:
         it.send(wire.query(TAKE.format(1)))
         watch.do("COMMIT")  # so that the gateway has read it
     waiting.pop(1).close()
-    for place, it in enumerate(waiting):
-        many.pop().close()
-        expect([said.shown() for said in it.until_ready()], ["complete UPDATE 1", "ready T"], f"place {place}")
-        it.do("COMMIT")
+    try:
+        for place, it in enumerate(waiting):
+            many.pop().close()
+            found = [said.shown() for said in it.until_ready()]
+            if found == NO_SESSION:
+                return False
+            expect(found, ["complete UPDATE 1", "ready T"], f"place {place}")
+            it.do("COMMIT")
+        return True
+    finally:
+        for it in opened:
+            it.close()
 
 
 @dataclass(frozen=True)
@@ -143,6 +173,7 @@ class End:
 
 
 BROKEN = TAKE.format(10_000)
+HELD = wire.query(f"BEGIN; {TAKE.format(1)}")
 ENDS = [
     End("COMMIT", (wire.query("COMMIT"),), ("complete COMMIT", "ready I"), taken=1),
     End("ROLLBACK", (wire.query("ROLLBACK"),), ("complete ROLLBACK", "ready I")),
@@ -167,8 +198,9 @@ ENDS = [
     End("Terminate", (wire.terminate(),)),
     End("Terminate amid a statement", (wire.query(TAKE.format(1)), wire.terminate()), ("complete UPDATE 1", "ready T")),
     End("a message that is none", (wire.message("?", b""),), fatal="08P01"),
-    End("the limit of idleness", (), fatal="25P03", options="-c idle_in_transaction_session_timeout=100"),
-    End("the limit of a transaction", (), fatal="25P04", options="-c transaction_timeout=100"),
+    # In one query, so that nothing of it comes behind its limit.
+    End("the limit of idleness", (HELD,), fatal="25P03", begin=(), options="-c idle_in_transaction_session_timeout=100"),
+    End("the limit of a transaction", (HELD,), fatal="25P04", begin=(), options="-c transaction_timeout=100"),
 ]
 
 
@@ -178,7 +210,7 @@ def expect_end(gateway: Gateway, end: End) -> None:
     it.do(*end.begin)
     it.send(*end.messages)
     if end.fatal:
-        expect(last_words(it)[0], end.fatal, end.name)
+        expect([said.shown() for said in it.until_end()][-1:], [f"FATAL {end.fatal}"], end.name)
     else:
         found: List[str] = []
         while len(found) < len(end.found):
@@ -218,9 +250,9 @@ def sessions_come_back_from_who_vanishes_or_is_ended(gateway: Gateway) -> None:
         watch.do("COMMIT")
     process = watch.rows(SESSIONS_OF_ALL)[0][0]
     expect(watch.rows(f"SELECT pg_terminate_backend({process})"), [("t",)])
-    ended = [it for it in many if is_ended(it)]
-    expect(len(ended), 1)
-    many.remove(ended[0])
+    ended = first_ended(many)
+    expect(ended.until_end()[-1].shown(), "FATAL 57P01")
+    many.remove(ended)
     with Connection(gateway.socket, ready=False) as cancel:
         process = watch.rows(SESSIONS_OF_ALL)[0][0]
         cancel.send(wire.request(wire.CANCEL_REQUEST, int(process).to_bytes(4, "big") + bytes(4)))
@@ -231,16 +263,14 @@ def sessions_come_back_from_who_vanishes_or_is_ended(gateway: Gateway) -> None:
     expect_all_free(gateway)
 
 
-def is_ended(it: Connection) -> bool:
-    """Returns whether the server has ended a connection, which a short wait shows."""
-    it.socket.settimeout(0.05)
-    try:
-        it.until_end()
-        return True
-    except OSError:
-        return False
-    finally:
-        it.socket.settimeout(60.0)
+def first_ended(connections: List[Connection]) -> Connection:
+    """Waits until the server says something on one of connections that have asked nothing. Fails unless that is one alone."""
+    with selectors.DefaultSelector() as ready:
+        for it in connections:
+            ready.register(it.socket, selectors.EVENT_READ, it)
+        found: List[Connection] = [key.data for key, _ in ready.select(END)]
+    expect(len(found), 1, "connections that are ended")
+    return found[0]
 
 
 @PART.alone
@@ -385,7 +415,9 @@ class Walk:
         for _ in range(CLIENTS):
             self.enter()
         while self.ready.get_map():
-            for key, _ in self.ready.select(END):
+            found = self.ready.select(END)
+            expect(bool(found), True, f"one of {len(self.ready.get_map())} clients is answered within {END:.0f} s")
+            for key, _ in found:
                 it: Walker = key.data
                 before = it.status
                 it.finish()
@@ -427,6 +459,14 @@ def working(gateway: Gateway) -> List[Connection]:
 def a_connection_that_rests_keeps_little() -> None:
     """What the gateway grows by for more of them, when as many have worked before and have given back what they don't need."""
     resource.setrlimit(resource.RLIMIT_NOFILE, (4 * RESTING, resource.getrlimit(resource.RLIMIT_NOFILE)[1]))
+    grown: List[float] = []
+    while not grown or (grown[-1] > MOST_OF_ONE and len(grown) < TRIES):  # a gateway that comes late to it has given back less
+        grown.append(grown_by_one())
+    expect(grown[-1] <= MOST_OF_ONE, True, f"{grown} bytes for a connection")
+
+
+def grown_by_one() -> float:
+    """Returns the bytes that a gateway grows by for a further connection."""
     with Gateway({"bank": None}) as gateway:
         watch, process = with_stock(gateway, 1_000_000), gateway.running().pid
         found = working(gateway)
@@ -434,13 +474,13 @@ def a_connection_that_rests_keeps_little() -> None:
         before = holds(process)
         found += working(gateway)
         grown = (holds(process) - before) / RESTING
-        expect(grown <= MOST_OF_ONE, True, f"{grown:.0f} bytes for a connection")
         # They go on as if they had not rested.
         time.sleep(RESTED)
         for it in found[::10]:
             expect(it.extended(wire.run(TAKE.format(1)))[-2:], ["complete UPDATE 1", "ready I"])
         expect(watch.rows("SELECT * FROM stock"), [("1", str(1_000_000 - 2 * len(found) - len(found[::10])))])
         gateway.expect_clean_end()
+        return grown
 
 
 # Thousands of holders, by hand

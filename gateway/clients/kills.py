@@ -11,6 +11,7 @@ from pathlib import Path
 from typing import Callable, Dict, List
 
 from clients.few_sessions import expect_all_free
+from clients.limits import has_ended
 from clients.servers import END, IN_A_STORE, Gateway, stored, wait_until
 from clients.suite import Part, expect, load, main
 from clients.wire import Connection
@@ -39,9 +40,14 @@ class Writers:
         return collections.Counter(map(int, self.file.read_text().split() if self.file.exists() else []))
 
     def await_some(self, count: int) -> None:
-        """Waits until so many transactions more are acknowledged."""
+        """Waits until so many transactions more are acknowledged, and at least one of each writer: all of them have connected."""
         goal = sum(self.acknowledged().values()) + count
-        wait_until(f"{count} transactions are acknowledged", lambda: sum(self.acknowledged().values()) >= goal)
+
+        def is_reached() -> bool:
+            found = self.acknowledged()
+            return sum(found.values()) >= goal and len(found) == WRITERS
+
+        wait_until(f"{count} transactions are acknowledged, and one of each writer", is_reached)
 
     def await_end(self) -> None:
         """Waits until all of its processes have ended, which they do once their connections have."""
@@ -98,11 +104,6 @@ def expect_after_kills(kill: Callable[[Gateway], None]) -> None:
                 expect(it.rows("SHOW JOURNAL"), [])
                 expect([" | ".join(row) for row in it.rows("SELECT * FROM stock")], rows)
         gateway.expect_clean_end()
-
-
-def has_ended(process: int) -> bool:
-    """Returns whether a process has ended."""
-    return not Path(f"/proc/{process}").exists()
 
 
 @PART.alone

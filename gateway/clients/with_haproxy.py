@@ -5,7 +5,7 @@ import shutil
 import socket
 from typing import Dict
 
-from clients.servers import Gateway, Server, free_port, wait_until
+from clients.servers import END, Gateway, Server, free_port, wait_until
 from clients.suite import Part, main
 
 PART = Part("with_haproxy")
@@ -44,6 +44,7 @@ class Haproxy(Server):
     def state(self) -> str:
         """Returns the state of its server, as `UP` or `DOWN`."""
         with socket.socket(socket.AF_UNIX) as it:
+            it.settimeout(END)
             it.connect(str(self.control))
             it.sendall(b"show stat\n")
             said = b"".join(iter(lambda: it.recv(65536), b"")).decode()
@@ -57,9 +58,9 @@ class Haproxy(Server):
 def is_up_while_it_serves() -> None:
     with Gateway() as gateway, Haproxy(gateway) as haproxy:
         # It begins as UP without a check, which then says what it found.
-        wait_until("UP by a check of layer 7", lambda: haproxy.state() == "UP L7OK", 15)
+        wait_until("UP by a check of layer 7", lambda: haproxy.state() == "UP L7OK", pause=0.05)
         gateway.expect_clean_end()
-        wait_until("DOWN", lambda: haproxy.state().startswith("DOWN"), 15)
+        wait_until("DOWN", lambda: haproxy.state().startswith("DOWN"), pause=0.05)
 
 
 if __name__ == "__main__":

@@ -21,8 +21,8 @@ UPDATE stock SET pieces = pieces - 1 WHERE id = :id;
 UPDATE stock SET pieces = pieces + 1 WHERE id = 21;
 COMMIT;
 """
-# The seconds within which a pgbouncer with packaging's file serves again behind a restart. By default it waits for 15.
-SOON = 8.0
+# The seconds within which a pgbouncer with packaging's file serves again once the gateway does. By default it waits for 15.
+SOON = 10.0
 
 
 class Packaged(Pgbouncer):
@@ -70,11 +70,11 @@ def a_restart_behind_pgbouncer() -> None:
         expect(bouncer.psql("SHOW server_encoding").stdout, "UTF8\n")
         gateway.expect_clean_end()
         with ThreadPoolExecutor(1) as threads:
-            begin = time.monotonic()
             waiting = threads.submit(bouncer.psql, "SHOW server_encoding")
             wait_until("pgbouncer has met that the gateway is away", lambda: "connect failed" in bouncer.said())
             gateway.start()
             gateway.socket.chmod(0o666)  # pgbouncer runs as another user
+            begin = time.monotonic()
             expect(waiting.result().stdout, "UTF8\n")
             expect(time.monotonic() - begin < SOON, True, f"after {time.monotonic() - begin:.1f} s")
         gateway.expect_clean_end()

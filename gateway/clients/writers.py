@@ -31,7 +31,7 @@ class Writer:
 
     def __init__(self, path: Path, number: int) -> None:
         self.number = number
-        self.connection = wire.Connection(path, timeout=30)
+        self.connection = wire.Connection(path)
         self.turn = -1
         self.received = b""
 
