@@ -116,7 +116,7 @@ class Machines(Scene):
 
     def is_installed(self) -> bool:
         """Installs schema escrow. Returns whether it is there."""
-        words = [PROXY, "install", "--apply", "--postgres", self.cluster.dsn()]
+        words = [str(PROXY), "install", "--apply", "--postgres", self.cluster.dsn()]
         return subprocess.run(words, stdout=subprocess.DEVNULL, timeout=READY, check=False).returncode == 0
 
     def dsns(self, user: str = BUYER) -> List[str]:

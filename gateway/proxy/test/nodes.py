@@ -133,7 +133,8 @@ class Etcd(OnHost):
         client, peer = f"http://{self.address}", f"http://{self.peer}"
         members = ",".join(f"{it.host.name}=http://{it.peer}" for it in self.members)
         # What was written outlives the process without a flush, for which a busy machine may need longer than a leader's place lasts.
-        own = {"UNSAFE_NO_FSYNC": "true", "NAME": self.host.name, "DATA_DIR": str(self.folder / "data"), "LISTEN_CLIENT_URLS": client, "ADVERTISE_CLIENT_URLS": client,
+        own = {"UNSAFE_NO_FSYNC": "true",
+               "NAME": self.host.name, "DATA_DIR": str(self.folder / "data"), "LISTEN_CLIENT_URLS": client, "ADVERTISE_CLIENT_URLS": client,
                "LISTEN_PEER_URLS": peer, "INITIAL_ADVERTISE_PEER_URLS": peer, "INITIAL_CLUSTER": members}
         self.launch(["etcd"], env={**os.environ, **settings("etcd.env"), **{f"ETCD_{name}": value for name, value in own.items()}})
 
