@@ -7,11 +7,10 @@ import pty
 import re
 import select
 import subprocess
-import time
 from concurrent.futures import ThreadPoolExecutor
 from typing import Callable, List, Sequence, Tuple
 
-from clients.servers import END, PATIENCE, Gateway, Postgres
+from clients.servers import END, Gateway, Postgres
 from clients.suite import Part, expect, main
 from clients.wire import Connection
 
@@ -59,7 +58,8 @@ KEYS = [
     "\\dt st",
 ]
 TAKE = "UPDATE stock SET pieces = pieces - 1 WHERE id = 1;"
-QUIET, LONGEST = 0.25 * PATIENCE, 20.0 * PATIENCE
+# A letter that is typed behind TAB, and what psql prints behind a line that is taken back: when they are shown, nothing comes any more.
+MARK, OVER = "@", "over"
 
 
 def psql(dsn: str, *commands: str) -> List[str]:
@@ -133,21 +133,11 @@ class Terminal:
         os.close(self.control)
 
     def until(self, end: str) -> str:
-        """Reads up to a prompt behind which nothing comes for a while."""
-        found, last, limit = "", time.monotonic(), time.monotonic() + LONGEST
-        while time.monotonic() < limit:
-            ready, _, _ = select.select([self.control], [], [], 0.05)
-            if ready:
-                found += os.read(self.control, 65536).decode(errors="replace")
-                last = time.monotonic()
-            elif found.endswith(end) and time.monotonic() - last >= 0.05:
-                return found
-        raise AssertionError(f"no {end!r}: {found[-500:]!r}")
-
-    def quiet(self) -> str:
-        """Reads until nothing comes for a while."""
+        """Reads up to what comes last."""
         found = ""
-        while select.select([self.control], [], [], QUIET)[0]:
+        while not found.endswith(end):
+            if not select.select([self.control], [], [], END)[0]:
+                raise AssertionError(f"not within {END:.0f} s: psql shows {end!r}: {found[-500:]!r}")
             found += os.read(self.control, 65536).decode(errors="replace")
         return found
 
@@ -158,12 +148,10 @@ class Terminal:
 
     def completed(self, keys: str, end: str = "<> ") -> List[str]:
         """Types keys and TAB twice, and returns the words that are shown. The line is then taken back."""
-        os.write(self.control, f"{keys}\t".encode())
-        found = self.quiet()
-        os.write(self.control, b"\t")
-        found += self.quiet()
-        os.write(self.control, b"\x15\r")
-        self.until(end)
+        os.write(self.control, f"{keys}\t\t{MARK}".encode())
+        found = self.until(MARK).rstrip(MARK)
+        os.write(self.control, f"\x15\\echo {OVER}\r".encode())
+        self.until(f"\n{OVER}\r\n{end}")
         return re.sub(r"[\x07\x08]+|\x1b\[[0-9;?]*[a-zA-Z]", " ", found).split()
 
 
