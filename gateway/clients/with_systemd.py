@@ -25,6 +25,10 @@ JOURNALD = Path("/lib/systemd/systemd-journald")
 UNIT = "escrowd-pg.service"
 # A user that the machine need not have.
 USER, ID = "escrowd", 64999
+# The seconds between two questions, each of which starts a process.
+PAUSE = 0.1
+# What the gateway says last.
+LAST = "all stores are closed"
 OPTIONS = "--log-level debug --metrics /run/escrowd/escrowd-pg.prom"
 # The lines that a status of a process has while a filter of system calls is in force, without new privileges.
 CONFINED = ["NoNewPrivs:\t1", "Seccomp:\t2"]
@@ -88,7 +92,7 @@ class Manager(Server):
             (self.folder / file).write_text(Path("/etc", file).read_text(encoding="utf-8") + line)
         words = ["unshare", "--mount", "--pid", "--fork", "--kill-child", "--mount-proc", "sh", "-c", SETUP, "sh", self.folder, self.folder.name]
         self.launch(words, env=ENVIRONMENT)
-        wait_until("the manager runs, or cannot", lambda: self.running().poll() is not None or self.is_up())
+        wait_until("the manager runs, or cannot", lambda: self.running().poll() is not None or self.is_up(), pause=PAUSE)
         if self.running().poll() is not None:
             raise Skipped(f"this machine lets no systemd run in a namespace: {self.said().strip()[-300:]}")
         self.is_begun = True
@@ -100,7 +104,7 @@ class Manager(Server):
     def kill(self) -> None:
         super().kill()
         if self.process is not None and not self.is_removed() and self.is_begun:
-            wait_until("the control group is empty", self.is_removed)
+            wait_until("the control group is empty", self.is_removed, pause=PAUSE)
 
     def is_removed(self) -> bool:
         """Removes the control group, if no process is in it. Returns whether it is gone."""
@@ -128,8 +132,8 @@ class Manager(Server):
         return dict(line.split("=", 1) for line in done.stdout.splitlines())
 
     def journal(self) -> List[Dict[str, str]]:
-        """Returns the lines of the gateway in the journal."""
-        done = self.inside("journalctl", "--output=json", "--no-pager", "_COMM=escrowd-pg")
+        """Returns the lines of the gateway in the journal, which reads them when it has time."""
+        done = self.inside("journalctl", "--output=json", "--no-pager", "SYSLOG_IDENTIFIER=escrowd-pg")
         return [json.loads(line) for line in done.stdout.splitlines()]
 
     def path(self, path: str) -> Path:
@@ -191,7 +195,7 @@ def a_service_that_is_killed() -> None:
             it.do(STOCK, "INSERT INTO stock VALUES (1, 9)", TAKE.format(2))
         for restarts, name in ((1, "escrowd-pg"), (2, "escrowd")):
             manager.inside("sh", "-c", f"kill -KILL $(pgrep -x {name})")
-            wait_until(f"a start behind the end of {name}", partial(has_restarted, manager, restarts))
+            wait_until(f"a start behind the end of {name}", partial(has_restarted, manager, restarts), pause=PAUSE)
             expect_pieces(manager, 7)
         manager.do("stop")
         expect([it.name for it in manager.path("/var/lib/escrowd").iterdir()], ["shop.db"])
@@ -210,6 +214,7 @@ def what_the_service_shows() -> None:
         expect(modes, {"/run/escrowd": "0o755", "/run/escrowd/escrowd-pg.prom": "0o644", "/run/escrowd/.s.PGSQL.5432": "0o660",
                        "/var/lib/escrowd": "0o700"})
         manager.do("stop")
+        wait_until("the journal has the last lines", lambda: any(line["MESSAGE"] == LAST for line in manager.journal()), pause=PAUSE)
         told = {line["MESSAGE"]: line["PRIORITY"] for line in manager.journal()}
         expect(told.get("serving shop at /run/escrowd/.s.PGSQL.5432"), "6", str(told))
         expect([told[line] for line in told if line.startswith("shop: connection 1 of user ")], ["7"], str(told))
