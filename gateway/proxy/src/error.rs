@@ -48,6 +48,9 @@ pub enum Error {
     /// Nobody has become the owner in time.
     #[error("no escrowd-proxy serves reservations yet")]
     NoOwner,
+    /// PostgreSQL has not answered a greeting in time.
+    #[error("PostgreSQL does not answer")]
+    Silent,
     /// What a note answered is not what PostgreSQL's function answers.
     #[error("an answer that no note gives")]
     Forged,
@@ -64,7 +67,7 @@ impl Error {
     pub fn fatal(&self) -> Option<Vec<u8>> {
         let code = match self {
             Error::OwnName | Error::OwnText => "42501",
-            Error::NotOwner | Error::NoOwner | Error::Ended => "57P01",
+            Error::NotOwner | Error::NoOwner | Error::Silent | Error::Ended => "57P01",
             Error::Forged | Error::Stray(_) => "08P01",
             _ => return None,
         };

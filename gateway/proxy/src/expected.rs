@@ -823,6 +823,53 @@ mod tests {
     }
 
     #[test]
+    fn an_error_amid_a_copy_leaves_the_syncs_behind_its_data() {
+        // What PostgreSQL answers to the two Syncs: it has ignored the first one, or a trigger failed before it read that.
+        for (what, ready) in [("data", 1), ("a trigger", 2)] {
+            let mut track = started();
+            track.expect(Expect::Execute);
+            track.expect(Expect::Sync);
+            track.copy_goes_on();
+            track.expect(Expect::Sync);
+            track.expect(Expect::Execute);
+            assert_eq!(track.reply(b'G', b""), Reply::Pass);
+            let (skips_own, moved) = (false, 0);
+            assert_eq!(track.reply(b'E', b""), Reply::Failed { skips_own, moved });
+            assert_eq!(track.reply(b'Z', b"I"), Reply::Ready(Status::Idle));
+            track.ready(Status::Idle);
+            for _ in 1..ready {
+                assert_eq!(track.reply(b'Z', b"I"), Reply::Pass, "{what}");
+            }
+            let completed = Reply::Completed(Tag::Plain);
+            assert_eq!(track.reply(b'C', b"SELECT 1\0"), completed, "{what}");
+            assert!(track.is_quiet());
+        }
+    }
+
+    #[test]
+    fn postgres_that_waits_for_data_serves_nothing_else() {
+        let mut track = started();
+        for is_last in [false, true] {
+            track.expect(Expect::Query);
+            assert!(!track.is_settled() && !track.is_deaf());
+            assert_eq!(track.reply(b'G', b""), Reply::Pass);
+            assert!(track.is_settled() && track.is_deaf());
+            if is_last {
+                let (skips_own, moved) = (false, 0);
+                assert_eq!(track.reply(b'E', b""), Reply::Failed { skips_own, moved });
+                assert!(!track.is_settled() && !track.is_deaf());
+                return;
+            }
+            track.copy_goes_on();
+            assert!(track.is_deaf());
+            track.copy_ends();
+            assert!(!track.is_settled() && !track.is_deaf());
+            track.reply(b'C', b"COPY 1\0");
+            track.ready(Status::Idle);
+        }
+    }
+
+    #[test]
     fn a_copy_that_is_sent_at_once_keeps_the_sync_behind_it() {
         let mut track = started();
         track.expect(Expect::Execute);

@@ -44,6 +44,11 @@ pub struct Frames {
 }
 
 impl Frames {
+    /// Returns whether the message whose part came last is not whole.
+    pub fn is_amid(&self) -> bool {
+        self.rest > 0
+    }
+
     /// Takes the next piece out of `input`, or nothing if more bytes have to come.
     pub fn next(&mut self, input: &mut BytesMut) -> Result<Option<Piece>, BadLength> {
         let is_first = self.rest == 0;

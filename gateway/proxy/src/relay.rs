@@ -24,7 +24,7 @@ use crate::protocol::{Connection, Ownership};
 use crate::replies::Replies;
 use crate::requests::Requests;
 use crate::sasl;
-use crate::stream::Stream;
+use crate::stream::{Outgoing, Stream};
 use crate::target::{LoginError, Target};
 use crate::tls::{self, Acceptor};
 
@@ -33,6 +33,9 @@ pub const STARTUP: Duration = Duration::from_secs(10);
 
 /// The bytes that are read at once, and the most that are kept unsent.
 pub const CHUNK: usize = 65_536;
+
+/// How long a client may take to what it was sent last, once its connection has ended.
+const FAREWELL: Duration = Duration::from_secs(60);
 
 /// What the proxy serves clients with.
 #[derive(Clone)]
@@ -54,6 +57,17 @@ pub struct Shared {
     pub changed: Notify,
     is_engaged: AtomicBool,
     waits: AtomicBool,
+    is_writing: AtomicBool,
+    has_turn: AtomicBool,
+}
+
+/// The turn of a connection, for which others wait. While it has it, it waits for nothing of its client's.
+pub struct Turn<'a>(&'a Shared);
+
+impl Drop for Turn<'_> {
+    fn drop(&mut self) {
+        self.0.has_turn.store(false, Ordering::Relaxed);
+    }
 }
 
 impl Shared {
@@ -63,6 +77,8 @@ impl Shared {
             changed: Notify::new(),
             is_engaged: AtomicBool::new(false),
             waits: AtomicBool::new(true),
+            is_writing: AtomicBool::new(false),
+            has_turn: AtomicBool::new(false),
         }
     }
 
@@ -94,6 +110,32 @@ impl Shared {
     /// Returns whether a COMMIT waits for its fold.
     pub fn waits(&self) -> bool {
         self.waits.load(Ordering::Relaxed)
+    }
+
+    /// Whether something is being written to the client, which may take nothing.
+    pub fn set_writing(&self, is_writing: bool) {
+        self.is_writing.store(is_writing, Ordering::Relaxed);
+    }
+
+    /// Waits until nothing is being written to the client.
+    pub async fn until_written(&self) {
+        while self.is_writing.load(Ordering::Relaxed) {
+            self.changed.notified().await;
+        }
+    }
+
+    /// Begins a turn for which others wait. Nothing is written to the client up to its end. None: something is being written.
+    pub fn turn(&self) -> Option<Turn<'_>> {
+        if self.is_writing.load(Ordering::Relaxed) {
+            return None;
+        }
+        self.has_turn.store(true, Ordering::Relaxed);
+        Some(Turn(self))
+    }
+
+    /// Returns whether others wait for this connection.
+    pub fn has_turn(&self) -> bool {
+        self.has_turn.load(Ordering::Relaxed)
     }
 }
 
@@ -267,10 +309,11 @@ async fn reserve(
     (input, output): (BytesMut, BytesMut),
     service: &Service,
 ) -> Result<(), Error> {
-    let (from_client, mut to_client) = client.split()?;
+    let (from_client, to_client) = client.split()?;
     let (from_server, to_server) = server.split()?;
+    let mut to_client = Outgoing::new(to_client);
     let ends = service.hub.open();
-    let _open = Open(&service.hub, ends.connection);
+    let open = Open(&service.hub, ends.connection);
     let shared = Shared::new();
     let (own, replies) = unbounded_channel();
     let (resume, resumed) = unbounded_channel();
@@ -293,19 +336,19 @@ async fn reserve(
         own,
         resumed,
         fold_wait: service.fold_wait,
-        out: Vec::new(),
         tag: Bytes::new(),
         row: None,
     };
     let ended = tokio::select! {
-        ended = first_end(requests.run(input), answers.run(output)) => ended,
+        ended = until_end(requests.run(input), answers.run(output)) => ended,
         _ = ends.end.notified() => Err(Error::Ended),
     };
-    if let Some(bytes) = ended.as_ref().err().and_then(Error::fatal) {
-        // The client may be gone.
-        let _ = to_client.write_all(&bytes).await;
-        let _ = to_client.shutdown().await;
-    }
+    // What it has reserved waits no longer for a client that may take nothing.
+    drop(open);
+    let last = ended.as_ref().err().and_then(Error::fatal);
+    let farewell = to_client.end(last.as_deref().unwrap_or_default());
+    // The client may be gone.
+    let _ = timeout(FAREWELL, farewell).await;
     ended
 }
 
@@ -320,23 +363,22 @@ async fn relay(
     let (from_server, to_server) = server.split()?;
     let there = pass(from_client, to_server, input);
     let back = pass(from_server, to_client, output);
-    first_end(there, back).await
+    until_end(there, back).await
 }
 
-/// Waits for the first end. What PostgreSQL has sent before its own end has reached the client then.
-async fn first_end(
+/// Waits for the end of PostgreSQL's side, which follows that of the client's: what the client sent before it is answered, as by
+/// PostgreSQL itself. An end that the proxy makes comes at once.
+async fn until_end(
     there: impl Future<Output = Result<(), Error>>,
     back: impl Future<Output = Result<(), Error>>,
 ) -> Result<(), Error> {
     tokio::pin!(there, back);
     tokio::select! {
         ended = &mut back => ended,
-        // The server's socket may still hold a last error for a client that reads on.
         ended = &mut there => match ended {
-            Ok(()) | Err(Error::System(_)) => match timeout(Duration::from_secs(1), back).await {
-                Ok(Err(error)) if ended.is_ok() => Err(error),
-                _ => ended,
-            },
+            Ok(()) => back.await,
+            // The server's socket may still hold a last error for a client that reads on.
+            Err(Error::System(_)) => back.await.and(ended),
             ended => ended,
         },
     }
@@ -346,6 +388,16 @@ async fn first_end(
 async fn pass(
     mut from: impl AsyncRead + Unpin,
     mut to: impl AsyncWrite + Unpin,
+    input: BytesMut,
+) -> Result<(), Error> {
+    let passed = pass_messages(&mut from, &mut to, input).await;
+    let shut = to.shutdown().await;
+    passed.and(shut.map_err(Error::from))
+}
+
+async fn pass_messages(
+    from: &mut (impl AsyncRead + Unpin),
+    to: &mut (impl AsyncWrite + Unpin),
     mut input: BytesMut,
 ) -> Result<(), Error> {
     let mut frames = Frames::default();
@@ -356,7 +408,6 @@ async fn pass(
         to.flush().await?;
         input.reserve(CHUNK);
         if from.read_buf(&mut input).await? == 0 {
-            to.shutdown().await?;
             return Ok(());
         }
     }

@@ -7,7 +7,7 @@ use std::sync::Arc;
 use std::time::Duration;
 
 use bytes::{Bytes, BytesMut};
-use tokio::io::{AsyncReadExt, AsyncWriteExt};
+use tokio::io::AsyncReadExt;
 use tokio::sync::mpsc::{UnboundedReceiver, UnboundedSender};
 use tokio::time::sleep;
 
@@ -19,14 +19,14 @@ use crate::own;
 use crate::protocol::{Connection, Event, Status};
 use crate::relay::{Shared, CHUNK};
 use crate::requests::{OwnReply, Resumed};
-use crate::stream::{Reader, Writer};
+use crate::stream::{Outgoing, Reader};
 
 /// The direction from PostgreSQL to a client.
 pub struct Replies<'a> {
     /// PostgreSQL.
     pub from: Reader,
     /// The client.
-    pub to: &'a mut Writer,
+    pub to: &'a mut Outgoing,
     /// What both directions share.
     pub shared: &'a Shared,
     /// The hub.
@@ -41,8 +41,6 @@ pub struct Replies<'a> {
     pub resumed: UnboundedReceiver<Resumed>,
     /// How long a COMMIT waits for its fold.
     pub fold_wait: Duration,
-    /// What is not written yet.
-    pub out: Vec<u8>,
     /// The command tag at the end of a Query, which goes together with the ReadyForQuery behind it.
     pub tag: Bytes,
     /// The row of the own reply that is under way.
@@ -50,7 +48,7 @@ pub struct Replies<'a> {
 }
 
 impl Replies<'_> {
-    /// Serves PostgreSQL until it ends. `input` was read before.
+    /// Serves PostgreSQL until it ends. `input` was read before. What the client has not taken yet stays to be written.
     pub async fn run(mut self, mut input: BytesMut) -> Result<(), Error> {
         let mut frames = Frames::default();
         loop {
@@ -61,10 +59,10 @@ impl Replies<'_> {
                         if is_first {
                             self.large(bytes[0])?;
                         }
-                        self.out.extend_from_slice(&bytes);
+                        self.to.push_part(&bytes, frames.is_amid());
                     }
                 }
-                if self.out.len() > CHUNK {
+                if self.to.len() > CHUNK {
                     self.flush().await?;
                 }
             }
@@ -77,8 +75,6 @@ impl Replies<'_> {
                 // The other direction answers by itself.
                 Some(resumed) = self.resumed.recv() => self.resume(&resumed),
                 read = self.from.read_buf(&mut input) => if read? == 0 {
-                    self.flush().await?;
-                    self.to.shutdown().await?;
                     return Ok(());
                 },
             }
@@ -88,15 +84,17 @@ impl Replies<'_> {
     fn resume(&mut self, resumed: &Resumed) {
         match resumed.is_end {
             true => self.tag = resumed.bytes.clone(),
-            false => self.out.extend_from_slice(&resumed.bytes),
+            false => self.to.push(&resumed.bytes),
         }
     }
 
+    /// Writes to the client what there is, unless others wait for an own reply: then a client that takes nothing would stop them.
     async fn flush(&mut self) -> Result<(), Error> {
-        if !self.out.is_empty() {
-            self.to.write_all(&self.out).await?;
+        if !self.to.is_empty() && !self.shared.has_turn() {
+            self.shared.set_writing(true);
             self.to.flush().await?;
-            self.out.clear();
+            self.shared.set_writing(false);
+            self.shared.changed.notify_one();
         }
         Ok(())
     }
@@ -130,9 +128,9 @@ impl Replies<'_> {
             Reply::Pass => {
                 // Settings and notifications come behind the end of a transaction.
                 if matches!(kind, b'S' | b'A') {
-                    self.out.extend(std::mem::take(&mut self.tag));
+                    self.push_tag();
                 }
-                self.out.extend_from_slice(bytes);
+                self.to.push(bytes);
             }
             Reply::Completed(tag) => {
                 if is_engaged {
@@ -140,7 +138,7 @@ impl Replies<'_> {
                 }
                 match self.shared.track().ends_string() {
                     true => self.tag = bytes.clone(),
-                    false => self.out.extend_from_slice(bytes),
+                    false => self.to.push(bytes),
                 }
             }
             Reply::Failed { skips_own, moved } => {
@@ -152,8 +150,8 @@ impl Replies<'_> {
                     self.shared.track().refuse_row(row);
                 }
                 match moved {
-                    0 => self.out.extend_from_slice(bytes),
-                    moved => self.out.extend(own::moved(bytes, moved as i64)),
+                    0 => self.to.push(bytes),
+                    moved => self.to.push(&own::moved(bytes, moved as i64)),
                 }
                 if skips_own {
                     self.hand_over(OwnReply::Skipped).await?;
@@ -164,8 +162,8 @@ impl Replies<'_> {
                     self.keep_back(status).await?;
                 }
                 self.shared.track().ready(status);
-                self.out.extend(std::mem::take(&mut self.tag));
-                self.out.extend_from_slice(bytes);
+                self.push_tag();
+                self.to.push(bytes);
             }
             Reply::Kept => self.shared.track().keep_row(bytes.clone()),
             Reply::Own => {
@@ -191,6 +189,10 @@ impl Replies<'_> {
             self.shared.changed.notify_one();
         }
         Ok(())
+    }
+
+    fn push_tag(&mut self) {
+        self.to.push(&std::mem::take(&mut self.tag));
     }
 
     /// Hands an own reply over, and waits until what the client gets behind it is known.

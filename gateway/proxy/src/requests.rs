@@ -202,8 +202,20 @@ impl<'a> Requests<'a> {
         }
     }
 
-    /// Serves the client until it ends. `input` was read before.
-    pub async fn run(mut self, mut input: BytesMut) -> Result<(), Error> {
+    /// Serves the client until it ends, and tells PostgreSQL of that end. `input` was read before.
+    pub async fn run(mut self, input: BytesMut) -> Result<(), Error> {
+        let served = self.serve(input).await;
+        match &served {
+            Ok(()) | Err(Error::System(_)) => {
+                // PostgreSQL may have gone.
+                let _ = self.to.shutdown().await;
+            }
+            Err(_) => {}
+        }
+        served
+    }
+
+    async fn serve(&mut self, mut input: BytesMut) -> Result<(), Error> {
         let mut frames = Frames::default();
         loop {
             while let Some(piece) = frames.next(&mut input)? {
@@ -218,7 +230,6 @@ impl<'a> Requests<'a> {
             self.flush().await?;
             input.reserve(CHUNK);
             if self.from.read_buf(&mut input).await? == 0 {
-                self.to.shutdown().await?;
                 return Ok(());
             }
         }

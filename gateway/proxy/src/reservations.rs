@@ -33,6 +33,9 @@ const LOCK_WAIT: Duration = Duration::from_secs(1);
 /// How long an UPDATE waits for the owner to serve (rule 21). All else has limits of its own.
 const OWNER_WAIT: Duration = Duration::from_secs(20);
 
+/// How long PostgreSQL may take to answer a greeting, for which others wait.
+const GREETING_WAIT: Duration = Duration::from_secs(20);
+
 /// The text that finds out what the client's name of a table means.
 const MEANING: &str = "SELECT pg_catalog.to_regclass($1)::pg_catalog.oid::pg_catalog.int8";
 
@@ -699,11 +702,29 @@ impl Requests<'_> {
         Ok(None)
     }
 
-    /// Greets the connection. Greetings go one after another. PostgreSQL may have had a higher number: one of a former owner's
-    /// came while the epoch was set.
+    /// Greets the connection. Greetings go one after another, so nothing is waited for meanwhile but PostgreSQL's answer: neither
+    /// what the client has asked PostgreSQL for, nor that the client takes what it is sent.
     async fn greet(&mut self, secret: &Secret, epoch: i64) -> Result<OwnReply, Error> {
+        self.settle().await?;
+        let (hub, shared) = (self.hub.clone(), self.shared);
+        let _turn = loop {
+            let greeting = hub.greeting.lock().await;
+            match shared.turn() {
+                Some(turn) => break (turn, greeting),
+                None => drop(greeting),
+            }
+            shared.until_written().await;
+        };
+        match timeout(GREETING_WAIT, self.greet_once(secret, epoch)).await {
+            Ok(greeted) => greeted,
+            Err(_) => Err(Error::Silent),
+        }
+    }
+
+    /// Greets the connection in its turn. PostgreSQL may have had a higher number: one of a former owner's came while the epoch
+    /// was set.
+    async fn greet_once(&mut self, secret: &Secret, epoch: i64) -> Result<OwnReply, Error> {
         let hub = self.hub.clone();
-        let _turn = hub.greeting.lock().await;
         loop {
             let number = hub.number();
             let process = self.shared.track().process;

@@ -5,8 +5,9 @@ use std::pin::Pin;
 use std::task::{Context, Poll};
 use std::time::Duration;
 
+use bytes::BytesMut;
 use socket2::{SockRef, TcpKeepalive};
-use tokio::io::{split, AsyncRead, AsyncWrite, ReadBuf, ReadHalf, WriteHalf};
+use tokio::io::{split, AsyncRead, AsyncWrite, AsyncWriteExt, ReadBuf, ReadHalf, WriteHalf};
 use tokio::net::{tcp, TcpStream, UnixStream};
 use tokio_rustls::TlsStream;
 
@@ -80,6 +81,70 @@ impl Detached {
             Detached::Tcp(socket) => Stream::Tcp(TcpStream::from_std(socket)?),
             Detached::Unix(socket) => Stream::Unix(UnixStream::from_std(socket)?),
         })
+    }
+}
+
+/// The half of a connection that is written, and what is still to be written. A write that is given up goes on where it ended.
+#[derive(Debug)]
+pub struct Outgoing {
+    to: Writer,
+    bytes: BytesMut,
+    /// Whether the last message is not whole.
+    is_cut: bool,
+}
+
+impl Outgoing {
+    /// Makes one with nothing to be written.
+    pub fn new(to: Writer) -> Outgoing {
+        Outgoing {
+            to,
+            bytes: BytesMut::new(),
+            is_cut: false,
+        }
+    }
+
+    /// Adds messages.
+    pub fn push(&mut self, bytes: &[u8]) {
+        self.bytes.extend_from_slice(bytes);
+    }
+
+    /// Adds a part of a large message, and whether more of it is still to come.
+    pub fn push_part(&mut self, bytes: &[u8], is_cut: bool) {
+        self.push(bytes);
+        self.is_cut = is_cut;
+    }
+
+    /// Returns how many bytes are still to be written.
+    pub fn len(&self) -> usize {
+        self.bytes.len()
+    }
+
+    /// Returns whether all is written.
+    pub fn is_empty(&self) -> bool {
+        self.bytes.is_empty()
+    }
+
+    /// Writes all.
+    ///
+    /// # Errors
+    ///
+    /// Fails if the other side has gone.
+    pub async fn flush(&mut self) -> io::Result<()> {
+        self.to.write_all_buf(&mut self.bytes).await?;
+        self.to.flush().await
+    }
+
+    /// Writes all and some last messages, unless they would come amid another one, and ends the direction.
+    ///
+    /// # Errors
+    ///
+    /// Fails if the other side has gone.
+    pub async fn end(&mut self, last: &[u8]) -> io::Result<()> {
+        if !self.is_cut {
+            self.push(last);
+        }
+        self.flush().await?;
+        self.to.shutdown().await
     }
 }
 
@@ -212,3 +277,32 @@ can_be_read!(Stream);
 can_be_read!(Reader);
 can_be_written!(Stream);
 can_be_written!(Writer);
+
+#[cfg(test)]
+mod tests {
+    use tokio::io::AsyncReadExt;
+    use tokio::time::timeout;
+
+    use super::*;
+
+    #[tokio::test]
+    async fn a_write_that_is_given_up_goes_on_where_it_ended() {
+        for is_cut in [false, true] {
+            let (near, far) = UnixStream::pair().unwrap();
+            let (mut from, _open) = Stream::Unix(near).split().unwrap();
+            let (_other, to) = Stream::Unix(far).split().unwrap();
+            let mut to = Outgoing::new(to);
+            let sent: Vec<u8> = (0..3_000_000u32).map(|it| (it % 251) as u8).collect();
+            to.push_part(&sent, is_cut);
+            assert!(timeout(Duration::from_millis(10), to.flush())
+                .await
+                .is_err());
+            let mut got = Vec::new();
+            let (ended, read) = tokio::join!(to.end(b"last"), from.read_to_end(&mut got));
+            assert!(ended.is_ok() && read.is_ok());
+            // Nothing comes amid a message.
+            let last: &[u8] = if is_cut { b"" } else { b"last" };
+            assert!(got == [&sent[..], last].concat());
+        }
+    }
+}

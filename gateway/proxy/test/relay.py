@@ -143,6 +143,12 @@ def ends_reach_the_other_side(cluster: Cluster, proxy: Proxy) -> None:
     it.execute("BEGIN; SELECT 1")
     socket.socket(fileno=os.dup(it.fileno())).shutdown(socket.SHUT_RDWR)
     wait_until("its backend ends", lambda: backends() == 0)
+    # A client that sends no more gets the reply that it waits for.
+    it = proxy.connect()
+    it.pgconn.send_query(b"SELECT pg_sleep(1.5), 5")
+    socket.socket(fileno=os.dup(it.fileno())).shutdown(socket.SHUT_WR)
+    found = it.pgconn.get_result()
+    assert found is not None and found.get_value(0, 1) == b"5", found
     # A backend that is ended: the client gets PostgreSQL's own words.
     it = proxy.connect(application_name="here")
     cluster.run("SELECT pg_terminate_backend(pid) FROM pg_stat_activity WHERE application_name = 'here'")

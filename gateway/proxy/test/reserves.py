@@ -14,6 +14,7 @@ import psycopg
 from psycopg import errors
 from psycopg.pq import ExecStatus
 
+from clients import wire
 from clients.servers import END, PATIENCE, wait_until
 from clients.suite import expect, main
 from proxy.test.harness import Proxy, SharedPart
@@ -583,6 +584,84 @@ def a_late_greeting_of_a_former_owner_holds_nobody_up(cluster: Cluster, proxy: P
     for _ in range(2):
         with proxy.connect() as it:
             expect(take(it, key, 1), "UPDATE 1")
+
+
+@case
+def messages_of_any_order_are_answered_as_by_postgres(cluster: Cluster, proxy: Proxy) -> None:
+    """Raw messages. `...` waits for the reply to those in front of it."""
+    key = row(cluster)
+    cluster.run("CREATE TABLE copied (i integer)", "CREATE FUNCTION no() RETURNS trigger LANGUAGE plpgsql AS 'BEGIN RAISE EXCEPTION ''no''; END'",
+                "CREATE TABLE never (i integer)", "CREATE TRIGGER no BEFORE INSERT ON never EXECUTE FUNCTION no()")
+    # It is served, and PostgreSQL itself lets it pass.
+    update = f"UPDATE stock SET pieces = pieces - 0 WHERE id = {key}"
+    served, string, sync = wire.query(update), wire.query(f"{update}; SELECT 1"), wire.sync()
+    asks, copy = wire.query("SELECT 1 FROM escrow.reservations() LIMIT 0"), wire.query("COPY copied FROM STDIN")
+    good, bad, done = wire.message("d", b"1\n"), wire.message("d", b"x\n"), wire.message("c", b"")
+    copies, fails = wire.run("COPY copied FROM STDIN"), wire.run("SELECT 1 / 0")
+    never, pipeline = wire.run("COPY never FROM STDIN"), wire.run(update)
+    schedules: List[Tuple[object, ...]] = [
+        # Statements that come amid a COPY, or where PostgreSQL waits for a Sync.
+        *((copy, *more, it) for more in ((), (...,), (good,)) for it in (served, string, wire.query("BEGIN") + served, pipeline + sync)),
+        (copies, pipeline, sync), (wire.query("BEGIN"), served, copy, wire.query("COMMIT")),
+        *((fails, *more, it, sync, served) for more in ((), (wire.flush(), ...)) for it in (served, string, asks)),
+        # Syncs that a COPY ignores, and others.
+        *((copies, sync, *more, sync, good, done, sync, pipeline, sync) for more in ((), (...,))),
+        *((copies, sync, *more, bad, sync, pipeline, sync, served) for more in ((), (...,))),
+        *((copies, sync, *more, bad, done, sync, pipeline, sync, served) for more in ((), (...,))),
+        *((copy, sync, bad, *more, sync, served, sync, served) for more in ((), (done,))),
+        (never, sync, good, done, sync, pipeline, sync, served), (never, sync, ..., served),
+        # Several of them.
+        (wire.query(f"COPY copied FROM STDIN; {update}; COPY copied FROM STDIN"), good, done, good, done, served),
+        (wire.query("COPY copied FROM STDIN /* escrow: reservable */"), ..., good, done, served),
+        (done, wire.query("SELECT 1"), done, copies, sync, good, done, sync, pipeline, sync),
+    ]
+    for schedule in schedules:
+        answers = []
+        for path in (cluster.socket, proxy.socket):
+            with wire.Connection(path, timeout=20) as it:
+                found: List[wire.Message] = []
+                try:
+                    for step in (*schedule, wire.terminate()):
+                        if isinstance(step, bytes):
+                            it.send(step)
+                        else:
+                            found.append(it.read())
+                            while found[-1].kind not in "GEZ":
+                                found.append(it.read())
+                except BrokenPipeError:
+                    pass  # it has ended
+                answers.append([each.shown() for each in found + it.until_end()])
+        expect(answers[1], answers[0], str(schedule))
+    cluster.run("DROP TABLE copied, never", "DROP FUNCTION no")
+
+
+@case
+def a_client_that_takes_nothing_stops_no_greeting(cluster: Cluster, proxy: Proxy) -> None:
+    """Greetings go one after another. None waits for its client to read, nor for a lock that the client's own statement waits for."""
+    key = row(cluster, 1_000)
+    text = f"UPDATE stock SET pieces = pieces - 1 WHERE id = {key}"
+    cluster.run("CREATE TABLE locked (i integer)")
+    silent: List[wire.Connection] = []
+    with cluster.connect() as locker, cluster.connect() as watcher, proxy.connect() as other:
+        locker.execute("BEGIN; LOCK TABLE locked")
+        # The proxy still knows what the name means, so that it asks for nothing else before it greets.
+        for size in (0, *range(120, 600, 24)):
+            it = wire.Connection(proxy.socket)
+            it.do("SET application_name = silent", text, "DEALLOCATE ALL")
+            silent.append(it)
+            if size:
+                it.send(wire.query(f"SELECT repeat('x', 1000) FROM generate_series(1, {size})"), wire.query(text))
+            else:
+                it.extended(wire.parse(text, "own"))
+                it.send(wire.parse("TABLE locked"), wire.bind(name="own"), wire.execute(), wire.sync())
+        busy = """SELECT 1 FROM pg_stat_activity WHERE application_name = 'silent' AND state = 'active' AND wait_event_type IS DISTINCT FROM 'Lock'
+            AND wait_event IS DISTINCT FROM 'ClientWrite'"""
+        wait_until("each waits for something", lambda: not watcher.execute(busy).fetchall())
+        expect(take(other, key, 1), "UPDATE 1")
+        locker.execute("COMMIT")
+        for it in silent:
+            expect(it.until_ready()[-1].shown(), "ready I")
+            it.close()
 
 
 def is_served(proxy: Proxy) -> bool:
