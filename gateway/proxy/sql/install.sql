@@ -598,6 +598,7 @@ DECLARE
 	digits integer;
 	scale integer;
 	names_in_checks boolean;
+	conditions integer;
 	ranks integer[];
 	scales integer[];
 	part jsonb;
@@ -730,9 +731,10 @@ BEGIN
 			END IF;
 		END LOOP;
 	END LOOP;
-	IF jsonb_array_length(result.checks) > 32 THEN
-		PERFORM escrow.refuse(relation, format('its CHECKs have %s conditions', jsonb_array_length(result.checks)),
-			'There may be 32 of them. A sum of integers counts for two more, since it has to fit its type.');
+	conditions := jsonb_array_length(result.checks) + (SELECT count(*) FROM jsonb_array_elements(result.columns) AS x WHERE x->>'least' IS NOT NULL);
+	IF conditions > 32 THEN
+		PERFORM escrow.refuse(relation, format('its CHECKs have %s conditions', conditions),
+			'There may be 32 of them. A column of smallint or integer counts for one more, and a sum of integers for two, since each has to fit its type.');
 	END IF;
 	result.relation := relation;
 	result.key_name := key.attname;

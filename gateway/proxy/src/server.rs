@@ -454,7 +454,9 @@ impl Server {
                 free: Vec::new(),
                 is_refused: false,
             });
-            self.send(OWN, Asked::Create(table.number), &definition(table));
+            for statement in definition(table) {
+                self.send(OWN, Asked::Create(table.number), &statement);
+            }
         }
         let made = self.tables.get_mut(&table.number)?;
         if made.is_refused {
@@ -531,7 +533,7 @@ impl Server {
             }
             (Asked::Again, Some(Outcome::Done(Done::Reserved))) => Said::Nothing,
             (Asked::Told(told), Some(Outcome::Done(done))) if is_done(told, done) => Said::Nothing,
-            (Asked::Create(_), Some(Outcome::Done(Done::Created))) => Said::Nothing,
+            (Asked::Create(_), Some(Outcome::Done(Done::Created | Done::Altered))) => Said::Nothing,
             (Asked::Create(number), Some(Outcome::Refused(_))) => {
                 if let Some(made) = self.tables.get_mut(&number) {
                     tracing::error!("the server refuses the table {}: {}", made.table.name, line);
@@ -539,8 +541,13 @@ impl Server {
                 }
                 Said::Nothing
             }
-            (Asked::Insert(key), Some(Outcome::Done(Done::Inserted))) => Said::Inserted(key),
-            (Asked::Insert(key), Some(Outcome::Refused(_))) => {
+            // A table that lacks a CHECK has rows that nobody may use.
+            (Asked::Insert(key), Some(Outcome::Done(Done::Inserted)))
+                if !self.is_refused(key.table) =>
+            {
+                Said::Inserted(key)
+            }
+            (Asked::Insert(key), Some(Outcome::Done(Done::Inserted) | Outcome::Refused(_))) => {
                 if let Some(made) = self.tables.get_mut(&key.table) {
                     if let Some((row, _)) = made.rows.remove(&key.text) {
                         made.free.push(row);
@@ -551,6 +558,11 @@ impl Server {
             (Asked::Delete(_), Some(Outcome::Done(Done::Deleted))) => Said::Nothing,
             (asked, _) => Said::Broke(format!("{:?} was answered {:?}", asked, line)),
         }
+    }
+
+    /// Returns whether the server has refused a table, or a CHECK of it.
+    fn is_refused(&self, table: i32) -> bool {
+        self.tables.get(&table).map_or(true, |made| made.is_refused)
     }
 
     /// Reads a refusal of a reservation. None: it is none that there may be.
@@ -614,8 +626,9 @@ fn assignments(change: &Change) -> String {
     texts.join(", ")
 }
 
-/// Returns the statement that makes a table: its rows are numbered, its columns are `C1` and so on.
-fn definition(table: &Table) -> String {
+/// Returns the statements that make a table: its rows are numbered, its columns are `C1` and so on. Each CHECK has a statement,
+/// since all of them may be longer than a line.
+fn definition(table: &Table) -> Vec<String> {
     let mut items = vec!["K NUMBER(10) PRIMARY KEY".to_owned()];
     for (at, column) in table.columns.iter().enumerate() {
         let Column { digits, range, .. } = column;
@@ -634,6 +647,11 @@ fn definition(table: &Table) -> String {
             ));
         }
     }
+    let mut statements = vec![format!(
+        "CREATE TABLE T{} ({})",
+        table.number,
+        items.join(", ")
+    )];
     for (at, check) in table.checks.iter().enumerate() {
         let terms = check.coefficients.iter().enumerate();
         let terms = terms.filter(|(_, coefficient)| coefficient.as_str() != "0");
@@ -643,15 +661,16 @@ fn definition(table: &Table) -> String {
                 None => format!("+ {} * C{}", coefficient, at + 1),
             })
             .collect();
-        items.push(format!(
-            "CONSTRAINT X{} CHECK ({} {} {})",
+        statements.push(format!(
+            "ALTER TABLE T{} ADD CONSTRAINT X{} CHECK ({} {} {})",
+            table.number,
             at + 1,
             sum.join(" "),
             check.comparison,
             check.limit
         ));
     }
-    format!("CREATE TABLE T{} ({})", table.number, items.join(", "))
+    statements
 }
 
 #[cfg(test)]
@@ -681,6 +700,7 @@ mod tests {
             let words: Vec<&str> = statement.split(' ').collect();
             let said = match words[0] {
                 "CREATE" => "created T7".to_owned(),
+                "ALTER" => "altered T7".to_owned(),
                 "INSERT" => "inserted".to_owned(),
                 "UPDATE" => {
                     open.push(words[6..8].concat().parse().unwrap());

@@ -437,6 +437,23 @@ def a_lock_of_a_table_holds_up_no_other(cluster: Cluster, proxy: Proxy) -> None:
 
 
 @case
+def a_table_may_have_as_many_checks_as_can_be_declared(cluster: Cluster, proxy: Proxy) -> None:
+    """Together they are longer than a line of the server."""
+    names = [f"n{at}" for at in range(10)]
+    total = " + ".join(f"999999 * {it}" for it in names)
+    checks = ", ".join(f"CONSTRAINT c{at} CHECK ({total} >= -{2 if at == 31 else 3 + at}000000)" for at in range(32))
+    cluster.run(f"CREATE TABLE wide (id integer PRIMARY KEY, {', '.join(f'{it} numeric(6) NOT NULL DEFAULT 0' for it in names)}, {checks})",
+                "INSERT INTO wide VALUES (1)", f"SELECT escrow.reservable('wide', VARIADIC '{{{','.join(names)}}}')")
+    key = row(cluster)
+    with proxy.connect() as it:
+        expect(it.execute("UPDATE wide SET n0 = n0 - 1, n9 = n9 - 1 WHERE id = 1").statusmessage, "UPDATE 1")
+        with refused(errors.CheckViolation, 'new row for relation "wide" violates check constraint "c31"'):
+            it.execute("UPDATE wide SET n5 = n5 - 1 WHERE id = 1")
+        expect(take(it, key, 1), "UPDATE 1")
+    cluster.run("SELECT escrow.ordinary('wide')", "DROP TABLE wide")
+
+
+@case
 def a_table_is_known_once_it_is_declared(cluster: Cluster, proxy: Proxy) -> None:
     """Also if a session has declared it that does not pass the proxy."""
     table = "CREATE TABLE late (id integer PRIMARY KEY, n integer NOT NULL CHECK (n >= 0))"
