@@ -1632,7 +1632,9 @@ $$;
 DROP EVENT TRIGGER IF EXISTS escrow_keep_altered;
 CREATE EVENT TRIGGER escrow_keep_altered ON ddl_command_end
 	WHEN TAG IN ('ALTER TABLE', 'ALTER FUNCTION', 'ALTER ROUTINE', 'CREATE INDEX', 'CREATE TRIGGER', 'CREATE RULE', 'ALTER TRIGGER', 'CREATE TABLE',
-		'CREATE FOREIGN TABLE', 'ALTER FOREIGN TABLE', 'CREATE SCHEMA', 'ALTER SCHEMA')
+		'CREATE FOREIGN TABLE', 'ALTER FOREIGN TABLE', 'CREATE SCHEMA', 'ALTER SCHEMA',
+		-- PostgreSQL takes these for a table too: they rename it, or a column, or give it another schema.
+		'ALTER INDEX', 'ALTER VIEW', 'ALTER MATERIALIZED VIEW', 'ALTER TYPE', 'ALTER EXTENSION')
 	EXECUTE FUNCTION escrow.keep_declared();
 DROP EVENT TRIGGER IF EXISTS escrow_keep_dropped;
 CREATE EVENT TRIGGER escrow_keep_dropped ON sql_drop EXECUTE FUNCTION escrow.keep_declared();

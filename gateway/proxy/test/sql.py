@@ -1126,6 +1126,9 @@ def definitions_stay(cluster: Cluster) -> None:
             "CREATE RULE r AS ON UPDATE TO stock DO INSTEAD NOTHING", "CREATE TABLE child () INHERITS (stock)", "DROP TABLE stock CASCADE",
             "ALTER TRIGGER \"~escrow guard\" ON stock RENAME TO x", "ALTER TABLE stock SET SCHEMA pg_temp",
             "CREATE TRIGGER \"~later\" BEFORE UPDATE ON stock FOR EACH ROW EXECUTE FUNCTION suppress_redundant_updates_trigger()",
+            # By words for other things than tables.
+            "ALTER INDEX stock RENAME TO ware", "ALTER VIEW stock RENAME COLUMN pieces TO items", "ALTER MATERIALIZED VIEW stock RENAME COLUMN id TO nr",
+            "ALTER FOREIGN TABLE stock RENAME COLUMN id TO nr", "ALTER TYPE stock RENAME ATTRIBUTE pieces TO items",
         ):
             try:
                 it.execute(text.encode())
