@@ -636,6 +636,20 @@ BEGIN
 		PERFORM escrow.refuse(relation, format('its key %I has the type %s', key.attname, format_type(key.atttypid, key.atttypmod)),
 			'The key may be smallint, integer, bigint, numeric, text, varchar or uuid.');
 	END IF;
+	-- PostgreSQL refuses an UPDATE that it could not publish, and so each fold: it needs the replica identity, which has all columns
+	-- of a condition, and is among the columns that are published.
+	FOR c IN SELECT p.pubname FROM pg_publication AS p LEFT JOIN pg_publication_rel AS r ON r.prpubid = p.oid AND r.prrelid = relation
+		LEFT JOIN LATERAL (SELECT x.indkey[0 : x.indnkeyatts - 1]::int2[] AS places FROM pg_index AS x
+			WHERE x.indrelid = relation AND CASE it.relreplident WHEN 'd' THEN x.indisprimary WHEN 'i' THEN x.indisreplident END) AS identity ON true
+		WHERE p.pubupdate AND (r.oid IS NOT NULL OR p.puballtables
+				OR EXISTS (SELECT FROM pg_publication_namespace AS n WHERE n.pnpubid = p.oid AND n.pnnspid = it.relnamespace))
+			AND CASE WHEN it.relreplident = 'f' THEN r.prattrs IS NOT NULL
+				ELSE places IS NULL OR NOT places <@ r.prattrs::int2[]
+					OR EXISTS (SELECT FROM regexp_matches(r.prqual::text, ':varattno (-?[0-9]+) ', 'g') AS m WHERE m[1]::int2 <> ALL (places)) END
+	LOOP
+		PERFORM escrow.refuse(relation, format('the publication %I lets no row of it be updated', c.pubname),
+			'A published UPDATE needs a replica identity, which has all columns of a WHERE and is among the columns that are published.');
+	END LOOP;
 	IF NOT (SELECT collisdeterministic FROM pg_collation WHERE oid = key.attcollation) THEN
 		PERFORM escrow.refuse(relation, format('its key %I has a nondeterministic collation', key.attname));
 	END IF;
@@ -1613,18 +1627,23 @@ LANGUAGE plpgsql SECURITY DEFINER SET search_path = pg_catalog, pg_temp SET stan
 DECLARE
 	it escrow.declared;
 	found escrow.declared;
+	why text;
 BEGIN
 	FOR it IN SELECT * FROM escrow.declared AS d WHERE d.definition <> '{}' AND (TG_TAG NOT IN ('ALTER FUNCTION', 'ALTER ROUTINE')
 		OR EXISTS (SELECT FROM pg_event_trigger_ddl_commands() AS command JOIN pg_proc AS p ON p.oid = command.objid WHERE p.proname LIKE '%\_' || d.number))
 	LOOP
 		BEGIN
+			why := '';
 			found := escrow.describe(it.relation, ARRAY(SELECT (c->>'name')::name FROM jsonb_array_elements(it.columns) AS c));
-		EXCEPTION WHEN invalid_table_definition OR no_data_found THEN
+		EXCEPTION WHEN invalid_table_definition THEN
+			found := NULL;
+			why := SQLERRM;
+		WHEN no_data_found THEN
 			found := NULL;
 		END;
 		IF found.definition IS DISTINCT FROM it.definition THEN
 			RAISE EXCEPTION '% would change what is declared reservable of %', TG_TAG, coalesce((SELECT relname FROM pg_class WHERE oid = it.relation), 'a table that was dropped')
-				USING ERRCODE = 'object_in_use', HINT = format('Call escrow.ordinary(%L) first.', it.relation);
+				USING ERRCODE = 'object_in_use', DETAIL = why, HINT = format('Call escrow.ordinary(%L) first.', it.relation);
 		END IF;
 	END LOOP;
 END
@@ -1634,7 +1653,7 @@ CREATE EVENT TRIGGER escrow_keep_altered ON ddl_command_end
 	WHEN TAG IN ('ALTER TABLE', 'ALTER FUNCTION', 'ALTER ROUTINE', 'CREATE INDEX', 'CREATE TRIGGER', 'CREATE RULE', 'ALTER TRIGGER', 'CREATE TABLE',
 		'CREATE FOREIGN TABLE', 'ALTER FOREIGN TABLE', 'CREATE SCHEMA', 'ALTER SCHEMA',
 		-- PostgreSQL takes these for a table too: they rename it, or a column, or give it another schema.
-		'ALTER INDEX', 'ALTER VIEW', 'ALTER MATERIALIZED VIEW', 'ALTER TYPE', 'ALTER EXTENSION')
+		'ALTER INDEX', 'ALTER VIEW', 'ALTER MATERIALIZED VIEW', 'ALTER TYPE', 'ALTER EXTENSION', 'CREATE PUBLICATION', 'ALTER PUBLICATION')
 	EXECUTE FUNCTION escrow.keep_declared();
 DROP EVENT TRIGGER IF EXISTS escrow_keep_dropped;
 CREATE EVENT TRIGGER escrow_keep_dropped ON sql_drop EXECUTE FUNCTION escrow.keep_declared();

@@ -9,7 +9,7 @@ import socket
 import struct
 import subprocess
 from contextlib import contextmanager
-from typing import Iterator, List, Tuple
+from typing import Any, Iterator, List, Tuple
 
 import psycopg
 from psycopg import errors
@@ -460,6 +460,47 @@ def a_publication_of_all_tables_stops_nothing(cluster: Cluster) -> None:
         it.execute("UPDATE stock SET pieces = pieces - 1 WHERE id = 1")
         wait_until("all is folded", lambda: value(cluster, "SELECT pieces FROM stock WHERE id = 1") == 7)
     cluster.run("DROP PUBLICATION everything")
+
+
+def takes(it: "psycopg.Connection[Any]", text: str) -> bool:
+    """Returns whether PostgreSQL takes a statement."""
+    try:
+        it.execute(text.encode())
+    except psycopg.Error:
+        return False
+    return True
+
+
+@part
+def a_publication_that_lets_no_row_be_updated_is_refused(cluster: Cluster) -> None:
+    """PostgreSQL refuses each UPDATE of such a table, and so each fold."""
+    stock(cluster).keeper.close()
+    published = ("FOR ALL TABLES", "FOR TABLES IN SCHEMA public", "FOR TABLE stock", "FOR TABLE stock (id)", "FOR TABLE stock (title, pieces)",
+                 "FOR TABLE stock WHERE (id > 3)", "FOR TABLE stock (id, pieces) WHERE (title <> 'x')", "FOR TABLE stock WHERE (pieces > 0)",
+                 "FOR TABLE stock WITH (publish = 'insert, delete')")
+    found = []
+    with cluster.connect() as it:
+        it.execute("SELECT escrow.ordinary('stock'); ALTER TABLE stock ALTER title SET NOT NULL; CREATE UNIQUE INDEX by_title ON stock (title)")
+        for identity in ("DEFAULT", "FULL", "NOTHING", "USING INDEX by_title"):
+            it.execute(f"ALTER TABLE stock REPLICA IDENTITY {identity}".encode())
+            for what in published:
+                it.execute(f"CREATE PUBLICATION them {what}".encode())
+                taken = [takes(it, text) for text in ("UPDATE stock SET title = title WHERE id = 1", "SELECT escrow.describe('stock', '{pieces}')")]
+                same((identity, what, taken), (identity, what, 2 * taken[:1]))
+                found.append(taken[0])
+                it.execute("DROP PUBLICATION them")
+        it.execute("ALTER TABLE stock REPLICA IDENTITY DEFAULT; SELECT escrow.reservable('stock', 'pieces')")
+        with refused(errors.ObjectInUse, "the publication them lets no row of it be updated"):
+            it.execute("CREATE PUBLICATION them FOR TABLE stock WHERE (pieces > 0)")
+        it.execute("CREATE PUBLICATION them FOR TABLE stock")
+        for text in ("ALTER TABLE stock REPLICA IDENTITY NOTHING", "ALTER PUBLICATION them SET TABLE stock WHERE (title = 'x')"):
+            with refused(errors.ObjectInUse, "would change what is declared reservable of stock"):
+                it.execute(text.encode())
+        it.execute("SELECT escrow.ordinary('stock'); ALTER TABLE stock REPLICA IDENTITY NOTHING")
+        with refused(errors.InvalidTableDefinition, "the publication them lets no row of it be updated"):
+            it.execute("SELECT escrow.reservable('stock', 'pieces')")
+        it.execute("DROP PUBLICATION them")
+    same(set(found), {False, True})
 
 
 @part
