@@ -33,6 +33,8 @@ $do$;
 CREATE SCHEMA IF NOT EXISTS escrow;
 GRANT USAGE ON SCHEMA escrow TO PUBLIC;
 GRANT CREATE ON SCHEMA escrow TO escrow_journal;
+-- Whatever default privileges who installs has: these, and escrow.take_rights behind.
+ALTER DEFAULT PRIVILEGES IN SCHEMA escrow GRANT EXECUTE ON FUNCTIONS TO PUBLIC;
 
 CREATE OR REPLACE FUNCTION escrow.version() RETURNS integer LANGUAGE sql IMMUTABLE AS 'SELECT 3';
 
@@ -105,6 +107,28 @@ CREATE INDEX IF NOT EXISTS hold_lines_key ON escrow.hold_lines ("table", key) WH
 CREATE INDEX IF NOT EXISTS hold_lines_ended ON escrow.hold_lines (number) WHERE NOT stands;
 ALTER TABLE escrow.hold_names OWNER TO escrow_journal;
 ALTER TABLE escrow.hold_lines OWNER TO escrow_journal;
+
+-- Takes rights on tables, sequences and functions of these names away, which default privileges may have given to anybody when they
+-- were made. The roles of the schema keep theirs.
+CREATE OR REPLACE FUNCTION escrow.take_rights(names text) RETURNS void
+LANGUAGE plpgsql SET search_path = pg_catalog, pg_temp AS $$
+DECLARE
+	it record;
+BEGIN
+	FOR it IN
+		SELECT format('%s %s', CASE c.relkind WHEN 'S' THEN 'SEQUENCE' ELSE 'TABLE' END, c.oid::regclass) AS object, a.grantee
+		FROM pg_class AS c, aclexplode(c.relacl) AS a
+		WHERE c.relnamespace = 'escrow'::regnamespace AND c.relkind IN ('r', 'S') AND c.relname ~ names AND a.grantee <> c.relowner
+		UNION SELECT format('FUNCTION %s', p.oid::regprocedure), a.grantee
+		FROM pg_proc AS p, aclexplode(p.proacl) AS a
+		WHERE p.pronamespace = 'escrow'::regnamespace AND p.proname ~ names AND a.grantee <> p.proowner
+	LOOP
+		IF it.grantee NOT IN ('escrow_journal'::regrole, 'escrow_proxy'::regrole) THEN
+			EXECUTE format('REVOKE ALL ON %s FROM %s', it.object, CASE it.grantee WHEN 0 THEN 'PUBLIC' ELSE it.grantee::regrole::text END);
+		END IF;
+	END LOOP;
+END
+$$;
 
 -- The MAC of words: the first half. Only functions of escrow_journal call it and the next, which have set their path of search.
 CREATE OR REPLACE FUNCTION escrow.mac(VARIADIC words text[]) RETURNS bytea LANGUAGE plpgsql STABLE AS $$
@@ -1215,13 +1239,14 @@ BEGIN
 	IF to_regclass(view_name) IS NOT NULL AND obj_description(to_regclass(view_name), 'pg_class') IS DISTINCT FROM n::text THEN
 		view_name := format('escrow.%I', 'now_' || n);
 	END IF;
-	EXECUTE format('GRANT SELECT ON escrow.journal_%s TO %s', n, proprietor);
 	EXECUTE format($f$
 		CREATE OR REPLACE VIEW %1$s AS SELECT t.%6$I, %2$s FROM %3$s AS t
 		LEFT JOIN LATERAL (SELECT %4$s FROM escrow.journal_%5$s AS j WHERE j.key = t.%6$I) AS j ON true
 	$f$, view_name, texts[7], relation, texts[8], n, k);
 	EXECUTE format('ALTER VIEW %1$s OWNER TO %2$s; COMMENT ON VIEW %1$s IS %3$L', view_name, proprietor, n);
 	PERFORM escrow.generate_holds(it);
+	PERFORM escrow.take_rights(format('^(journal|held|row|lock|value|writer|fold|load|leave|sweep|hold|apply|open)_%s$', n));
+	EXECUTE format('GRANT SELECT ON escrow.journal_%s TO %s', n, proprietor); -- for the view
 	UPDATE escrow.declared AS d SET definition = (escrow.describe(it.relation, names)).definition WHERE d.number = n;
 END
 $$;
@@ -1720,6 +1745,8 @@ DECLARE
 	found escrow.declared;
 	old regprocedure;
 BEGIN
+	PERFORM escrow.take_rights('^(secret|declared|hold_names|hold_lines|epoch|greeted|heard|.*_seq|mac|is_fresh|set_epoch|end_holders|end_owner|is_held|standing|take_hold|look)$');
+	GRANT SELECT ON escrow.declared TO PUBLIC;
 	FOR it IN SELECT * FROM escrow.declared LOOP
 		-- Of before loads had numbers, and all tables could be published.
 		EXECUTE format('ALTER TABLE escrow.held_%1$s ADD COLUMN IF NOT EXISTS load bigint NOT NULL DEFAULT 0; '

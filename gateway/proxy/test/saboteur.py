@@ -188,6 +188,27 @@ def an_owner_gets_another_name(cluster: Cluster) -> None:
 
 
 @part
+def default_privileges_change_nothing(cluster: Cluster) -> None:
+    """Who installs may have some that give rights on whatever is made, the secret too, or that let nobody call functions."""
+    cluster.run("CREATE ROLE mallory LOGIN", "CREATE ROLE buyer LOGIN", "DROP DATABASE IF EXISTS copy", "CREATE DATABASE copy")
+    copied = Copy(cluster)
+    copied.run(*(f"ALTER DEFAULT PRIVILEGES GRANT ALL ON {kind} TO mallory, PUBLIC" for kind in ("TABLES", "SEQUENCES")),
+               "ALTER DEFAULT PRIVILEGES GRANT ALL ON FUNCTIONS TO mallory", "ALTER DEFAULT PRIVILEGES REVOKE ALL ON FUNCTIONS FROM PUBLIC")
+    copied.script("install.sql")
+    owner = stock(copied)
+    copied.run("GRANT SELECT, UPDATE ON stock TO buyer")
+    buyer = Client(owner, "buyer")
+    buyer.note("stock", 1, -1)
+    assert buyer.direct("stock", 1, -1)
+    given = ("SELECT array_agg(DISTINCT object || ' ' || privilege) FROM (SELECT relname, a.privilege_type, grantee FROM pg_class, aclexplode(relacl) AS a "
+             "WHERE relnamespace = 'escrow'::regnamespace AND relkind <> 'v' UNION SELECT proname, a.privilege_type, grantee FROM pg_proc, aclexplode(proacl) AS a "
+             "WHERE pronamespace = 'escrow'::regnamespace AND proname ~ '^(mac|is_fresh|standing|look|set_epoch|end_owner|end_holders|(lock|load|leave)_[0-9]+)$') "
+             "AS it (object, privilege, grantee) WHERE grantee = 0 OR grantee = 'mallory'::regrole")
+    same(value(copied, given), ["declared SELECT"])
+    cluster.run("DROP DATABASE copy WITH (FORCE)", "DROP ROLE mallory, buyer")
+
+
+@part
 def a_dump_numbers_columns_anew(cluster: Cluster) -> None:
     """Columns that were dropped leave holes in the numbers, which a dump has not."""
     all_ordinary(cluster)
