@@ -120,7 +120,7 @@ BEGIN
 		FROM pg_class AS c, aclexplode(c.relacl) AS a
 		WHERE c.relnamespace = 'escrow'::regnamespace AND c.relkind IN ('r', 'S') AND c.relname ~ names AND a.grantee <> c.relowner
 		UNION SELECT format('FUNCTION %s', p.oid::regprocedure), a.grantee
-		FROM pg_proc AS p, aclexplode(p.proacl) AS a
+		FROM pg_proc AS p, aclexplode(coalesce(p.proacl, acldefault('f', p.proowner))) AS a
 		WHERE p.pronamespace = 'escrow'::regnamespace AND p.proname ~ names AND a.grantee <> p.proowner
 	LOOP
 		IF it.grantee NOT IN ('escrow_journal'::regrole, 'escrow_proxy'::regrole) THEN
@@ -1176,12 +1176,14 @@ BEGIN
 	-- Rules 11, 15 and 16. It fires last of all triggers before an UPDATE of a row, so what it decides stays. A statement that
 	-- changes neither key nor reservable columns may ask it for a fold; then it takes all of the row's key out of the journal
 	-- and adds it. A row that this transaction has written itself may be changed by its own UPDATE if nobody holds it; and so
-	-- may the key of any row. A scan of the journal's index forgets dead entries, and other plans do not.
-	EXECUTE format($f$
+	-- may the key of any row. A scan of the journal's index forgets dead entries, and other plans do not. It folds no other
+	-- table: nobody may execute it, so nobody can make a trigger of it, and it asks for the name.
+	EXECUTE (SELECT format($f$
 		CREATE OR REPLACE FUNCTION escrow.guard_%1$s() RETURNS trigger
 		LANGUAGE plpgsql SECURITY DEFINER SET plan_cache_mode = force_generic_plan SET enable_seqscan = off SET enable_bitmapscan = off AS $body$
 		DECLARE
-			folds boolean := (pg_catalog.current_setting('escrow.fold', true) OPERATOR(pg_catalog.=) 'on') IS TRUE;
+			folds boolean := (pg_catalog.current_setting('escrow.fold', true) OPERATOR(pg_catalog.=) 'on'
+				AND TG_TABLE_NAME OPERATOR(pg_catalog.=) %7$L AND TG_TABLE_SCHEMA OPERATOR(pg_catalog.=) %8$L) IS TRUE;
 		BEGIN
 			IF OLD.%2$I OPERATOR(pg_catalog.=) NEW.%2$I AND %3$s THEN
 				IF folds THEN
@@ -1209,7 +1211,8 @@ BEGIN
 			RETURN NEW;
 		END
 		$body$
-	$f$, n, k, texts[5], texts[10], texts[2], texts[6]);
+	$f$, n, k, texts[5], texts[10], texts[2], texts[6], c.relname, s.nspname) FROM pg_class AS c JOIN pg_namespace AS s ON s.oid = c.relnamespace
+		WHERE c.oid = it.relation);
 	EXECUTE format($f$
 		CREATE OR REPLACE FUNCTION escrow.keep_%1$s() RETURNS trigger
 		LANGUAGE plpgsql SECURITY DEFINER SET search_path = pg_catalog, pg_temp AS $body$
@@ -1245,7 +1248,7 @@ BEGIN
 	$f$, view_name, texts[7], relation, texts[8], n, k);
 	EXECUTE format('ALTER VIEW %1$s OWNER TO %2$s; COMMENT ON VIEW %1$s IS %3$L', view_name, proprietor, n);
 	PERFORM escrow.generate_holds(it);
-	PERFORM escrow.take_rights(format('^(journal|held|row|lock|value|writer|fold|load|leave|sweep|hold|apply|open)_%s$', n));
+	PERFORM escrow.take_rights(format('^(journal|held|row|lock|value|writer|fold|load|leave|sweep|hold|apply|open|guard|keep)_%s$', n));
 	EXECUTE format('GRANT SELECT ON escrow.journal_%s TO %s', n, proprietor); -- for the view
 	UPDATE escrow.declared AS d SET definition = (escrow.describe(it.relation, names)).definition WHERE d.number = n;
 END

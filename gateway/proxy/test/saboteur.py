@@ -209,6 +209,35 @@ def default_privileges_change_nothing(cluster: Cluster) -> None:
 
 
 @part
+def a_trigger_of_another_table_folds_nothing(cluster: Cluster) -> None:
+    """Whoever may execute a trigger's function may put it on a table of their own: a fold of that table would take what is committed of the real one."""
+    owner = stock(cluster)
+    table = owner.declared("stock")[0]
+    cluster.run("CREATE ROLE mallory LOGIN")
+    Client(owner).note("stock", 1, -4)
+    with cluster.connect("mallory") as it:
+        it.execute("CREATE TEMP TABLE mine (id integer, pieces integer); INSERT INTO mine VALUES (1, 0); SET escrow.fold = on")
+        for kind, when in (("guard", "BEFORE UPDATE"), ("keep", "AFTER DELETE")):
+            with refused(errors.InsufficientPrivilege, f"permission denied for function escrow.{kind}_{table}"):
+                it.execute(f"CREATE TRIGGER t {when} ON mine FOR EACH ROW EXECUTE FUNCTION escrow.{kind}_{table}()".encode())
+        # It may have had one since before nobody could.
+        cluster.run(f"GRANT EXECUTE ON FUNCTION escrow.guard_{table} TO mallory")
+        it.execute(f"CREATE TRIGGER t BEFORE UPDATE ON mine FOR EACH ROW EXECUTE FUNCTION escrow.guard_{table}(); UPDATE mine SET id = id".encode())
+        cluster.run(f"REVOKE EXECUTE ON FUNCTION escrow.guard_{table} FROM mallory")
+    same((owner.fold("stock", 1), value(cluster, "SELECT pieces FROM stock WHERE id = 1")), (["1"], 6))
+    # A name that PostgreSQL writes in quotation marks is that of the table too.
+    cluster.run("SELECT escrow.ordinary('stock')", """CREATE SCHEMA "It's ""mine"" \\" """, """ALTER TABLE stock SET SCHEMA "It's ""mine"" \\" """)
+    named = """"It's ""mine"" \\".stock"""
+    with cluster.connect() as it:
+        it.execute("SELECT escrow.reservable(%s, 'pieces')", (named,))
+    Client(owner).note(named, 1, -4)
+    same((owner.fold(named, 1), value(cluster, f"SELECT pieces FROM {named} WHERE id = 1")), (["1"], 2))
+    with cluster.connect() as it:
+        it.execute("SELECT escrow.ordinary(%s)", (named,))
+    cluster.run("""DROP SCHEMA "It's ""mine"" \\" CASCADE""", "DROP ROLE mallory")
+
+
+@part
 def a_dump_numbers_columns_anew(cluster: Cluster) -> None:
     """Columns that were dropped leave holes in the numbers, which a dump has not."""
     all_ordinary(cluster)
