@@ -415,9 +415,9 @@ class Walk:
         for _ in range(CLIENTS):
             self.enter()
         while self.ready.get_map():
-            found = self.ready.select(END)
-            expect(bool(found), True, f"one of {len(self.ready.get_map())} clients is answered within {END:.0f} s")
-            for key, _ in found:
+            answered = self.ready.select(END)
+            expect(bool(answered), True, f"one of {len(self.ready.get_map())} clients is answered within {END:.0f} s")
+            for key, _ in answered:
                 it: Walker = key.data
                 before = it.status
                 it.finish()

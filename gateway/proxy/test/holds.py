@@ -272,7 +272,8 @@ def savepoints_and_several_holds(cluster: Cluster, proxy: Proxy) -> None:
         found = []
         waiting = threading.Thread(target=lambda: found.append(called(other, "release", two)))
         waiting.start()
-        wait_until("it waits", lambda: it.execute("SELECT count(*) FROM pg_locks WHERE NOT granted AND pid = %s", (other.info.backend_pid,)).fetchall() == [(1,)])
+        locks = "SELECT count(*) FROM pg_locks WHERE NOT granted AND pid = %s"
+        wait_until("it waits", lambda: it.execute(locks, (other.info.backend_pid,)).fetchall() == [(1,)])
         it.execute("COMMIT")
         waiting.join()
         expect(found, [True])

@@ -9,7 +9,7 @@ import socket
 import struct
 import subprocess
 from contextlib import contextmanager
-from typing import Any, Iterator, List, Tuple
+from typing import Any, Callable, Iterator, List, Tuple
 
 import psycopg
 from psycopg import errors
@@ -158,9 +158,22 @@ def a_path_that_a_trigger_sets_is_nobody_elses(cluster: Cluster) -> None:
         it.execute(MALLORY.encode())
     owner = Owner(cluster)
     client = Client(owner)
-    for act in (lambda: owner.load("mallory.t", 1), lambda: (client.note("mallory.t", 1, -1), client.note("mallory.t", 2, -1), owner.fold("mallory.t", 1, 2)),
-                lambda: (client.note("mallory.t", 1, -1), owner.leave("mallory.t", 1)), lambda: change_here(client, "mallory.t", 2, -1),
-                lambda: (client.note("mallory.t", 1, -1), cluster.run("SELECT escrow.ordinary('mallory.t')", user="mallory"))):
+
+    def fold() -> None:
+        client.note("mallory.t", 1, -1)
+        client.note("mallory.t", 2, -1)
+        owner.fold("mallory.t", 1, 2)
+
+    def leave() -> None:
+        client.note("mallory.t", 1, -1)
+        owner.leave("mallory.t", 1)
+
+    def make_ordinary() -> None:
+        client.note("mallory.t", 1, -1)
+        cluster.run("SELECT escrow.ordinary('mallory.t')", user="mallory")
+
+    acts: List[Callable[[], object]] = [lambda: owner.load("mallory.t", 1), fold, leave, lambda: change_here(client, "mallory.t", 2, -1), make_ordinary]
+    for act in acts:
         act()
         same(value(cluster, "SELECT array_agg(DISTINCT who) FROM mallory.loot"), None)
         for one in (owner.keeper, client.connection):
@@ -200,9 +213,11 @@ def default_privileges_change_nothing(cluster: Cluster) -> None:
     buyer = Client(owner, "buyer")
     buyer.note("stock", 1, -1)
     assert buyer.direct("stock", 1, -1)
+    functions = "^(mac|is_fresh|standing|look|set_epoch|end_owner|end_holders|(lock|load|leave)_[0-9]+)$"
     given = ("SELECT array_agg(DISTINCT object || ' ' || privilege) FROM (SELECT relname, a.privilege_type, grantee FROM pg_class, aclexplode(relacl) AS a "
-             "WHERE relnamespace = 'escrow'::regnamespace AND relkind <> 'v' UNION SELECT proname, a.privilege_type, grantee FROM pg_proc, aclexplode(proacl) AS a "
-             "WHERE pronamespace = 'escrow'::regnamespace AND proname ~ '^(mac|is_fresh|standing|look|set_epoch|end_owner|end_holders|(lock|load|leave)_[0-9]+)$') "
+             "WHERE relnamespace = 'escrow'::regnamespace AND relkind <> 'v' "
+             "UNION SELECT proname, a.privilege_type, grantee FROM pg_proc, aclexplode(proacl) AS a "
+             f"WHERE pronamespace = 'escrow'::regnamespace AND proname ~ '{functions}') "
              "AS it (object, privilege, grantee) WHERE grantee = 0 OR grantee = 'mallory'::regrole")
     same(value(copied, given), ["declared SELECT"])
     cluster.run("DROP DATABASE copy WITH (FORCE)", "DROP ROLE mallory, buyer")

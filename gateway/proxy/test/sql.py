@@ -874,7 +874,7 @@ def nobody_calls_what_is_not_theirs(cluster: Cluster) -> None:
                ORDER BY proname"""
     same([name for name, in owner.keeper.execute(query.encode())],
          sorted(["greet", "reservable", "ordinary", "hold", "take", "take", "release", "prolong", "keep_declared",
-                 *(f"{it}_{n}" for it in ("note", "direct", "here", "own", "guard", "keep"))]))
+                 *(f"{it}_{n}" for it in ("note", "direct", "here", "own"))]))
     query = """SELECT relname FROM pg_class WHERE relnamespace = 'escrow'::regnamespace AND relkind IN ('r', 'v', 'S')
                AND (has_any_column_privilege('buyer2', oid, 'SELECT')
         OR has_table_privilege('buyer2', oid, 'INSERT, UPDATE, DELETE, TRUNCATE'))"""
@@ -1081,7 +1081,8 @@ def own_folds_never_raise(cluster: Cluster) -> None:
     same(value(cluster, pieces), 7)
     # A row, a table or what a trigger writes that somebody has locked: COMMIT is good, and waits for nobody. An error, of any kind: it is good.
     cluster.run("CREATE FUNCTION acts() RETURNS trigger LANGUAGE plpgsql AS 'BEGIN UPDATE audit SET n = n + 1; RETURN NEW; END'",
-                "CREATE TABLE audit (n integer)", "INSERT INTO audit VALUES (0)", "CREATE TRIGGER acts BEFORE UPDATE ON stock FOR EACH ROW EXECUTE FUNCTION acts()")
+                "CREATE TABLE audit (n integer)", "INSERT INTO audit VALUES (0)",
+                "CREATE TRIGGER acts BEFORE UPDATE ON stock FOR EACH ROW EXECUTE FUNCTION acts()")
 
     def commits() -> None:
         begin = time.monotonic()
