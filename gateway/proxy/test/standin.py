@@ -118,7 +118,8 @@ class Owner:
         self.epoch = random.getrandbits(63)
         self.number = 0
         self.key = bytes(self.one("SELECT key FROM escrow.secret")[0])
-        assert self.one("SELECT pg_try_advisory_lock(%s, %s)", *OWNER)[0], "OWNER is held"
+        # The backend of a former owner's connection may still end.
+        wait_until("OWNER is free", lambda: self.one("SELECT pg_try_advisory_lock(%s, %s)", *OWNER)[0])
         assert self.one("SELECT pg_try_advisory_lock(%s)", self.epoch)[0]
         self.keeper.execute("SELECT escrow.set_epoch(%s)", (self.epoch,))
 
