@@ -36,13 +36,15 @@ from dataclasses import dataclass, field
 from pathlib import Path
 from types import TracebackType
 from typing import Any, Callable, Dict, FrozenSet, Iterator, List, Mapping, NamedTuple, Optional, Sequence, Set, Tuple, Type
+from unittest.mock import MagicMock
 
 import psycopg
 from psycopg import errors
+from psycopg.pq import ExecStatus, TransactionStatus
 
 from clients.servers import PATIENCE, PORT, children, wait_until
 from clients.suite import Part, expect, main
-from proxy.test.buyers import ALONE, BUYER, KINDS, MERCHANT, RIGHTS, ROLES, TABLES, WITH_ESCROW, Line
+from proxy.test.buyers import ALONE, BUYER, KINDS, MERCHANT, RIGHTS, ROLES, TABLES, WITH_ESCROW, Buyer, Line, Order
 from proxy.test.harness import TOP, Forwarder, Proxy, Standby
 from proxy.test.standin import ROLE, Cluster
 
@@ -806,6 +808,44 @@ def the_test_finds_wrongs() -> None:
     many = [f"an answered order is missing: {it}" for it in range(MOST_SHOWN)]
     first = listed([*many, "item 1 has 7, and its orders leave 6", "item 3 has -1", "the proxy says: ALARM: FoldRefused"]).splitlines()[:3]
     expect([it.split()[:2] for it in first], [["the", "proxy"], ["item", "1"], ["an", "answered"]])
+
+
+CHAINED = b"ROLLBACK AND CHAIN"
+
+
+class Heard(Buyer):
+    """A buyer whose connection does all that it is sent, but for a deadlock behind each ROLLBACK AND CHAIN. What it says is heard here."""
+
+    def __init__(self) -> None:
+        super().__init__("b", 1, -1, threading.Event(), argparse.Namespace(careless=False, thinking=0.0))
+        self.said: List[str] = []
+        self.last = b""
+        self.connection = MagicMock(closed=False)
+        self.connection.info.transaction_status = TransactionStatus.IDLE
+        self.connection.execute.side_effect = self.done
+        self.connection.pgconn.exec_prepared.side_effect = self.done
+
+    def say(self, what: str, *words: object) -> None:
+        self.said.append(" ".join((what, *map(str, words))))
+
+    def done(self, statement: bytes, *_: object) -> MagicMock:
+        """Does a statement."""
+        before, self.last = self.last, statement
+        if before == CHAINED:
+            raise errors.DeadlockDetected
+        tag = "UPDATE 1" if statement == b"take" or b"stock" in statement else "COMMIT"
+        return MagicMock(status=ExecStatus.COMMAND_OK, statusmessage=tag, command_status=tag.encode())
+
+
+@PART.alone
+def a_line_that_was_taken_back_tells_nothing_of_an_earlier_try() -> None:
+    """The COMMIT of the first try was lost, and may have been done. The repeat could write the line that neither keeps."""
+    found = set()
+    for seed in range(20):
+        buyer = Heard()
+        buyer.tried(Order("k", "chained", seed, is_first=False))
+        found.update(buyer.said)
+    expect(found, {"answered k/0", "refused 40P01", "unknown k/1", "aborted k/0"})
 
 
 @PART.alone
