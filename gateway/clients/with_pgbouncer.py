@@ -6,7 +6,7 @@ import subprocess
 import time
 from concurrent.futures import ThreadPoolExecutor
 
-from clients.servers import PORT, TOP, Gateway, Pgbouncer, scram_secret, wait_until
+from clients.servers import END, PORT, TOP, Gateway, Pgbouncer, scram_secret, wait_until
 from clients.suite import Part, expect, load, main
 from clients.wire import Connection
 from clients.with_pgbench import run
@@ -45,7 +45,7 @@ class Packaged(Pgbouncer):
         """Runs statements of one client."""
         words = [word for it in statements for word in ("-c", it)]
         dsn = self.dsn(dbname=more.pop("dbname", "shop"), **more)
-        return subprocess.run(["psql", "-XAtq", *words, dsn], capture_output=True, text=True, check=False)
+        return subprocess.run(["psql", "-XAtq", *words, dsn], capture_output=True, text=True, timeout=END, check=False)
 
 
 @PART.alone
@@ -138,9 +138,9 @@ def sessions_of_one_client_each(gateway: Gateway) -> None:
 @PART.served
 def a_wrong_password(gateway: Gateway) -> None:
     with Pgbouncer(gateway, "transaction", POOL) as bouncer:
-        done = subprocess.run(["psql", "-XAtc", "COMMIT", bouncer.dsn(password="wrong")], capture_output=True, text=True, check=False)
+        done = subprocess.run(["psql", "-XAtc", "COMMIT", bouncer.dsn(password="wrong")], capture_output=True, text=True, timeout=END, check=False)
         expect((done.returncode, "SASL authentication failed" in done.stderr), (2, True), done.stderr)
-        done = subprocess.run(["psql", "-XAtc", "ROLLBACK", bouncer.dsn()], capture_output=True, text=True, check=False)
+        done = subprocess.run(["psql", "-XAtc", "ROLLBACK", bouncer.dsn()], capture_output=True, text=True, timeout=END, check=False)
         expect((done.returncode, done.stdout), (0, "ROLLBACK\n"), done.stderr)
 
 
