@@ -5,10 +5,8 @@
 mod gateway;
 
 use std::ffi::{OsStr, OsString};
-use std::fs::{self, Permissions};
-use std::os::unix::fs::PermissionsExt;
 
-use gateway::{has_program, kill, run, Folder, Gateway};
+use gateway::{has_program, kill, run, write_program, Folder, Gateway};
 use tokio_postgres::error::SqlState;
 use tokio_postgres::types::Type;
 use tokio_postgres::{Client, Error, SimpleQueryMessage};
@@ -393,10 +391,8 @@ fn what_cannot_be_served_has_a_status() {
     let (status, said) = run(&folder.join("."), &[shop], &["--program", "/bin/echo"]);
     assert_eq!(status, Some(3), "{said}");
     for (version, status_then) in [("1.0", 3), ("1.1", 6)] {
-        let script = format!("#!/bin/sh\necho escrowd {version}\n");
-        let path = folder.join("program");
-        fs::write(&path, script).expect("a script");
-        fs::set_permissions(&path, Permissions::from_mode(0o700)).expect("its mode");
+        let path = folder.join(version);
+        write_program(&path, &format!("echo escrowd {version}"));
         let program = path.to_str().expect("a path in UTF-8");
         let (status, said) = run(&folder.join("."), &[shop], &["--program", program]);
         assert_eq!(status, Some(status_then), "{said}");

@@ -13,10 +13,10 @@ use std::time::{Duration, Instant};
 use tokio_postgres::{Client, Config, Error, NoTls};
 
 /// How long a process may take to end.
-const PATIENCE: Duration = Duration::from_secs(60);
+const PATIENCE: Duration = Duration::from_secs(120);
 
 /// How long a gateway that cannot serve may take to say so.
-const SOON: Duration = Duration::from_secs(30);
+const SOON: Duration = Duration::from_secs(120);
 
 /// The environment variable that names the program.
 const PROGRAM: &str = "ESCROWD";
@@ -170,6 +170,15 @@ pub fn run(folder: &Path, databases: &[&OsStr], options: &[&str]) -> (Option<i32
         output.status.code(),
         String::from_utf8_lossy(&output.stderr).into_owned(),
     )
+}
+
+/// Writes a program of one line of sh. Another process has the file open meanwhile: children that other tests start at the same
+/// time would inherit it from this one, and a file that somebody may still write to cannot be run.
+pub fn write_program(path: &Path, line: &str) {
+    let script = r##"printf '#!/bin/sh\n%s\n' "$2" > "$1" && chmod 700 "$1""##;
+    let mut command = Command::new("sh");
+    command.args(["-c", script, "sh"]).arg(path).arg(line);
+    assert!(command.status().expect("sh").success());
 }
 
 /// Sends a signal to a process.
