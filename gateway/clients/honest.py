@@ -16,6 +16,7 @@ from pathlib import Path
 from typing import Dict, List
 
 from clients import wire
+from clients.servers import END
 
 # The rows that the clients take of, and the seconds that a client waits between two statements.
 TABLE = "CREATE TABLE hot (id INTEGER PRIMARY KEY, pieces INTEGER RESERVABLE CHECK (pieces >= 0))"
@@ -43,7 +44,7 @@ def prepare(path: Path) -> None:
 
 def measure(path: Path, clients: int, seconds: float) -> Times:
     """Runs clients for some seconds, and returns how long their statements took. Fails if one of them is refused or ended."""
-    connections = [wire.Connection(path, timeout=120.0) for _ in range(clients)]
+    connections = [wire.Connection(path) for _ in range(clients)]
     asked: Dict[int, float] = {}
     times: List[float] = []
     begin = time.monotonic()
@@ -59,6 +60,8 @@ def measure(path: Path, clients: int, seconds: float) -> Times:
                 if now - begin < seconds:
                     connections[at].send(wire.query(f"UPDATE hot SET pieces = pieces - 1 WHERE id = {at % ROWS}"))
                     asked[at] = time.monotonic()
+            if now - min(asked.values(), default=now) > END:
+                raise AssertionError(f"an honest client was not answered within {END:.0f} s")
             wait = max(0.0, min(due.values(), default=now + 0.1) - time.monotonic())
             for key, _ in ready.select(wait):
                 at = key.data

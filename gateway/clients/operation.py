@@ -34,6 +34,8 @@ APART = 1.2
 MOST_BYTES = 1 << 20
 # The seconds that the gateway waits for a store that another program has open.
 LOCK = 10.0
+# How often is tried what a limit of time of the gateway's own may disturb.
+TRIES = 3
 # What a program in place of escrowd's begins with: it has the same version.
 VERSION = f"""#!/bin/sh
 [ "$1" = --version ] && exec {PROGRAM} --version
@@ -152,6 +154,14 @@ def a_terminal_that_hangs_up() -> None:
 @PART.alone
 def signals_that_come_again() -> None:
     """At once they count as one. Later the second one ends the wait for clients, and the third the wait for programs."""
+    took: List[float] = []
+    while not took or (took[-1] >= LOCK and len(took) < TRIES):  # a busy machine may stand still for as long
+        took.append(ended_by_signals())
+    expect(took[-1] < LOCK, True, f"no limit of time has passed: {took} s")
+
+
+def ended_by_signals() -> float:
+    """Sends signals until a gateway has ended. Returns the seconds from the first to the end."""
     with Operated(program=DEAF) as gateway:
         waiting = Connection(gateway.socket)
         waiting.send(wire.query("SHOW JOURNAL"))
@@ -167,9 +177,10 @@ def signals_that_come_again() -> None:
         time.sleep(APART)
         expect(gateway.running().poll(), None, "it waits for the program")
         expect(gateway.end(signal.SIGINT), 1, gateway.said())
-        expect(time.monotonic() - begin < LOCK, True, "no limit of time has passed")
+        took = time.monotonic() - begin
         expect(Path(f"/proc/{program}").exists(), False)
         expect("the program of bank was killed before it closed its store" in gateway.said(), True, gateway.said())
+        return took
 
 
 @PART.alone

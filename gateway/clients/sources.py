@@ -26,7 +26,7 @@ LINES = 40
 ENVIRONMENT = {"CARGO_TARGET_DIR": str(BUILT), "CARGO_INCREMENTAL": "0", "CARGO_PROFILE_DEV_DEBUG": "0", "ESCROWD": str(PROGRAM)}
 TOO_LATE = 124
 # The seconds in which a program says which version it has.
-SOON = 60.0
+SOON = 300.0
 
 
 class Done(NamedTuple):

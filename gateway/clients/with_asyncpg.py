@@ -7,14 +7,13 @@ from typing import Any, Awaitable, Callable
 
 import asyncpg
 
-from clients.servers import PORT, Gateway
+from clients.servers import END, PORT, Gateway
 from clients.suite import Part, expect, main
 
 PART = Part("with_asyncpg")
 STOCK = "CREATE TABLE stock (id INTEGER PRIMARY KEY, pieces INTEGER RESERVABLE CONSTRAINT in_stock CHECK (pieces >= 0), price NUMBER(8,2), name VARCHAR2(20))"
 TAKE = "UPDATE stock SET pieces = pieces - $1 WHERE id = $2"
 ONE = "SELECT * FROM stock WHERE id = $1"
-SECONDS = 60.0
 
 
 def tried(gateway: Gateway, act: Callable[[Any], Awaitable[None]]) -> None:
@@ -22,7 +21,7 @@ def tried(gateway: Gateway, act: Callable[[Any], Awaitable[None]]) -> None:
 
     async def whole() -> None:
         connection = await asyncpg.connect(
-            host=str(gateway.folder), port=PORT, user="clerk", database="bank", timeout=SECONDS, command_timeout=SECONDS
+            host=str(gateway.folder), port=PORT, user="clerk", database="bank", timeout=END, command_timeout=END
         )
         await connection.execute(STOCK)
         await connection.execute("INSERT INTO stock VALUES ($1, $2, $3, $4)", 1, 5, Decimal("9.50"), "Bob's \\ tea")
@@ -83,7 +82,7 @@ def a_pool_gives_back_clean_connections(gateway: Gateway) -> None:
 
     async def act(connection: Any) -> None:
         async with asyncpg.create_pool(
-            host=str(gateway.folder), port=PORT, user="clerk", database="bank", min_size=2, max_size=4, command_timeout=SECONDS
+            host=str(gateway.folder), port=PORT, user="clerk", database="bank", min_size=2, max_size=4, command_timeout=END
         ) as pool:
 
             async def take() -> None:

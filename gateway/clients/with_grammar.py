@@ -137,7 +137,7 @@ class Client:
     """A connection that sends many messages at once and takes their answers apart quickly."""
 
     def __init__(self, path: Path) -> None:
-        self.connection = wire.Connection(path, timeout=60.0)
+        self.connection = wire.Connection(path)
 
     def ask(self, requests: Sequence[bytes]) -> List[Answer]:
         """Sends requests, and returns their answers. Each request ends with one ReadyForQuery."""

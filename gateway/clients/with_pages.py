@@ -14,12 +14,11 @@ import termios
 from pathlib import Path
 from typing import List
 
-from clients.servers import Gateway
+from clients.servers import END, Gateway
 from clients.suite import Part, main
 
 PART = Part("with_pages")
 STORED = Path(__file__).parent / "pages.psql"
-SECONDS = 60.0
 DATABASE = "shop"
 TYPED = re.compile(rf"(\d)\| {DATABASE}[=-][*!]?> (.*)")
 PROMPT = re.compile(rf"(?:^|\n){DATABASE}[=-][*!]?> $")
@@ -44,7 +43,7 @@ class Terminal:
         """Reads until a prompt comes."""
         text = b""
         while not PROMPT.search(text.decode(errors="replace")):
-            if not select.select([self.side], [], [], SECONDS)[0]:
+            if not select.select([self.side], [], [], END)[0]:
                 raise AssertionError(f"psql shows no prompt: {text!r}")
             text += os.read(self.side, 65536)
         return text.decode()
@@ -60,7 +59,7 @@ class Terminal:
     def close(self) -> None:
         """Ends psql."""
         os.close(self.side)
-        self.process.wait(SECONDS)
+        self.process.wait(END)
 
 
 @PART.alone

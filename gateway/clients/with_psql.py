@@ -9,19 +9,18 @@ import subprocess
 from pathlib import Path
 from typing import List, Tuple
 
-from clients.servers import Gateway, wait_until
+from clients.servers import END, Gateway, wait_until
 from clients.suite import Part, expect, main
 
 PART = Part("with_psql")
 HERE = Path(__file__).parent
-SECONDS = 60
 STOCK = "CREATE TABLE stock (id INTEGER PRIMARY KEY, pieces INTEGER RESERVABLE CONSTRAINT in_stock CHECK (pieces >= 0))"
 
 
 def psql(gateway: Gateway, *words: str, given: str = "", database: str = "bank") -> Tuple[int, str]:
     """Runs psql, and returns its status and what it prints, errors among it."""
     done = subprocess.run(["psql", "-X", "-d", gateway.dsn(database), *words], input=given, stdout=subprocess.PIPE, stderr=subprocess.STDOUT,
-                          text=True, timeout=SECONDS, env={**os.environ, "PGCLIENTENCODING": "UTF8", "LC_ALL": "C.UTF-8"}, check=False)
+                          text=True, timeout=END, env={**os.environ, "PGCLIENTENCODING": "UTF8", "LC_ALL": "C.UTF-8"}, check=False)
     return done.returncode, done.stdout
 
 
@@ -119,7 +118,7 @@ def repeats_until_interrupted(gateway: Gateway) -> None:
         wait_until("five repeats of what was changed", lambda: seen.read_text().count("1|4\n") >= 5)
         watch.send_signal(signal.SIGINT)
         watch.stdin.close()
-        watch.wait(SECONDS)
+        watch.wait(END)
     expect("ERROR" in seen.read_text(), False)
 
 
@@ -128,7 +127,7 @@ def pg_dump_is_refused(gateway: Gateway) -> None:
     """It asks for REPEATABLE READ before it reads the catalog, for a schema alone too."""
     lines(gateway, STOCK)
     for words in (["pg_dump"], ["pg_dump", "-s"], ["pg_dump", "-a", "-t", "stock"]):
-        done = subprocess.run([*words, "-d", gateway.dsn()], capture_output=True, text=True, timeout=SECONDS, check=False)
+        done = subprocess.run([*words, "-d", gateway.dsn()], capture_output=True, text=True, timeout=END, check=False)
         expect((done.returncode, done.stdout), (1, ""), " ".join(words))
         expect("an isolation level above READ COMMITTED is not supported" in done.stderr, True, done.stderr)
 
