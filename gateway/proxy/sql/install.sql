@@ -1112,14 +1112,15 @@ BEGIN
 		$body$
 	$f$, n, it.key_type, plain_type);
 	-- Folds keys that were held in former epochs, at most so many, and removes their marks. It leaves out rows that are
-	-- locked. Returns how many it has done. The take locks the journal before the epoch is tested, so a new owner ends a
-	-- sweep of the former one before it makes marks (rules 7 and 9).
+	-- locked. Returns how many it has done, and -1 if all that are left are locked. The take locks the journal before the epoch
+	-- is tested, so a new owner ends a sweep of the former one before it makes marks (rules 7 and 9).
 	EXECUTE format($f$
 		CREATE OR REPLACE FUNCTION escrow.sweep_%1$s(epoch bigint, most integer) RETURNS integer
 		LANGUAGE plpgsql SECURITY DEFINER SET search_path = pg_catalog, pg_temp AS $body$
 		DECLARE
 			which %2$s;
 			done integer := 0;
+			is_locked boolean := false;
 		BEGIN
 			IF current_setting('transaction_isolation') <> 'read committed' THEN
 				RAISE EXCEPTION 'a fold needs READ COMMITTED' USING ERRCODE = 'invalid_transaction_state';
@@ -1137,9 +1138,11 @@ BEGIN
 				IF escrow.row_%1$s(which, true) IS NOT NULL THEN
 					DELETE FROM escrow.held_%1$s AS h WHERE h.key = which AND h.epoch <> sweep_%1$s.epoch AND NOT escrow.is_held(%1$s, %3$s);
 					done := done + 1;
+				ELSE
+					is_locked := true;
 				END IF;
 			END LOOP;
-			RETURN done;
+			RETURN CASE WHEN done = 0 AND is_locked THEN -1 ELSE done END;
 		END
 		$body$
 	$f$, n, it.key_type, escrow.key_text(it.key_type, 'h.key'));
@@ -1462,29 +1465,36 @@ GRANT SELECT ON escrow.holds TO PUBLIC;
 
 -- What the owner looks at. It forgets these lines, which have ended, and ends holds whose time is over, as many as take little
 -- time. Returns the lines of the notes of its epoch with these numbers, all of them, and others that have ended. It waits for
--- no lock for long (rule 21).
+-- no lock for long (rule 21). It goes by single lines and holds, since a plan for all at once may compare each with each.
 CREATE OR REPLACE FUNCTION escrow.look(owner bigint, epochs bigint[], forgotten bigint[], numbers bigint[])
 RETURNS TABLE (epoch bigint, number bigint, "table" integer, key text, stands boolean, taken text[])
 LANGUAGE plpgsql SECURITY DEFINER SET search_path = pg_catalog, pg_temp SET lock_timeout = '100ms' AS $$
 DECLARE
 	clock timestamptz := clock_timestamp(); -- no index serves a comparison with the function
+	over bigint;
+	room integer := 2000;
+	gone integer;
 BEGIN
 	IF owner IS DISTINCT FROM (SELECT last_value FROM escrow.epoch) THEN
 		PERFORM escrow.refuse_stale();
 	END IF;
 	-- If one of these commits is lost, so is whatever came behind it.
 	PERFORM set_config('synchronous_commit', 'off', true);
-	IF cardinality(forgotten) > 0 THEN
-		DELETE FROM escrow.hold_lines AS l USING unnest(epochs, forgotten) AS f (epoch, number)
-		WHERE l.number = f.number AND l.epoch = f.epoch AND NOT l.stands;
-	END IF;
-	WITH over AS (
-		SELECT h.number FROM escrow.hold_names AS h WHERE h.state = 'standing' AND h.until <= clock
-		ORDER BY h.until LIMIT 500 FOR UPDATE SKIP LOCKED
-	), ended AS (
-		UPDATE escrow.hold_names AS h SET state = 'expired', ended = clock FROM over AS o WHERE h.number = o.number
-	)
-	UPDATE escrow.hold_lines AS l SET stands = false FROM over AS o WHERE l.hold = o.number;
+	FOR i IN 1 .. cardinality(forgotten) LOOP
+		DELETE FROM escrow.hold_lines AS l WHERE l.number = forgotten[i] AND l.epoch = epochs[i] AND NOT l.stands;
+	END LOOP;
+	-- Nobody can take or prolong a hold whose time is over, so one of many lines may end in parts.
+	FOR over IN SELECT h.number FROM escrow.hold_names AS h WHERE h.state = 'standing' AND h.until <= clock
+		ORDER BY h.until LIMIT room FOR UPDATE SKIP LOCKED
+	LOOP
+		UPDATE escrow.hold_lines AS l SET stands = false
+		WHERE l.ctid = ANY (ARRAY(SELECT s.ctid FROM escrow.hold_lines AS s WHERE s.hold = over AND s.stands LIMIT room));
+		GET DIAGNOSTICS gone = ROW_COUNT;
+		room := room - gone;
+		EXIT WHEN room = 0;
+		UPDATE escrow.hold_names AS h SET state = 'expired', ended = clock WHERE h.number = over;
+		EXIT WHEN clock_timestamp() > clock + interval '500 milliseconds';
+	END LOOP;
 	DELETE FROM escrow.hold_names AS h WHERE h.number IN (
 		SELECT i.number FROM escrow.hold_names AS i WHERE i.state <> 'standing' AND i.ended < clock - interval '1 day' LIMIT 500);
 	RETURN QUERY SELECT l.epoch, l.number, l."table", l.key, l.stands, l.taken::text[] FROM escrow.hold_lines AS l

@@ -6,12 +6,11 @@
 use std::collections::{HashMap, HashSet};
 use std::future::Future;
 use std::sync::{Arc, Mutex, PoisonError};
-use std::time::{Duration, Instant};
+use std::time::Duration;
 
-use tokio::sync::mpsc::error::TryRecvError;
 use tokio::sync::mpsc::{unbounded_channel, UnboundedReceiver, UnboundedSender};
 use tokio::sync::watch;
-use tokio::time::{sleep, timeout};
+use tokio::time::{sleep, timeout, timeout_at, Instant};
 use tokio_postgres::error::SqlState;
 use tokio_postgres::{Error, Statement};
 
@@ -222,6 +221,8 @@ enum PatientTask {
     Fold(Folding, i32, Vec<Key>),
     /// Fold whatever journals have, for the owner of this epoch.
     Sweep(i64),
+    /// The same, in a while.
+    SweepSoon(i64),
 }
 
 /// Folds, one fold after another.
@@ -242,6 +243,10 @@ pub async fn fold(hub: Arc<Hub>, target: Arc<Target>, mut tasks: UnboundedReceiv
             FolderTask::Fold(folding, keys) => (folding, keys),
             FolderTask::Sweep(epoch) => {
                 let _ = patient.send(PatientTask::Sweep(epoch));
+                continue;
+            }
+            FolderTask::SweepSoon(epoch) => {
+                let _ = patient.send(PatientTask::SweepSoon(epoch));
                 continue;
             }
         };
@@ -303,17 +308,16 @@ async fn fold_patiently(
     let mut sweep = Sweep::default();
     let mut pause = AGAIN;
     loop {
-        let task = if sweep.tables.is_empty() {
-            match tasks.recv().await {
-                Some(task) => Some(task),
-                None => return,
-            }
-        } else {
-            match tasks.try_recv() {
-                Ok(task) => Some(task),
-                Err(TryRecvError::Empty) => None,
-                Err(TryRecvError::Disconnected) => return,
-            }
+        let task = match sweep.due {
+            None => tasks.recv().await.map(Some),
+            Some(due) => match timeout_at(due, tasks.recv()).await {
+                Ok(task) => task.map(Some),
+                Err(_) => Some(None),
+            },
+        };
+        let task = match task {
+            Some(task) => task,
+            None => return,
         };
         match task {
             Some(PatientTask::Fold(folding, table, keys)) => {
@@ -338,6 +342,8 @@ async fn fold_patiently(
                 });
             }
             Some(PatientTask::Sweep(epoch)) => sweep = Sweep::of(&hub, epoch).await,
+            Some(PatientTask::SweepSoon(epoch)) => sweep.begin_soon(epoch),
+            None if sweep.tables.is_empty() => sweep = Sweep::of(&hub, sweep.epoch).await,
             None => sweep.go_on(&hub, &mut own).await,
         }
     }
@@ -411,6 +417,8 @@ struct Sweep {
     tables: Vec<i32>,
     /// Whether rows were left out, which somebody has locked.
     is_left: bool,
+    /// When it goes on, or begins again. None: nothing is to be done.
+    due: Option<Instant>,
 }
 
 impl Sweep {
@@ -420,10 +428,23 @@ impl Sweep {
         while catalog.borrow().is_none() && catalog.changed().await.is_ok() {}
         let known = catalog.borrow().clone().unwrap_or_default();
         let tables = known.tables().iter().map(|table| table.number);
+        let tables: Vec<i32> = tables.filter(|&table| !hub.is_stopped(table)).collect();
         Sweep {
             epoch,
-            tables: tables.filter(|&table| !hub.is_stopped(table)).collect(),
+            due: (!tables.is_empty()).then(Instant::now),
+            tables,
             is_left: false,
+        }
+    }
+
+    /// Begins again in a while. One that is under way may have passed what has come.
+    fn begin_soon(&mut self, epoch: i64) {
+        match self.tables.is_empty() {
+            true => {
+                self.epoch = epoch;
+                self.due.get_or_insert_with(|| Instant::now() + RETRY);
+            }
+            false => self.is_left = true,
         }
     }
 
@@ -431,7 +452,7 @@ impl Sweep {
     async fn go_on(&mut self, hub: &Arc<Hub>, own: &mut Own) {
         let table = match self.tables.last() {
             Some(&table) if hub.serves(self.epoch) => table,
-            _ => return self.tables.clear(),
+            _ => return *self = Sweep::default(),
         };
         match sweep_piece(own, table, self.epoch).await {
             Ok(Swept::Some) => return,
@@ -445,16 +466,14 @@ impl Sweep {
             Err(failure) => {
                 tracing::warn!("a journal is not folded yet (table {table}): {failure}");
                 self.tables.rotate_right(1); // the others go on
-                return sleep(PAUSE).await;
+                self.due = Some(Instant::now() + PAUSE);
+                return;
             }
         }
         self.tables.pop();
-        if self.tables.is_empty() && self.is_left {
-            let (hub, epoch) = (hub.clone(), self.epoch);
-            tokio::spawn(async move {
-                sleep(RETRY).await;
-                hub.sweep(epoch);
-            });
+        if self.tables.is_empty() {
+            let is_left = std::mem::take(&mut self.is_left);
+            self.due = is_left.then(|| Instant::now() + RETRY);
         }
     }
 }
@@ -469,22 +488,18 @@ enum Swept {
     All,
 }
 
-/// Folds some of what former owners have left, and removes their marks.
+/// Folds some of what former owners have left, and removes their marks, but for those of rows with holds that stand.
 async fn sweep_piece(own: &mut Own, table: i32, epoch: i64) -> Result<Swept, Failure> {
     let text = format!("SELECT escrow.sweep_{table}($1, $2)");
     let rows = own.query(&text, &[&epoch, &(PIECE as i32)]).await?;
     let count = rows.first().map_or(0, |row| row.get::<_, i32>(0));
-    if count > 0 {
-        tracing::info!("{count} rows of a former owner are folded (table {table})");
-        return Ok(Swept::Some);
-    }
-    let text = format!("SELECT EXISTS (SELECT FROM escrow.held_{table} WHERE epoch <> $1)");
-    let rows = own.query(&text, &[&epoch]).await?;
-    let is_left = rows.first().map_or(false, |row| row.get::<_, bool>(0));
-    Ok(if is_left {
-        Swept::AllButLocked
-    } else {
-        Swept::All
+    Ok(match count {
+        0 => Swept::All,
+        1.. => {
+            tracing::info!("{count} rows of a former owner are folded (table {table})");
+            Swept::Some
+        }
+        _ => Swept::AllButLocked,
     })
 }
 

@@ -91,6 +91,8 @@ pub enum FolderTask {
     Fold(Folding, Vec<Key>),
     /// Fold whatever journals have, for the owner of this epoch.
     Sweep(i64),
+    /// The same, in a while.
+    SweepSoon(i64),
 }
 
 /// What a loader is asked for.
@@ -448,6 +450,12 @@ impl Hub {
     /// Folds whatever journals have, for the owner of this epoch.
     pub fn sweep(&self, epoch: i64) {
         let _ = self.workers.folder.send(FolderTask::Sweep(epoch));
+    }
+
+    /// Folds whatever journals have, in a while: holds of former epochs have ended, whose rows may be locked or too many to be left
+    /// at once.
+    pub fn sweep_soon(&self, epoch: i64) {
+        let _ = self.workers.folder.send(FolderTask::SweepSoon(epoch));
     }
 
     /// Some time has passed.

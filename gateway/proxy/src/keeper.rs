@@ -56,9 +56,21 @@ pub enum Error {
 }
 
 impl Error {
-    /// Returns whether a lock could not be had in time.
-    fn is_lock(&self) -> bool {
-        matches!(self, Error::Postgres(error) if error.code() == Some(&SqlState::LOCK_NOT_AVAILABLE))
+    /// Returns whether a look was cut off, and changed nothing: a lock could not be had in time, it was cancelled or too long, or
+    /// PostgreSQL lacks room.
+    fn is_passing(&self) -> bool {
+        let code = match self {
+            Error::Postgres(error) => error.code(),
+            _ => None,
+        };
+        let passing = [
+            SqlState::LOCK_NOT_AVAILABLE,
+            SqlState::T_R_DEADLOCK_DETECTED,
+            SqlState::QUERY_CANCELED,
+        ];
+        code.map_or(false, |it| {
+            passing.contains(it) || it.code().starts_with("53")
+        })
     }
 }
 
@@ -88,7 +100,8 @@ impl Keeper {
     /// Connects, and reads the secret of schema `escrow`. Returns where it is connected to as well.
     pub async fn open(target: &Target) -> Result<(Keeper, Secret, Address), Error> {
         let options = concat!(
-            "-c default_transaction_isolation=read\\ committed -c statement_timeout=0 -c lock_timeout=0",
+            // A statement that takes longer would be taken for silence.
+            "-c default_transaction_isolation=read\\ committed -c statement_timeout=2s -c lock_timeout=0",
             " -c idle_session_timeout=0"
         );
         let (own, address) = target.login(None, "escrowd-proxy keeper", options).await?;
@@ -339,8 +352,15 @@ async fn carry_out(
             });
         }
         Action::Look { done, asked } => match open.look(&done, &asked).await {
-            Ok(news) => hub.handle(Event::Looked { news }),
-            Err(error) if error.is_lock() => {
+            Ok(news) => {
+                let is_formers = |it: &News<Key, Change>| !it.is_ours && it.fate != Fate::Stands;
+                let have_ended = news.iter().any(is_formers);
+                hub.handle(Event::Looked { news });
+                if have_ended {
+                    hub.sweep_soon(open.epoch);
+                }
+            }
+            Err(error) if error.is_passing() => {
                 tracing::debug!("holds cannot be looked at: {error}");
                 hub.handle(Event::LookFailed);
             }

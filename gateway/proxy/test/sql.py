@@ -796,7 +796,7 @@ def marks_of_former_epochs_go(cluster: Cluster) -> None:
         sweep(owner, 10)
     with cluster.connect() as it:
         it.execute("BEGIN; UPDATE stock SET title = 'locked' WHERE id = 3")
-        same((sweep(second, 1), sweep(second, 10), sweep(second, 10)), (1, 1, 0))
+        same((sweep(second, 1), sweep(second, 10), sweep(second, 10)), (1, 1, -1))
         same(value(cluster, held), [1, 3])
         it.execute("COMMIT")
     same((sweep(second, 10), sweep(second, 10), value(cluster, held)), (1, 0, [1]))
@@ -804,6 +804,30 @@ def marks_of_former_epochs_go(cluster: Cluster) -> None:
     cluster.run("DELETE FROM stock WHERE id = 4")
     with refused(errors.ObjectInUse):
         cluster.run("DELETE FROM stock WHERE id = 1")
+
+
+@part
+def a_look_takes_little_time(cluster: Cluster) -> None:
+    """However many holds are over at once: the keeper must not be silent for three seconds."""
+    owner = stock(cluster)
+    count, lines = 120, 250
+    cluster.run("INSERT INTO escrow.hold_names (name, maker, since, until) SELECT 'over/' || i, 'clerk', now(), now() "
+                f"FROM generate_series(1, {count}) AS i",
+                "INSERT INTO escrow.hold_lines (epoch, number, hold, \"table\", key, changes) SELECT 7, 1000 * h.number + i, h.number, 1, i::text, '{1}' "
+                f"FROM escrow.hold_names AS h CROSS JOIN generate_series(1, {lines}) AS i WHERE h.name LIKE 'over/%'")
+    ended: List[Tuple[int, int]] = []
+    done: List[Tuple[int, int]] = []
+    begun = time.monotonic()
+    while not done or ended:
+        begin = time.monotonic()
+        ended = owner.keeper.execute("SELECT epoch, number FROM escrow.look(%s, %s::bigint[], %s::bigint[], '{}')",
+                                     (owner.epoch, [it for it, _ in ended], [it for _, it in ended])).fetchall()
+        assert time.monotonic() - begin < 2, f"a look took {time.monotonic() - begin:.1f} s"
+        done += ended
+    print(f"  {len(done)} lines in {time.monotonic() - begun:.1f} s")
+    same((len(set(done)), value(cluster, "SELECT count(*) FROM escrow.hold_lines"),
+          value(cluster, "SELECT count(*) FROM escrow.hold_names WHERE name LIKE 'over/%' AND state = 'expired'")), (count * lines, 0, count))
+    owner.keeper.close()
 
 
 @part

@@ -7,6 +7,9 @@ use super::{Connection, Line};
 /// If so many lines have ended, there may be more, so that the next look begins at once.
 pub(super) const MANY: usize = 100;
 
+/// The most lines that a look forgets: more would take it too long.
+const FORGETS: usize = 4_000;
+
 /// So many rows are left at a time because their holds have ended. A sweep does the others, and loads need not wait for them.
 pub(super) const LEAVES: usize = 64;
 
@@ -91,7 +94,8 @@ impl<K: Clone + Ord, C> Holds<K, C> {
         if self.looking.is_some() || self.waiting.is_empty() && !is_due {
             return None;
         }
-        let done = std::mem::take(&mut self.done);
+        let rest = self.done.split_off(self.done.len().min(FORGETS));
+        let done = std::mem::replace(&mut self.done, rest);
         self.forgotten.clone_from(&done);
         let who: &_ = self.looking.insert(std::mem::take(&mut self.waiting));
         Some((done, who))
