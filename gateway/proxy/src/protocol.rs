@@ -473,6 +473,8 @@ pub(crate) enum Fault {
     TornAnswers,
     /// Rule 5: a ROLLBACK TO passes unseen.
     RollbackUnseen,
+    /// Rule 6: a transaction whose connection is lost while the server is asked is dead as far as it is known to be.
+    LostGrants,
     /// Rule 9: nobody is waited for.
     NoWait,
     /// Rule 23: what has committed is told the server, also if it was left as a hold.
@@ -1048,11 +1050,19 @@ impl<K: Row, C: Clone> Protocol<K, C> {
         client.is_lost = true;
         client.take_kept();
         self.folds.forget(connection);
-        if client.is_at(Stage::Noting) {
-            let told = client.drop_request();
-            actions.extend(told.map(|told| Action::Tell(connection, told)));
-        } else if !client.is_at(Stage::Granting) {
-            // The server's reply to a grant is still to come.
+        // Nothing was sent since it has asked the server that could commit what it holds (rule 6).
+        let is_granting = client.is_at(Stage::Granting);
+        let is_dead = is_granting || client.is_at(Stage::Noting);
+        #[cfg(test)]
+        let is_dead = is_dead && !(is_granting && self.fault == Some(Fault::LostGrants));
+        if is_dead {
+            if !is_granting || !client.is_free() {
+                actions.push(Action::Tell(connection, Told::Rollback));
+            }
+            client.drop_held();
+        }
+        if !is_granting {
+            // Otherwise the server's reply is still to come.
             client.request = None;
         }
         client.end();

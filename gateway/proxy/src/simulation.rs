@@ -275,6 +275,7 @@ fn a_rule_that_is_taken_away_is_missed() {
         Without::Rule(Fault::LaterCycles),
         Without::Rule(Fault::TornAnswers),
         Without::Rule(Fault::RollbackUnseen),
+        Without::Rule(Fault::LostGrants),
         Without::Rule(Fault::NoWait),
         Without::Rule(Fault::HoldUnseen),
         Without::Rule(Fault::HoldsForgotten),

@@ -323,6 +323,12 @@ impl<K: Clone + Ord, C> Client<K, C> {
         })
     }
 
+    /// Drops all that it holds, which cannot commit any more.
+    pub(super) fn drop_held(&mut self) {
+        self.held.clear();
+        self.has_ended = false;
+    }
+
     pub(super) fn completed(&mut self, tag: Tag) {
         #[cfg(test)]
         match tag {

@@ -361,6 +361,22 @@ fn a_note_without_an_answer_is_dropped_with_its_connection() {
     assert!(it.is_quiet());
 }
 
+/// Otherwise a part of it is found dead first, and the server goes back to a mark in front of the one that the grant has.
+#[test]
+fn a_loss_while_the_server_is_asked_drops_all_of_the_transaction() {
+    let mut it = serving();
+    for id in [7, 8] {
+        hold(&mut it, false, id);
+        completed(&mut it, "SAVEPOINT");
+    }
+    let asked = reserve(&mut it, "a", false);
+    assert_eq!(asked[0], Action::Tell(ONE, Told::Mark(Mark(3))));
+    let told = [Action::Tell(ONE, Told::Rollback)];
+    assert_eq!(it.handle(Event::Lost { connection: ONE }), told);
+    assert_eq!(it.handle(Event::Granted { connection: ONE }), told);
+    assert!(it.is_quiet());
+}
+
 #[test]
 fn a_subtransaction_that_no_tag_has_told_of_ends_the_connection() {
     let mut it = serving();

@@ -221,7 +221,11 @@ impl Relay {
         random: &mut StdRng,
         seen: &mut Seen,
     ) {
-        if let Some(connection) = self.clients.keys().copied().choose(random) {
+        // One that has asked the server, as often as any.
+        let asks: bool = random.gen();
+        let may_be = |it: &Client| !asks || it.waits == Waits::Answer;
+        let mut clients = self.clients.iter().filter(|it| may_be(it.1));
+        if let Some((&connection, _)) = clients.by_ref().choose(random) {
             self.lose(connection, postgres, random, seen);
         }
     }
