@@ -302,6 +302,13 @@ impl Track {
         self.queue.iter().any(executes)
     }
 
+    /// Returns whether something was sent behind what the next ReadyForQuery ends.
+    pub fn goes_on(&self) -> bool {
+        let mut queue = self.queue.iter().skip_while(|it| !it.ends_ready());
+        queue.by_ref().next();
+        queue.any(|it| !matches!(it, Expect::CopyEnd))
+    }
+
     /// Returns whether nothing is left of a string but what closes its last statement, and its Sync.
     pub fn ends_string(&self) -> bool {
         let mut queue = self.queue.iter();

@@ -16,7 +16,7 @@ mod tests;
 
 use std::collections::{BTreeMap, BTreeSet};
 
-use clients::{Client, Kept, Looks, Stage};
+use clients::{Client, Kept, Settled, Stage};
 use folds::Folds;
 use holds::{Holds, LEAVES, MANY};
 
@@ -180,10 +180,12 @@ pub enum Event<K: Row, C> {
     },
     /// Rows that a fold could not lock may be free again.
     FoldAgain,
-    /// A transaction has folded all that it holds itself (rule 13), and its COMMIT is on the way.
+    /// A transaction has folded itself what it holds (rule 13).
     OwnFolded {
         /// Whose.
         connection: Connection,
+        /// Of which key; None: all that it holds.
+        key: Option<K>,
     },
     /// A fold of a table was refused (rule 22). Those of other tables go on.
     FoldRefused {
@@ -283,6 +285,8 @@ pub enum Event<K: Row, C> {
         connection: Connection,
         /// Its status.
         status: Status,
+        /// Whether more was sent behind what it ends.
+        goes_on: bool,
     },
     /// The client has waited long enough for the fold.
     WaitOver {
@@ -477,6 +481,12 @@ pub(crate) enum Fault {
     LostGrants,
     /// Rule 9: nobody is waited for.
     NoWait,
+    /// Rule 13a: what a transaction has folded itself of one key stands for all that it holds.
+    AllAreFolded,
+    /// Rule 13a: what another look has shown is not waited for.
+    OthersLooks,
+    /// Rule 13a: an end of a line is not waited for of which nothing can be said yet.
+    Unsaid,
     /// Rule 23: what has committed is told the server, also if it was left as a hold.
     HoldUnseen,
     /// Rule 24: a row's holds are not reserved when it is loaded.
@@ -518,7 +528,7 @@ impl<K: Row, C: Clone> Protocol<K, C> {
             pending: self.folds.len(),
             reservations: self.clients.values().map(Client::reservations).sum(),
             holds: self.holds.len(),
-            commits: self.folds.commits(),
+            commits: self.folds.turn(),
             stopped: self.stopped.len(),
         }
     }
@@ -546,9 +556,10 @@ impl<K: Row, C: Clone> Protocol<K, C> {
         })
     }
 
-    /// Returns whether nothing of a connection is open.
+    /// Returns whether nothing of a connection is open, and nothing has to be known of what it does.
     pub fn is_idle(&self, connection: Connection) -> bool {
-        self.clients.get(&connection).map_or(true, Client::is_idle)
+        let is_idle = |client: &Client<K, C>| client.is_idle() && client.runs_since().is_none();
+        self.clients.get(&connection).map_or(true, is_idle)
     }
 
     /// Returns the keys that a transaction may fold itself with its COMMIT (rule 13): all that it holds, if nobody else wants
@@ -633,7 +644,7 @@ impl<K: Row, C: Clone> Protocol<K, C> {
             }
             Event::Folded { keys } => {
                 for connection in self.folds.folded(&keys) {
-                    self.deliver(connection, &mut actions);
+                    self.release(connection, &mut actions);
                 }
                 self.fold(false, &mut actions);
             }
@@ -644,9 +655,11 @@ impl<K: Row, C: Clone> Protocol<K, C> {
                 }
             }
             Event::FoldAgain => self.fold(true, &mut actions),
-            Event::OwnFolded { connection } => {
+            Event::OwnFolded { connection, key } => {
+                #[cfg(test)]
+                let key = key.filter(|_| self.fault != Some(Fault::AllAreFolded));
                 if let Some(client) = self.clients.get_mut(&connection) {
-                    client.folded();
+                    client.folded(key.as_ref());
                 }
             }
             Event::FoldRefused { table } => {
@@ -681,19 +694,21 @@ impl<K: Row, C: Clone> Protocol<K, C> {
                 line,
             } => self.noted(connection, id, line, &mut actions),
             Event::Names { connection, runs } => {
+                let since = Some(self.folds.turn()).filter(|_| runs);
                 let client = self.clients.entry(connection).or_insert_with(Client::new);
-                client.names(runs);
+                client.names(since);
             }
             Event::Looked { news } => self.looked(news, &mut actions),
             Event::LookFailed => self.holds.give_up_look(),
             Event::NoteFailed { connection } => self.note_failed(connection, &mut actions),
             Event::Completed { connection, tag } => self.completed(connection, tag),
             Event::Failed { connection } => self.completed(connection, Tag::Other),
-            Event::Ready { connection, status } => self.ready(connection, status, &mut actions),
-            Event::WaitOver { connection } => {
-                self.folds.forget(connection);
-                self.deliver(connection, &mut actions);
-            }
+            Event::Ready {
+                connection,
+                status,
+                goes_on,
+            } => self.ready(connection, status, goes_on, &mut actions),
+            Event::WaitOver { connection } => self.wait_over(connection, &mut actions),
             Event::Lost { connection } => self.lost(connection, &mut actions),
             Event::Verdicts {
                 connection,
@@ -729,7 +744,7 @@ impl<K: Row, C: Clone> Protocol<K, C> {
         }
         // What a connection has named holds for it to its end.
         self.clients.retain(|_, client| {
-            client.take_looks();
+            client.begin_anew();
             !client.is_lost && client.is_idle() && client.may_hold()
         });
         self.holds = Holds::new();
@@ -754,6 +769,7 @@ impl<K: Row, C: Clone> Protocol<K, C> {
             Ownership::Owning | Ownership::Stopped => {}
             Ownership::Serving => {
                 self.fold(true, actions);
+                self.holds.try_again();
                 self.look_at_holds(true, actions);
             }
         }
@@ -787,14 +803,31 @@ impl<K: Row, C: Clone> Protocol<K, C> {
             actions.push(Action::Alarm(alarm, Some(table)));
         }
         for connection in self.folds.give_up(|key| key.table() == table) {
-            self.deliver(connection, actions);
+            self.release(connection, actions);
         }
         self.advance_all(actions);
     }
 
-    fn deliver(&mut self, connection: Connection, actions: &mut Vec<Action<K, C>>) {
+    /// Delivers a ReadyForQuery that waits for nothing any more.
+    fn release(&mut self, connection: Connection, actions: &mut Vec<Action<K, C>>) {
+        if self.folds.is_awaited_by(connection) {
+            return;
+        }
+        if let Some(client) = self.clients.get_mut(&connection) {
+            if client.may_go_on() {
+                client.take_kept();
+                actions.push(Action::Deliver(connection));
+            }
+        }
+    }
+
+    /// Delivers a ReadyForQuery, whatever it waits for: no later one waits for that either.
+    fn wait_over(&mut self, connection: Connection, actions: &mut Vec<Action<K, C>>) {
         if let Some(client) = self.clients.get_mut(&connection) {
             if client.take_kept() {
+                client.give_up();
+                self.folds.forget(connection);
+                self.holds.forget_news(connection);
                 actions.push(Action::Deliver(connection));
             }
         }
@@ -897,6 +930,14 @@ impl<K: Row, C: Clone> Protocol<K, C> {
                 None => self.advance(connection, actions),
             }
         }
+        self.try_again(actions);
+    }
+
+    /// Looks again for those to whom nothing could be said before.
+    fn try_again(&mut self, actions: &mut Vec<Action<K, C>>) {
+        if self.holds.try_again() {
+            self.look_at_holds(false, actions);
+        }
     }
 
     /// Notes what was granted, or gives it back if nobody is there any more.
@@ -986,7 +1027,13 @@ impl<K: Row, C: Clone> Protocol<K, C> {
     }
 
     /// Takes the end of a cycle: what it says of the transaction, by rules 4 and 5.
-    fn ready(&mut self, connection: Connection, status: Status, actions: &mut Vec<Action<K, C>>) {
+    fn ready(
+        &mut self,
+        connection: Connection,
+        status: Status,
+        goes_on: bool,
+        actions: &mut Vec<Action<K, C>>,
+    ) {
         let client = match self.clients.get_mut(&connection) {
             Some(client) => client,
             None => {
@@ -1002,42 +1049,55 @@ impl<K: Row, C: Clone> Protocol<K, C> {
         let is_plain = client.is_plain_commit() && !is_later;
         #[cfg(test)]
         let is_plain = is_plain || self.fault == Some(Fault::EndByTag) && client.ends_with_commit();
+        let has_commit = client.has_commit();
         client.next_cycle();
-        let has_run = status == Status::Idle && client.take_run();
-        match status {
-            Status::Idle if client.is_free() => {
-                if has_run && self.ownership == Ownership::Serving && client.look_for(Looks::News) {
-                    self.holds.wait(connection);
-                    self.look_at_holds(false, actions);
-                } else {
-                    self.deliver(connection, actions);
-                }
+        let ends = status == Status::Idle || status == Status::InBlock && has_commit;
+        if ends && self.ownership == Ownership::Serving {
+            if let Some(since) = client.runs_since() {
+                client.await_news(since);
+                self.holds.wait_for_news(connection);
             }
+        }
+        let mut asks = true;
+        match status {
             Status::Idle => {
-                client.end();
-                if is_plain {
+                if !goes_on {
+                    client.end_runs();
+                }
+                asks = !is_later;
+                if !is_later {
+                    client.end();
+                    client.await_outcome();
+                }
+                if is_plain && client.is_ending() {
                     client.decide_all(Verdict::Committed);
                     self.settle(connection, actions);
-                } else if let Some(ids) = client.ask() {
-                    actions.push(Action::Ask(connection, ids));
+                    asks = false;
                 }
             }
             Status::InBlock => {
                 // What a ROLLBACK TO has ended is free for others at once.
-                if client.is_unsure() {
-                    if let Some(ids) = client.ask() {
-                        actions.push(Action::Ask(connection, ids));
-                    }
+                asks = client.is_unsure();
+                if asks && has_commit {
+                    // COMMIT AND CHAIN.
+                    client.await_outcome();
                 }
-                self.deliver(connection, actions);
             }
-            Status::Failed => {
-                // What the error has ended is free at once.
-                if let Some(ids) = client.ask() {
-                    actions.push(Action::Ask(connection, ids));
-                }
-                self.deliver(connection, actions);
-            }
+            // What the error has ended is free at once.
+            Status::Failed => {}
+        }
+        if asks {
+            self.ask(connection, actions);
+        }
+        self.look_at_holds(false, actions);
+        self.release(connection, actions);
+    }
+
+    /// Asks for what is not decided, unless a question is under way.
+    fn ask(&mut self, connection: Connection, actions: &mut Vec<Action<K, C>>) {
+        let client = self.clients.get_mut(&connection);
+        if let Some(ids) = client.and_then(Client::ask) {
+            actions.push(Action::Ask(connection, ids));
         }
     }
 
@@ -1050,6 +1110,7 @@ impl<K: Row, C: Clone> Protocol<K, C> {
         client.is_lost = true;
         client.take_kept();
         self.folds.forget(connection);
+        self.holds.forget_news(connection);
         // Nothing was sent since it has asked the server that could commit what it holds (rule 6).
         let is_granting = client.is_at(Stage::Granting);
         let is_dead = is_granting || client.is_at(Stage::Noting);
@@ -1097,6 +1158,9 @@ impl<K: Row, C: Clone> Protocol<K, C> {
             actions.push(Action::Ask(connection, ids));
             return;
         }
+        if !client.is_ending() && !client.must_look() {
+            client.hear_outcome();
+        }
         self.settle(connection, actions);
         self.advance(connection, actions);
     }
@@ -1107,7 +1171,7 @@ impl<K: Row, C: Clone> Protocol<K, C> {
             return;
         }
         if let Some((done, who)) = self.holds.begin(is_due) {
-            let clients = who.iter().filter_map(|it| self.clients.get(it));
+            let clients = who.fates.iter().filter_map(|it| self.clients.get(it));
             let asked = clients.flat_map(Client::lines).collect();
             actions.push(Action::Look { done, asked });
         }
@@ -1139,6 +1203,8 @@ impl<K: Row, C: Clone> Protocol<K, C> {
         let mut fates = BTreeMap::new();
         let mut taken = BTreeSet::new();
         let mut unheld = BTreeSet::new();
+        let mut is_loading = false;
+        let mut told = 0;
         for News {
             line,
             key,
@@ -1160,19 +1226,24 @@ impl<K: Row, C: Clone> Protocol<K, C> {
                 self.holds.end(&line);
                 self.holds.forget([line]);
                 ends.push((line, change));
+                told += 1;
             } else if is_ours {
                 return self.alarm(Alarm::HoldUnseen, actions);
-            } else if !self.loading.contains_key(&key) {
+            } else if self.loading.contains_key(&key) {
+                is_loading = true;
+            } else {
                 // The row's load has not shown the line: what was taken may be in its journal still.
                 self.holds.forget([line]);
+                told += 1;
                 if !self.loaded.contains(&key) {
-                    unheld.insert(key);
-                } else if matches!(fate, Fate::Taken(_)) {
+                    unheld.insert(key.clone());
+                }
+                if matches!(fate, Fate::Taken(_)) {
                     taken.insert(key);
                 }
             }
         }
-        let is_more = ends.len() >= MANY;
+        let is_more = told >= MANY;
         if !ends.is_empty() {
             actions.push(Action::End(ends));
         }
@@ -1184,36 +1255,46 @@ impl<K: Row, C: Clone> Protocol<K, C> {
                 actions.push(Action::Leave(key));
             }
         }
-        let taken: Vec<K> = taken.into_iter().collect();
-        let stopped = &self.stopped;
-        let may_be_folded = |key: &K| !stopped.contains(&key.table());
         if !taken.is_empty() {
-            self.folds.committed(taken.clone(), None, may_be_folded);
+            self.folds.taken(&taken.into_iter().collect::<Vec<_>>());
         }
-        for connection in who {
-            match self.clients.get_mut(&connection).map(Client::take_looks) {
-                Some(Looks::Fates) => {
-                    if let Some(client) = self.clients.get_mut(&connection) {
-                        client.tell_fates(&mut fates);
-                    }
-                    self.settle(connection, actions);
-                    self.advance(connection, actions);
-                }
-                Some(Looks::News) => {
-                    // What it has taken itself is among these.
-                    let stopped = &self.stopped;
-                    let may_be_folded = |key: &K| !stopped.contains(&key.table());
-                    if !self.folds.wait(taken.clone(), connection, may_be_folded) {
-                        self.deliver(connection, actions);
-                    }
-                    self.settle(connection, actions);
-                }
-                Some(Looks::Nothing) | None => {}
+        for &connection in &who.fates {
+            if let Some(client) = self.clients.get_mut(&connection) {
+                client.tell_fates(&mut fates);
+            }
+            self.settle(connection, actions);
+            self.advance(connection, actions);
+        }
+        // What was shown of transactions whose outcomes are not known, or of rows that are loaded, is told later.
+        let is_unsaid = is_loading || fates.values().any(|it| !matches!(it, Fate::Stands));
+        #[cfg(test)]
+        let is_unsaid = is_unsaid && self.fault != Some(Fault::Unsaid);
+        for connection in who.news {
+            match (is_more, is_unsaid) {
+                (true, _) => self.holds.wait_for_news(connection),
+                (false, true) => self.holds.wait_again(connection),
+                (false, false) => self.tell_news(connection, actions),
             }
         }
         self.fold(false, actions);
         self.holds.end_look();
         self.look_at_holds(is_more, actions);
+    }
+
+    /// A look has shown all that a connection may have taken: it waits for the folds of that.
+    fn tell_news(&mut self, connection: Connection, actions: &mut Vec<Action<K, C>>) {
+        let client = self.clients.get_mut(&connection);
+        if let Some(since) = client.and_then(Client::hear_news) {
+            #[cfg(test)]
+            let since = match self.fault {
+                Some(Fault::OthersLooks) => self.folds.turn(),
+                _ => since,
+            };
+            let stopped = &self.stopped;
+            let may_be_folded = |key: &K| !stopped.contains(&key.table());
+            self.folds.wait_for_takes(since, connection, may_be_folded);
+        }
+        self.release(connection, actions);
     }
 
     /// Tells the server what is decided: what is dead goes, and an ended transaction whose outcomes are all known ends.
@@ -1226,57 +1307,67 @@ impl<K: Row, C: Clone> Protocol<K, C> {
         if self.fault == Some(Fault::HoldUnseen) {
             client.tell_fates(&mut BTreeMap::new());
         }
-        match client.settle() {
-            Ok(settled) => {
-                actions.extend(
-                    settled
-                        .told
-                        .into_iter()
-                        .map(|told| Action::Tell(connection, told)),
-                );
-                if settled.needs_look {
-                    self.holds.wait(connection);
-                    self.look_at_holds(false, actions);
-                    return;
-                }
-                if let Some(Kept { committed, lines }) = settled.kept {
-                    for (line, key, change) in &lines {
-                        self.holds.keep(*line, key.clone(), change.clone());
-                    }
-                    actions.push(Action::Keep {
-                        connection,
-                        committed,
-                        kept: lines,
-                    });
-                }
-                self.holds.forget(settled.done);
-                let is_lost = client.is_lost;
-                let is_gone = is_lost && client.is_idle();
-                if !settled.folded.is_empty() {
-                    self.folds.unlocked(&settled.folded);
-                    self.fold(false, actions);
-                    self.deliver(connection, actions);
-                } else if !settled.committed.is_empty() {
-                    let waiting = Some(connection).filter(|_| !is_lost && client.is_kept());
-                    let stopped = &self.stopped;
-                    let may_be_folded = |key: &K| !stopped.contains(&key.table());
-                    let waits = self
-                        .folds
-                        .committed(settled.committed, waiting, may_be_folded);
-                    if !waits {
-                        self.deliver(connection, actions);
-                    }
-                    self.fold(false, actions);
-                } else if settled.is_over {
-                    self.deliver(connection, actions);
-                }
-                if is_gone {
-                    self.clients.remove(&connection);
-                } else if settled.is_over {
-                    self.advance(connection, actions);
-                }
+        let settled = match client.settle() {
+            Ok(settled) => settled,
+            Err(alarm) => return self.alarm(alarm, actions),
+        };
+        let told = settled.told.iter();
+        actions.extend(told.map(|&told| Action::Tell(connection, told)));
+        if settled.needs_look {
+            self.holds.wait_for_fates(connection);
+            self.look_at_holds(false, actions);
+            return;
+        }
+        if settled.is_over {
+            client.hear_outcome();
+        }
+        let (waits, is_gone) = (client.waits_for_folds(), client.is_lost && client.is_idle());
+        let is_over = settled.is_over;
+        self.end_transaction(connection, settled, waits, actions);
+        self.release(connection, actions);
+        if is_gone {
+            self.clients.remove(&connection);
+        } else if is_over {
+            self.advance(connection, actions);
+        }
+    }
+
+    /// Takes what has become of a transaction that has ended. `waits` says that its client waits for the folds.
+    fn end_transaction(
+        &mut self,
+        connection: Connection,
+        settled: Settled<K, C>,
+        waits: bool,
+        actions: &mut Vec<Action<K, C>>,
+    ) {
+        let has_lines = settled.kept.is_some();
+        if let Some(Kept { committed, lines }) = settled.kept {
+            for (line, key, change) in &lines {
+                self.holds.keep(*line, key.clone(), change.clone());
             }
-            Err(alarm) => self.alarm(alarm, actions),
+            actions.push(Action::Keep {
+                connection,
+                committed,
+                kept: lines,
+            });
+        }
+        self.holds.forget(settled.done);
+        self.folds.unlocked(&settled.folded);
+        if !settled.taken.is_empty() {
+            self.folds.taken(&settled.taken);
+        }
+        if !settled.committed.is_empty() {
+            self.folds.committed(&settled.committed);
+            if waits {
+                let stopped = &self.stopped;
+                let may_be_folded = |key: &K| !stopped.contains(&key.table());
+                self.folds
+                    .wait(settled.committed, connection, may_be_folded);
+            }
+        }
+        self.fold(false, actions);
+        if has_lines {
+            self.try_again(actions);
         }
     }
 }

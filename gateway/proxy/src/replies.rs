@@ -207,7 +207,12 @@ impl Replies<'_> {
     /// Keeps a ReadyForQuery back until the hub delivers it, or the client has waited long enough.
     async fn keep_back(&mut self, status: Status) -> Result<(), Error> {
         let connection = self.connection;
-        self.hub.handle(Event::Ready { connection, status });
+        let goes_on = self.shared.track().goes_on();
+        self.hub.handle(Event::Ready {
+            connection,
+            status,
+            goes_on,
+        });
         let wait = match self.shared.waits() {
             true => self.fold_wait,
             false => Duration::ZERO,

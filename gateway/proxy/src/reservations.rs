@@ -126,7 +126,8 @@ impl Requests<'_> {
                 let connection = self.connection;
                 are_folded &= matches!(&reply, OwnReply::Row(Some(row)) if is_true(row.first()));
                 if at == last && are_folded {
-                    self.hub.handle(Event::OwnFolded { connection });
+                    let key = None;
+                    self.hub.handle(Event::OwnFolded { connection, key });
                 }
                 let has_failed = !matches!(reply, OwnReply::Row(_));
                 if matches!(reply, OwnReply::Failed(_)) {
@@ -671,7 +672,8 @@ impl Requests<'_> {
                     line,
                 });
                 if has_folded {
-                    self.hub.handle(Event::OwnFolded { connection });
+                    let key = Some(key.clone());
+                    self.hub.handle(Event::OwnFolded { connection, key });
                 }
             }
             OwnReply::Row(None) => return Err(Error::Forged),

@@ -157,7 +157,9 @@ impl World {
                 *proxy = proxy.die(&mut self.postgres, self.without);
             }
             6..=8 if faults => self.postgres.end_keeper(),
-            9..=20 if faults => proxy.cut_one(&mut self.postgres, &mut self.random, &mut self.seen),
+            9..=20 if faults => {
+                proxy.cut_one(&mut self.postgres, &mut self.random, &mut self.seen)?;
+            }
             21..=26 if faults => self.postgres.end_one(&mut self.random),
             27..=29 if faults => proxy.stop(self.random.gen_range(1..300)),
             30..=35 if faults => self.postgres.stall_one(&mut self.random),
@@ -277,6 +279,9 @@ fn a_rule_that_is_taken_away_is_missed() {
         Without::Rule(Fault::RollbackUnseen),
         Without::Rule(Fault::LostGrants),
         Without::Rule(Fault::NoWait),
+        Without::Rule(Fault::AllAreFolded),
+        Without::Rule(Fault::OthersLooks),
+        Without::Rule(Fault::Unsaid),
         Without::Rule(Fault::HoldUnseen),
         Without::Rule(Fault::HoldsForgotten),
         Without::AnsweredNotes,

@@ -305,6 +305,17 @@ def what_others_see(cluster: Cluster, proxy: Proxy) -> None:
         assert time.monotonic() - begin < 10 * FOLD_WAIT, "it waits"
         straight.execute("ROLLBACK")
         wait_until("it is folded", lambda: pieces(cluster, key) == 18)
+        # Of two UPDATEs that are one transaction, the second alone gets its row's lock.
+        free = row(cluster)
+        it.execute("SET escrow.wait = on")
+        take(it, free, 1)
+        straight.execute(f"BEGIN; SELECT 1 FROM stock WHERE id = {key} FOR UPDATE".encode())
+        with it.pipeline():
+            for one in (key, free):
+                it.execute("UPDATE stock SET pieces = pieces - 1 WHERE id = %s", (one,))
+        expect((pieces(cluster, key), pieces(cluster, free)), (18, 8))
+        straight.execute("ROLLBACK")
+        wait_until("both are folded", lambda: pieces(cluster, key) == 17)
 
 
 @case

@@ -2,6 +2,7 @@
 
 use std::collections::{BTreeMap, BTreeSet};
 
+use super::folds::Turn;
 use super::{Alarm, Fate, Id, Line, Mark, Tag, Told, Verdict, MARKS};
 
 /// Where a request is.
@@ -36,18 +37,17 @@ struct Reservation<K, C> {
     line: Line,
     mark: Mark,
     verdict: Verdict,
+    /// Whether the transaction has folded it itself.
+    is_folded: bool,
 }
 
-/// For which look at holds a connection waits.
+/// What a ReadyForQuery that is kept back waits for, beside folds.
 #[derive(Clone, Copy, Debug, Default, PartialEq, Eq)]
-pub(super) enum Looks {
-    /// For none.
-    #[default]
-    Nothing,
-    /// For one that shows what it may have taken or released.
-    News,
-    /// For one that shows which of its notes have become lines of holds.
-    Fates,
+struct Awaits {
+    /// The outcome of the transaction.
+    outcome: bool,
+    /// A look that shows what it may have taken or released, since this turn.
+    news: Option<Turn>,
 }
 
 /// What becomes of a transaction that has left holds.
@@ -80,11 +80,13 @@ pub(super) struct Settled<K, C> {
     pub(super) told: Vec<Told>,
     /// The keys whose changes have committed, without those that the transaction has folded itself.
     pub(super) committed: Vec<K>,
+    /// The keys of its holds that somebody has taken already.
+    pub(super) taken: Vec<K>,
     /// The keys that a transaction which has committed has folded itself.
     pub(super) folded: Vec<K>,
     /// Whether a transaction that had ended is over in the server too.
     pub(super) is_over: bool,
-    /// Whether it has committed, and a look has to show whether it has left holds.
+    /// Whether it has committed, and a look has to begin that shows whether it has left holds.
     pub(super) needs_look: bool,
     /// What it has left as holds, if it has.
     pub(super) kept: Option<Kept<K, C>>,
@@ -112,13 +114,15 @@ pub(super) struct Client<K, C> {
     question: Option<Question>,
     /// Whether a ReadyForQuery is kept back.
     is_kept: bool,
-    /// Whether the transaction has folded all that it holds.
-    has_folded: bool,
+    awaits: Awaits,
+    /// Whether the client has waited for what `held` comes to as long as it wants.
+    is_given_up: bool,
     /// Whether the client has ever named the functions of holds.
     may_hold: bool,
-    /// Whether it has run them since the last end of a transaction.
-    has_run: bool,
-    looks: Looks,
+    /// Whether it has run them since the last end of a transaction, and how many commits folds knew before.
+    runs_since: Option<Turn>,
+    /// Whether a look is to show the fates.
+    is_looked_for: bool,
     /// What a look has found out about `held`: it is no line of a hold if it is not in it.
     fates: Option<BTreeMap<Line, Fate<C>>>,
 }
@@ -142,36 +146,76 @@ impl<K: Clone + Ord, C> Client<K, C> {
             cycle: Cycle::default(),
             question: None,
             is_kept: false,
-            has_folded: false,
+            awaits: Awaits::default(),
+            is_given_up: false,
             may_hold: false,
-            has_run: false,
-            looks: Looks::Nothing,
+            runs_since: None,
+            is_looked_for: false,
             fates: None,
         }
     }
 
-    /// The client names the functions of holds, and runs them or not.
-    pub(super) fn names(&mut self, runs: bool) {
+    /// The client names the functions of holds, and runs them from this turn on, or does not.
+    pub(super) fn names(&mut self, runs: Option<Turn>) {
         self.may_hold = true;
-        self.has_run |= runs;
+        self.runs_since = self.runs_since.or(runs);
     }
 
     pub(super) fn may_hold(&self) -> bool {
         self.may_hold
     }
 
-    /// Returns whether functions of holds may have run in the transaction, which has ended.
-    pub(super) fn take_run(&mut self) -> bool {
-        std::mem::take(&mut self.has_run)
+    /// Returns since which turn it may have run them in the transaction, if it may.
+    pub(super) fn runs_since(&self) -> Option<Turn> {
+        self.runs_since
     }
 
-    /// Lets it wait for a look. Returns false if it waits for one already.
-    pub(super) fn look_for(&mut self, looks: Looks) -> bool {
-        let is_new = self.looks == Looks::Nothing;
-        if is_new {
-            self.looks = looks;
-        }
-        is_new
+    /// Its transaction has ended, and nothing was sent behind it.
+    pub(super) fn end_runs(&mut self) {
+        self.runs_since = None;
+    }
+
+    /// The ReadyForQuery waits for what it may have taken or released since a turn.
+    pub(super) fn await_news(&mut self, since: Turn) {
+        self.awaits.news = Some(since);
+    }
+
+    /// A look has shown that. Returns since which turn it was, if it waits for that.
+    pub(super) fn hear_news(&mut self) -> Option<Turn> {
+        self.awaits.news.take()
+    }
+
+    /// The ReadyForQuery waits for the outcome of what is held.
+    pub(super) fn await_outcome(&mut self) {
+        self.awaits.outcome = !self.held.is_empty();
+    }
+
+    /// It waits for that no longer.
+    pub(super) fn hear_outcome(&mut self) {
+        self.awaits.outcome = false;
+    }
+
+    /// Returns whether the ReadyForQuery that is kept waits for nothing but folds.
+    pub(super) fn may_go_on(&self) -> bool {
+        self.is_kept && self.awaits == Awaits::default()
+    }
+
+    /// The client goes on without what it has waited for.
+    pub(super) fn give_up(&mut self) {
+        self.is_given_up |= self.awaits.outcome;
+        self.awaits = Awaits::default();
+    }
+
+    /// Returns whether it waits for what it holds to be folded once that has committed.
+    pub(super) fn waits_for_folds(&self) -> bool {
+        !self.is_lost && !self.is_given_up
+    }
+
+    /// Begins anew with another owner's folds.
+    pub(super) fn begin_anew(&mut self) {
+        self.awaits = Awaits::default();
+        self.is_looked_for = false;
+        self.runs_since = self.runs_since.map(|_| 0);
     }
 
     /// Returns whether a look has to show what the transaction has left as holds: all that it holds has committed.
@@ -179,11 +223,6 @@ impl<K: Clone + Ord, C> Client<K, C> {
         let has_committed = |it: &Reservation<K, C>| it.verdict == Verdict::Committed;
         let is_committed = !self.held.is_empty() && self.held.iter().all(has_committed);
         is_committed && self.may_hold && self.fates.is_none()
-    }
-
-    /// Ends its wait for a look. Returns for which it was.
-    pub(super) fn take_looks(&mut self) -> Looks {
-        std::mem::take(&mut self.looks)
     }
 
     /// Returns the notes that it holds.
@@ -196,6 +235,7 @@ impl<K: Clone + Ord, C> Client<K, C> {
         let lines = self.held.iter().map(|it| it.line);
         let fates = lines.filter_map(|line| Some((line, all.remove(&line)?)));
         self.fates = Some(fates.collect());
+        self.is_looked_for = false;
     }
 
     /// Returns the keys that it holds, if all that is held is alive and its transaction goes on.
@@ -217,9 +257,12 @@ impl<K: Clone + Ord, C> Client<K, C> {
         is_asked || self.held.iter().any(|it| it.key == *key)
     }
 
-    /// The transaction has folded all that it holds.
-    pub(super) fn folded(&mut self) {
-        self.has_folded = !self.held.is_empty();
+    /// The transaction has folded what it holds of a key, or all that it holds.
+    pub(super) fn folded(&mut self, key: Option<&K>) {
+        let is_its = |it: &&mut Reservation<K, C>| key.map_or(true, |key| it.key == *key);
+        for reservation in self.held.iter_mut().filter(is_its) {
+            reservation.is_folded = true;
+        }
     }
 
     /// Returns whether nothing of it is open.
@@ -294,8 +337,8 @@ impl<K: Clone + Ord, C> Client<K, C> {
             self.was_unsure = false;
             self.cycle = Cycle::default();
             self.is_alone = request.alone;
+            self.is_given_up = false;
         }
-        self.has_folded = false;
         let last = self.held.last();
         let is_one = last.map_or(true, |last| last.mark != request.mark || last.id == id);
         self.needs_mark = false;
@@ -306,6 +349,7 @@ impl<K: Clone + Ord, C> Client<K, C> {
             line,
             mark: request.mark,
             verdict: Verdict::InProgress,
+            is_folded: false,
         });
         is_one
     }
@@ -354,6 +398,11 @@ impl<K: Clone + Ord, C> Client<K, C> {
         if let Some(question) = &mut self.question {
             question.is_stale = true;
         }
+    }
+
+    /// Returns whether the cycle has a COMMIT.
+    pub(super) fn has_commit(&self) -> bool {
+        self.cycle.commits > 0
     }
 
     /// Rule 4: whether the cycle that ends idle is plainly a commit of all that is held.
@@ -456,6 +505,7 @@ impl<K: Clone + Ord, C> Client<K, C> {
         let mut settled = Settled {
             told: Vec::new(),
             committed: Vec::new(),
+            taken: Vec::new(),
             folded: Vec::new(),
             is_over: false,
             needs_look: false,
@@ -489,7 +539,7 @@ impl<K: Clone + Ord, C> Client<K, C> {
         let has_committed = |it: &Reservation<K, C>| it.verdict == Verdict::Committed;
         if !self.held.is_empty() && self.held.iter().all(has_committed) {
             if self.must_look() {
-                settled.needs_look = self.look_for(Looks::Fates);
+                settled.needs_look = !std::mem::replace(&mut self.is_looked_for, true);
                 return Ok(settled);
             }
             self.commit(&mut settled);
@@ -500,7 +550,6 @@ impl<K: Clone + Ord, C> Client<K, C> {
             return Err(Alarm::NoPrefix);
         }
         if self.held.is_empty() {
-            self.has_folded = false;
             settled.is_over |= self.has_ended;
             self.has_ended = false;
             self.is_unsure = false;
@@ -519,7 +568,7 @@ impl<K: Clone + Ord, C> Client<K, C> {
         for it in self.held.drain(..) {
             match fates.remove(&it.line) {
                 None => {
-                    match self.has_folded {
+                    match it.is_folded {
                         true => settled.folded.push(it.key.clone()),
                         false => settled.committed.push(it.key.clone()),
                     }
@@ -528,7 +577,7 @@ impl<K: Clone + Ord, C> Client<K, C> {
                 Some(Fate::Stands) => kept.lines.push((it.line, it.key, it.change)),
                 Some(Fate::Taken(change)) => {
                     settled.done.push(it.line);
-                    settled.committed.push(it.key.clone());
+                    settled.taken.push(it.key.clone());
                     kept.committed.push((it.key, change));
                 }
                 Some(Fate::Free) => settled.done.push(it.line),
@@ -543,10 +592,6 @@ impl<K: Clone + Ord, C> Client<K, C> {
     /// Keeps a ReadyForQuery back.
     pub(super) fn keep(&mut self) {
         self.is_kept = true;
-    }
-
-    pub(super) fn is_kept(&self) -> bool {
-        self.is_kept
     }
 
     /// Gives the ReadyForQuery free. Returns whether one was kept.

@@ -5,7 +5,7 @@ use std::collections::{BTreeMap, BTreeSet};
 use super::Connection;
 
 /// Counts commits that were told to the server.
-type Turn = u64;
+pub(super) type Turn = u64;
 
 /// The keys with committed rows in their journals. At most one fold is under way.
 pub(super) struct Folds<K> {
@@ -13,6 +13,8 @@ pub(super) struct Folds<K> {
     pending: BTreeMap<K, Turn>,
     /// Keys that a fold could not lock. They wait for the next try.
     skipped: BTreeMap<K, Turn>,
+    /// The turn of the last take of each key, until that is folded.
+    takes: BTreeMap<K, Turn>,
     /// Who waits until their keys are folded.
     waiting: BTreeMap<Connection, Vec<(K, Turn)>>,
     turn: Turn,
@@ -25,6 +27,7 @@ impl<K: Clone + Ord> Folds<K> {
         Folds {
             pending: BTreeMap::new(),
             skipped: BTreeMap::new(),
+            takes: BTreeMap::new(),
             waiting: BTreeMap::new(),
             turn: 0,
             folding: None,
@@ -37,7 +40,7 @@ impl<K: Clone + Ord> Folds<K> {
     }
 
     /// Returns how many commits it was told.
-    pub(super) fn commits(&self) -> u64 {
+    pub(super) fn turn(&self) -> Turn {
         self.turn
     }
 
@@ -59,39 +62,57 @@ impl<K: Clone + Ord> Folds<K> {
         }
     }
 
-    /// Adds keys of a transaction that has committed. `waiting` waits for those that may be folded. Returns whether it does.
-    pub(super) fn committed(
-        &mut self,
-        keys: Vec<K>,
-        waiting: Option<Connection>,
-        may_be_folded: impl Fn(&K) -> bool,
-    ) -> bool {
+    /// Adds keys with something that has committed.
+    pub(super) fn committed(&mut self, keys: &[K]) {
         self.turn += 1;
-        for key in &keys {
+        for key in keys {
             self.skipped.remove(key);
             self.pending.insert(key.clone(), self.turn);
         }
-        match waiting {
-            Some(connection) => self.wait(keys, connection, may_be_folded),
-            None => false,
-        }
     }
 
-    /// Lets a connection wait for those keys that have committed and may be folded. Returns whether it does.
+    /// Adds keys of holds that were taken.
+    pub(super) fn taken(&mut self, keys: &[K]) {
+        self.committed(keys);
+        let turn = self.turn;
+        self.takes
+            .extend(keys.iter().map(|key| (key.clone(), turn)));
+    }
+
+    /// Lets a connection wait for keys that have committed just now and may be folded.
     pub(super) fn wait(
         &mut self,
         keys: Vec<K>,
         connection: Connection,
         may_be_folded: impl Fn(&K) -> bool,
-    ) -> bool {
+    ) {
         let turn = self.turn;
         let keys = keys.into_iter().filter(|key| may_be_folded(key));
-        let keys: Vec<(K, Turn)> = keys.map(|key| (key, turn)).collect();
-        let waits = !keys.is_empty();
-        if waits {
-            self.waiting.insert(connection, keys);
+        self.wait_for(connection, keys.map(|key| (key, turn)).collect());
+    }
+
+    /// Lets a connection wait for what was taken since a turn, and is not folded yet.
+    pub(super) fn wait_for_takes(
+        &mut self,
+        since: Turn,
+        connection: Connection,
+        may_be_folded: impl Fn(&K) -> bool,
+    ) {
+        let takes = self.takes.iter();
+        let takes = takes.filter(|&(key, &turn)| turn > since && may_be_folded(key));
+        let takes = takes.map(|(key, &turn)| (key.clone(), turn)).collect();
+        self.wait_for(connection, takes);
+    }
+
+    fn wait_for(&mut self, connection: Connection, keys: Vec<(K, Turn)>) {
+        if !keys.is_empty() {
+            self.waiting.entry(connection).or_default().extend(keys);
         }
-        waits
+    }
+
+    /// Returns whether a connection waits for a fold.
+    pub(super) fn is_awaited_by(&self, connection: Connection) -> bool {
+        self.waiting.contains_key(&connection)
     }
 
     /// Begins a fold of what may be folded. Returns its keys, or none if one is under way or nothing is pending. `all` tries
@@ -150,6 +171,11 @@ impl<K: Clone + Ord> Folds<K> {
                 self.skipped.insert(key, last);
             }
         }
+        for key in moved {
+            if self.takes.get(key).map_or(false, |&taken| taken <= turn) {
+                self.takes.remove(key);
+            }
+        }
         self.free(|key, since| since <= turn && moved.contains(key))
     }
 
@@ -189,12 +215,18 @@ mod tests {
         true
     }
 
+    /// Adds keys that have committed, for which a connection waits.
+    fn commit(folds: &mut Folds<&'static str>, keys: &[&'static str], connection: Connection) {
+        folds.committed(keys);
+        folds.wait(keys.to_vec(), connection, all);
+    }
+
     #[test]
     fn a_commit_behind_the_beginning_of_a_fold_waits_for_the_next() {
         let mut folds = Folds::new();
-        folds.committed(vec!["a"], Some(ONE), all);
+        commit(&mut folds, &["a"], ONE);
         assert_eq!(folds.begin(false, all), Some(vec!["a"]));
-        folds.committed(vec!["a"], Some(TWO), all);
+        commit(&mut folds, &["a"], TWO);
         assert_eq!(folds.begin(false, all), None, "one is under way");
         assert_eq!(folds.folded(&["a"]), vec![ONE]);
         assert_eq!(folds.begin(false, all), Some(vec!["a"]));
@@ -205,7 +237,7 @@ mod tests {
     #[test]
     fn a_locked_row_waits_for_the_next_try_and_keeps_its_client() {
         let mut folds = Folds::new();
-        folds.committed(vec!["a", "b"], Some(ONE), all);
+        commit(&mut folds, &["a", "b"], ONE);
         assert_eq!(folds.begin(false, all), Some(vec!["a", "b"]));
         assert_eq!(folds.folded(&["b"]), vec![]);
         assert_eq!(folds.begin(false, all), None);
@@ -240,15 +272,42 @@ mod tests {
     fn nobody_waits_for_what_may_not_be_folded() {
         let mut folds = Folds::new();
         let is_b = |key: &&str| *key == "b";
-        assert!(folds.committed(vec!["a", "b"], Some(ONE), all));
+        commit(&mut folds, &["a", "b"], ONE);
         assert_eq!(folds.begin(false, all), Some(vec!["a", "b"]));
         assert_eq!(folds.give_up(|key| *key == "a"), vec![]);
         assert_eq!(folds.folded(&["b"]), vec![ONE]);
         assert_eq!(folds.begin(true, is_b), None);
-        assert!(!folds.committed(vec!["a"], Some(TWO), is_b));
-        assert!(folds.committed(vec!["b"], Some(TWO), is_b));
+        folds.committed(&["a"]);
+        folds.wait(vec!["a"], TWO, is_b);
+        assert!(!folds.is_awaited_by(TWO));
+        commit(&mut folds, &["b"], TWO);
+        assert!(folds.is_awaited_by(TWO));
         assert_eq!(folds.begin(true, is_b), Some(vec!["b"]));
         assert_eq!(folds.folded(&["b"]), vec![TWO]);
         assert_eq!(folds.begin(true, all), Some(vec!["a"]));
+    }
+
+    #[test]
+    fn only_what_was_taken_since_is_waited_for_and_only_until_it_is_folded() {
+        let mut folds = Folds::new();
+        folds.taken(&["a"]);
+        let since = folds.turn();
+        folds.wait_for_takes(since, ONE, all);
+        assert!(!folds.is_awaited_by(ONE), "it was taken before");
+        assert_eq!(folds.begin(false, all), Some(vec!["a"]));
+        folds.taken(&["b"]);
+        folds.committed(&["c"]);
+        for _ in 0..2 {
+            folds.wait_for_takes(since, ONE, all);
+        }
+        // The fold that is under way has begun before, and the next one finds the row locked at first.
+        assert_eq!(folds.folded(&["a"]), vec![]);
+        assert_eq!(folds.begin(false, all), Some(vec!["b", "c"]));
+        assert_eq!(folds.folded(&["c"]), vec![]);
+        folds.wait_for_takes(since, TWO, all);
+        assert_eq!(folds.begin(true, all), Some(vec!["b"]));
+        assert_eq!(folds.folded(&["b"]), vec![ONE, TWO]);
+        folds.wait_for_takes(0, TWO, all);
+        assert!(!folds.is_awaited_by(TWO) && folds.takes.is_empty());
     }
 }

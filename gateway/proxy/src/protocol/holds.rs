@@ -13,15 +13,37 @@ const FORGETS: usize = 4_000;
 /// So many rows are left at a time because their holds have ended. A sweep does the others, and loads need not wait for them.
 pub(super) const LEAVES: usize = 64;
 
+/// Who waits for a look.
+#[derive(Clone, Debug, Default, PartialEq, Eq)]
+pub(super) struct Who {
+    /// For what they may have taken or released.
+    pub(super) news: BTreeSet<Connection>,
+    /// For which of their notes have become lines of holds.
+    pub(super) fates: BTreeSet<Connection>,
+}
+
+impl Who {
+    fn is_empty(&self) -> bool {
+        self.news.is_empty() && self.fates.is_empty()
+    }
+
+    fn extend(&mut self, other: Who) {
+        self.news.extend(other.news);
+        self.fates.extend(other.fates);
+    }
+}
+
 /// The lines of holds that the server has. At most one look is under way.
 pub(super) struct Holds<K, C> {
     kept: BTreeMap<Line, (K, C)>,
     /// How many of them each row has.
     rows: BTreeMap<K, usize>,
     /// Who waits for a look that is still to begin.
-    waiting: BTreeSet<Connection>,
+    waiting: Who,
     /// Who waits for the look that is under way.
-    looking: Option<BTreeSet<Connection>>,
+    looking: Option<Who>,
+    /// Who has waited for news, and was shown an end of which nothing can be said yet. A look begins for them once it can.
+    again: BTreeSet<Connection>,
     /// Lines that have ended, and that PostgreSQL may forget.
     done: Vec<Line>,
     /// Those that the look under way lets it forget.
@@ -33,8 +55,9 @@ impl<K: Clone + Ord, C> Holds<K, C> {
         Holds {
             kept: BTreeMap::new(),
             rows: BTreeMap::new(),
-            waiting: BTreeSet::new(),
+            waiting: Who::default(),
             looking: None,
+            again: BTreeSet::new(),
             done: Vec::new(),
             forgotten: Vec::new(),
         }
@@ -78,19 +101,45 @@ impl<K: Clone + Ord, C> Holds<K, C> {
         self.done.extend(lines);
     }
 
-    /// Lets a connection wait for the next look.
-    pub(super) fn wait(&mut self, connection: Connection) {
-        self.waiting.insert(connection);
+    /// Lets a connection wait for the next look, which shows which of its notes have become lines.
+    pub(super) fn wait_for_fates(&mut self, connection: Connection) {
+        self.waiting.fates.insert(connection);
+    }
+
+    /// Lets a connection wait for the next look, which shows what it may have taken or released.
+    pub(super) fn wait_for_news(&mut self, connection: Connection) {
+        self.waiting.news.insert(connection);
+    }
+
+    /// Lets a connection wait for a look that begins once [`Holds::try_again`] is called.
+    pub(super) fn wait_again(&mut self, connection: Connection) {
+        self.again.insert(connection);
+    }
+
+    /// More may be said now than at the last look. Returns whether somebody waits for that.
+    pub(super) fn try_again(&mut self) -> bool {
+        let is_any = !self.again.is_empty();
+        self.waiting.news.append(&mut self.again);
+        is_any
+    }
+
+    /// Lets a connection wait for no news any more.
+    pub(super) fn forget_news(&mut self, connection: Connection) {
+        let looking = self.looking.iter_mut().map(|who| &mut who.news);
+        for waiting in looking.chain([&mut self.waiting.news, &mut self.again]) {
+            waiting.remove(&connection);
+        }
     }
 
     /// Returns whether nobody waits.
     pub(super) fn is_quiet(&self) -> bool {
-        self.waiting.is_empty() && self.looking.as_ref().map_or(true, BTreeSet::is_empty)
+        let are_none = self.waiting.is_empty() && self.again.is_empty();
+        are_none && self.looking.as_ref().map_or(true, Who::is_empty)
     }
 
     /// Begins a look, unless one is under way. Without `is_due` it begins only if somebody waits. Returns what PostgreSQL may
     /// forget, and who waits for the look.
-    pub(super) fn begin(&mut self, is_due: bool) -> Option<(Vec<Line>, &BTreeSet<Connection>)> {
+    pub(super) fn begin(&mut self, is_due: bool) -> Option<(Vec<Line>, &Who)> {
         if self.looking.is_some() || self.waiting.is_empty() && !is_due {
             return None;
         }
@@ -103,8 +152,8 @@ impl<K: Clone + Ord, C> Holds<K, C> {
 
     /// Returns who waited for the look that is under way. None begins before [`Holds::end_look`]: it could show a line again
     /// that is done with by then.
-    pub(super) fn looked(&mut self) -> BTreeSet<Connection> {
-        self.looking.replace(BTreeSet::new()).unwrap_or_default()
+    pub(super) fn looked(&mut self) -> Who {
+        self.looking.replace(Who::default()).unwrap_or_default()
     }
 
     /// Ends the look that is under way.

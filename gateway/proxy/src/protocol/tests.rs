@@ -95,6 +95,7 @@ fn ready(it: &mut Machine, status: Status) -> Vec<Action<&'static str, i64>> {
     it.handle(Event::Ready {
         connection: ONE,
         status,
+        goes_on: false,
     })
 }
 
@@ -661,7 +662,9 @@ fn what_ended_before_this_owner_is_forgotten_and_its_mark_goes() {
     assert_eq!(it.handle(Event::Tick), [look(&[], &[])]);
     let mut other = news(3, Fate::Taken(1), false);
     other.key = "b";
-    assert_eq!(looked(&mut it, vec![other]), [Action::Leave("b")]);
+    let left = [Action::Leave("b"), Action::Fold(vec!["b"])];
+    assert_eq!(looked(&mut it, vec![other]), left);
+    it.handle(Event::Folded { keys: vec!["b"] });
     assert_eq!(it.handle(Event::Tick), [look(&[3], &[])]);
 }
 
@@ -761,18 +764,177 @@ fn a_look_begins_when_all_of_the_one_before_is_done() {
         });
         let tag = Tag::Commit;
         it.handle(Event::Completed { connection, tag });
-        let status = Status::Idle;
-        assert_eq!(it.handle(Event::Ready { connection, status }), []);
+        let ready = Event::Ready {
+            connection,
+            status: Status::Idle,
+            goes_on: false,
+        };
+        assert_eq!(it.handle(ready), []);
     }
     assert_eq!(looked(&mut it, vec![]), [look(&[], &[7, 8])]);
-    // The first one waited for news alone, so its notes are asked again. The line of the second one is forgotten before.
-    let found = looked(&mut it, vec![news(8, Fate::Free, true)]);
-    assert_eq!(found.last(), Some(&look(&[8], &[7])), "{:?}", found);
-    let found = looked(&mut it, vec![news(7, Fate::Stands, true)]);
+    let both = vec![news(7, Fate::Stands, true), news(8, Fate::Free, true)];
+    let found = looked(&mut it, both);
     let kept = Action::Keep {
         connection: ONE,
         committed: vec![],
         kept: vec![(line(7), "a", 1)],
     };
     assert_eq!(found[0], kept);
+    // The line of the second one is forgotten by the next look.
+    assert_eq!(it.handle(Event::Tick), [look(&[8], &[])]);
+}
+
+fn folded(it: &mut Machine, keys: &[&'static str]) -> Vec<Action<&'static str, i64>> {
+    let keys = keys.to_vec();
+    it.handle(Event::Folded { keys })
+}
+
+/// A statement that has taken something sees it next, whosever look has shown it first.
+#[test]
+fn a_take_that_another_look_has_shown_is_waited_for() {
+    let mut it = serving();
+    names(&mut it);
+    it.handle(Event::Tick);
+    let taken = vec![news(5, Fate::Taken(1), false)];
+    assert_eq!(looked(&mut it, taken), [Action::Fold(vec!["a"])]);
+    completed(&mut it, "SELECT 1");
+    assert_eq!(ready(&mut it, Status::Idle), [look(&[5], &[])]);
+    assert_eq!(looked(&mut it, vec![]), []);
+    assert_eq!(folded(&mut it, &[]), [], "the row is locked");
+    assert_eq!(it.handle(Event::FoldAgain), [Action::Fold(vec!["a"])]);
+    assert_eq!(folded(&mut it, &["a"]), [Action::Deliver(ONE)]);
+    assert!(it.is_quiet());
+}
+
+#[test]
+fn a_former_take_of_a_locked_row_holds_nobody_up() {
+    let mut it = serving();
+    it.handle(Event::Tick);
+    let taken = vec![news(5, Fate::Taken(1), false)];
+    assert_eq!(looked(&mut it, taken), [Action::Fold(vec!["a"])]);
+    assert_eq!(folded(&mut it, &[]), []);
+    names(&mut it);
+    completed(&mut it, "SELECT 1");
+    assert_eq!(ready(&mut it, Status::Idle), [look(&[5], &[])]);
+    assert_eq!(looked(&mut it, vec![]), [Action::Deliver(ONE)]);
+}
+
+/// What the client no longer waits for holds none of its later statements up, and a look that has begun before shows nothing of
+/// what comes later.
+#[test]
+fn a_wait_that_is_over_is_over_for_all() {
+    let mut it = serving();
+    names(&mut it);
+    hold(&mut it, false, 7);
+    completed(&mut it, "COMMIT");
+    assert_eq!(ready(&mut it, Status::Idle), [look(&[], &[7])]);
+    let over = Event::WaitOver { connection: ONE };
+    assert_eq!(it.handle(over), [Action::Deliver(ONE)]);
+    assert_eq!(ready(&mut it, Status::Idle), [Action::Deliver(ONE)]);
+    names(&mut it);
+    assert_eq!(ready(&mut it, Status::Idle), []);
+    let found = looked(&mut it, vec![news(5, Fate::Taken(1), false)]);
+    let told = [
+        Action::Tell(ONE, Told::Commit),
+        Action::Fold(vec!["a"]),
+        look(&[5], &[]),
+    ];
+    assert_eq!(found, told);
+    assert_eq!(folded(&mut it, &[]), []);
+    // The take was shown since it named its own.
+    assert_eq!(looked(&mut it, vec![]), []);
+    it.handle(Event::FoldAgain);
+    assert_eq!(folded(&mut it, &["a"]), [Action::Deliver(ONE)]);
+}
+
+/// The line is one of a transaction whose COMMIT the proxy has not read yet.
+#[test]
+fn a_take_of_what_is_not_decided_is_waited_for() {
+    let mut it = serving();
+    let reserve = Event::Reserve {
+        connection: TWO,
+        key: "a",
+        change: 1,
+        alone: false,
+    };
+    let (connection, runs) = (TWO, true);
+    it.handle(Event::Names { connection, runs });
+    it.handle(reserve);
+    it.handle(Event::Granted { connection });
+    it.handle(Event::Noted {
+        connection,
+        id: Id(8),
+        line: line(8),
+    });
+    names(&mut it);
+    assert_eq!(ready(&mut it, Status::Idle), [look(&[], &[])]);
+    let shown = vec![news(8, Fate::Taken(1), true)];
+    assert_eq!(looked(&mut it, shown.clone()), []);
+    let tag = Tag::Commit;
+    it.handle(Event::Completed { connection, tag });
+    let (status, goes_on) = (Status::Idle, false);
+    let asked = it.handle(Event::Ready {
+        connection,
+        status,
+        goes_on,
+    });
+    assert_eq!(asked, [look(&[], &[8])]);
+    let found = looked(&mut it, shown);
+    assert!(matches!(found[0], Action::Keep { .. }));
+    let more = [Action::Fold(vec!["a"]), look(&[8], &[])];
+    assert_eq!(found[1..], more);
+    assert_eq!(looked(&mut it, vec![]), []);
+    let delivered = [Action::Deliver(ONE), Action::Deliver(TWO)];
+    assert_eq!(folded(&mut it, &["a"]), delivered);
+}
+
+#[test]
+fn a_take_behind_another_that_was_sent_at_once_is_waited_for() {
+    let mut it = serving();
+    names(&mut it);
+    let (connection, status, goes_on) = (ONE, Status::Idle, true);
+    let first = Event::Ready {
+        connection,
+        status,
+        goes_on,
+    };
+    assert_eq!(it.handle(first), [look(&[], &[])]);
+    assert_eq!(looked(&mut it, vec![]), [Action::Deliver(ONE)]);
+    assert!(!it.is_idle(ONE), "the next end has to be told");
+    assert_eq!(ready(&mut it, Status::Idle), [look(&[], &[])]);
+    assert_eq!(looked(&mut it, vec![]), [Action::Deliver(ONE)]);
+    assert!(it.is_idle(ONE));
+}
+
+#[test]
+fn a_block_that_goes_on_behind_its_commit_sees_it() {
+    let mut it = serving();
+    hold(&mut it, false, 7);
+    completed(&mut it, "COMMIT");
+    let asked = [Action::Ask(ONE, vec![Id(7)])];
+    assert_eq!(ready(&mut it, Status::InBlock), asked);
+    let told = [Action::Tell(ONE, Told::Commit), Action::Fold(vec!["a"])];
+    assert_eq!(verdicts(&mut it, &[Verdict::Committed]), told);
+    assert_eq!(folded(&mut it, &["a"]), [Action::Deliver(ONE)]);
+}
+
+/// A pipeline of two UPDATEs: the second could lock its row, and the first could not.
+#[test]
+fn what_a_transaction_has_not_folded_itself_is_folded() {
+    let mut it = serving();
+    hold(&mut it, true, 7);
+    assert_eq!(reserve(&mut it, "b", true), [Action::Load("b")]);
+    let (key, lines) = ("b", vec![]);
+    it.handle(Event::Loaded { key, lines });
+    it.handle(Event::Granted { connection: ONE });
+    it.handle(Event::Noted {
+        connection: ONE,
+        id: Id(7),
+        line: line(9),
+    });
+    let (connection, key) = (ONE, Some("b"));
+    it.handle(Event::OwnFolded { connection, key });
+    let told = [Action::Tell(ONE, Told::Commit), Action::Fold(vec!["a"])];
+    assert_eq!(ready(&mut it, Status::Idle), told);
+    assert_eq!(folded(&mut it, &["a"]), [Action::Deliver(ONE)]);
 }

@@ -297,6 +297,15 @@ pub(super) struct Folding {
     pub(super) keys: Vec<Key>,
 }
 
+/// What transactions of a connection have committed.
+#[derive(Clone, Default)]
+pub(super) struct Shown {
+    /// Rows of the journal, and whether each was a line of a hold that it has taken.
+    pub(super) rows: Vec<(Grant, bool)>,
+    /// Lines of holds that it has ended.
+    pub(super) ends: Vec<Grant>,
+}
+
 /// A cluster.
 pub(super) struct Postgres {
     visible: Image,
@@ -321,6 +330,8 @@ pub(super) struct Postgres {
     pub(super) own_counts: Counts,
     /// What is in sockets whose proxy reads no answer any more.
     late: Vec<Late>,
+    /// What each connection has committed since it was asked for last.
+    shown: BTreeMap<u32, Shown>,
     without: Option<Without>,
 }
 
@@ -360,6 +371,7 @@ impl Postgres {
             alarm: None,
             own_counts: Counts::default(),
             late: Vec::new(),
+            shown: BTreeMap::new(),
             without,
         }
     }
@@ -704,6 +716,25 @@ impl Postgres {
         self.visible.apply(&record);
     }
 
+    fn keep_shown(&mut self, number: u32, place: usize) {
+        let record = &self.log[place];
+        let ends: Vec<Grant> = record.ends.iter().map(|end| end.0).collect();
+        let rows = record.added.iter().map(|row| row.grant);
+        let shown = self.shown.entry(number).or_default();
+        shown.rows.extend(rows.map(|it| (it, ends.contains(&it))));
+        shown.ends.extend(ends);
+    }
+
+    /// Returns what a connection has committed since the last call.
+    pub(super) fn take_shown(&mut self, number: u32) -> Shown {
+        self.shown.remove(&number).unwrap_or_default()
+    }
+
+    /// Returns whether a row of the journal is not folded yet.
+    pub(super) fn is_pending(&self, grant: Grant) -> bool {
+        self.visible.journal.contains_key(&grant)
+    }
+
     /// Lets one backend go on.
     pub(super) fn step(&mut self, random: &mut StdRng) {
         let is_gone = |backend: &Backend| !backend.is_alive && backend.is_cut;
@@ -743,6 +774,7 @@ impl Postgres {
             Work::Test(note, then) => self.test(&mut backend, note, then),
             Work::Commit(record, replies, after) => {
                 self.show(record);
+                self.keep_shown(number, record);
                 for level in backend.levels.drain(..) {
                     self.unlock(&level.own);
                 }

@@ -22,6 +22,8 @@ enum Step {
     /// A DELETE, for which the proxy has the row left.
     Delete(Key),
     Sync,
+    /// The connection is lost, behind an UPDATE that is still asked for.
+    Lose,
 }
 
 /// What a connection of a client waits for.
@@ -46,8 +48,18 @@ struct Client {
     waits: Waits,
     /// Replies that are still to come.
     expected: u32,
-    /// The present UPDATE is a transaction by itself.
+    /// The present UPDATE is a transaction by itself, and the proxy sends its Sync.
+    by_itself: bool,
+    /// It is outside of a block.
     alone: bool,
+    /// Nothing has begun or ended a transaction since the last ReadyForQuery, and there was no error.
+    is_plain: bool,
+    /// A COMMIT was answered since then.
+    has_commit: bool,
+    /// It has ended a hold in a function that passes unseen.
+    is_unseen: bool,
+    /// Its patience is over.
+    is_over: bool,
     /// What it asks for: the statement that passes if there is no such row, or none is held.
     asked: Statement,
     /// What the server was asked for last.
@@ -70,7 +82,7 @@ impl Client {
 
     /// Sends the Sync of an UPDATE by itself.
     fn end_alone(&mut self, postgres: &mut Postgres, without: Option<Without>) {
-        if !self.alone {
+        if !self.by_itself {
             return;
         }
         if self.expected == 0 || without != Some(Without::AnsweredNotes) {
@@ -220,13 +232,14 @@ impl Relay {
         postgres: &mut Postgres,
         random: &mut StdRng,
         seen: &mut Seen,
-    ) {
+    ) -> Result<(), String> {
         // One that has asked the server, as often as any.
         let asks: bool = random.gen();
         let may_be = |it: &Client| !asks || it.waits == Waits::Answer;
         let mut clients = self.clients.iter().filter(|it| may_be(it.1));
-        if let Some((&connection, _)) = clients.by_ref().choose(random) {
-            self.lose(connection, postgres, random, seen);
+        match clients.by_ref().choose(random) {
+            Some((&connection, _)) => self.lose(connection, postgres, random, seen),
+            None => Ok(()),
         }
     }
 
@@ -236,11 +249,14 @@ impl Relay {
         postgres: &mut Postgres,
         random: &mut StdRng,
         seen: &mut Seen,
-    ) {
-        if let Some(client) = self.clients.remove(&connection) {
-            postgres.cut(client.backend);
-            seen.lost_commits += u64::from(client.waits == Waits::Ready);
-            let _ = self.give(Event::Lost { connection }, postgres, random, seen);
+    ) -> Result<(), String> {
+        match self.clients.remove(&connection) {
+            Some(client) => {
+                postgres.cut(client.backend);
+                seen.lost_commits += u64::from(client.waits == Waits::Ready);
+                self.give(Event::Lost { connection }, postgres, random, seen)
+            }
+            None => Ok(()),
         }
     }
 
@@ -430,7 +446,7 @@ impl Relay {
                         false => Message::Note(note),
                     };
                     postgres.send(client.backend, message);
-                    if self.without == Some(Without::AnsweredNotes) && client.alone {
+                    if self.without == Some(Without::AnsweredNotes) && client.by_itself {
                         postgres.send(client.backend, Message::Sync);
                         client.expected += 1;
                     }
@@ -443,6 +459,7 @@ impl Relay {
                         client.waits = Waits::Nothing;
                     }
                 }
+                self.sees(connection, postgres)?;
             }
             Action::Close(connection) => {
                 if let Some(client) = self.clients.remove(&connection) {
@@ -452,6 +469,48 @@ impl Relay {
             Action::Alarm(alarm, _) => return Err(format!("{:?}", alarm)),
         }
         Ok(())
+    }
+
+    /// Tests that the next statement of a client sees what it has committed, unless it has waited long enough; and that what it
+    /// has freed is free.
+    fn sees(&mut self, connection: Connection, postgres: &mut Postgres) -> Result<(), String> {
+        let is_owner = postgres.is_owner(self.place, self.epoch);
+        let serves = is_owner && self.protocol.ownership() == Ownership::Serving;
+        let client = match self.clients.get_mut(&connection) {
+            Some(client) => client,
+            None => return Ok(()),
+        };
+        let has_commit = std::mem::take(&mut client.has_commit);
+        let may_see = match client.status {
+            Status::Idle => true,
+            Status::InBlock => has_commit,
+            Status::Failed => false,
+        };
+        if !may_see && !client.is_over {
+            return Ok(());
+        }
+        let shown = postgres.take_shown(client.backend);
+        let is_unseen = std::mem::take(&mut client.is_unseen);
+        if !serves || client.is_over {
+            return Ok(());
+        }
+        for (grant, is_taken) in shown.rows {
+            if postgres.is_pending(grant) && !(is_taken && is_unseen) {
+                let what = if is_taken { "take" } else { "commit" };
+                return Err(format!(
+                    "{:?} does not see its {} of {}",
+                    connection, what, grant
+                ));
+            }
+        }
+        let mut ends = shown.ends.iter().filter(|_| !is_unseen);
+        match ends.find(|&&grant| self.server.has_open(grant)) {
+            Some(grant) => Err(format!(
+                "{:?} has ended {}, which is open",
+                connection, grant
+            )),
+            None => Ok(()),
+        }
     }
 
     fn answer(
@@ -501,7 +560,8 @@ impl Relay {
             }
         }
         client.end_alone(postgres, without);
-        if without == Some(Without::PostgresFirst) && answer == Answer::Reserved && client.alone {
+        if without == Some(Without::PostgresFirst) && answer == Answer::Reserved && client.by_itself
+        {
             self.server.tell(connection, Told::Commit)?;
         }
         Ok(())
@@ -558,7 +618,13 @@ impl Relay {
             },
             Job::Granted(connection, true) => Event::Granted { connection },
             Job::Granted(connection, false) => Event::Refused { connection },
-            Job::WaitOver(connection) => Event::WaitOver { connection },
+            Job::WaitOver(connection) => {
+                let over = Event::WaitOver { connection };
+                self.be_over(connection, true);
+                self.give(over, postgres, random, seen)?;
+                self.be_over(connection, false);
+                return Ok(());
+            }
             Job::Load(key, Some(folding), _) if postgres.folded(&folding) => {
                 // One snapshot shows what is pending since the fold's, and which lines stand.
                 let is_one = self.without != Some(Without::OneSnapshot);
@@ -588,6 +654,12 @@ impl Relay {
         self.give(event, postgres, random, seen)
     }
 
+    fn be_over(&mut self, connection: Connection, is_over: bool) {
+        if let Some(client) = self.clients.get_mut(&connection) {
+            client.is_over = is_over;
+        }
+    }
+
     /// Serves one client.
     fn serve(
         &mut self,
@@ -603,7 +675,12 @@ impl Relay {
                 script: VecDeque::new(),
                 waits: Waits::Nothing,
                 expected: 0,
+                by_itself: false,
                 alone: false,
+                is_plain: true,
+                has_commit: false,
+                is_unseen: false,
+                is_over: false,
                 asked: Statement::Select,
                 grant: 0,
                 status: Status::Idle,
@@ -618,10 +695,7 @@ impl Relay {
             None => return Ok(()),
         };
         match postgres.receive(client.backend) {
-            Err(()) => {
-                self.lose(connection, postgres, random, seen);
-                return Ok(());
-            }
+            Err(()) => return self.lose(connection, postgres, random, seen),
             Ok(Some(reply)) => return self.reply(connection, reply, postgres, random, seen),
             Ok(None) => {}
         }
@@ -657,6 +731,10 @@ impl Relay {
         };
         let event = match reply {
             Reply::Noted(id, has_folded) => {
+                let key = match client.asked {
+                    Statement::Change(key, _) => Some(key),
+                    _ => None,
+                };
                 let noted = Event::Noted {
                     connection,
                     id: Id(id),
@@ -669,14 +747,15 @@ impl Relay {
                 if !has_folded {
                     return Ok(());
                 }
-                Event::OwnFolded { connection }
+                Event::OwnFolded { connection, key }
             }
             Reply::OwnFolded(are_all) => {
                 client.expected -= 1;
                 if !are_all {
                     return Ok(());
                 }
-                Event::OwnFolded { connection }
+                let key = None;
+                Event::OwnFolded { connection, key }
             }
             Reply::Changed(is_so) => {
                 client.waits = Waits::Nothing;
@@ -691,6 +770,7 @@ impl Relay {
             Reply::Error if client.waits == Waits::Here => {
                 client.waits = Waits::Nothing;
                 client.skips = true;
+                client.is_plain = false;
                 client.end_alone(postgres, self.without);
                 Event::Failed { connection }
             }
@@ -701,20 +781,29 @@ impl Relay {
             Reply::Error => {
                 // What was sent behind it is skipped up to the Sync.
                 client.skips = true;
+                client.is_plain = false;
                 client.expected = u32::from(client.waits == Waits::Ready);
                 Event::Failed { connection }
             }
             Reply::Completed(tag) => {
                 client.expected -= 1;
+                let read = Tag::read(tag);
+                client.is_plain &= read == Tag::Plain && tag != "BEGIN";
+                client.has_commit |= read == Tag::Commit;
                 Event::Completed {
                     connection,
-                    tag: Tag::read(tag),
+                    tag: read,
                 }
             }
             Reply::Ready(status) => {
                 client.expected -= 1;
                 client.status = status;
-                Event::Ready { connection, status }
+                client.is_plain = true;
+                Event::Ready {
+                    connection,
+                    status,
+                    goes_on: false,
+                }
             }
         };
         self.give(event, postgres, random, seen)
@@ -772,6 +861,8 @@ impl Relay {
                     Statement::Take(..) | Statement::Release(_) => random.gen(),
                     _ => false,
                 };
+                client.is_unseen |=
+                    !is_seen && matches!(statement, Statement::Take(..) | Statement::Release(_));
                 if is_seen {
                     client.script.pop_front();
                     let runs = true;
@@ -786,6 +877,7 @@ impl Relay {
             Some(Step::Delete(key)) => {
                 client.script.pop_front();
                 client.waits = Waits::Answer;
+                client.by_itself = false;
                 client.alone = false;
                 client.asked = Statement::Delete(key);
                 let connection = Some(connection);
@@ -796,20 +888,23 @@ impl Relay {
                 client.waits = Waits::Answer;
                 client.asked = Statement::Change(key, change);
                 // By itself, if nothing else is in its cycle.
-                client.alone = client.status == Status::Idle && client.script.is_empty();
+                client.by_itself = client.status == Status::Idle && client.script.is_empty();
+                client.alone = client.status == Status::Idle && client.is_plain;
                 let alone = client.alone;
-                return self.give(
-                    Event::Reserve {
-                        connection,
-                        key,
-                        change,
-                        alone,
-                    },
-                    postgres,
-                    random,
-                    seen,
-                );
+                let is_lost = matches!(client.script.front(), Some(Step::Lose));
+                let reserve = Event::Reserve {
+                    connection,
+                    key,
+                    change,
+                    alone,
+                };
+                self.give(reserve, postgres, random, seen)?;
+                return match is_lost {
+                    true => self.lose(connection, postgres, random, seen),
+                    false => Ok(()),
+                };
             }
+            Some(Step::Lose) => return self.lose(connection, postgres, random, seen),
             None => {}
         }
         client.script.pop_front();
@@ -869,6 +964,10 @@ fn with_savepoints(
         add(random, Step::Statement(Savepoint));
     }
     let change = hot(random);
+    if random.gen_range(0..4) == 0 {
+        steps.extend([change, Step::Lose]);
+        return;
+    }
     add(random, change);
     let depth = random.gen_range(1..3);
     let ways = [RollbackTo(depth), RollbackTo(depth), ReleaseTo(depth), Fail];
@@ -958,7 +1057,8 @@ fn cycle(status: Status, random: &mut StdRng) -> VecDeque<Step> {
         (Status::Idle, 20..=23) => with_savepoints(random, hot, &mut steps),
         (Status::Idle, 0..=2) => return VecDeque::from(vec![hot(random)]),
         (Status::Idle, 3..=4) => {
-            // A pipeline without a block, with foreign parts.
+            // A pipeline without a block, with foreign parts or without.
+            let is_foreign = random.gen();
             for _ in 0..random.gen_range(1..4) {
                 let (pick, in_part) = (random.gen_range(0..20), random.gen());
                 let call = *[
@@ -974,7 +1074,7 @@ fn cycle(status: Status, random: &mut StdRng) -> VecDeque<Step> {
                 ]
                 .choose(random)
                 .unwrap_or(&Select);
-                steps.push_back(Step::Statement(call));
+                steps.extend(Some(Step::Statement(call)).filter(|_| is_foreign));
                 steps.push_back(hot(random));
             }
             steps.push_back(Step::Statement(Select));

@@ -170,6 +170,11 @@ impl Server {
         Ok(())
     }
 
+    /// Returns whether something of a grant is reserved.
+    pub(super) fn has_open(&self, grant: Grant) -> bool {
+        self.open().any(|it| it.2 == grant)
+    }
+
     /// Tests that nothing is left open but the holds that stand.
     pub(super) fn rested(&self, postgres: &Postgres) -> Result<(), String> {
         let stands: BTreeSet<Grant> = postgres.standing().map(|it| it.note.grant).collect();
