@@ -15,6 +15,9 @@ use crate::catalog::KeyType;
 /// The most digits of a change, as the server has them.
 const MOST_DIGITS: usize = 15;
 
+/// The least bytes of a text that some type cuts: `name`.
+const SHORTEST_CUT: usize = 64;
+
 /// The longest key, in bytes, as a note carries it.
 const LONGEST_KEY: usize = 2_000;
 
@@ -173,15 +176,34 @@ impl Parameters<'_> {
         }
     }
 
-    /// Returns whether the client has told the type of a parameter.
-    pub fn is_told(&self, number: u16) -> bool {
-        let at = usize::from(number).checked_sub(1);
-        at.map_or(false, |at| self.told(at).is_some())
-    }
-
-    fn told(&self, at: usize) -> Option<u32> {
+    /// Returns the type of a parameter that is told or known.
+    pub fn told(&self, number: u16) -> Option<u32> {
+        let at = usize::from(number).checked_sub(1)?;
         let told = self.types.get(at).copied();
         told.filter(|&told| told != 0 && told != Type::UNKNOWN.oid())
+    }
+
+    /// Returns whether a parameter's value is known that is compared with a key of this type: its type is, or its text says the same in
+    /// all types that PostgreSQL compares with that of the key. Some types cut a text.
+    pub fn may_be_key(&self, number: u16, oid: u32) -> bool {
+        match self.given(number) {
+            Some((bytes, 0, None)) => {
+                !is_text(oid) || bytes.len() < SHORTEST_CUT && bytes.last() != Some(&b' ')
+            }
+            Some((_, _, told)) => told.is_some(),
+            None => true,
+        }
+    }
+
+    /// Returns the type of a number in a list. None: it has none, as a text.
+    pub fn number_oid(&self, expression: &Expression) -> Option<u32> {
+        match &expression.kind {
+            ExpressionKind::Number(number) => Some(number_oid(number)),
+            ExpressionKind::Unary(_, operand) => self.number_oid(operand),
+            ExpressionKind::Cast(_, to) => Some(cast_oid(to).unwrap_or(0)),
+            ExpressionKind::Parameter(number) => self.told(*number),
+            _ => None,
+        }
     }
 
     /// Returns the bytes of a parameter's value, their format, and the type that the client has told. None: it is NULL.
@@ -193,7 +215,7 @@ impl Parameters<'_> {
             [all] => *all,
             each => *each.get(at)?,
         };
-        Some((bytes, format, self.told(at)))
+        Some((bytes, format, self.told(number)))
     }
 
     /// Returns a parameter's value as a literal. None: it is NULL, or not understood.
@@ -272,14 +294,47 @@ fn is_signed_number(kind: &ExpressionKind) -> bool {
     }
 }
 
-fn is_number(oid: u32) -> bool {
-    [Type::INT2, Type::INT4, Type::INT8, Type::NUMERIC]
-        .iter()
-        .any(|it| it.oid() == oid)
+/// The types of numbers, from the narrowest to the widest.
+const NUMBERS: [Type; 4] = [Type::INT2, Type::INT4, Type::INT8, Type::NUMERIC];
+
+/// Returns whether a type is one of numbers.
+pub fn is_number(oid: u32) -> bool {
+    NUMBERS.iter().any(|it| it.oid() == oid)
+}
+
+/// Returns the type by which PostgreSQL goes on where two types of numbers meet. 0: it is not known.
+pub fn wider(one: u32, other: u32) -> u32 {
+    let place = |oid: u32| NUMBERS.iter().position(|it| it.oid() == oid);
+    match (place(one), place(other)) {
+        (Some(first), Some(second)) => NUMBERS[first.max(second)].oid(),
+        _ => 0,
+    }
+}
+
+/// Returns the type of a number that is written out.
+pub fn number_oid(text: &str) -> u32 {
+    match text.parse::<i64>() {
+        Ok(value) if i32::try_from(value).is_ok() => Type::INT4.oid(),
+        Ok(_) => Type::INT8.oid(),
+        Err(_) => Type::NUMERIC.oid(),
+    }
+}
+
+/// Returns the type of arrays of a type.
+pub fn array_oid(element: u32) -> Option<u32> {
+    match element {
+        element if element == Type::UUID.oid() => Some(Type::UUID_ARRAY.oid()),
+        element => array::of(element),
+    }
 }
 
 fn is_text(oid: u32) -> bool {
     oid == Type::TEXT.oid() || oid == Type::VARCHAR.oid()
+}
+
+/// Returns the type of a cast that is understood, of arrays too.
+pub fn to_oid(to: &TypeName) -> Option<u32> {
+    cast_oid(to).or_else(|| array_oid(element_oid(to)?))
 }
 
 /// Returns the type of a cast that is understood.

@@ -316,7 +316,7 @@ impl Requests<'_> {
             has_rows: plan.rest_has_rows(),
             is_described: !sent.is_execute() && plan.rest_has_rows(),
             count: plan.rest_counts().then_some(count),
-            types: plan.rest_types(parameters),
+            types: plan.types(parameters),
             formats: parameters.formats.to_vec(),
             values: parameters.values.to_vec(),
             results: results.to_vec(),

@@ -16,7 +16,9 @@ use escrowd_pg::statement::query::{
 use escrowd_pg::statement::served::Served;
 
 use crate::catalog::Table;
-use crate::parameters::{change_text, key_text, number, Parameters};
+use crate::parameters::{
+    array_oid, change_text, is_number, key_text, number, number_oid, to_oid, wider, Parameters,
+};
 use crate::protocol::Row;
 
 /// A row of a declared table.
@@ -175,8 +177,17 @@ struct Assignment {
     span: Span,
     /// What it adds to the column or subtracts, if that is its form.
     change: Option<ColumnChange>,
-    /// The columns that the value reads. None: it is not understood.
-    reads: Option<Vec<Vec<String>>>,
+    /// What the value reads. None: it is not understood.
+    reads: Option<Reads>,
+}
+
+/// What an expression reads.
+#[derive(Clone, Debug, Default, PartialEq, Eq)]
+struct Reads {
+    /// Columns, with what is in front of their names.
+    columns: Vec<Vec<String>>,
+    /// The numbers of parameters.
+    numbers: Vec<u16>,
 }
 
 /// `column - value`.
@@ -184,6 +195,8 @@ struct Assignment {
 struct ColumnChange {
     /// The column on the right, with what is in front of its name.
     own: Vec<String>,
+    /// The type of what the column is replaced by where it is NULL, if it is written so.
+    instead: Option<u32>,
     is_subtracted: bool,
     value: Expression,
 }
@@ -210,7 +223,7 @@ struct AtLeast {
 #[derive(Clone, Debug, PartialEq, Eq)]
 struct Returning {
     span: Span,
-    reads: Vec<Vec<String>>,
+    reads: Reads,
     /// Whether it shows columns alone, so that nobody sees how often it is computed.
     are_columns: bool,
 }
@@ -350,7 +363,7 @@ impl Form {
     }
 
     /// Checks that columns are none whose value the row shows late.
-    fn check_reads(&self, table: &Table, reads: &[Vec<String>]) -> Option<()> {
+    fn check_reads(&self, table: &Table, reads: &Reads) -> Option<()> {
         let is_late = |names: &Vec<String>| match names.last() {
             Some(name) => {
                 table.column(name).is_some()
@@ -359,7 +372,7 @@ impl Form {
             }
             None => true,
         };
-        (!reads.iter().any(is_late)).then_some(())
+        (!reads.columns.iter().any(is_late)).then_some(())
     }
 
     /// Returns whether names are those of a column of the table.
@@ -385,6 +398,27 @@ impl Form {
 }
 
 impl Keys {
+    /// Returns the parameters of the keys, each with the type that it has there by itself. 0: it is not known.
+    fn numbers(&self, table: &Table, parameters: Parameters<'_>) -> Vec<(u16, u32)> {
+        let key = table.key_type.parameter_oid();
+        let mut found = Vec::new();
+        let mut oid = key;
+        if self.is_array {
+            oid = array_oid(key).unwrap_or(0);
+        } else if is_number(key) && self.values.len() > 1 {
+            // PostgreSQL compares the key and all values of a list by one type.
+            oid = self
+                .values
+                .iter()
+                .fold(key, |oid, it| match parameters.number_oid(it) {
+                    Some(of) => wider(oid, of),
+                    None => oid,
+                });
+        }
+        self.values.iter().for_each(|it| typed(it, oid, &mut found));
+        found
+    }
+
     /// Returns the values of the keys. None: one is not understood.
     fn values(&self, table: &Table, parameters: Parameters<'_>) -> Option<Vec<Datum>> {
         let oid = table.key_type.parameter_oid();
@@ -407,6 +441,11 @@ impl Plan<'_> {
     /// could have.
     pub fn bind(&self, parameters: Parameters<'_>) -> Option<Asked> {
         let (form, table) = (self.form, self.table);
+        let types = self.types(parameters);
+        let parameters = Parameters {
+            types: &types,
+            ..parameters
+        };
         if !self.knows_types(parameters) {
             return None;
         }
@@ -567,54 +606,82 @@ impl Plan<'_> {
         !self.form.is_main() || self.form.returning.is_some()
     }
 
-    /// Returns the parameters that the change and the condition have, each with the type that it has there.
-    fn own_numbers(&self) -> Vec<(u16, u32)> {
-        let mut found = Vec::new();
-        let mut add = |expression: &Expression, oid: u32| {
-            let mut numbers = Vec::new();
-            parameters_of(expression, &mut numbers);
-            found.extend(numbers.into_iter().map(|number| (number, oid)));
-        };
-        for (at, change) in &self.changes {
-            add(&change.value, self.table.columns[*at].oid());
+    /// Returns whether all values are known as PostgreSQL reads them. The text of a key says the same in all types that PostgreSQL
+    /// compares with the key's, or nearly so.
+    fn knows_types(&self, parameters: Parameters<'_>) -> bool {
+        let mut keys = self.form.keys.numbers(self.table, parameters).into_iter();
+        let changes = self.changes.iter();
+        let changes = changes.flat_map(|(at, change)| self.of_change(*at, change));
+        let mut others = self.of_at_least().into_iter().chain(changes);
+        keys.all(|(number, oid)| parameters.may_be_key(number, oid))
+            && others.all(|(number, _)| parameters.told(number).is_some())
+    }
+
+    /// Returns the parameters of the condition, in the order in which they are written.
+    fn of_condition(&self, parameters: Parameters<'_>) -> Vec<(u16, u32)> {
+        let keys = self.form.keys.numbers(self.table, parameters);
+        let is_in_front = |it: &AtLeast| it.value.span.start < self.form.keys.span.start;
+        match self.form.at_least.as_ref().map_or(false, is_in_front) {
+            true => [self.of_at_least(), keys].concat(),
+            false => [keys, self.of_at_least()].concat(),
         }
-        if let Some(at_least) = &self.form.at_least {
-            let at = at_least.column.last().and_then(|it| self.table.column(it));
+    }
+
+    /// Returns the parameters with which a column is compared.
+    fn of_at_least(&self) -> Vec<(u16, u32)> {
+        let mut found = Vec::new();
+        if let Some(it) = &self.form.at_least {
+            let at = it.column.last().and_then(|name| self.table.column(name));
             let oid = at.map_or(0, |at| self.table.columns[at].oid());
-            add(&at_least.value, oid);
+            typed(&it.value, oid, &mut found);
         }
         found
     }
 
-    /// Returns whether PostgreSQL finds the types of parameters as they are read here, also where a statement has them at
-    /// other places too. It goes through WITH from the first to the last statement, and then through the one behind it.
-    fn knows_types(&self, parameters: Parameters<'_>) -> bool {
-        let own = self.own_numbers();
-        let count = |number: u16, all: &mut dyn Iterator<Item = u16>| {
-            all.filter(|&it| it == number).count()
-        };
-        own.iter().all(|&(number, _)| {
-            let here = count(number, &mut own.iter().map(|it| it.0));
-            let everywhere = count(number, &mut self.form.numbers.iter().copied());
-            let is_first = matches!(self.form.place, Place::Whole | Place::InWith(0));
-            is_first || here == everywhere || parameters.is_told(number)
-        })
+    /// Returns the parameters of a change.
+    fn of_change(&self, at: usize, change: &ColumnChange) -> Vec<(u16, u32)> {
+        let column = self.table.columns[at].oid();
+        let oid = change.instead.map_or(column, |it| wider(column, it));
+        let mut found = Vec::new();
+        typed(&change.value, oid, &mut found);
+        found
     }
 
-    /// Returns the types of the parameters for [`Plan::rest`]: those that are known, and those of the parameters that it
-    /// may not have any more.
-    pub fn rest_types(&self, parameters: Parameters<'_>) -> Vec<u32> {
-        let mut types = vec![0; parameters.values.len()];
-        let count = types.len().min(parameters.types.len());
-        types[..count].copy_from_slice(&parameters.types[..count]);
-        for (number, oid) in self.own_numbers() {
-            if let Some(place) = types.get_mut(usize::from(number) - 1) {
-                if !parameters.is_told(number) {
-                    *place = oid;
-                }
+    /// Returns the types of all parameters, also for [`Plan::rest`], which may lack some of them. They are those that are told, and
+    /// else those that PostgreSQL finds, or 0 where they are not known. PostgreSQL goes through WITH from the first to the last statement, and then through the one behind it; in an UPDATE through the
+    /// condition, RETURNING and the assignments, in this order. The first place decides.
+    pub fn types(&self, parameters: Parameters<'_>) -> Vec<u32> {
+        let form = self.form;
+        let condition = self.of_condition(parameters).into_iter();
+        let shown = form.returning.iter().flat_map(|it| &it.reads.numbers);
+        let assigned = form.assignments.iter().flat_map(|it| {
+            let own = self
+                .changes
+                .iter()
+                .find(|(_, change)| Some(*change) == it.change.as_ref());
+            match (own, &it.reads) {
+                (Some((at, change)), _) => self.of_change(*at, change),
+                (None, Some(reads)) => reads.numbers.iter().map(|&number| (number, 0)).collect(),
+                (None, None) => Vec::new(),
             }
-        }
-        types
+        });
+        let found = condition.chain(shown.map(|&number| (number, 0)));
+        let found: Vec<(u16, u32)> = found.chain(assigned).collect();
+        let count = |all: &mut dyn Iterator<Item = u16>, number: u16| {
+            all.filter(|&it| it == number).count()
+        };
+        let is_first = matches!(form.place, Place::Whole | Place::InWith(0));
+        let of = |number: u16| {
+            let here = count(&mut found.iter().map(|it| it.0), number);
+            let everywhere = count(&mut form.numbers.iter().copied(), number);
+            let first = found.iter().find(|it| it.0 == number);
+            first
+                .filter(|_| is_first || here == everywhere)
+                .map_or(0, |it| it.1)
+        };
+        let numbers = 1..=parameters.values.len() as u16;
+        let types = numbers.map(|number| parameters.told(number).unwrap_or_else(|| of(number)));
+        types.collect()
     }
 }
 
@@ -652,18 +719,21 @@ fn texts(column: &ColumnName) -> Vec<String> {
         .collect()
 }
 
-/// Adds the columns that an expression reads. None: it may read something else.
-fn reads(expression: &Expression, columns: &mut Vec<Vec<String>>) -> Option<()> {
+/// Adds what an expression reads. None: it may read something else.
+fn reads(expression: &Expression, found: &mut Reads) -> Option<()> {
     let mut all =
-        |expressions: &[&Expression]| expressions.iter().try_for_each(|it| reads(it, columns));
+        |expressions: &[&Expression]| expressions.iter().try_for_each(|it| reads(it, found));
     match &expression.kind {
         ExpressionKind::Null
         | ExpressionKind::Boolean(_)
         | ExpressionKind::Number(_)
-        | ExpressionKind::Text(_)
-        | ExpressionKind::Parameter(_) => Some(()),
+        | ExpressionKind::Text(_) => Some(()),
+        ExpressionKind::Parameter(number) => {
+            found.numbers.push(*number);
+            Some(())
+        }
         ExpressionKind::Column(column) => {
-            columns.push(texts(column));
+            found.columns.push(texts(column));
             Some(())
         }
         ExpressionKind::Unary(_, operand)
@@ -693,28 +763,31 @@ fn reads(expression: &Expression, columns: &mut Vec<Vec<String>>) -> Option<()> 
     }
 }
 
-/// Adds the numbers of the parameters of a value.
-fn parameters_of(expression: &Expression, numbers: &mut Vec<u16>) {
+/// Adds the parameters of a value, each with the type that it has there by itself. `oid` is that of a parameter alone. 0: it is
+/// not known.
+fn typed(expression: &Expression, oid: u32, found: &mut Vec<(u16, u32)>) {
     match &expression.kind {
-        ExpressionKind::Parameter(number) => numbers.push(*number),
-        ExpressionKind::Unary(_, operand) => parameters_of(operand, numbers),
-        // A cast tells the type of its parameter.
+        ExpressionKind::Parameter(number) => found.push((*number, oid)),
+        ExpressionKind::Unary(_, operand) => typed(operand, oid, found),
+        ExpressionKind::Cast(operand, to) => typed(operand, to_oid(to).unwrap_or(0), found),
         _ => {}
     }
 }
 
-/// Returns the column that an expression is the value of: `n`, or `COALESCE(n, 0)`, since no reservable column is NULL.
-fn own_column(expression: &Expression) -> Option<Vec<String>> {
+/// Returns the column that an expression is the value of: `n`, or `COALESCE(n, 0)`, since no reservable column is NULL. And the
+/// type of that 0.
+fn own_column(expression: &Expression) -> Option<(Vec<String>, Option<u32>)> {
     match &expression.kind {
-        ExpressionKind::Column(column) => Some(texts(column)),
+        ExpressionKind::Column(column) => Some((texts(column), None)),
         ExpressionKind::Function(call)
             if call.name.schema.is_none()
                 && call.name.name.text == "coalesce"
-                && call.arguments.len() == 2
-                && matches!(call.arguments[1].kind, ExpressionKind::Number(_)) =>
+                && call.arguments.len() == 2 =>
         {
-            match &call.arguments[0].kind {
-                ExpressionKind::Column(column) => Some(texts(column)),
+            match (&call.arguments[0].kind, &call.arguments[1].kind) {
+                (ExpressionKind::Column(column), ExpressionKind::Number(number)) => {
+                    Some((texts(column), Some(number_oid(number))))
+                }
                 _ => None,
             }
         }
@@ -727,11 +800,11 @@ fn assignment((column, value): (Name, Expression)) -> Assignment {
         start: column.span.start,
         end: value.span.end,
     };
-    let mut columns = Vec::new();
+    let mut found = Reads::default();
     Assignment {
         column: column.text,
         span,
-        reads: reads(&value, &mut columns).map(|()| columns),
+        reads: reads(&value, &mut found).map(|()| found),
         change: column_change(value),
     }
 }
@@ -746,13 +819,14 @@ fn column_change(value: Expression) -> Option<ColumnChange> {
         },
         _ => return None,
     };
-    let (own, value) = match (own_column(&left), own_column(&right)) {
+    let ((own, instead), value) = match (own_column(&left), own_column(&right)) {
         (Some(own), None) => (own, right),
         (None, Some(own)) if !is_subtracted => (own, left),
         _ => return None,
     };
     Some(ColumnChange {
         own,
+        instead,
         is_subtracted,
         value,
     })
@@ -832,7 +906,7 @@ fn at_least(condition: &Expression) -> Option<AtLeast> {
 
 /// Reads what RETURNING shows. None: it shows all columns, or something that is not understood.
 fn returning(targets: Vec<Target>) -> Option<Returning> {
-    let mut columns = Vec::new();
+    let mut found = Reads::default();
     let mut span: Option<Span> = None;
     let mut are_columns = true;
     for target in targets {
@@ -840,7 +914,7 @@ fn returning(targets: Vec<Target>) -> Option<Returning> {
             Target::Expression(expression, name) => (expression, name),
             Target::Star(..) => return None,
         };
-        reads(&expression, &mut columns)?;
+        reads(&expression, &mut found)?;
         are_columns &= matches!(expression.kind, ExpressionKind::Column(_));
         let end = name.map_or(expression.span.end, |name| name.span.end);
         let start = span.map_or(expression.span.start, |span| span.start);
@@ -848,7 +922,7 @@ fn returning(targets: Vec<Target>) -> Option<Returning> {
     }
     Some(Returning {
         span: span?,
-        reads: columns,
+        reads: found,
         are_columns,
     })
 }
@@ -1058,7 +1132,7 @@ mod tests {
             formats: &[],
             values: &values,
         };
-        assert_eq!(plan.rest_types(parameters), [23, 25, 1700, 0]);
+        assert_eq!(plan.types(parameters), [23, 25, 1700, 23]);
         let rest = plan.rest(true).unwrap();
         let (first, last) = (" ".repeat(22), " ".repeat(21));
         assert_eq!(
@@ -1086,6 +1160,92 @@ mod tests {
         let last = "WITH o AS (INSERT INTO orders VALUES ($2, $1)) UPDATE stock SET pieces = pieces - $1 WHERE id = $2";
         assert!(is_bound(first, &[]) && is_bound(first, &[23, 0]));
         assert!(!is_bound(last, &[]) && is_bound(last, &[23, 0]));
+    }
+
+    #[test]
+    fn a_parameter_at_several_places_has_the_type_of_the_first() {
+        let table = table(KeyType::Integer(i64::MIN, i64::MAX));
+        let (int, long) = (5i32.to_be_bytes().to_vec(), 5i64.to_be_bytes().to_vec());
+        // A numeric that is 0, which has 8 bytes too.
+        let zero = vec![0, 0, 0, 0, 0, 0, 0, 2];
+        for (text, value, expected) in [
+            (
+                "SET pieces = pieces - $1 WHERE id = $1",
+                &long,
+                Some("5: -5 _"),
+            ),
+            ("SET pieces = pieces - $1 WHERE id = $1", &int, None),
+            (
+                "SET price = price - $1::numeric WHERE id = $1",
+                &long,
+                Some("5: _ -5"),
+            ),
+            (
+                "SET price = price - $1 WHERE $1 = id",
+                &long,
+                Some("5: _ -5"),
+            ),
+            (
+                "SET pieces = pieces - $1::int WHERE id = 7",
+                &int,
+                Some("7: -5 _"),
+            ),
+            (
+                "SET pieces = pieces - $1 WHERE id = $1::int",
+                &int,
+                Some("5: -5 _"),
+            ),
+            (
+                "SET pieces = pieces - $1 WHERE pieces >= $1 AND id = $1",
+                &int,
+                Some("5: -5 _ unless in_stock"),
+            ),
+            (
+                "SET price = price - $1, pieces = pieces - $1 WHERE id = 7",
+                &zero,
+                Some("7: 0 0"),
+            ),
+            (
+                "SET pieces = COALESCE(pieces, 0) - $1 WHERE id = 7",
+                &int,
+                Some("7: -5 _"),
+            ),
+            (
+                "SET pieces = COALESCE(pieces, 0.5) - $1 WHERE id = 7",
+                &zero,
+                Some("7: 0 _"),
+            ),
+            (
+                "SET pieces = pieces - 1 WHERE id IN ($1, 7)",
+                &long,
+                Some("5,7: -1 _"),
+            ),
+            (
+                "SET pieces = pieces - 1 WHERE id IN ($1, 7.0)",
+                &zero,
+                Some("0,7: -1 _"),
+            ),
+            (
+                "SET title = $1, pieces = pieces - $1 WHERE id = 7",
+                &int,
+                None,
+            ),
+            (
+                "SET pieces = pieces - $1 WHERE id = 7 RETURNING $1",
+                &int,
+                None,
+            ),
+        ] {
+            let values = [Some(value.clone())];
+            let parameters = Parameters {
+                types: &[],
+                formats: &[1],
+                values: &values,
+            };
+            let found = read(&format!("UPDATE stock {text}"), table.key_type, parameters);
+            let found = found.map(|it| it.split("; ").next().map(str::to_owned));
+            assert_eq!(found.flatten().as_deref(), expected, "{text}");
+        }
     }
 
     #[test]
