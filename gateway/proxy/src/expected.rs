@@ -172,6 +172,8 @@ pub struct Track {
     status: Status,
     /// Whether since then nothing was answered that begins or ends a transaction, and no error.
     is_plain: bool,
+    /// Whether since then nothing of the client's has run.
+    is_fresh: bool,
     statements: HashMap<String, Arc<Prepared>>,
     portals: HashMap<String, Arc<Bound>>,
     /// Whether names of tables may mean something else than before, to the end of the transaction.
@@ -214,6 +216,7 @@ impl Track {
             is_skipping: false,
             status: Status::Idle,
             is_plain: true,
+            is_fresh: true,
             statements: HashMap::new(),
             portals: HashMap::new(),
             is_volatile: false,
@@ -337,6 +340,16 @@ impl Track {
     /// Returns whether nothing was answered since the last ReadyForQuery that begins or ends a transaction, and no error.
     pub fn is_plain(&self) -> bool {
         self.is_plain
+    }
+
+    /// Returns whether nothing of the client's has run since the last ReadyForQuery, as far as it is answered.
+    pub fn is_fresh(&self) -> bool {
+        self.is_fresh
+    }
+
+    /// The proxy serves something of the client's itself.
+    pub fn runs(&mut self) {
+        self.is_fresh = false;
     }
 
     /// Returns the portal of a name, as it will be when all is answered without an error.
@@ -509,6 +522,7 @@ impl Track {
             }
             (b'C', Some(Expect::Query)) => Reply::Completed(self.completed(body)),
             (b'I' | b's', Some(Expect::Execute)) => {
+                self.is_fresh = false;
                 self.queue.pop_front();
                 Reply::Pass
             }
@@ -623,6 +637,7 @@ impl Track {
         }
         self.status = status;
         self.is_plain = true;
+        self.is_fresh = true;
         self.is_copying = false;
         if status == Status::Idle {
             self.portals.clear();
@@ -635,6 +650,7 @@ impl Track {
 
     /// Notes what a command tag says.
     fn completed(&mut self, body: &[u8]) -> Tag {
+        self.is_fresh = false;
         let text = body.strip_suffix(&[0]).unwrap_or(body);
         let text = std::str::from_utf8(text).unwrap_or("");
         let tag = Tag::read(text);

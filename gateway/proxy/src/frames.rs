@@ -82,6 +82,15 @@ impl Frames {
     }
 }
 
+/// Returns whether a client has sent a Sync next, with nothing in front of it but what runs nothing.
+pub fn has_sync(mut input: &[u8]) -> bool {
+    while let (Some(b'C' | b'H'), Some(mut length)) = (input.first(), input.get(1..5)) {
+        let whole = 1 + length.get_u32() as usize;
+        input = input.get(whole..).unwrap_or_default();
+    }
+    input.first() == Some(&b'S')
+}
+
 /// What a client's first packets are.
 #[derive(Clone, Debug, PartialEq, Eq)]
 pub enum Startup {
@@ -152,6 +161,21 @@ mod tests {
             assert!(passed == stream && input.is_empty(), "in steps of {}", step);
             assert_eq!(whole, [5, 6, 305, LARGEST_WHOLE, 5], "in steps of {}", step);
         }
+    }
+
+    #[test]
+    fn a_sync_is_seen_behind_what_runs_nothing() {
+        let sync = message(b'S', 0);
+        for (in_front, found) in [
+            (&b""[..], true),
+            (b"C\0\0\0\x06P\0H\0\0\0\x04", true),
+            (b"E\0\0\0\x09\0\0\0\0\0", false),
+            (b"C\0\0\0\xff", false),
+            (b"C\0\0", false),
+        ] {
+            assert_eq!(has_sync(&[in_front, &sync].concat()), found);
+        }
+        assert!(!has_sync(b""));
     }
 
     #[test]

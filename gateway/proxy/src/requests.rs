@@ -127,6 +127,8 @@ pub struct Requests<'a> {
     /// Lets the other direction go on behind an own reply.
     pub resume: UnboundedSender<Resumed>,
     pub(crate) own: Session,
+    /// Whether a Sync is here that comes next.
+    pub(crate) has_sync: bool,
     forms: Forms,
     out: Vec<u8>,
 }
@@ -197,6 +199,7 @@ impl<'a> Requests<'a> {
             replies,
             resume,
             own: Session::default(),
+            has_sync: false,
             forms: Forms::default(),
             out: Vec::new(),
         }
@@ -219,6 +222,7 @@ impl<'a> Requests<'a> {
         let mut frames = Frames::default();
         loop {
             while let Some(piece) = frames.next(&mut input)? {
+                self.has_sync = frames::has_sync(&input);
                 match piece {
                     frames::Piece::Message(kind, bytes) => self.message(kind, bytes).await?,
                     frames::Piece::Part(bytes, is_first) => self.part(&bytes, is_first)?,

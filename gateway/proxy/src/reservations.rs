@@ -53,8 +53,10 @@ struct Job<'a> {
     /// The condition of the table's CHECKs that refuses where the statement's condition does not hold.
     condition: Option<usize>,
     sent: Sent<'a>,
-    /// Whether it is a transaction by itself, as far as is known.
+    /// Whether no block is around it.
     alone: bool,
+    /// Whether it is a transaction by itself: nothing has run in front of it, and its end comes next.
+    is_whole: bool,
     /// Whether it is about one row, and asks for nothing else.
     is_single: bool,
 }
@@ -265,9 +267,17 @@ impl Requests<'_> {
             self.pass_update(sent);
             return Ok(());
         }
-        let alone = {
-            let track = self.shared.track();
-            track.status() == Status::Idle && track.is_plain()
+        let (alone, is_first) = {
+            let mut track = self.shared.track();
+            let is_first = track.is_fresh();
+            track.runs();
+            let alone = track.status() == Status::Idle && track.is_plain();
+            (alone, is_first)
+        };
+        let ends = match sent {
+            Sent::Query(_) => true,
+            Sent::Execute(..) => self.has_sync,
+            Sent::Piece(..) => false,
         };
         let job = Job {
             form,
@@ -276,6 +286,7 @@ impl Requests<'_> {
             condition,
             sent,
             alone,
+            is_whole: alone && is_first && ends,
             is_single: keys.len() == 1 && !has_rest,
         };
         let mut count = 0;
@@ -647,14 +658,16 @@ impl Requests<'_> {
             Value::Binary(proved.proof.to_vec()),
             Value::Text(job.form.relation()),
         ];
-        // A Sync in a block commits nothing.
-        let is_block = job.sent.is_query() && self.shared.track().status() == Status::InBlock;
-        let end = match is_block && job.is_single {
+        // A Sync in a block commits nothing. The client may have ended the block before a Sync.
+        let is_block = {
+            let track = self.shared.track();
+            track.status() == Status::InBlock && track.is_plain()
+        };
+        let end = match is_block && job.sent.is_query() && job.is_single {
             true => End::Sync,
             false => End::Flush,
         };
-        let is_piece = matches!(job.sent, Sent::Piece(..));
-        let folds = job.alone && !is_piece && job.is_single && may_fold && self.shared.waits();
+        let folds = job.is_whole && job.is_single && may_fold && self.shared.waits();
         let text = match folds {
             true => &job.table.direct_text,
             false => &job.table.note_text,

@@ -196,6 +196,23 @@ def ends_of_transactions(cluster: Cluster, proxy: Proxy) -> None:
 
 
 @case
+def a_pipeline_is_in_its_rows(cluster: Cluster, proxy: Proxy) -> None:
+    """When it is answered, each row shows its change, also if somebody else has reserved one of them."""
+    keys = [row(cluster) for _ in range(3)]
+    with proxy.connect() as it, proxy.connect() as other:
+        other.execute("BEGIN")
+        take(other, keys[0], 1)
+        with it.pipeline():
+            for key in keys:
+                take(it, key, 2)
+        expect([pieces(cluster, key) for key in keys], [8, 8, 8])
+        it.cursor().executemany("UPDATE stock SET pieces = pieces - 1 WHERE id = %s", [(key,) for key in keys])
+        expect([pieces(cluster, key) for key in keys], [7, 7, 7])
+        other.execute("COMMIT")
+        expect(pieces(cluster, keys[0]), 6)
+
+
+@case
 def savepoints_give_back(cluster: Cluster, proxy: Proxy) -> None:
     key = row(cluster, 10)
     with proxy.connect() as it, proxy.connect() as other:

@@ -8,17 +8,21 @@ from __future__ import annotations
 import socket
 import struct
 import subprocess
+import tempfile
+import threading
 from contextlib import contextmanager
+from pathlib import Path
 from typing import Any, Callable, Iterator, List, Tuple
 
 import psycopg
 from psycopg import errors
 
+from clients import wire
 from clients.servers import END, wait_until
 from clients.suite import main
 from proxy.test.harness import FOLDED, Proxy, SharedPart, installed
 from proxy.test.sql import Copy, refused, same, stock, until_free, value
-from proxy.test.standin import Client, Cluster, Owner, perform
+from proxy.test.standin import Client, Cluster, Owner, of_proxy, perform
 
 
 def end_clients(cluster: Cluster) -> None:
@@ -343,6 +347,59 @@ def a_portal_is_run_once(cluster: Cluster) -> None:
         it.sendall(parsed + bound + executed + executed + said(b"S", b""))
         kinds = b"".join(kind for kind, _ in answered(it) if kind in b"CEZ")
     same((kinds, value(cluster, "SELECT pieces FROM escrow.now_stock WHERE id = 1")), (b"CEZ", 10))
+
+
+class Cut:
+    """Passes on what a proxy sends to PostgreSQL and back. A connection that has sent a word is lost: what answers that never comes."""
+
+    def __init__(self, folder: Path, target: Path) -> None:
+        self.target, self.word = target, b""
+        self.listener = socket.socket(socket.AF_UNIX)
+        self.listener.bind(str(folder / target.name))
+        self.listener.listen(100)
+        threading.Thread(target=self.accept, daemon=True).start()
+
+    def accept(self) -> None:
+        """Passes on all connections."""
+        while True:
+            proxy, postgres = self.listener.accept()[0], socket.socket(socket.AF_UNIX)
+            postgres.connect(str(self.target))
+            for source, target, word in ((proxy, postgres, True), (postgres, proxy, False)):
+                threading.Thread(target=self.passes, args=(source, target, word), daemon=True).start()
+
+    def passes(self, source: socket.socket, target: socket.socket, is_proxys: bool) -> None:
+        """Passes one direction on to its end."""
+        try:
+            while piece := source.recv(65_536):
+                is_lost = is_proxys and self.word != b"" and self.word in piece
+                if is_lost:
+                    self.word = b""
+                    source.shutdown(socket.SHUT_RDWR)
+                target.sendall(piece)
+            target.shutdown(socket.SHUT_WR)
+        except OSError:
+            pass
+
+
+@part
+def a_note_behind_a_block_is_answered_before_its_end_is_sent(cluster: Cluster) -> None:
+    """The client ends its block before a Sync, so that the Sync behind its UPDATE commits. The connection is lost with the note's answer."""
+    stock(cluster).keeper.close()
+    with tempfile.TemporaryDirectory() as name:
+        cut = Cut(Path(name), cluster.socket)
+        with Proxy(cluster, postgres=of_proxy(cluster.dsn()).replace(str(cluster.sockets), name)) as proxy:
+            take = "UPDATE stock SET pieces = pieces - 4 WHERE id = 1"
+            with wire.Connection(proxy.socket) as it:
+                it.do(take, "BEGIN")
+                backend = it.rows("SELECT pg_backend_pid()")[0][0]
+                cut.word = b"SELECT escrow.note_"
+                it.send(wire.parse("COMMIT"), wire.bind(), wire.execute(), wire.query(take))
+                it.until_end()
+            wait_until("its backend has ended", lambda: value(cluster, f"SELECT count(*) FROM pg_stat_activity WHERE pid = {backend}") == 0)
+            # What was given back was not committed.
+            with proxy.connect() as other:
+                other.execute("UPDATE stock SET pieces = pieces - 6 WHERE id = 1")
+            same(value(cluster, "SELECT pieces FROM stock WHERE id = 1"), 0)
 
 
 @part
