@@ -86,6 +86,8 @@ pub enum Expect {
     CopyData,
     /// The end of a COPY that the client has sent. Nothing answers it by itself.
     CopyEnd,
+    /// The statement that the DEALLOCATE in front of it names. Nothing answers it by itself.
+    Deallocated(String),
     /// The acknowledgement, or the description, of a statement of a string, which begins behind so many characters of it.
     Piece(usize),
     /// ParseComplete, of the proxy's own.
@@ -119,8 +121,11 @@ impl Expect {
     }
 
     /// Returns whether nothing answers it by itself.
-    fn is_of_copy(&self) -> bool {
-        matches!(self, Expect::CopyData | Expect::CopyEnd)
+    fn is_silent(&self) -> bool {
+        matches!(
+            self,
+            Expect::CopyData | Expect::CopyEnd | Expect::Deallocated(_)
+        )
     }
 
     /// Returns whether a ReadyForQuery ends it.
@@ -180,8 +185,6 @@ pub struct Track {
     is_volatile: bool,
     /// What names of tables mean.
     resolved: HashMap<String, Option<u32>>,
-    /// The statements that DEALLOCATEs on the way name.
-    deallocated: VecDeque<String>,
     /// Whether the session has kept the proxy's statements and its greeting.
     is_kept: bool,
     /// Whether a COPY into PostgreSQL is under way.
@@ -189,6 +192,8 @@ pub struct Track {
     /// How many Syncs in front of the data of COPYs that have failed were taken for ignored. PostgreSQL has answered one if a
     /// trigger failed before it read anything.
     spare_syncs: usize,
+    /// Whether PostgreSQL may have a statement or a portal without a name.
+    has_unnamed: bool,
     /// Rows of the own request that is under way, or was last, which the client has not asked for yet. And whether it has got as
     /// many as it has asked for.
     kept_rows: (Vec<Bytes>, bool),
@@ -221,10 +226,10 @@ impl Track {
             portals: HashMap::new(),
             is_volatile: false,
             resolved: HashMap::new(),
-            deallocated: VecDeque::new(),
             is_kept: true,
             is_copying: false,
             spare_syncs: 0,
+            has_unnamed: false,
             kept_rows: (Vec::new(), false),
             refused_rows: Vec::new(),
             process: 0,
@@ -241,12 +246,12 @@ impl Track {
             }
             self.is_skipping = false;
         }
+        match &expect {
+            Expect::Parse(name, _) | Expect::Bind(name, _) => self.has_unnamed |= name.is_empty(),
+            Expect::Query => self.has_unnamed = false,
+            _ => {}
+        }
         self.queue.push_back(expect);
-    }
-
-    /// A DEALLOCATE of this statement is on the way.
-    pub fn deallocates(&mut self, name: String) {
-        self.deallocated.push_back(name);
     }
 
     /// The client sends data of a COPY, which PostgreSQL may not have begun yet.
@@ -288,8 +293,7 @@ impl Track {
 
     /// Returns whether all is answered.
     pub fn is_quiet(&self) -> bool {
-        let mut queue = self.queue.iter();
-        queue.all(Expect::is_of_copy)
+        self.queue.iter().all(Expect::is_silent)
     }
 
     /// Returns whether all is answered, or PostgreSQL answers nothing more before the client goes on.
@@ -352,6 +356,21 @@ impl Track {
         self.is_fresh = false;
     }
 
+    /// Returns whether it may depend on what is not answered which portal of interest a name is: behind an end of a cycle it is not
+    /// known whether something in front of it has failed, and what runs may drop it.
+    pub fn may_lose_portal(&self, name: &str) -> bool {
+        let binds = |it: &Expect| matches!(it, Expect::Bind(portal, Some(_)) if portal == name);
+        let is_known = self.portals.contains_key(name) || self.queue.iter().any(binds);
+        is_known && self.is_executing()
+    }
+
+    /// Does the same for the name of a statement.
+    pub fn may_lose_statement(&self, name: &str) -> bool {
+        let parses = |it: &Expect| matches!(it, Expect::Parse(other, Some(_)) if other == name);
+        let is_known = self.statements.contains_key(name) || self.queue.iter().any(parses);
+        is_known && self.is_executing()
+    }
+
     /// Returns the portal of a name, as it will be when all is answered without an error.
     pub fn portal(&self, name: &str) -> Option<Arc<Bound>> {
         let last = self.queue.iter().rev().find_map(|it| match it {
@@ -405,6 +424,14 @@ impl Track {
         last.unwrap_or_else(|| self.statements.get(name).cloned())
     }
 
+    /// The proxy serves a Query itself, which drops the statement and the portal without a name. All is answered. Returns whether
+    /// PostgreSQL may have them.
+    pub fn drop_unnamed(&mut self) -> bool {
+        self.statements.remove("");
+        self.portals.remove("");
+        std::mem::take(&mut self.has_unnamed)
+    }
+
     /// Forgets all statements and portals: a message that was not looked at may have changed any of them.
     pub fn forget_statements(&mut self) {
         self.statements.clear();
@@ -448,7 +475,7 @@ impl Track {
 
     /// Takes a reply, by its kind and its body.
     pub fn reply(&mut self, kind: u8, body: &[u8]) -> Reply {
-        while self.queue.front().map_or(false, Expect::is_of_copy) {
+        while self.queue.front().map_or(false, Expect::is_silent) {
             self.queue.pop_front();
         }
         match kind {
@@ -632,9 +659,6 @@ impl Track {
                 break;
             }
         }
-        if self.queue.is_empty() {
-            self.deallocated.clear();
-        }
         self.status = status;
         self.is_plain = true;
         self.is_fresh = true;
@@ -663,13 +687,20 @@ impl Track {
         }
         match word {
             "SELECT" | "INSERT" | "UPDATE" | "DELETE" | "BEGIN" | "COMMIT" | "SAVEPOINT"
-            | "RELEASE" | "FETCH" | "MOVE" | "COPY" | "DECLARE" | "CLOSE" | "LISTEN" | "NOTIFY"
+            | "RELEASE" | "FETCH" | "MOVE" | "COPY" | "DECLARE" | "LISTEN" | "NOTIFY"
             | "EXPLAIN" | "LOCK" | "SHOW" => {}
-            "DEALLOCATE" if text == "DEALLOCATE" => match self.deallocated.pop_front() {
-                Some(name) => drop(self.statements.remove(&name)),
-                None => self.forget_statements(),
-            },
-            "PREPARE" | "DEALLOCATE" => self.forget_statements(),
+            "DEALLOCATE" if text == "DEALLOCATE" => {
+                let at = usize::from(matches!(self.queue.front(), Some(Expect::Query)));
+                match self.queue.get(at) {
+                    Some(Expect::Deallocated(name)) => drop(self.statements.remove(name)),
+                    _ => self.forget_statements(),
+                }
+            }
+            // A cursor is a portal too.
+            "CLOSE" => self.portals.clear(),
+            // PREPARE gives no name that another statement has.
+            "PREPARE" => {}
+            "DEALLOCATE" => self.forget_statements(),
             "DISCARD" => {
                 self.forget_statements();
                 self.forget_meanings();
@@ -821,11 +852,20 @@ mod tests {
             track.expect(Expect::Parse(name.to_owned(), Some(prepared.clone())));
             assert_eq!(track.reply(b'1', b""), Reply::Pass);
         }
-        track.deallocates("a".to_owned());
-        track.expect(Expect::Query);
-        track.reply(b'C', b"DEALLOCATE\0");
+        for (name, fails) in [("b", true), ("a", false)] {
+            track.expect(Expect::Query);
+            track.expect(Expect::Deallocated(name.to_owned()));
+            match fails {
+                true => track.reply(b'E', b""),
+                false => track.reply(b'C', b"DEALLOCATE\0"),
+            };
+            track.reply(b'Z', b"I");
+            track.ready(Status::Idle);
+        }
         assert!(track.statement("a").is_none() && track.statement("b").is_some());
+        assert!(track.is_quiet());
         // One that was not understood may have named any.
+        track.expect(Expect::Query);
         track.reply(b'C', b"DEALLOCATE\0");
         assert!(track.statement("b").is_none());
     }

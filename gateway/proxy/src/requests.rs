@@ -354,6 +354,9 @@ impl<'a> Requests<'a> {
             Message::Bind(bind) => {
                 self.check_name(bind.statement)?;
                 self.check_name(bind.portal)?;
+                if self.shared.track().may_lose_statement(bind.statement) {
+                    self.settle().await?;
+                }
                 let statement = self.shared.track().statement(bind.statement);
                 let bound = statement.map(|statement| {
                     let values = bind.values.iter().map(|it| it.map(<[u8]>::to_vec));
@@ -382,6 +385,9 @@ impl<'a> Requests<'a> {
             Message::Execute { portal, limit } => {
                 let limit = Some(limit as usize).filter(|&limit| limit > 0);
                 self.check_name(portal)?;
+                if self.shared.track().may_lose_portal(portal) {
+                    self.settle().await?;
+                }
                 let bound = self.shared.track().portal(portal);
                 let prepared = bound
                     .as_ref()
@@ -413,8 +419,8 @@ impl<'a> Requests<'a> {
                         self.pass(&bytes, Expect::Execute);
                     }
                     Some((_, Statement::Deallocate(name))) => {
-                        self.shared.track().deallocates(name.clone());
                         self.pass(&bytes, Expect::Execute);
+                        self.expect(Expect::Deallocated(name.clone()));
                     }
                     Some((_, Statement::Commit)) => {
                         self.commit(Sent::Execute(&bytes, limit)).await?;
@@ -562,8 +568,8 @@ impl<'a> Requests<'a> {
                 Ok(())
             }
             Some(Statement::Deallocate(name)) => {
-                self.shared.track().deallocates(name);
                 self.pass(bytes, Expect::Query);
+                self.expect(Expect::Deallocated(name));
                 Ok(())
             }
             Some(Statement::Commit) => self.commit(Sent::Query(bytes)).await,
@@ -608,6 +614,7 @@ impl<'a> Requests<'a> {
             self.pass(bytes, Expect::Query);
             return Ok(());
         }
+        self.drop_unnamed();
         for (at, piece) in pieces.iter().enumerate() {
             if self.shared.track().is_skipping() {
                 break;
@@ -633,6 +640,16 @@ impl<'a> Requests<'a> {
         }
         self.pass(own::SYNC, Expect::Sync);
         self.tell_catalog().await
+    }
+
+    /// Drops the statement and the portal without a name, as a Query does that PostgreSQL does not see.
+    pub(crate) fn drop_unnamed(&mut self) {
+        if self.shared.track().drop_unnamed() {
+            own::close_statement(&mut self.out, "");
+            own::close_portal(&mut self.out, "");
+            self.expect(Expect::OwnShut);
+            self.expect(Expect::OwnShut);
+        }
     }
 
     /// Passes a statement on.

@@ -243,6 +243,10 @@ impl Requests<'_> {
             self.pass_on(sent);
             return Ok(());
         }
+        if self.shared.track().is_skipping() {
+            self.pass_on(sent);
+            return Ok(());
+        }
         let table = match self.has_failed() {
             true => None,
             false => self.declared(form).await?,
@@ -279,6 +283,9 @@ impl Requests<'_> {
             Sent::Execute(..) => self.has_sync,
             Sent::Piece(..) => false,
         };
+        if sent.is_query() {
+            self.drop_unnamed();
+        }
         let job = Job {
             form,
             table,

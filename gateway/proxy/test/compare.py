@@ -15,12 +15,15 @@ import struct
 import sys
 import time
 from dataclasses import dataclass
+from pathlib import Path
 from typing import Dict, List, NamedTuple, Optional, Sequence, Tuple
 
 from psycopg import pq
 
+from clients import wire
 from clients.servers import PATIENCE
 from clients.suite import expect, load, main
+from proxy.test import messages
 from proxy.test.drivers import Both, opened
 from proxy.test.harness import SharedPart
 
@@ -104,6 +107,10 @@ ROWS = (
 SHOWN = """SELECT 'stock', id::text, title, pieces::text, '' FROM stock UNION ALL SELECT 'account', id::text, owner, balance::text, held::text FROM account
     UNION ALL SELECT 'shelf', code, '', room::text, '' FROM shelf
     UNION ALL SELECT 'taken', item::text, '', pieces::text, '' FROM taken ORDER BY 1, 2, 3, 4, 5"""
+
+
+# Sessions of messages, which have to be equal.
+SESSIONS: Dict[str, Sequence[messages.Step]] = {**messages.NAMES}
 
 
 @dataclass(frozen=True)
@@ -316,6 +323,33 @@ class Comparison:
 @PART.case
 def mutated_statements(both: Both) -> None:
     compared(both, SEED, load(COUNT), SECONDS)
+
+
+def played(path: Path, database: str, steps: Sequence[messages.Step]) -> List[str]:
+    """Returns what comes back for a session of messages, in words."""
+    found: List[str] = []
+    with wire.Connection(path, database=database) as it:
+        for count, sent in steps:
+            it.send(*sent)
+            for _ in range(count):
+                found += [f"{told.shown()} {told.fields()['M']}" if told.kind == "E" else told.shown() for told in it.until_ready() if told.kind not in "NS"]
+    return found
+
+
+@PART.case
+def sessions_of_messages(both: Both) -> None:
+    for database in (both.cluster, both.plain):
+        database.run("DROP TABLE IF EXISTS taken", TAKEN)
+    comparison = Comparison(both)
+    try:
+        for name, steps in SESSIONS.items():
+            comparison.renew()
+            straight = played(both.cluster.socket, both.plain.name, steps)
+            expect(played(both.proxy.socket, "bank", steps), straight, name)
+            tables = [it.execute(SHOWN.encode()).fetchall() for it in (comparison.straight, comparison.plain)]
+            expect(tables[0], tables[1], name)
+    finally:
+        comparison.close()
 
 
 def compared(both: Both, seed: int, count: int, seconds: float = math.inf) -> None:
