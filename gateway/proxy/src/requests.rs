@@ -18,9 +18,9 @@ use crate::frames::{self, Frames};
 use crate::hub::{Hub, Mail};
 use crate::own::{self, Value};
 use crate::parameters::Parameters;
-use crate::protocol::{Connection, Event};
+use crate::protocol::{Connection, Event, Status};
 use crate::relay::{Shared, CHUNK};
-use crate::script::{self, Piece};
+use crate::script::{self, depends_on_settings, Piece};
 use crate::stream::{Reader, Writer};
 use crate::update::{Form, Statement};
 
@@ -132,6 +132,9 @@ pub struct Requests<'a> {
     forms: Forms,
     out: Vec<u8>,
 }
+
+/// The text that asks for the settings by which PostgreSQL reads texts.
+const LETTERS: &str = "SELECT pg_catalog.current_setting('standard_conforming_strings'), pg_catalog.current_setting('client_encoding')";
 
 /// How many UPDATEs are kept that were read before, and the most bytes of the text of one.
 const KEPT: usize = 8;
@@ -342,6 +345,9 @@ impl<'a> Requests<'a> {
                 if contains(parse.text, b"escrow.reservations") {
                     self.show().await?;
                 }
+                if depends_on_settings(parse.text) && may_be_looked_at(parse.text) {
+                    self.learn_letters().await?;
+                }
                 let mut statement = self.statement(parse.text);
                 if names_holds(parse.text) {
                     self.names_holds(false);
@@ -530,6 +536,27 @@ impl<'a> Requests<'a> {
         }
     }
 
+    /// Learns the settings by which PostgreSQL reads a text that comes next. PostgreSQL tells a change of them at the next
+    /// ReadyForQuery, so they are asked for if something has run since the last one.
+    async fn learn_letters(&mut self) -> Result<(), Error> {
+        if self.shared.track().is_executing() {
+            self.settle().await?;
+        }
+        if self.shared.track().is_fresh() || self.has_failed() {
+            return Ok(());
+        }
+        let reply = self.ask(LETTERS, &[], &[], End::Flush).await?;
+        if let OwnReply::Row(Some(row)) = &reply {
+            let is = |at: usize, value: &[u8]| matches!(row.get(at), Some(Some(it)) if it == value);
+            let mut track = self.shared.track();
+            track.is_conforming = is(0, b"on");
+            track.is_utf8 = is(1, b"UTF8");
+        }
+        self.tell_failure(&reply);
+        self.go_on(&reply, Vec::new());
+        Ok(())
+    }
+
     /// Reads a text that the proxy looks at.
     fn statement(&mut self, text: &[u8]) -> Option<Statement> {
         let text = self.known_text(text)?;
@@ -539,7 +566,8 @@ impl<'a> Requests<'a> {
     /// Returns a text, if its letters are those that the proxy knows.
     fn known_text<'t>(&self, text: &'t [u8]) -> Option<&'t str> {
         let track = self.shared.track();
-        if !track.is_conforming || !track.is_utf8 && !text.is_ascii() {
+        let is_known = track.is_conforming && (track.is_utf8 || text.is_ascii());
+        if !is_known && depends_on_settings(text) {
             return None;
         }
         std::str::from_utf8(text).ok()
@@ -552,6 +580,9 @@ impl<'a> Requests<'a> {
         }
         if names_holds(text) {
             self.names_holds(true);
+        }
+        if depends_on_settings(text) && may_be_looked_at(text) {
+            self.learn_letters().await?;
         }
         if let Some(pieces) = self.pieces(text).await {
             return self.string(&pieces, bytes).await;
@@ -604,7 +635,11 @@ impl<'a> Requests<'a> {
             return None;
         }
         let catalog = self.first_catalog().await;
-        script::pieces(text, &catalog)
+        let in_block = {
+            let track = self.shared.track();
+            track.status() != Status::Idle || !track.is_plain()
+        };
+        script::pieces(text, &catalog, in_block)
     }
 
     /// Serves a string of several statements, one after another up to the first error. They are a pipeline, which is one
@@ -840,6 +875,12 @@ impl<'a> Requests<'a> {
 /// Returns what a portal has left of its rows, once it has run.
 fn rows_left(bound: &Bound) -> MutexGuard<'_, Option<Left>> {
     bound.left.lock().unwrap_or_else(PoisonError::into_inner)
+}
+
+/// Returns whether a text may be a statement that the proxy looks at.
+fn may_be_looked_at(text: &[u8]) -> bool {
+    let words: [&[u8]; 3] = [b"update", b"with", b"delete"];
+    words.iter().any(|word| contains(text, word))
 }
 
 /// Returns whether a text has a word, which is in small letters, in letters of any case.

@@ -508,7 +508,7 @@ impl Requests<'_> {
     }
 
     /// Tells the hub of an error of an own request that is no note.
-    fn tell_failure(&self, reply: &OwnReply) {
+    pub(crate) fn tell_failure(&self, reply: &OwnReply) {
         if matches!(reply, OwnReply::Failed(_)) && self.shared.is_engaged() {
             let connection = self.connection;
             self.hub.handle(Event::Failed { connection });

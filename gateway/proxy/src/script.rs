@@ -39,9 +39,14 @@ pub fn may_be_several(text: &str) -> bool {
     parts.map_or(false, |(_, rest)| !rest.trim().is_empty())
 }
 
-/// Reads a string of several statements. None: it is one statement, PostgreSQL has nothing to reserve in it, or it has
+/// Returns whether settings of the session may change what a text says.
+pub fn depends_on_settings(text: &[u8]) -> bool {
+    text.contains(&b'\\') || !text.is_ascii()
+}
+
+/// Reads a string of several statements, which begins in a block or not. None: it is one statement, PostgreSQL has nothing to reserve in it, or it has
 /// something that does not do the same in a pipeline.
-pub fn pieces(text: &str, catalog: &Catalog) -> Option<Vec<Piece>> {
+pub fn pieces(text: &str, catalog: &Catalog, in_block: bool) -> Option<Vec<Piece>> {
     if !may_be_several(text) {
         return None;
     }
@@ -54,12 +59,18 @@ pub fn pieces(text: &str, catalog: &Catalog) -> Option<Vec<Piece>> {
     }
     let mut pieces = Vec::new();
     let (mut at, mut end, mut place) = (0, 0, 0);
+    let mut has_ended = false;
     while let Some((span, outline)) = next_outline(text, &mut at).ok()? {
         if !may_be_piped(&outline) {
             return None;
         }
         place += text[end..span.start].chars().count();
         let written = &text[span.start..span.end];
+        // PostgreSQL reads all of the string by the settings at its beginning.
+        if has_ended && depends_on_settings(written.as_bytes()) {
+            return None;
+        }
+        has_ended |= in_block && ends_settings(&outline);
         pieces.push(Piece {
             text: written.to_owned(),
             place,
@@ -72,6 +83,19 @@ pub fn pieces(text: &str, catalog: &Catalog) -> Option<Vec<Piece>> {
     // One by itself may have an empty statement in front.
     let are_several = pieces.len() > 1 || text.trim_start().starts_with(';');
     (are_several && pieces.iter().any(is_served)).then_some(pieces)
+}
+
+/// Returns whether a statement ends a block or a part of it, and with that settings which were made there.
+fn ends_settings(outline: &Outline) -> bool {
+    match outline {
+        Outline::Data => false,
+        Outline::Control(statement) => matches!(
+            &**statement,
+            gateway::Statement::Commit { .. }
+                | gateway::Statement::Rollback { .. }
+                | gateway::Statement::RollbackTo(_)
+        ),
+    }
 }
 
 /// Returns whether a statement of a string does the same in a pipeline.

@@ -110,7 +110,7 @@ SHOWN = """SELECT 'stock', id::text, title, pieces::text, '' FROM stock UNION AL
 
 
 # Sessions of messages, which have to be equal.
-SESSIONS: Dict[str, Sequence[messages.Step]] = {**messages.NAMES}
+SESSIONS: Dict[str, Sequence[messages.Step]] = {**messages.NAMES, **messages.LETTERS}
 
 
 @dataclass(frozen=True)
@@ -348,6 +348,11 @@ def sessions_of_messages(both: Both) -> None:
             expect(played(both.proxy.socket, "bank", steps), straight, name)
             tables = [it.execute(SHOWN.encode()).fetchall() for it in (comparison.straight, comparison.plain)]
             expect(tables[0], tables[1], name)
+        for name, steps in messages.REFUSED.items():
+            comparison.renew()
+            before = comparison.straight.execute(SHOWN.encode()).fetchall()
+            refusals = [it for it in played(both.proxy.socket, "bank", steps) if REFUSALS["0A000"] in it]
+            expect((len(refusals), comparison.straight.execute(SHOWN.encode()).fetchall()), (1, before), name)
     finally:
         comparison.close()
 

@@ -45,3 +45,23 @@ NAMES: Dict[str, Sequence[Step]] = {
     "a Query that is skipped": ((1, [parse("SELECT FROM nothing"), query(TAKE), sync()]),),
     "a string that is skipped": ((1, [parse("SELECT FROM nothing"), query(f"{TAKE}; SELECT 2"), sync()]),),
 }
+
+OFF = "SET standard_conforming_strings = off"
+# Where a backslash is no letter it is the second row, and the first otherwise.
+QUOTED = "UPDATE stock SET pieces = pieces - 1, title = 'a\\' WHERE id = 1 -- ' WHERE id = 2"
+AT_RISK = "UPDATE stock SET pieces = pieces - 1, title = 'a\\b' WHERE id = 1"
+SETS = "CREATE FUNCTION pg_temp.sets() RETURNS text LANGUAGE sql AS $$SELECT set_config('standard_conforming_strings', 'on', false)$$"
+
+# PostgreSQL tells a setting at the end of a cycle, and reads a text by it before.
+LETTERS: Dict[str, Sequence[Step]] = {
+    "on in a pipeline": ((1, [query(OFF)]), at_once(*ran("RESET standard_conforming_strings"), *ran(AT_RISK))),
+    "on by a function": ((1, [query(SETS)]), (1, [query(OFF)]), at_once(*ran("SELECT pg_temp.sets()"), *ran(AT_RISK))),
+    "on again behind a block": ((1, [query(f"BEGIN; {OFF.replace('SET', 'SET LOCAL')}")]), (2, [query("COMMIT"), query(AT_RISK)])),
+}
+# The same, where the proxy passes the text on, so that a trigger refuses it.
+REFUSED: Dict[str, Sequence[Step]] = {
+    "off in a pipeline": (at_once(*ran(OFF), *ran(QUOTED)),),
+    "off in front of a Query": ((2, [query(OFF), query(QUOTED)]),),
+    "off by a function": ((1, [query(SETS.replace("'on'", "'off'"))]), at_once(*ran("SELECT pg_temp.sets()"), *ran(QUOTED))),
+    "off behind a block": ((1, [query(OFF)]), (1, [query("BEGIN; SET LOCAL standard_conforming_strings = on")]), (1, [query(f"SELECT 1; COMMIT; {AT_RISK}")])),
+}
