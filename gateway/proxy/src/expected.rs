@@ -17,6 +17,8 @@ use crate::update::Statement;
 pub struct Prepared {
     /// What its text asks for.
     pub statement: Statement,
+    /// Whether its text names the functions of holds, so that they may run by it.
+    pub names_holds: bool,
     /// The types of its parameters, as far as the client has told them.
     pub types: Vec<u32>,
 }
@@ -32,8 +34,24 @@ pub struct Bound {
     pub values: Vec<Option<Vec<u8>>>,
     /// The formats of the columns of its result.
     pub results: Vec<i16>,
+    /// Whether its Bind was too large to be looked at, so that it has no values here.
+    pub is_large: bool,
     /// What an Execute has left of its rows, once it has run.
     pub left: Mutex<Option<Left>>,
+}
+
+impl Bound {
+    /// Returns a portal whose values were too large to be looked at.
+    pub fn large(statement: Arc<Prepared>) -> Bound {
+        Bound {
+            statement,
+            formats: Vec::new(),
+            values: Vec::new(),
+            results: Vec::new(),
+            is_large: true,
+            left: Mutex::default(),
+        }
+    }
 }
 
 /// The rows of a portal that its client has not asked for yet.
@@ -410,6 +428,17 @@ impl Track {
                 Expect::Bind(portal, bound) if portal == name => *bound = None,
                 _ => {}
             }
+        }
+    }
+
+    /// The text of the Parse that was sent last, of which parts are still to come, names the functions of holds.
+    pub fn parse_names_holds(&mut self) {
+        if let Some(Expect::Parse(_, prepared)) = self.queue.back_mut() {
+            *prepared = Some(Arc::new(Prepared {
+                statement: Statement::Holds,
+                names_holds: true,
+                types: Vec::new(),
+            }));
         }
     }
 
@@ -821,10 +850,15 @@ mod tests {
         let statement = Statement::read("UPDATE t SET n = n - 1 WHERE id = 1").unwrap();
         let types = Vec::new();
         let bound = Arc::new(Bound {
-            statement: Arc::new(Prepared { statement, types }),
+            statement: Arc::new(Prepared {
+                statement,
+                names_holds: false,
+                types,
+            }),
             formats: Vec::new(),
             values: Vec::new(),
             results: Vec::new(),
+            is_large: false,
             left: Mutex::default(),
         });
         for is_answered in [true, false] {
@@ -846,6 +880,7 @@ mod tests {
         let statement = Statement::read("UPDATE t SET n = n - 1 WHERE id = 1").unwrap();
         let prepared = Arc::new(Prepared {
             statement,
+            names_holds: false,
             types: Vec::new(),
         });
         for name in ["a", "b"] {

@@ -133,6 +133,9 @@ pub struct Requests<'a> {
     out: Vec<u8>,
 }
 
+/// At least as many bytes as a word has that is looked for in parts of a text.
+const LONGEST_WORD: usize = 32;
+
 /// The text that asks for the settings by which PostgreSQL reads texts.
 const LETTERS: &str = "SELECT pg_catalog.current_setting('standard_conforming_strings'), pg_catalog.current_setting('client_encoding')";
 
@@ -179,6 +182,10 @@ pub(crate) struct Session {
     pub(crate) has_waited: bool,
     /// What the last UPDATE has left of its rows.
     pub(crate) rows_left: Option<Left>,
+    /// Whether the client may have prepared, by SQL's own PREPARE, what names the functions of holds.
+    prepares_holds: bool,
+    /// Of a large Query or Parse: its kind, and the end of what has come of it.
+    large: Option<(u8, Vec<u8>)>,
 }
 
 impl<'a> Requests<'a> {
@@ -228,7 +235,7 @@ impl<'a> Requests<'a> {
                 self.has_sync = frames::has_sync(&input);
                 match piece {
                     frames::Piece::Message(kind, bytes) => self.message(kind, bytes).await?,
-                    frames::Piece::Part(bytes, is_first) => self.part(&bytes, is_first)?,
+                    frames::Piece::Part(bytes, is_first) => self.part(&bytes, is_first).await?,
                 }
                 if self.out.len() > CHUNK {
                     self.flush().await?;
@@ -262,10 +269,11 @@ impl<'a> Requests<'a> {
 
     /// Passes a part of a message that is too large to be looked at. Its first part has its names, and its text if that is one of
     /// the proxy's own.
-    fn part(&mut self, bytes: &[u8], is_first: bool) -> Result<(), Error> {
+    async fn part(&mut self, bytes: &[u8], is_first: bool) -> Result<(), Error> {
         if is_first {
-            self.check_part(bytes[0], &bytes[5..])?;
-            let nameless = String::new;
+            let names = self.check_part(bytes[0], &bytes[5..])?;
+            let mut names = names.into_iter();
+            let mut name = || names.next().unwrap_or_default();
             match bytes.first() {
                 Some(b'Q') => {
                     self.names_holds(false);
@@ -273,55 +281,86 @@ impl<'a> Requests<'a> {
                 }
                 Some(b'P') => {
                     self.names_holds(false);
-                    self.shared.track().forget_statements();
-                    self.expect(Expect::Parse(nameless(), None));
+                    self.expect(Expect::Parse(name(), None));
                 }
                 Some(b'B') => {
-                    self.shared.track().forget_statements();
-                    self.expect(Expect::Bind(nameless(), None));
+                    let (portal, statement) = (name(), name());
+                    if self.shared.track().may_lose_statement(&statement) {
+                        self.settle().await?;
+                    }
+                    let statement = self.shared.track().statement(&statement);
+                    let bound = statement.map(|statement| Arc::new(Bound::large(statement)));
+                    self.expect(Expect::Bind(portal, bound));
                 }
                 Some(b'F') => self.expect(Expect::Function),
                 Some(b'D') => self.expect(Expect::Describe),
                 Some(b'E') => self.expect(Expect::Execute),
                 Some(b'd') => self.shared.track().copy_goes_on(),
-                Some(b'C') => {
-                    self.shared.track().forget_statements();
-                    self.expect(Expect::CloseStatement(nameless()));
+                Some(b'C') if bytes.get(5) == Some(&b'P') => {
+                    self.expect(Expect::ClosePortal(name()));
                 }
+                Some(b'C') => self.expect(Expect::CloseStatement(name())),
                 _ => {}
             }
+            self.own.large = match bytes[0] {
+                kind @ (b'Q' | b'P') => Some((kind, Vec::new())),
+                _ => None,
+            };
         }
+        self.look_at_part(bytes);
         self.out.extend_from_slice(bytes);
         Ok(())
     }
 
+    /// Looks whether a part of a large text names the functions of holds, with the end of the part in front of it.
+    fn look_at_part(&mut self, bytes: &[u8]) {
+        let (kind, mut text) = match self.own.large.take() {
+            Some(large) => large,
+            None => return,
+        };
+        text.extend_from_slice(bytes);
+        if self.may_run_holds(&text) {
+            match kind {
+                b'Q' => self.names_holds(true),
+                _ => self.shared.track().parse_names_holds(),
+            }
+        }
+        let rest = text.split_off(text.len().saturating_sub(LONGEST_WORD));
+        self.own.large = Some((kind, rest));
+    }
+
     /// Ends a client whose message has a name or a text of the proxy's own (rule 19). A name that has no end in the first part of
-    /// it hides what comes behind.
-    fn check_part(&mut self, kind: u8, body: &[u8]) -> Result<(), Error> {
+    /// it hides what comes behind. Returns the names, of which one that is not UTF-8 is none that is known.
+    fn check_part(&mut self, kind: u8, body: &[u8]) -> Result<Vec<String>, Error> {
         let (names, body) = match kind {
             b'P' | b'E' => (1, body),
             b'B' => (2, body),
             // The kind of what is named stands first.
             b'C' | b'D' => (1, &body[1..]),
             b'Q' => (0, body),
-            _ => return Ok(()),
+            _ => return Ok(Vec::new()),
         };
         let mut words = body.split(|&byte| byte == 0);
-        for name in words.by_ref().take(names) {
+        let names: Vec<&[u8]> = words.by_ref().take(names).collect();
+        for name in &names {
             self.check_prefix(name)?;
         }
+        let names = names.into_iter();
+        let names = names.map(|it| String::from_utf8_lossy(it).into_owned());
+        let names = names.collect();
         let text = match words.next() {
             Some(text) => text,
             None => return Err(Error::OwnName),
         };
         if !matches!(kind, b'P' | b'Q') {
-            return Ok(());
+            return Ok(names);
         }
         let begins = |it: Arc<Catalog>| it.begins_own_text(text);
         if words.next().is_none() && self.hub.declared().map_or(false, begins) {
             return Err(Error::OwnText);
         }
-        self.check_text(text)
+        self.check_text(text)?;
+        Ok(names)
     }
 
     async fn message(&mut self, kind: u8, bytes: Bytes) -> Result<(), Error> {
@@ -349,12 +388,19 @@ impl<'a> Requests<'a> {
                     self.learn_letters().await?;
                 }
                 let mut statement = self.statement(parse.text);
-                if names_holds(parse.text) {
+                let names_holds = self.may_run_holds(parse.text);
+                if names_holds {
                     self.names_holds(false);
                     statement = statement.or(Some(Statement::Holds));
                 }
                 let types = parse.types;
-                let prepared = statement.map(|statement| Arc::new(Prepared { statement, types }));
+                let prepared = statement.map(|statement| {
+                    Arc::new(Prepared {
+                        statement,
+                        names_holds,
+                        types,
+                    })
+                });
                 self.pass(&bytes, Expect::Parse(parse.name.to_owned(), prepared));
             }
             Message::Bind(bind) => {
@@ -371,6 +417,7 @@ impl<'a> Requests<'a> {
                         values: values.collect(),
                         formats: bind.formats.clone(),
                         results: bind.result_formats.clone(),
+                        is_large: false,
                         left: Mutex::default(),
                     })
                 });
@@ -398,7 +445,11 @@ impl<'a> Requests<'a> {
                 let prepared = bound
                     .as_ref()
                     .map(|bound| (bound, &bound.statement.statement));
+                if bound.as_ref().map_or(false, |it| it.statement.names_holds) {
+                    self.names_holds(true);
+                }
                 match prepared {
+                    Some((bound, _)) if bound.is_large => self.pass(&bytes, Expect::Execute),
                     Some((bound, Statement::Update(form))) => {
                         if self.goes_on(bound, limit).await? {
                             return Ok(());
@@ -431,11 +482,7 @@ impl<'a> Requests<'a> {
                     Some((_, Statement::Commit)) => {
                         self.commit(Sent::Execute(&bytes, limit)).await?;
                     }
-                    Some((_, Statement::Holds)) => {
-                        self.names_holds(true);
-                        self.pass(&bytes, Expect::Execute);
-                    }
-                    None => self.pass(&bytes, Expect::Execute),
+                    Some((_, Statement::Holds)) | None => self.pass(&bytes, Expect::Execute),
                 }
             }
             Message::Sync => self.pass(&bytes, Expect::Sync),
@@ -536,6 +583,14 @@ impl<'a> Requests<'a> {
         }
     }
 
+    /// Returns whether the functions of holds may run by a text: it names them, or executes what a former text has prepared that
+    /// names them.
+    fn may_run_holds(&mut self, text: &[u8]) -> bool {
+        let names = names_holds(text);
+        self.own.prepares_holds |= names && contains(text, b"prepare");
+        names || self.own.prepares_holds && contains(text, b"execute")
+    }
+
     /// Learns the settings by which PostgreSQL reads a text that comes next. PostgreSQL tells a change of them at the next
     /// ReadyForQuery, so they are asked for if something has run since the last one.
     async fn learn_letters(&mut self) -> Result<(), Error> {
@@ -578,7 +633,7 @@ impl<'a> Requests<'a> {
         if let Some(wait) = asks_to_wait(text) {
             self.shared.set_wait(wait);
         }
-        if names_holds(text) {
+        if self.may_run_holds(text) {
             self.names_holds(true);
         }
         if depends_on_settings(text) && may_be_looked_at(text) {

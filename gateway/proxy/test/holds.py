@@ -150,6 +150,50 @@ def release_and_its_repeats(cluster: Cluster, proxy: Proxy) -> None:
 
 
 @case
+def what_runs_a_function_is_noticed(cluster: Cluster, proxy: Proxy) -> None:
+    """When its answer has come, what it has released can be had."""
+    key = row(cluster)
+    large = "x" * 70_000
+    with proxy.connect() as it, proxy.connect() as other:
+        it.execute("PREPARE releases AS SELECT escrow.release($1)")
+        for text, values in (
+            ("DELETE FROM orders WHERE item = %s RETURNING escrow.release(%s)", (key,)),
+            ("UPDATE stock SET pieces = pieces - 0 WHERE id = %s RETURNING escrow.release(%s)", (key,)),
+            ("WITH r AS (UPDATE orders SET pieces = 2 WHERE item = %s RETURNING escrow.release(%s)) UPDATE stock SET pieces = pieces - 0 WHERE id = %s", (key,)),
+            ("SELECT concat(escrow.release(%s))", ()),
+            ("EXECUTE releases('{}')", None),
+            (f"SELECT escrow.release('{{}}') /* {large} */", None),
+            (f"SELECT /* {large} */ escrow.release('{{}}')", None),
+            (f"SELECT length('{large}'), escrow.release(%s)", ()),
+            ("SELECT length(%s), escrow.release(%s)", (large,)),
+        ):
+            cluster.run(f"DELETE FROM orders WHERE item = {key}", f"INSERT INTO orders (item, pieces) VALUES ({key}, 1)")
+            held = hold(it, key, 7)
+            expect(is_given(other, key, 4), False, text[:80])
+            if values is None:
+                it.execute(text.format(held).encode())
+            else:
+                it.execute(text.encode(), (*values, held, *([key] if "WITH" in text else [])))
+            other.execute("BEGIN")
+            expect(is_given(other, key, 10), True, text[:80])
+            other.execute("ROLLBACK")
+
+
+@case
+def a_hold_of_a_pipeline_has_all_of_it(cluster: Cluster, proxy: Proxy) -> None:
+    keys, made = (row(cluster), row(cluster)), name()
+    with proxy.connect() as it:
+        with it.pipeline():
+            for key in keys:
+                it.execute("UPDATE stock SET pieces = pieces - 2 WHERE id = %s", (key,))
+            it.execute("SELECT escrow.hold(%s, '1 minute')", (made,))
+        expect([line[2:] for line in standing(cluster, made)], [(str(key), "pieces", -2) for key in keys])
+        expect([pieces(cluster, key) for key in keys], [10, 10])
+        expect(called(it, "release", made), True)
+        gives_just(it, keys[0], 10)
+
+
+@case
 def its_time_is_postgres_time(cluster: Cluster, proxy: Proxy) -> None:
     key = row(cluster)
     with proxy.connect() as it, proxy.connect() as other:

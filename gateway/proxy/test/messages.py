@@ -22,6 +22,7 @@ def ran(text: str) -> Sequence[bytes]:
 TAKE = "UPDATE stock SET pieces = pieces - 1 WHERE id = 1"
 OTHER = "UPDATE stock SET pieces = pieces - 2 WHERE id = 2"
 TITLE = "UPDATE stock SET title = 'prepared' WHERE id = 2"
+LARGE = "x" * 70_000
 PREPARED = at_once(parse(TAKE, "s"))
 BOUND = at_once(parse(TAKE, "s"), bind(name="s", portal="p"))
 RUNS = at_once(bind(name="s"), execute())
@@ -64,4 +65,12 @@ REFUSED: Dict[str, Sequence[Step]] = {
     "off in front of a Query": ((2, [query(OFF), query(QUOTED)]),),
     "off by a function": ((1, [query(SETS.replace("'on'", "'off'"))]), at_once(*ran("SELECT pg_temp.sets()"), *ran(QUOTED))),
     "off behind a block": ((1, [query(OFF)]), (1, [query("BEGIN; SET LOCAL standard_conforming_strings = on")]), (1, [query(f"SELECT 1; COMMIT; {AT_RISK}")])),
+}
+
+# What is too large to be looked at, and SQL's own PREPARE, change no other statement.
+KEPT: Dict[str, Sequence[Step]] = {
+    "a large Parse": (PREPARED, at_once(*ran(f"SELECT length('{LARGE}')")), RUNS),
+    "a large Parse of the name": (at_once(parse(TAKE)), at_once(*ran(f"SELECT length('{LARGE}')")), at_once(bind(), execute())),
+    "a large Bind": (BOUND, at_once(parse("SELECT length($1::text)"), bind([LARGE]), execute()), RUNS),
+    "PREPARE": (PREPARED, (1, [query("PREPARE t AS SELECT 1")]), RUNS),
 }
