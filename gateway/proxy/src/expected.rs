@@ -19,7 +19,7 @@ pub struct Prepared {
     pub statement: Statement,
     /// Whether its text names the functions of holds, so that they may run by it.
     pub names_holds: bool,
-    /// The types of its parameters, as far as the client has told them.
+    /// The types of its parameters, as far as the client has told them, or PostgreSQL has described them.
     pub types: Vec<u32>,
 }
 
@@ -86,8 +86,8 @@ pub enum Expect {
     Parse(String, Option<Arc<Prepared>>),
     /// BindComplete: then the portal is this one.
     Bind(String, Option<Arc<Bound>>),
-    /// What a statement or a portal is described with.
-    Describe,
+    /// What a portal is described with, or the statement of this name.
+    Describe(Option<String>),
     /// CloseComplete: then this statement is gone.
     CloseStatement(String),
     /// CloseComplete: then this portal is gone.
@@ -562,11 +562,21 @@ impl Track {
                 }
                 Reply::Pass
             }
-            (b'T' | b'n', Some(Expect::Describe)) => {
+            (b'T' | b'n', Some(Expect::Describe(_))) => {
                 self.queue.pop_front();
                 Reply::Pass
             }
-            (b't', Some(Expect::Describe)) => Reply::Pass,
+            (b't', Some(Expect::Describe(name))) => {
+                let found = name.as_ref().and_then(|it| self.statements.get_mut(it));
+                if let (Some(prepared), Some(types)) = (found, own::types(body)) {
+                    *prepared = Arc::new(Prepared {
+                        statement: prepared.statement.clone(),
+                        names_holds: prepared.names_holds,
+                        types,
+                    });
+                }
+                Reply::Pass
+            }
             (b'C', Some(Expect::Execute | Expect::Query)) if self.is_copying => {
                 self.is_copying = false;
                 self.copy_is_done();

@@ -243,6 +243,13 @@ fn changed(error: &[u8], change: impl Fn(&[u8]) -> Option<Vec<u8>>) -> Vec<u8> {
     out
 }
 
+/// Reads the types of a ParameterDescription, without its kind and length. None: it is laid out wrongly.
+pub fn types(body: &[u8]) -> Option<Vec<u32>> {
+    let words = body.get(2..)?.chunks(4);
+    let types = words.map(|it| Some(u32::from_be_bytes(it.try_into().ok()?)));
+    types.collect()
+}
+
 /// Reads the values of a DataRow, whole with its kind and length. None: it is laid out wrongly.
 pub fn row(message: &Bytes) -> Option<Vec<Option<Bytes>>> {
     let mut at = 7;

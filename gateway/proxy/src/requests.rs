@@ -293,7 +293,7 @@ impl<'a> Requests<'a> {
                     self.expect(Expect::Bind(portal, bound));
                 }
                 Some(b'F') => self.expect(Expect::Function),
-                Some(b'D') => self.expect(Expect::Describe),
+                Some(b'D') => self.expect(Expect::Describe(None)),
                 Some(b'E') => self.expect(Expect::Execute),
                 Some(b'd') => self.shared.track().copy_goes_on(),
                 Some(b'C') if bytes.get(5) == Some(&b'P') => {
@@ -425,7 +425,11 @@ impl<'a> Requests<'a> {
             }
             Message::Describe(target) => {
                 self.check_target(target)?;
-                self.pass(&bytes, Expect::Describe);
+                let statement = match target {
+                    frontend::Target::Statement(name) => Some(name.to_owned()),
+                    frontend::Target::Portal(_) => None,
+                };
+                self.pass(&bytes, Expect::Describe(statement));
             }
             Message::Close(target) => {
                 self.check_target(target)?;
@@ -524,7 +528,7 @@ impl<'a> Requests<'a> {
             b'Q' => self.expect(Expect::Query),
             b'P' => self.expect(Expect::Parse(name, None)),
             b'B' => self.expect(Expect::Bind(name, None)),
-            b'D' => self.expect(Expect::Describe),
+            b'D' => self.expect(Expect::Describe(None)),
             b'E' => self.expect(Expect::Execute),
             b'C' => self.expect(Expect::CloseStatement(name)),
             b'S' => self.expect(Expect::Sync),

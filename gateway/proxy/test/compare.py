@@ -110,7 +110,7 @@ SHOWN = """SELECT 'stock', id::text, title, pieces::text, '' FROM stock UNION AL
 
 
 # Sessions of messages, which have to be equal.
-SESSIONS: Dict[str, Sequence[messages.Step]] = {**messages.NAMES, **messages.LETTERS, **messages.KEPT}
+SESSIONS: Dict[str, Sequence[messages.Step]] = {**messages.NAMES, **messages.LETTERS, **messages.KEPT, **messages.TYPES}
 
 
 @dataclass(frozen=True)

@@ -3,7 +3,7 @@ from __future__ import annotations
 
 from typing import Dict, Sequence, Tuple
 
-from clients.wire import bind, close_statement, execute, parse, query, sync
+from clients.wire import BINARY, bind, close_statement, describe_portal, describe_statement, execute, parse, query, sync
 
 # What is sent at once, and how many ReadyForQuery answer it.
 Step = Tuple[int, Sequence[bytes]]
@@ -74,3 +74,24 @@ KEPT: Dict[str, Sequence[Step]] = {
     "a large Bind": (BOUND, at_once(parse("SELECT length($1::text)"), bind([LARGE]), execute()), RUNS),
     "PREPARE": (PREPARED, (1, [query("PREPARE t AS SELECT 1")]), RUNS),
 }
+
+ID = "WHERE id = $2"
+# A parameter has the type of its first place, and what RETURNING shows is found as in an UPDATE.
+TYPES: Dict[str, Sequence[Step]] = {
+    name: (at_once(parse(f"UPDATE {text}"), bind(values), describe_portal(), execute()),)
+    for name, text, values in (
+        ("a cast", f"stock SET pieces = pieces - $1::int {ID} RETURNING id", ("1", "2")),
+        ("a cast beside a column", f"stock SET pieces = pieces - $1::int, title = $3 {ID}", ("1", "2", "x")),
+        ("a cast in the condition", f"stock SET pieces = pieces - $1::int {ID} AND pieces >= $1::int RETURNING title t", ("1", "2")),
+        ("casts and an alias", "stock AS s SET pieces = s.pieces - CAST($1 AS int) WHERE s.id = $2::int RETURNING s.id AS a, $3::text", ("1", "2", "x")),
+        ("a key that is shown", f"stock SET pieces = pieces - $1 {ID} RETURNING $2, id", ("1", "2")),
+        ("a change that is shown", f"stock SET pieces = pieces - $1 {ID} RETURNING $1", ("1", "2")),
+        ("the key is the change", "stock SET pieces = pieces - $1 WHERE id = $1 RETURNING $1", ("2",)),
+        ("the change is a title", f"stock SET pieces = pieces - $1, title = $1 {ID}", ("1", "2")),
+        ("a title is the change", f"stock SET title = $1, pieces = pieces - $1 {ID}", ("1", "2")),
+        ("a text is the change", "shelf SET room = room - $1 WHERE code = $1", ("c",)),
+    )
+}
+TYPES["a type that was described"] = (
+    at_once(parse("WITH o AS (INSERT INTO taken VALUES ($2, $1)) UPDATE stock SET pieces = pieces - $1 WHERE id = $2", "s"), describe_statement("s")),
+    at_once(bind([b"\0\0\0\2", b"\0\0\0\3"], "s", formats=[BINARY]), execute()))
