@@ -638,6 +638,17 @@ impl Track {
         }
     }
 
+    /// Returns whether a large message of this kind has to be looked at as a whole: an error that answers the proxy, or whose place
+    /// in the client's text changes, and a row that the client has not asked for yet.
+    pub fn needs_whole(&self, kind: u8) -> bool {
+        let front = self.queue.iter().find(|it| !it.is_of_copy());
+        match kind {
+            b'E' => front.map_or(false, |it| it.is_own() || matches!(it, Expect::Piece(_))),
+            b'D' => matches!(front, Some(Expect::OwnRows(Some(0)))),
+            _ => false,
+        }
+    }
+
     /// Returns whether a ReadyForQuery answers a Sync that was taken for ignored.
     fn is_spare(&self) -> bool {
         let front = self.queue.front();

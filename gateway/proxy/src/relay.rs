@@ -337,6 +337,7 @@ async fn reserve(
         resumed,
         fold_wait: service.fold_wait,
         tag: Bytes::new(),
+        whole: None,
         row: None,
     };
     let ended = tokio::select! {

@@ -43,6 +43,8 @@ pub struct Replies<'a> {
     pub fold_wait: Duration,
     /// The command tag at the end of a Query, which goes together with the ReadyForQuery behind it.
     pub tag: Bytes,
+    /// A large message that is looked at as a whole, as far as it has come.
+    pub whole: Option<BytesMut>,
     /// The row of the own reply that is under way.
     pub row: Option<Vec<Option<Bytes>>>,
 }
@@ -56,10 +58,7 @@ impl Replies<'_> {
                 match piece {
                     Piece::Message(kind, bytes) => self.message(kind, &bytes).await?,
                     Piece::Part(bytes, is_first) => {
-                        if is_first {
-                            self.large(bytes[0])?;
-                        }
-                        self.to.push_part(&bytes, frames.is_amid());
+                        self.part(&bytes, is_first, frames.is_amid()).await?;
                     }
                 }
                 if self.to.len() > CHUNK {
@@ -99,13 +98,35 @@ impl Replies<'_> {
         Ok(())
     }
 
+    /// Takes a part of a large message: it passes on, unless the message has to be looked at as a whole.
+    async fn part(&mut self, bytes: &[u8], is_first: bool, is_cut: bool) -> Result<(), Error> {
+        if is_first && self.shared.track().needs_whole(bytes[0]) {
+            self.whole = Some(BytesMut::new());
+        }
+        match &mut self.whole {
+            Some(whole) => whole.extend_from_slice(bytes),
+            None => {
+                if is_first {
+                    self.large(bytes[0])?;
+                }
+                self.to.push_part(bytes, is_cut);
+            }
+        }
+        if is_cut {
+            return Ok(());
+        }
+        match self.whole.take() {
+            Some(whole) => self.message(whole[0], &whole.freeze()).await,
+            None => Ok(()),
+        }
+    }
+
     /// Takes the kind of a message that passes in parts. No reply to the proxy itself is as large.
     fn large(&mut self, kind: u8) -> Result<(), Error> {
         let reply = self.shared.track().reply(kind, &[]);
         let connection = self.connection;
         match reply {
-            // One that the client has not asked for yet is too large to be kept.
-            Reply::Pass | Reply::Kept => {}
+            Reply::Pass => {}
             Reply::Failed {
                 skips_own: false, ..
             } => {

@@ -636,7 +636,8 @@ def messages_of_any_order_are_answered_as_by_postgres(cluster: Cluster, proxy: P
     """Raw messages. `...` waits for the reply to those in front of it."""
     key = row(cluster)
     cluster.run("CREATE TABLE copied (i integer)", "CREATE FUNCTION no() RETURNS trigger LANGUAGE plpgsql AS 'BEGIN RAISE EXCEPTION ''no''; END'",
-                "CREATE TABLE never (i integer)", "CREATE TRIGGER no BEFORE INSERT ON never EXECUTE FUNCTION no()")
+                "CREATE TABLE never (i integer)", "CREATE TRIGGER no BEFORE INSERT ON never EXECUTE FUNCTION no()",
+                "CREATE FUNCTION loud() RETURNS text LANGUAGE plpgsql AS 'BEGIN RAISE EXCEPTION ''%'', repeat(''e'', 100000); END'")
     # It is served, and PostgreSQL itself lets it pass.
     update = f"UPDATE stock SET pieces = pieces - 0 WHERE id = {key}"
     served, string, sync = wire.query(update), wire.query(f"{update}; SELECT 1"), wire.sync()
@@ -644,6 +645,8 @@ def messages_of_any_order_are_answered_as_by_postgres(cluster: Cluster, proxy: P
     good, bad, done = wire.message("d", b"1\n"), wire.message("d", b"x\n"), wire.message("c", b"")
     copies, fails = wire.run("COPY copied FROM STDIN"), wire.run("SELECT 1 / 0")
     never, pipeline = wire.run("COPY never FROM STDIN"), wire.run(update)
+    large = f"UPDATE stock SET pieces = pieces - 0, title = {{}} WHERE id IN ({key}, {row(cluster)}) RETURNING title"
+    portal, once = wire.parse(large.format("repeat('x', 70000)")) + wire.bind(portal="p"), wire.execute("p", 1)
     schedules: List[Tuple[object, ...]] = [
         # Statements that come amid a COPY, or where PostgreSQL waits for a Sync.
         *((copy, *more, it) for more in ((), (...,), (good,)) for it in (served, string, wire.query("BEGIN") + served, pipeline + sync)),
@@ -659,6 +662,8 @@ def messages_of_any_order_are_answered_as_by_postgres(cluster: Cluster, proxy: P
         (wire.query(f"COPY copied FROM STDIN; {update}; COPY copied FROM STDIN"), good, done, good, done, served),
         (wire.query("COPY copied FROM STDIN /* escrow: reservable */"), ..., good, done, served),
         (done, wire.query("SELECT 1"), done, copies, sync, good, done, sync, pipeline, sync),
+        # Messages that are too large to be looked at in one piece.
+        (wire.run(large.format("loud()")), sync, served), (wire.query("BEGIN"), portal, once, once, once, sync),
     ]
     for schedule in schedules:
         answers = []
@@ -677,7 +682,7 @@ def messages_of_any_order_are_answered_as_by_postgres(cluster: Cluster, proxy: P
                     pass  # it has ended
                 answers.append([each.shown() for each in found + it.until_end()])
         expect(answers[1], answers[0], str(schedule))
-    cluster.run("DROP TABLE copied, never", "DROP FUNCTION no")
+    cluster.run("DROP TABLE copied, never", "DROP FUNCTION no, loud")
 
 
 @case
