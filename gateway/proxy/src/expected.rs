@@ -201,6 +201,8 @@ pub struct Track {
     portals: HashMap<String, Arc<Bound>>,
     /// Whether names of tables may mean something else than before, to the end of the transaction.
     is_volatile: bool,
+    /// Whether it is known if a COMMIT waits for its fold: a setting of the client's, which changes as meanings do.
+    knows_wait: bool,
     /// What names of tables mean.
     resolved: HashMap<String, Option<u32>>,
     /// Whether the session has kept the proxy's statements and its greeting.
@@ -243,6 +245,7 @@ impl Track {
             statements: HashMap::new(),
             portals: HashMap::new(),
             is_volatile: false,
+            knows_wait: false,
             resolved: HashMap::new(),
             is_kept: true,
             is_copying: false,
@@ -491,10 +494,21 @@ impl Track {
         self.resolved.insert(name, oid);
     }
 
-    /// Forgets what names mean.
+    /// Forgets what names mean, and the settings that are known.
     pub fn forget_meanings(&mut self) {
         self.resolved.clear();
+        self.knows_wait = false;
         self.is_volatile = true;
+    }
+
+    /// Returns whether it is known if a COMMIT waits for its fold.
+    pub fn knows_wait(&self) -> bool {
+        self.knows_wait
+    }
+
+    /// It is known now.
+    pub fn learn_wait(&mut self) {
+        self.knows_wait = true;
     }
 
     /// Returns whether the session has lost the proxy's statements and greeting since the last call.
@@ -716,7 +730,7 @@ impl Track {
         if status == Status::Idle {
             self.portals.clear();
             if self.is_volatile {
-                self.resolved.clear();
+                self.forget_meanings();
                 self.is_volatile = false;
             }
         }

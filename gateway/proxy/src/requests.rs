@@ -451,6 +451,7 @@ impl<'a> Requests<'a> {
                     .map(|bound| (bound, &bound.statement.statement));
                 if bound.as_ref().map_or(false, |it| it.statement.names_holds) {
                     self.names_holds(true);
+                    self.know_wait().await?;
                 }
                 match prepared {
                     Some((bound, _)) if bound.is_large => self.pass(&bytes, Expect::Execute),
@@ -634,11 +635,12 @@ impl<'a> Requests<'a> {
 
     async fn query(&mut self, text: &[u8], bytes: &[u8]) -> Result<(), Error> {
         self.check_text(text)?;
-        if let Some(wait) = asks_to_wait(text) {
-            self.shared.set_wait(wait);
-        }
         if self.may_run_holds(text) {
             self.names_holds(true);
+            if self.is_heard().await? && !self.know_wait().await? {
+                self.pass(own::SYNC, Expect::Sync);
+                return Ok(());
+            }
         }
         if depends_on_settings(text) && may_be_looked_at(text) {
             self.learn_letters().await?;
@@ -956,28 +958,6 @@ fn names_holds(text: &[u8]) -> bool {
             .any(|name| contains(text, format!("escrow.{name}").as_bytes()))
 }
 
-/// Reads `SET escrow.wait = off` and its like. None: it is another text.
-fn asks_to_wait(text: &[u8]) -> Option<bool> {
-    if !contains(text, b"escrow.wait") {
-        return None;
-    }
-    let text = std::str::from_utf8(text).ok()?;
-    let mut words = text
-        .split(|it: char| it.is_ascii_whitespace() || matches!(it, '=' | ';' | '\''))
-        .filter(|word| !word.is_empty())
-        .map(str::to_ascii_lowercase)
-        .filter(|word| !matches!(word.as_str(), "session" | "to"));
-    if words.next()? != "set" || words.next()? != "escrow.wait" {
-        return None;
-    }
-    let value = words.next()?;
-    match value.as_str() {
-        "off" | "false" | "0" | "no" => Some(false),
-        "on" | "true" | "1" | "yes" | "default" => Some(true),
-        _ => None,
-    }
-}
-
 #[cfg(test)]
 mod tests {
     use super::*;
@@ -1010,18 +990,5 @@ mod tests {
         ));
         assert!(!contains(b"SELECT set config, @et_config", b"set_config"));
         assert!(!contains(b"set", b"set_config"));
-    }
-
-    #[test]
-    fn settings_of_the_wait_are_read() {
-        for (text, wait) in [
-            ("SET escrow.wait = off", Some(false)),
-            ("set session ESCROW.WAIT to 'on';", Some(true)),
-            ("SET escrow.wait = 5", None),
-            ("SELECT 'SET escrow.wait = off'", None),
-            ("SET x = off", None),
-        ] {
-            assert_eq!(asks_to_wait(text.as_bytes()), wait, "{text}");
-        }
     }
 }

@@ -36,8 +36,11 @@ const OWNER_WAIT: Duration = Duration::from_secs(20);
 /// How long PostgreSQL may take to answer a greeting, for which others wait.
 const GREETING_WAIT: Duration = Duration::from_secs(20);
 
-/// The text that finds out what the client's name of a table means.
-const MEANING: &str = "SELECT pg_catalog.to_regclass($1)::pg_catalog.oid::pg_catalog.int8";
+/// The text that finds out what the client's name of a table means, and whether its COMMITs wait for their folds.
+const MEANING: &str = "SELECT pg_catalog.to_regclass($1)::pg_catalog.oid::pg_catalog.int8, pg_catalog.current_setting('escrow.wait', true)";
+
+/// The text that finds out the latter alone.
+const WAIT: &str = "SELECT pg_catalog.current_setting('escrow.wait', true)";
 
 /// The text that tells what is reserved.
 const SHOW: &str = "SELECT escrow.show($1)";
@@ -109,10 +112,16 @@ impl Requests<'_> {
     /// Passes a COMMIT, with a fold in front of what only this transaction holds (rule 13). If that fails, PostgreSQL skips
     /// the COMMIT, so that the transaction fails by an error.
     pub(crate) async fn commit(&mut self, sent: Sent<'_>) -> Result<(), Error> {
-        if self.shared.is_engaged() && self.shared.waits() {
+        if self.shared.is_engaged() {
             if sent.is_query() || self.shared.track().is_executing() {
                 self.settle().await?;
             }
+            if !self.know_wait().await? {
+                self.pass_update(sent);
+                return Ok(());
+            }
+        }
+        if self.shared.is_engaged() && self.shared.waits() {
             let keys = self.own_folds();
             let last = keys.len().saturating_sub(1);
             let mut are_folded = !keys.is_empty();
@@ -176,6 +185,28 @@ impl Requests<'_> {
     pub(crate) fn has_failed(&self) -> bool {
         let track = self.shared.track();
         track.is_deaf() || track.status() == Status::Failed && track.is_plain()
+    }
+
+    /// Asks whether the client's COMMITs wait for their folds, if that may have changed. Returns false if that failed: its error has
+    /// answered the client.
+    pub(crate) async fn know_wait(&mut self) -> Result<bool, Error> {
+        if self.shared.track().knows_wait() || self.has_failed() {
+            return Ok(true);
+        }
+        let reply = self.ask(WAIT, &[], &[0], End::Flush).await?;
+        match &reply {
+            OwnReply::Row(Some(row)) => self.learn_wait(row.first()),
+            _ => self.tell_failure(&reply),
+        }
+        self.go_on(&reply, Vec::new());
+        Ok(matches!(reply, OwnReply::Row(_)))
+    }
+
+    /// Takes PostgreSQL's setting of the client's.
+    fn learn_wait(&self, setting: Option<&Option<Bytes>>) {
+        let setting = setting.and_then(Option::as_deref).unwrap_or_default();
+        self.shared.set_wait(!is_off(setting));
+        self.shared.track().learn_wait();
     }
 
     /// Tells PostgreSQL what is reserved, so that `escrow.reservations()` of this client shows it.
@@ -592,8 +623,9 @@ impl Requests<'_> {
         };
         self.tell_failure(&reply);
         self.go_on(&reply, Vec::new());
-        if let Some(oid) = oid {
+        if let (Some(oid), OwnReply::Row(Some(row))) = (oid, &reply) {
             self.shared.track().set_meaning(name, oid);
+            self.learn_wait(row.get(1));
         }
         Ok(oid.flatten())
     }
@@ -825,6 +857,18 @@ fn refuses_too(table: &Table, refusal: &Refusal, condition: usize) -> bool {
     place == condition || broken.coefficients == asked.coefficients && is_below().unwrap_or(false)
 }
 
+/// Returns whether a setting is one of PostgreSQL's words for false.
+fn is_off(setting: &[u8]) -> bool {
+    let word = std::str::from_utf8(setting).unwrap_or_default();
+    let word = word.trim().to_ascii_lowercase();
+    match word.as_bytes().first() {
+        Some(b'f') => "false".starts_with(&word),
+        Some(b'n') => "no".starts_with(&word),
+        Some(b'o') => word.len() > 1 && "off".starts_with(&word),
+        _ => word == "0",
+    }
+}
+
 /// Returns whether a value is a boolean in text that is true.
 fn is_true(value: Option<&Option<Bytes>>) -> bool {
     matches!(value, Some(Some(text)) if &text[..] == b"t")
@@ -859,4 +903,19 @@ fn changed_row() -> Words {
 /// Writes a text as an element of an array.
 fn quoted_element(text: &str) -> String {
     format!("\"{}\"", text.replace('\\', "\\\\").replace('"', "\\\""))
+}
+
+#[cfg(test)]
+mod tests {
+    use super::*;
+
+    #[test]
+    fn settings_are_off_as_in_postgres() {
+        for off in ["off", "OF", "f", "False", "n", "no", "0"] {
+            assert!(is_off(off.as_bytes()), "{off}");
+        }
+        for on in ["", "on", "o", "1", "yes", "t", "none", "00", "offer"] {
+            assert!(!is_off(on.as_bytes()), "{on}");
+        }
+    }
 }

@@ -336,6 +336,32 @@ def what_others_see(cluster: Cluster, proxy: Proxy) -> None:
 
 
 @case
+def a_commit_waits_as_the_session_says(cluster: Cluster, proxy: Proxy) -> None:
+    """The setting is PostgreSQL's, however it was changed."""
+    key = row(cluster)
+    cluster.run("CREATE ROLE hasty LOGIN SUPERUSER", "ALTER ROLE hasty SET escrow.wait = off")
+    text, off = f"UPDATE stock SET pieces = pieces - 0 WHERE id = {key}", "SET escrow.wait = off"
+    with proxy.connect() as it:
+        it.execute(text.encode())
+    with cluster.connect() as straight:
+        straight.execute(f"BEGIN; SELECT 1 FROM stock WHERE id = {key} FOR UPDATE".encode())
+        for user, statements, waits in (
+            ("hasty", ("SET escrow.wait = on", text, "RESET ALL", text), False),
+            ("clerk", ("BEGIN", text, "SET LOCAL escrow.wait = off", "COMMIT"), False),
+            ("clerk", ("SELECT set_config('escrow.wait', 'off', false)", text), False),
+            ("clerk", (off, text, "DISCARD ALL", text), True),
+            ("clerk", ("BEGIN", "SAVEPOINT a", off, text, "ROLLBACK TO a", text, "COMMIT"), True),
+        ):
+            with proxy.connect(user=user) as it:
+                for statement in statements:
+                    begin = time.monotonic()
+                    it.execute(statement.encode())
+                expect(time.monotonic() - begin > FOLD_WAIT / 2, waits, str(statements))
+        straight.execute("ROLLBACK")
+    cluster.run("DROP ROLE hasty")
+
+
+@case
 def numbers_of_all_types(cluster: Cluster, proxy: Proxy) -> None:
     cluster.run("INSERT INTO money VALUES (9007199254740993, 5, 10.25, 0.75)")
     with proxy.connect() as it:
