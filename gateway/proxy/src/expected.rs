@@ -655,7 +655,7 @@ impl Track {
     /// Returns whether a large message of this kind has to be looked at as a whole: an error that answers the proxy, or whose place
     /// in the client's text changes, and a row that the client has not asked for yet.
     pub fn needs_whole(&self, kind: u8) -> bool {
-        let front = self.queue.iter().find(|it| !it.is_of_copy());
+        let front = self.queue.iter().find(|it| !it.is_silent());
         match kind {
             b'E' => front.map_or(false, |it| it.is_own() || matches!(it, Expect::Piece(_))),
             b'D' => matches!(front, Some(Expect::OwnRows(Some(0)))),

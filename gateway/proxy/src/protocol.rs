@@ -535,7 +535,7 @@ impl<K: Row, C: Clone> Protocol<K, C> {
 
     /// Returns how many transactions with reservations were committed and left to the folder in this epoch.
     pub fn commits(&self) -> u64 {
-        self.folds.commits()
+        self.folds.turn()
     }
 
     /// Returns whether an alarm has stopped a row's table.
@@ -651,7 +651,7 @@ impl<K: Row, C: Clone> Protocol<K, C> {
             Event::FoldFailed => self.folds.failed(),
             Event::FoldedLate { keys, commits } => {
                 for connection in self.folds.folded_late(&keys, commits) {
-                    self.deliver(connection, &mut actions);
+                    self.release(connection, &mut actions);
                 }
             }
             Event::FoldAgain => self.fold(true, &mut actions),

@@ -171,12 +171,7 @@ impl<K: Clone + Ord> Folds<K> {
                 self.skipped.insert(key, last);
             }
         }
-        for key in moved {
-            if self.takes.get(key).map_or(false, |&taken| taken <= turn) {
-                self.takes.remove(key);
-            }
-        }
-        self.free(|key, since| since <= turn && moved.contains(key))
+        self.moved(&moved, turn)
     }
 
     /// Notes that keys which an earlier fold had left out are folded, as of the turn at which it began. Returns who waits no
@@ -188,6 +183,16 @@ impl<K: Clone + Ord> Folds<K> {
                 if late.get(key).map_or(false, |&last| last <= turn) {
                     late.remove(key);
                 }
+            }
+        }
+        self.moved(&moved, turn)
+    }
+
+    /// Notes that the rows of these keys show what had committed up to a turn. Returns who waits no longer.
+    fn moved(&mut self, moved: &BTreeSet<&K>, turn: Turn) -> Vec<Connection> {
+        for key in moved {
+            if self.takes.get(key).map_or(false, |&taken| taken <= turn) {
+                self.takes.remove(key);
             }
         }
         self.free(|key, since| since <= turn && moved.contains(key))
@@ -252,18 +257,18 @@ mod tests {
     #[test]
     fn a_late_fold_has_moved_what_had_committed_when_it_began() {
         let mut folds = Folds::new();
-        folds.committed(vec!["a", "b"], Some(ONE), all);
+        commit(&mut folds, &["a", "b"], ONE);
         assert_eq!(folds.begin(false, all), Some(vec!["a", "b"]));
-        let late = folds.commits();
+        let late = folds.turn();
         assert_eq!(folds.folded(&["b"]), vec![]);
-        folds.committed(vec!["b"], Some(TWO), all);
+        commit(&mut folds, &["b"], TWO);
         assert_eq!(folds.begin(true, all), Some(vec!["a", "b"]));
         assert_eq!(folds.folded_late(&["a"], late), vec![ONE]);
         assert_eq!(folds.folded(&["b"]), vec![TWO]);
         assert!(folds.is_empty());
         // A commit behind its beginning is none of it.
-        let late = folds.commits();
-        folds.committed(vec!["a"], Some(ONE), all);
+        let late = folds.turn();
+        commit(&mut folds, &["a"], ONE);
         assert_eq!(folds.folded_late(&["a"], late), vec![]);
         assert_eq!(folds.begin(false, all), Some(vec!["a"]));
     }
