@@ -683,7 +683,7 @@ def messages_of_any_order_are_answered_as_by_postgres(cluster: Cluster, proxy: P
         *((copies, sync, *more, bad, sync, pipeline, sync, served) for more in ((), (...,))),
         *((copies, sync, *more, bad, done, sync, pipeline, sync, served) for more in ((), (...,))),
         *((copy, sync, bad, *more, sync, served, sync, served) for more in ((), (done,))),
-        (never, sync, good, done, sync, pipeline, sync, served), (never, sync, ..., served),
+        (never, sync, good, done, sync, pipeline, sync, served), (never, sync, ..., ..., ..., served),
         # Several of them.
         (wire.query(f"COPY copied FROM STDIN; {update}; COPY copied FROM STDIN"), good, done, good, done, served),
         (wire.query("COPY copied FROM STDIN /* escrow: reservable */"), ..., good, done, served),
