@@ -4,17 +4,20 @@ from __future__ import annotations
 import os
 import pwd
 import re
+import select
 import shutil
 import signal
+import socket
 import stat
 import subprocess
+import tempfile
 import threading
 import time
 from pathlib import Path
 from typing import Dict, List, Tuple
 
 from clients import wire
-from clients.servers import END, GATEWAY, IN_A_STORE, PORT, PROGRAM, TRANSACTIONS, Gateway, resident, stored, wait_until
+from clients.servers import END, GATEWAY, IN_A_STORE, PORT, PROGRAM, TRANSACTIONS, Gateway, Relay, resident, stored, wait_until
 from clients.suite import Part, expect, load, main
 from clients.wire import Connection, Ended
 
@@ -459,6 +462,20 @@ def the_gateway_is_killed() -> None:
         wait_until("the program has ended", lambda: has_ended(program))
         expect((gateway.folder / "bank.db-wal").exists(), False)
         expect(stored(gateway.store, "SELECT * FROM stock")[1:], ["1 | 9", "OK rows 1"])
+
+
+@PART.alone
+def a_relay_of_the_tests_passes_ends_on() -> None:
+    """Also that of a server which has not read all that came, so that its connection is reset."""
+    with tempfile.TemporaryDirectory() as folder, socket.socket(socket.AF_UNIX) as listener:
+        listener.bind(f"{folder}/socket")
+        listener.listen()
+        with Relay(Path(folder, "socket")) as relay, socket.create_connection(("127.0.0.1", relay.port), END) as client:
+            with listener.accept()[0] as server:
+                client.sendall(b"unread")
+                select.select([server], [], [], END)
+                server.sendall(b"last words")
+            expect(b"".join(iter(lambda: client.recv(100), b"")), b"last words")
 
 
 @PART.alone
