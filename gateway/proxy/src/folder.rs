@@ -3,8 +3,9 @@
 //! A fold skips rows that somebody else has locked. A load waits for a lock for a short time (rule 21). COMMITs of all tables
 //! wait for one connection that folds, so it leaves a table whose fold is held up to a second connection, which has patience.
 
-use std::collections::{HashMap, HashSet};
+use std::collections::{BTreeSet, HashMap, HashSet};
 use std::future::Future;
+use std::iter;
 use std::sync::{Arc, Mutex, PoisonError};
 use std::time::Duration;
 
@@ -45,7 +46,9 @@ const PIECE: usize = 1_000;
 /// How many connections load.
 pub const LOADERS: usize = 4;
 
-const ISOLATION: &str = "-c default_transaction_isolation=read\\ committed -c idle_session_timeout=0 -c statement_timeout=0";
+const ISOLATION: &str =
+    "-c default_transaction_isolation=read\\ committed -c default_transaction_read_only=off \
+    -c idle_session_timeout=0 -c statement_timeout=0";
 
 /// A connection of the proxy's own, which is opened when it is needed, with its prepared statements.
 struct Own {
@@ -665,11 +668,33 @@ pub async fn watch(hub: Arc<Hub>, target: Arc<Target>) {
             _ = generations.changed() => {}
             _ = hub.is_asked_to_refresh() => {}
             // `own` has a sender, so the channel does not end.
-            Some(table) = news.recv() => {
-                if let Ok(table) = table.parse() {
+            Some(first) = news.recv() => {
+                for table in resumed(first, &mut news) {
                     hub.resume(table);
                 }
             }
         }
+    }
+}
+
+/// Returns the tables that may go on, by a notice and all that came behind it: any role may notify, as often as it likes.
+fn resumed(first: String, news: &mut UnboundedReceiver<String>) -> BTreeSet<i32> {
+    let others = iter::from_fn(|| news.try_recv().ok());
+    let all = iter::once(first).chain(others);
+    all.filter_map(|table| table.parse().ok()).collect()
+}
+
+#[cfg(test)]
+mod tests {
+    use super::*;
+
+    #[test]
+    fn notices_that_came_together_are_read_at_once() {
+        let (sender, mut news) = unbounded_channel();
+        for notice in ["", "7", "9", "x".repeat(8_000).as_str(), "7"] {
+            assert!(sender.send(notice.to_owned()).is_ok());
+        }
+        assert_eq!(resumed("8".to_owned(), &mut news), [7, 8, 9].into());
+        assert!(news.try_recv().is_err());
     }
 }

@@ -10,6 +10,7 @@ import struct
 import subprocess
 import tempfile
 import threading
+import time
 from contextlib import contextmanager
 from pathlib import Path
 from typing import Any, Callable, Iterator, List, Tuple
@@ -22,7 +23,7 @@ from clients.servers import END, wait_until
 from clients.suite import main
 from proxy.test.harness import FOLDED, Proxy, SharedPart, installed
 from proxy.test.sql import Copy, refused, same, stock, until_free, value
-from proxy.test.standin import Client, Cluster, Owner, of_proxy, perform
+from proxy.test.standin import ROLE, Client, Cluster, Owner, of_proxy, perform
 
 
 def end_clients(cluster: Cluster) -> None:
@@ -623,6 +624,42 @@ def a_publication_that_lets_no_row_be_updated_is_refused(cluster: Cluster) -> No
             it.execute("SELECT escrow.reservable('stock', 'pieces')")
         it.execute("DROP PUBLICATION them")
     same(set(found), {False, True})
+
+
+@part
+def a_table_that_waits_stops_no_other(cluster: Cluster) -> None:
+    """A trigger waits for a lock, so that each fold of its table fails. Who changes another table waits for the fold of that one alone."""
+    stock(cluster).keeper.close()
+    cluster.run("CREATE TABLE audit (n integer)", "INSERT INTO audit VALUES (0)",
+                "CREATE FUNCTION counts() RETURNS trigger LANGUAGE plpgsql AS 'BEGIN UPDATE public.audit SET n = n + 1; RETURN NEW; END'",
+                "CREATE TRIGGER counts BEFORE UPDATE ON stock FOR EACH ROW EXECUTE FUNCTION counts()",
+                "CREATE TABLE ware (id integer PRIMARY KEY, n integer NOT NULL)", "INSERT INTO ware VALUES (1, 9)", "SELECT escrow.reservable('ware', 'n')")
+    with Proxy(cluster, "", "--fold-wait", 20_000) as proxy, proxy.connect() as it, proxy.connect() as other, cluster.connect() as locks:
+        it.execute("UPDATE stock SET pieces = pieces - 1 WHERE id = 1")
+        locks.execute("BEGIN; UPDATE audit SET n = 5")
+        it.execute("SET escrow.wait = off")
+        it.execute("BEGIN; UPDATE stock SET pieces = pieces - 1 WHERE id = 1; COMMIT")  # no own fold
+        begin = time.monotonic()
+        for _ in range(3):
+            other.execute("BEGIN; UPDATE ware SET n = n - 1 WHERE id = 1; COMMIT")
+        assert time.monotonic() - begin < 15, "it has waited for the other table"
+        same(value(cluster, "SELECT n FROM ware"), 6)
+        locks.execute("COMMIT")
+        wait_until("that is folded too", lambda: value(cluster, "SELECT pieces FROM stock WHERE id = 1") == 8)
+    cluster.run("SELECT escrow.ordinary(relation) FROM escrow.declared", "DROP TABLE ware, audit, stock", "DROP FUNCTION counts")
+
+
+@part
+def settings_of_the_proxys_role_change_nothing(cluster: Cluster) -> None:
+    """They are those of the database, too: its owner may have it read only for a while."""
+    stock(cluster).keeper.close()
+    for setting in ("default_transaction_read_only = on", "default_transaction_isolation = serializable", "search_path = nowhere", "statement_timeout = 1"):
+        cluster.run(f"ALTER ROLE {ROLE} SET {setting}")
+    with Proxy(cluster) as proxy, proxy.connect() as it:
+        it.execute("UPDATE stock SET pieces = pieces - 1 WHERE id = 1")
+        it.execute("BEGIN; UPDATE stock SET pieces = pieces - 1 WHERE id = 1; COMMIT")
+        wait_until("it is folded", lambda: value(cluster, "SELECT pieces FROM stock WHERE id = 1") == 8)
+    cluster.run(f"ALTER ROLE {ROLE} RESET ALL")
 
 
 @part
