@@ -118,7 +118,7 @@ BEGIN
 	FOR it IN
 		SELECT format('%s %s', CASE c.relkind WHEN 'S' THEN 'SEQUENCE' ELSE 'TABLE' END, c.oid::regclass) AS object, a.grantee
 		FROM pg_class AS c, aclexplode(c.relacl) AS a
-		WHERE c.relnamespace = 'escrow'::regnamespace AND c.relkind IN ('r', 'S') AND c.relname ~ names AND a.grantee <> c.relowner
+		WHERE c.relnamespace = 'escrow'::regnamespace AND c.relkind IN ('r', 'S', 'v') AND c.relname ~ names AND a.grantee <> c.relowner
 		UNION SELECT format('FUNCTION %s', p.oid::regprocedure), a.grantee
 		FROM pg_proc AS p, aclexplode(coalesce(p.proacl, acldefault('f', p.proowner))) AS a
 		WHERE p.pronamespace = 'escrow'::regnamespace AND p.proname ~ names AND a.grantee <> p.proowner
@@ -803,6 +803,13 @@ CREATE OR REPLACE FUNCTION escrow.key_text(key_type text, key text) RETURNS text
 	SELECT format(CASE WHEN key_type LIKE 'numeric%' THEN 'trim_scale(%s)::text' ELSE '(%s)::text' END, key)
 $$;
 
+-- The view of a declared table. Its comment has the number; an owner of another view may have written that too.
+CREATE OR REPLACE FUNCTION escrow.now_view(n integer) RETURNS regclass LANGUAGE sql STABLE SET search_path = pg_catalog, pg_temp AS $$
+	SELECT v.oid::regclass FROM escrow.declared AS d JOIN pg_class AS t ON t.oid = d.relation
+	JOIN pg_class AS v ON v.relkind = 'v' AND v.relnamespace = 'escrow'::regnamespace AND v.relowner = t.relowner
+	WHERE d.number = n AND obj_description(v.oid, 'pg_class') = n::text LIMIT 1
+$$;
+
 -- Creates or replaces what a declared table has: functions, triggers and the view. Journal and marks stay.
 CREATE OR REPLACE FUNCTION escrow.generate(it escrow.declared) RETURNS void
 LANGUAGE plpgsql SET search_path = pg_catalog, pg_temp AS $$
@@ -1242,7 +1249,7 @@ BEGIN
 	-- Key and reservable columns with what is pending, in one snapshot. Its owner may grant it. It has no other columns, so
 	-- that these can be altered.
 	view_name := format('escrow.%I', 'now_' || (SELECT relname FROM pg_class WHERE oid = it.relation));
-	IF to_regclass(view_name) IS NOT NULL AND obj_description(to_regclass(view_name), 'pg_class') IS DISTINCT FROM n::text THEN
+	IF to_regclass(view_name) IS NOT NULL AND to_regclass(view_name) IS DISTINCT FROM escrow.now_view(n) THEN
 		view_name := format('escrow.%I', 'now_' || n);
 	END IF;
 	EXECUTE format($f$
@@ -1645,12 +1652,12 @@ BEGIN
 	FOR which IN EXECUTE format('SELECT DISTINCT key::text FROM escrow.journal_%s', n) LOOP
 		EXECUTE format('SELECT escrow.row_%s($1::%s, false)', n, (SELECT key_type FROM escrow.declared WHERE number = n)) USING which;
 	END LOOP;
+	view_name := escrow.now_view(n)::text;
 	DELETE FROM escrow.declared WHERE number = n;
 	EXECUTE (SELECT string_agg(format('DROP TRIGGER %I ON %s', tgname, relation), '; ') FROM pg_trigger WHERE tgrelid = relation AND tgname ~ '^~?escrow ');
-	FOR view_name IN SELECT c.oid::regclass FROM pg_class AS c WHERE c.relkind = 'v' AND c.relnamespace = 'escrow'::regnamespace
-		AND obj_description(c.oid, 'pg_class') = n::text LOOP
+	IF view_name IS NOT NULL THEN
 		EXECUTE format('DROP VIEW %s', view_name);
-	END LOOP;
+	END IF;
 	FOR it IN SELECT f::regprocedure AS function FROM escrow.functions(n) AS f LOOP
 		EXECUTE format('DROP FUNCTION %s', it.function);
 	END LOOP;
@@ -1758,8 +1765,8 @@ DECLARE
 	found escrow.declared;
 	old regprocedure;
 BEGIN
-	PERFORM escrow.take_rights('^(secret|declared|hold_names|hold_lines|epoch|greeted|heard|.*_seq|mac|is_fresh|set_epoch|end_holders|end_owner|is_held|standing|take_hold|look)$');
-	GRANT SELECT ON escrow.declared TO PUBLIC;
+	PERFORM escrow.take_rights('^(secret|declared|holds|hold_names|hold_lines|epoch|greeted|heard|.*_seq|mac|is_fresh|set_epoch|end_holders|end_owner|is_held|standing|take_hold|look)$');
+	GRANT SELECT ON escrow.declared, escrow.holds TO PUBLIC;
 	FOR it IN SELECT * FROM escrow.declared LOOP
 		-- Of before loads had numbers, and all tables could be published.
 		EXECUTE format('ALTER TABLE escrow.held_%1$s ADD COLUMN IF NOT EXISTS load bigint NOT NULL DEFAULT 0; '

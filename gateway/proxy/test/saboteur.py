@@ -258,6 +258,25 @@ def a_trigger_of_another_table_folds_nothing(cluster: Cluster) -> None:
 
 
 @part
+def a_view_of_another_owner_stays_that_owners(cluster: Cluster) -> None:
+    """The owner of a view may write the number of a table that comes later into its comment, and may have granted the view to all."""
+    all_ordinary(cluster)
+    cluster.run("CREATE ROLE mallory LOGIN", "CREATE SCHEMA mallory AUTHORIZATION mallory", "CREATE ROLE buyer LOGIN", "DROP TABLE IF EXISTS stock")
+    with cluster.connect("mallory") as it:
+        it.execute("CREATE TABLE mallory.stock (id integer PRIMARY KEY, pieces integer NOT NULL); SELECT escrow.reservable('mallory.stock', 'pieces')")
+        number = 1 + it.execute("SELECT max(number) FROM escrow.declared").fetchall()[0][0]
+        it.execute(f"COMMENT ON VIEW escrow.now_stock IS '{number}'; GRANT SELECT ON escrow.now_stock TO buyer".encode())
+        it.execute("CREATE VIEW mallory.more AS SELECT * FROM escrow.now_stock")
+    cluster.run("CREATE TABLE stock (id integer PRIMARY KEY, pieces integer NOT NULL)", "SELECT escrow.reservable('stock', 'pieces')")
+    same((value(cluster, "SELECT max(number) FROM escrow.declared"), value(cluster, f"SELECT escrow.now_view({number})::text")), (number, f"escrow.now_{number}"))
+    with cluster.connect("buyer") as it, refused(errors.InsufficientPrivilege):
+        it.execute(f"SELECT * FROM escrow.now_{number}".encode())
+    cluster.script("install.sql")
+    cluster.run("SELECT escrow.ordinary('stock')", "DROP VIEW mallory.more", "DROP VIEW escrow.now_stock", "SELECT escrow.ordinary('mallory.stock')",
+                "DROP TABLE stock", "DROP OWNED BY mallory", "DROP ROLE mallory, buyer")
+
+
+@part
 def a_dump_numbers_columns_anew(cluster: Cluster) -> None:
     """Columns that were dropped leave holes in the numbers, which a dump has not."""
     all_ordinary(cluster)
