@@ -355,15 +355,15 @@ LANGUAGE sql SET search_path = pg_catalog, pg_temp AS $$
 		AND l.database = (SELECT oid FROM pg_database WHERE datname = current_database())
 $$;
 
--- Rule 9, second step: who may still commit a note. Without a process it is a prepared transaction.
+-- Rule 9, second step: who may still commit a note. Without a process it is a prepared transaction, which may also have OWNER.
 CREATE OR REPLACE FUNCTION escrow.holders() RETURNS TABLE (process integer, prepared text)
 LANGUAGE sql SET search_path = pg_catalog, pg_temp AS $$
 	SELECT DISTINCT l.pid, p.gid
 	FROM pg_locks AS l
-	JOIN escrow.declared AS d ON l.relation = to_regclass('escrow.journal_' || d.number)
+	LEFT JOIN escrow.declared AS d ON l.locktype = 'relation' AND l.mode = 'RowExclusiveLock' AND l.relation = to_regclass('escrow.journal_' || d.number)
 	LEFT JOIN pg_locks AS x ON l.pid IS NULL AND x.pid IS NULL AND x.virtualtransaction = l.virtualtransaction AND x.locktype = 'transactionid'
 	LEFT JOIN pg_prepared_xacts AS p ON p.transaction = x.transactionid
-	WHERE l.locktype = 'relation' AND l.granted AND l.mode = 'RowExclusiveLock'
+	WHERE l.granted AND (d.number IS NOT NULL OR l.pid IS NULL AND l.locktype = 'advisory' AND l.classid = 1702064993 AND l.objid = 1 AND l.objsubid = 2)
 		AND l.database = (SELECT oid FROM pg_database WHERE datname = current_database())
 		AND l.pid IS DISTINCT FROM pg_backend_pid()
 $$;
@@ -382,15 +382,20 @@ $$;
 REVOKE ALL ON FUNCTION escrow.end_holders FROM PUBLIC;
 GRANT EXECUTE ON FUNCTION escrow.end_holders TO escrow_proxy;
 
--- Ends who holds OWNER and may not, or has said nothing for so many seconds, at least one. Returns how many it were.
+-- Ends who holds OWNER or waits for it and may not, or holds it and has said nothing for so many seconds, at least one. Returns how
+-- many it were.
 CREATE OR REPLACE FUNCTION escrow.end_owner(longest double precision) RETURNS integer
 LANGUAGE plpgsql SECURITY DEFINER SET search_path = pg_catalog, pg_temp AS $$
 DECLARE
 	it record;
 	ended integer := 0;
 BEGIN
-	FOR it IN SELECT * FROM escrow.owner() WHERE NOT is_proxy OR silent > greatest(longest, 1) LOOP
-		PERFORM pg_terminate_backend(it.process);
+	FOR it IN SELECT l.pid FROM pg_locks AS l JOIN pg_stat_activity AS a ON a.pid = l.pid
+		WHERE l.locktype = 'advisory' AND l.classid = 1702064993 AND l.objid = 1 AND l.objsubid = 2 AND l.database = a.datid
+			AND a.datname = current_database() AND (NOT pg_has_role(a.usesysid, 'escrow_proxy', 'MEMBER')
+				OR l.granted AND extract(epoch FROM clock_timestamp() - a.state_change) > greatest(longest, 1))
+	LOOP
+		PERFORM pg_terminate_backend(it.pid);
 		ended := ended + 1;
 	END LOOP;
 	RETURN ended;

@@ -506,6 +506,13 @@ def a_takeover_finds_who_holds(cluster: Cluster) -> None:
     wait_until("nobody holds it", lambda: owner.keeper.execute(holders).fetchall() == [])
 
 
+def waits_for_owner(connection: "psycopg.Connection[Any]") -> None:
+    """Takes OWNER until the connection is ended."""
+    with refused(psycopg.OperationalError):
+        connection.execute("SELECT pg_advisory_lock(%s, %s)", OWNER)
+        connection.execute("SELECT pg_sleep(60)")
+
+
 @part
 def a_proxy_is_no_superuser(cluster: Cluster) -> None:
     """Its role ends who holds a journal or OWNER, also superusers, and nobody else."""
@@ -523,6 +530,21 @@ def a_proxy_is_no_superuser(cluster: Cluster) -> None:
                 buyer.execute(f"SELECT {call}".encode())
         same(it.execute("SELECT process, prepared FROM escrow.end_holders()").fetchall(), [(client.connection.info.backend_pid, None)])
         wait_until("nobody holds it", lambda: it.execute("SELECT process FROM escrow.end_holders()").fetchall() == [])
+        # Who waits for OWNER and may not have it is ended with who has it; a prepared transaction that has it is named.
+        owner.keeper.execute("SELECT pg_advisory_unlock(%s, %s)", OWNER)
+        others = [buyer, cluster.connect("buyer"), cluster.connect("buyer")]
+        waiting = [threading.Thread(target=waits_for_owner, args=(other,)) for other in others]
+        for thread in waiting:
+            thread.start()
+        wait_until("two wait", lambda: value(cluster, "SELECT count(*) FROM pg_locks WHERE locktype = 'advisory' AND NOT granted") == 2)
+        same(it.execute("SELECT escrow.end_owner(3)").fetchall(), [(3,)])
+        for thread in waiting:
+            thread.join()
+        until_free(cluster)
+        cluster.run(f"BEGIN; SELECT pg_advisory_xact_lock({OWNER[0]}, {OWNER[1]}); PREPARE TRANSACTION 'mine'")
+        same(it.execute("SELECT process, prepared FROM escrow.holders()").fetchall(), [(None, "mine")])
+        cluster.run("ROLLBACK PREPARED 'mine'")
+        assert owner.one("SELECT pg_try_advisory_lock(%s, %s)", *OWNER)[0]
         # An owner is left for a second at least, and ended when it was silent for longer.
         begin = time.monotonic()
         owner.one("SELECT 1")
