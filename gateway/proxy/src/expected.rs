@@ -19,6 +19,8 @@ pub struct Prepared {
     pub statement: Statement,
     /// Whether its text names the functions of holds, so that they may run by it.
     pub names_holds: bool,
+    /// Whether its text names the function that shows what is reserved.
+    pub shows: bool,
     /// The types of its parameters, as far as the client has told them, or PostgreSQL has described them.
     pub types: Vec<u32>,
 }
@@ -438,8 +440,9 @@ impl Track {
     pub fn parse_names_holds(&mut self) {
         if let Some(Expect::Parse(_, prepared)) = self.queue.back_mut() {
             *prepared = Some(Arc::new(Prepared {
-                statement: Statement::Holds,
+                statement: Statement::Named,
                 names_holds: true,
+                shows: false,
                 types: Vec::new(),
             }));
         }
@@ -586,6 +589,7 @@ impl Track {
                     *prepared = Arc::new(Prepared {
                         statement: prepared.statement.clone(),
                         names_holds: prepared.names_holds,
+                        shows: prepared.shows,
                         types,
                     });
                 }
@@ -888,6 +892,7 @@ mod tests {
             statement: Arc::new(Prepared {
                 statement,
                 names_holds: false,
+                shows: false,
                 types,
             }),
             formats: Vec::new(),
@@ -916,6 +921,7 @@ mod tests {
         let prepared = Arc::new(Prepared {
             statement,
             names_holds: false,
+            shows: false,
             types: Vec::new(),
         });
         for name in ["a", "b"] {

@@ -46,9 +46,7 @@ const PIECE: usize = 1_000;
 /// How many connections load.
 pub const LOADERS: usize = 4;
 
-const ISOLATION: &str =
-    "-c default_transaction_isolation=read\\ committed -c default_transaction_read_only=off \
-    -c idle_session_timeout=0 -c statement_timeout=0";
+const ISOLATION: &str = "-c default_transaction_isolation=read\\ committed -c idle_session_timeout=0 -c statement_timeout=0";
 
 /// A connection of the proxy's own, which is opened when it is needed, with its prepared statements.
 struct Own {

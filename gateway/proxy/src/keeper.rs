@@ -101,8 +101,8 @@ impl Keeper {
     pub async fn open(target: &Target) -> Result<(Keeper, Secret, Address), Error> {
         let options = concat!(
             // A statement that takes longer would be taken for silence.
-            "-c default_transaction_isolation=read\\ committed -c default_transaction_read_only=off",
-            " -c statement_timeout=2s -c lock_timeout=0 -c idle_session_timeout=0"
+            "-c default_transaction_isolation=read\\ committed -c statement_timeout=2s -c lock_timeout=0",
+            " -c idle_session_timeout=0"
         );
         let (own, address) = target.login(None, "escrowd-proxy keeper", options).await?;
         let client = Session::from(own);

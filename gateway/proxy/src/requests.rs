@@ -277,6 +277,8 @@ impl<'a> Requests<'a> {
             match bytes.first() {
                 Some(b'Q') => {
                     self.names_holds(false);
+                    // It may turn out to run the functions of holds.
+                    self.settle_what_runs().await?;
                     self.expect(Expect::Query);
                 }
                 Some(b'P') => {
@@ -381,9 +383,7 @@ impl<'a> Requests<'a> {
             Message::Parse(parse) => {
                 self.check_name(parse.name)?;
                 self.check_text(parse.text)?;
-                if contains(parse.text, b"escrow.reservations") {
-                    self.show().await?;
-                }
+                let shows = contains(parse.text, b"escrow.reservations");
                 if depends_on_settings(parse.text) && may_be_looked_at(parse.text) {
                     self.learn_letters().await?;
                 }
@@ -391,13 +391,16 @@ impl<'a> Requests<'a> {
                 let names_holds = self.may_run_holds(parse.text);
                 if names_holds {
                     self.names_holds(false);
-                    statement = statement.or(Some(Statement::Holds));
+                }
+                if names_holds || shows {
+                    statement = statement.or(Some(Statement::Named));
                 }
                 let types = parse.types;
                 let prepared = statement.map(|statement| {
                     Arc::new(Prepared {
                         statement,
                         names_holds,
+                        shows,
                         types,
                     })
                 });
@@ -450,8 +453,11 @@ impl<'a> Requests<'a> {
                     .as_ref()
                     .map(|bound| (bound, &bound.statement.statement));
                 if bound.as_ref().map_or(false, |it| it.statement.names_holds) {
-                    self.names_holds(true);
+                    self.runs_holds().await?;
                     self.know_wait().await?;
+                }
+                if bound.as_ref().map_or(false, |it| it.statement.shows) {
+                    self.show().await?;
                 }
                 match prepared {
                     Some((bound, _)) if bound.is_large => self.pass(&bytes, Expect::Execute),
@@ -487,7 +493,7 @@ impl<'a> Requests<'a> {
                     Some((_, Statement::Commit)) => {
                         self.commit(Sent::Execute(&bytes, limit)).await?;
                     }
-                    Some((_, Statement::Holds)) | None => self.pass(&bytes, Expect::Execute),
+                    Some((_, Statement::Named)) | None => self.pass(&bytes, Expect::Execute),
                 }
             }
             Message::Sync => self.pass(&bytes, Expect::Sync),
@@ -588,6 +594,22 @@ impl<'a> Requests<'a> {
         }
     }
 
+    /// Tells the hub that the client runs the functions of holds. What was sent in front has ended then, so that its end is not taken
+    /// for theirs.
+    async fn runs_holds(&mut self) -> Result<(), Error> {
+        self.settle_what_runs().await?;
+        self.names_holds(true);
+        Ok(())
+    }
+
+    /// Waits until what runs is answered, and all in front of it.
+    async fn settle_what_runs(&mut self) -> Result<(), Error> {
+        if self.shared.track().is_executing() {
+            self.settle().await?;
+        }
+        Ok(())
+    }
+
     /// Returns whether the functions of holds may run by a text: it names them, or executes what a former text has prepared that
     /// names them.
     fn may_run_holds(&mut self, text: &[u8]) -> bool {
@@ -599,9 +621,7 @@ impl<'a> Requests<'a> {
     /// Learns the settings by which PostgreSQL reads a text that comes next. PostgreSQL tells a change of them at the next
     /// ReadyForQuery, so they are asked for if something has run since the last one.
     async fn learn_letters(&mut self) -> Result<(), Error> {
-        if self.shared.track().is_executing() {
-            self.settle().await?;
-        }
+        self.settle_what_runs().await?;
         if self.shared.track().is_fresh() || self.has_failed() {
             return Ok(());
         }
@@ -636,7 +656,7 @@ impl<'a> Requests<'a> {
     async fn query(&mut self, text: &[u8], bytes: &[u8]) -> Result<(), Error> {
         self.check_text(text)?;
         if self.may_run_holds(text) {
-            self.names_holds(true);
+            self.runs_holds().await?;
             if self.is_heard().await? && !self.know_wait().await? {
                 self.pass(own::SYNC, Expect::Sync);
                 return Ok(());
@@ -665,7 +685,7 @@ impl<'a> Requests<'a> {
                 Ok(())
             }
             Some(Statement::Commit) => self.commit(Sent::Query(bytes)).await,
-            Some(Statement::Holds) | None => {
+            Some(Statement::Named) | None => {
                 if contains(text, b"escrow.reservations") && self.is_heard().await? {
                     self.show().await?;
                     if self.shared.track().is_skipping() {

@@ -127,6 +127,6 @@ fn is_about(statement: &Statement, catalog: &Catalog) -> bool {
             tables.any(|table| form.plan(table).is_some())
         }
         Statement::Delete(deletion) => catalog.named(deletion.table_name()).next().is_some(),
-        Statement::Deallocate(_) | Statement::Commit | Statement::Holds => false,
+        Statement::Deallocate(_) | Statement::Commit | Statement::Named => false,
     }
 }

@@ -60,8 +60,8 @@ pub enum Statement {
     Deallocate(String),
     /// COMMIT, and nothing else.
     Commit,
-    /// One that names the functions of holds.
-    Holds,
+    /// One that names functions of schema `escrow`.
+    Named,
 }
 
 /// A DELETE of rows by their key. PostgreSQL serves it, once the row is no longer held.

@@ -13,6 +13,7 @@ from typing import Any, List, Optional, Tuple
 import psycopg
 from psycopg import errors
 
+from clients import wire
 from clients.servers import wait_until
 from clients.suite import expect, main
 from proxy.test.harness import Proxy, SharedPart
@@ -177,6 +178,16 @@ def what_runs_a_function_is_noticed(cluster: Cluster, proxy: Proxy) -> None:
             other.execute("BEGIN")
             expect(is_given(other, key, 10), True, text[:80])
             other.execute("ROLLBACK")
+        # What is sent in front of it ends before it.
+        held = hold(it, key, 7)
+        with wire.Connection(proxy.socket) as raw:
+            it.execute("SELECT pg_advisory_lock(7)")
+            called_late = f"SELECT pg_advisory_lock_shared(7), escrow.release('{held}')"
+            raw.send(wire.run("SELECT 1"), wire.sync(), wire.run(called_late), wire.sync())
+            raw.until_ready()
+            it.execute("SELECT pg_advisory_unlock(7)")
+            raw.until_ready()
+        expect(is_given(other, key, 10), True, "a pipeline of two")
 
 
 @case

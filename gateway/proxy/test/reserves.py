@@ -171,6 +171,18 @@ def shows(cluster: Cluster, key: int, left: int) -> bool:
 
 
 @case
+def a_prepared_statement_shows_what_is_reserved_then(cluster: Cluster, proxy: Proxy) -> None:
+    key = row(cluster)
+    with proxy.connect() as it, proxy.connect() as other:
+        other.execute("BEGIN")
+        for count in range(3):
+            found = it.execute("SELECT count(*) FROM escrow.reservations() WHERE key = %s", (str(key),), prepare=True).fetchone()
+            expect(found, (count,))
+            take(other, key, 1)
+        other.execute("ROLLBACK")
+
+
+@case
 def ends_of_transactions(cluster: Cluster, proxy: Proxy) -> None:
     key = row(cluster, 100)
     left = 100
@@ -315,7 +327,7 @@ def what_others_see(cluster: Cluster, proxy: Proxy) -> None:
         took = time.monotonic() - begin
         assert FOLD_WAIT / 2 < took < END, took
         expect((pieces(cluster, key), pieces(cluster, key, "escrow.now_stock")), (10, 8))
-        it.execute("SET escrow.wait = off")
+        it.execute("SET escrow.wait = off", prepare=True)
         begin = time.monotonic()
         for _ in range(10):
             take(it, key, -1)
