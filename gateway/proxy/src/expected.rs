@@ -336,7 +336,7 @@ impl Track {
     pub fn goes_on(&self) -> bool {
         let mut queue = self.queue.iter().skip_while(|it| !it.ends_ready());
         queue.by_ref().next();
-        queue.any(|it| !matches!(it, Expect::CopyEnd))
+        queue.any(|it| !it.is_silent())
     }
 
     /// Returns whether nothing is left of a string but what closes its last statement, and its Sync.
