@@ -753,11 +753,12 @@ BEGIN
 		IF 0 = ANY (c.conkey) THEN
 			PERFORM escrow.refuse(relation, format('the CHECK %I names the whole row: %s', c.conname, c.condition));
 		END IF;
-		names_in_checks := c.conkey && ARRAY(SELECT attnum FROM pg_attribute WHERE attrelid = relation AND attname = ANY (reservable));
-		CONTINUE WHEN names_in_checks IS NOT TRUE; -- left to PostgreSQL
+		-- Each UPDATE of a row that breaks it would be refused, and so its fold, whatever its columns.
 		IF NOT c.convalidated THEN
 			PERFORM escrow.refuse(relation, format('the CHECK %I is not validated', c.conname), format('ALTER TABLE %s VALIDATE CONSTRAINT %I', relation, c.conname));
 		END IF;
+		names_in_checks := c.conkey && ARRAY(SELECT attnum FROM pg_attribute WHERE attrelid = relation AND attname = ANY (reservable));
+		CONTINUE WHEN names_in_checks IS NOT TRUE; -- left to PostgreSQL
 		IF c.conkey && ARRAY(SELECT attnum FROM pg_attribute WHERE attrelid = relation AND attname = ANY (others)) THEN
 			PERFORM escrow.refuse(relation, format('the CHECK %I names reservable columns and others: %s', c.conname, c.condition));
 		END IF;

@@ -1167,7 +1167,8 @@ def definitions_stay(cluster: Cluster) -> None:
     with cluster.connect() as it:
         for text in (
             "ALTER TABLE stock RENAME TO ware", "ALTER TABLE stock RENAME COLUMN pieces TO items", "ALTER TABLE stock RENAME COLUMN id TO nr",
-            "ALTER TABLE stock ADD CHECK (pieces < 100)", "ALTER TABLE stock DROP CONSTRAINT in_stock", "ALTER TABLE stock DROP CONSTRAINT stock_pkey",
+            "ALTER TABLE stock ADD CHECK (pieces < 100)", "ALTER TABLE stock ADD CHECK (title <> 'row 1') NOT VALID",
+            "ALTER TABLE stock DROP CONSTRAINT in_stock", "ALTER TABLE stock DROP CONSTRAINT stock_pkey",
             "ALTER TABLE stock ALTER pieces DROP NOT NULL", "ALTER TABLE stock ENABLE ROW LEVEL SECURITY", "ALTER TABLE stock DISABLE TRIGGER ALL",
             "ALTER TABLE stock DISABLE TRIGGER \"~escrow guard\"", "DROP TRIGGER \"~escrow guard\" ON stock", "CREATE UNIQUE INDEX ON stock (pieces)",
             "CREATE RULE r AS ON UPDATE TO stock DO INSTEAD NOTHING", "CREATE TABLE child () INHERITS (stock)", "DROP TABLE stock CASCADE",
