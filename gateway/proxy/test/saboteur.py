@@ -268,7 +268,8 @@ def a_view_of_another_owner_stays_that_owners(cluster: Cluster) -> None:
         it.execute(f"COMMENT ON VIEW escrow.now_stock IS '{number}'; GRANT SELECT ON escrow.now_stock TO buyer".encode())
         it.execute("CREATE VIEW mallory.more AS SELECT * FROM escrow.now_stock")
     cluster.run("CREATE TABLE stock (id integer PRIMARY KEY, pieces integer NOT NULL)", "SELECT escrow.reservable('stock', 'pieces')")
-    same((value(cluster, "SELECT max(number) FROM escrow.declared"), value(cluster, f"SELECT escrow.now_view({number})::text")), (number, f"escrow.now_{number}"))
+    found = value(cluster, f"SELECT escrow.now_view({number})::text")
+    same((value(cluster, "SELECT max(number) FROM escrow.declared"), found), (number, f"escrow.now_{number}"))
     with cluster.connect("buyer") as it, refused(errors.InsufficientPrivilege):
         it.execute(f"SELECT * FROM escrow.now_{number}".encode())
     cluster.script("install.sql")
