@@ -1680,6 +1680,12 @@ DECLARE
 	found escrow.declared;
 	why text;
 BEGIN
+	-- A fold runs triggers with the rights of the table's owner. So nobody else makes any, whatever was granted.
+	IF TG_TAG = 'CREATE TRIGGER' AND EXISTS (SELECT FROM pg_event_trigger_ddl_commands() AS command
+			JOIN pg_trigger AS t ON command.classid = 'pg_trigger'::regclass AND t.oid = command.objid
+			JOIN escrow.declared AS d ON d.relation = t.tgrelid JOIN pg_class AS c ON c.oid = t.tgrelid WHERE NOT escrow.is_owners(c.relowner)) THEN
+		RAISE EXCEPTION 'must be owner of a declared table to create a trigger on it' USING ERRCODE = 'insufficient_privilege';
+	END IF;
 	FOR it IN SELECT * FROM escrow.declared AS d WHERE d.definition <> '{}' AND (TG_TAG NOT IN ('ALTER FUNCTION', 'ALTER ROUTINE')
 		OR EXISTS (SELECT FROM pg_event_trigger_ddl_commands() AS command JOIN pg_proc AS p ON p.oid = command.objid WHERE p.proname LIKE '%\_' || d.number))
 	LOOP

@@ -258,6 +258,23 @@ def a_trigger_of_another_table_folds_nothing(cluster: Cluster) -> None:
 
 
 @part
+def triggers_of_a_declared_table_are_its_owners(cluster: Cluster) -> None:
+    """GRANT ALL has the right to make triggers. A fold runs them with the rights of the table's owner, here a superuser, whoever changes the row."""
+    owner = stock(cluster)
+    cluster.run("CREATE ROLE mallory LOGIN", "GRANT ALL ON stock TO mallory", "CREATE FUNCTION noop() RETURNS trigger LANGUAGE plpgsql AS 'BEGIN RETURN NEW; END'")
+    with cluster.connect("mallory") as it:
+        it.execute("CREATE FUNCTION pg_temp.acts() RETURNS trigger LANGUAGE plpgsql AS 'BEGIN ALTER ROLE mallory SUPERUSER; RETURN NEW; END'")
+        for function in ("pg_temp.acts", "noop"):
+            with refused(errors.InsufficientPrivilege, "must be owner of a declared table to create a trigger on it"):
+                it.execute(f"CREATE TRIGGER acts BEFORE UPDATE ON stock FOR EACH ROW EXECUTE FUNCTION {function}()".encode())
+        mallory = Client(owner, "mallory")
+        assert mallory.direct("stock", 1, -1)
+    same(value(cluster, "SELECT rolsuper FROM pg_roles WHERE rolname = 'mallory'"), False)
+    cluster.run("CREATE TRIGGER acts BEFORE UPDATE ON stock FOR EACH ROW EXECUTE FUNCTION noop()", "DROP TRIGGER acts ON stock", "DROP FUNCTION noop",
+                "DROP OWNED BY mallory", "DROP ROLE mallory")
+
+
+@part
 def a_view_of_another_owner_stays_that_owners(cluster: Cluster) -> None:
     """The owner of a view may write the number of a table that comes later into its comment, and may have granted the view to all."""
     all_ordinary(cluster)
