@@ -437,7 +437,8 @@ impl Requests<'_> {
     /// many as it has asked for). Keeps what is left of them.
     fn rows_end(&mut self, job: &Job<'_>, rest: &Rest, served: &str, tag: Vec<u8>) -> Vec<u8> {
         let (rows, is_full) = self.shared.track().take_kept_rows();
-        let may_go_on = is_full || job.form.is_main() && rest.has_rows;
+        // PostgreSQL keeps such a portal, also where it has no more rows.
+        let may_go_on = is_full || rest.has_rows;
         if may_go_on && job.sent.is_execute() {
             let word = served.rsplit_once(' ').map_or(served, |(word, _)| word);
             let word = if job.form.is_main() { "UPDATE" } else { word };
@@ -859,13 +860,12 @@ fn refuses_too(table: &Table, refusal: &Refusal, condition: usize) -> bool {
 
 /// Returns whether a setting is one of PostgreSQL's words for false.
 fn is_off(setting: &[u8]) -> bool {
-    let word = std::str::from_utf8(setting).unwrap_or_default();
-    let word = word.trim().to_ascii_lowercase();
-    match word.as_bytes().first() {
-        Some(b'f') => "false".starts_with(&word),
-        Some(b'n') => "no".starts_with(&word),
-        Some(b'o') => word.len() > 1 && "off".starts_with(&word),
-        _ => word == "0",
+    let word = setting.to_ascii_lowercase();
+    match word.first() {
+        Some(b'f') => b"false".starts_with(&word),
+        Some(b'n') => b"no".starts_with(&word),
+        Some(b'o') => word.len() > 1 && b"off".starts_with(&word),
+        _ => word == b"0",
     }
 }
 
