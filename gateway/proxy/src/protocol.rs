@@ -737,15 +737,21 @@ impl<K: Row, C: Clone> Protocol<K, C> {
 
     /// Begins anew: what the server held is of no epoch any more.
     fn reset(&mut self, actions: &mut Vec<Action<K, C>>) {
+        // Nobody else folds what a client waits for.
+        let folds = &self.folds;
+        let is_open = |connection: Connection, client: &Client<K, C>| {
+            !client.is_idle() || folds.is_awaited_by(connection)
+        };
         for (&connection, client) in &self.clients {
-            if !client.is_lost && !client.is_idle() {
+            if !client.is_lost && is_open(connection, client) {
                 actions.push(Action::Close(connection));
             }
         }
         // What a connection has named holds for it to its end.
-        self.clients.retain(|_, client| {
+        self.clients.retain(|&connection, client| {
+            let stays = !client.is_lost && !is_open(connection, client) && client.may_hold();
             client.begin_anew();
-            !client.is_lost && client.is_idle() && client.may_hold()
+            stays
         });
         self.holds = Holds::new();
         self.loaded.clear();
@@ -1144,14 +1150,13 @@ impl<K: Row, C: Clone> Protocol<K, C> {
         verdicts: &[Verdict],
         actions: &mut Vec<Action<K, C>>,
     ) {
+        let client = self.clients.get_mut(&connection);
+        let is_new = client.map_or(false, |client| client.answered(verdicts));
+        let is_torn = self.is_torn(connection);
         let client = match self.clients.get_mut(&connection) {
             Some(client) => client,
             None => return,
         };
-        let is_new = client.answered(verdicts);
-        let is_torn = client.is_torn();
-        #[cfg(test)]
-        let is_torn = is_torn && self.fault != Some(Fault::TornAnswers);
         if is_new && !is_torn {
             client.be_sure();
         } else if let Some(ids) = client.ask() {
@@ -1163,6 +1168,16 @@ impl<K: Row, C: Clone> Protocol<K, C> {
         }
         self.settle(connection, actions);
         self.advance(connection, actions);
+    }
+
+    /// Returns whether what is known of a transaction's outcomes is of different moments.
+    fn is_torn(&self, connection: Connection) -> bool {
+        #[cfg(test)]
+        if self.fault == Some(Fault::TornAnswers) {
+            return false;
+        }
+        let client = self.clients.get(&connection);
+        client.map_or(false, Client::is_torn)
     }
 
     /// Begins a look for what has become of holds, if it is due or somebody waits for it.
@@ -1299,9 +1314,11 @@ impl<K: Row, C: Clone> Protocol<K, C> {
 
     /// Tells the server what is decided: what is dead goes, and an ended transaction whose outcomes are all known ends.
     fn settle(&mut self, connection: Connection, actions: &mut Vec<Action<K, C>>) {
+        let is_torn = self.is_torn(connection);
         let client = match self.clients.get_mut(&connection) {
-            Some(client) => client,
-            None => return,
+            Some(client) if !is_torn => client,
+            // It is judged once it is asked again.
+            _ => return,
         };
         #[cfg(test)]
         if self.fault == Some(Fault::HoldUnseen) {

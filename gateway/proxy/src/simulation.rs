@@ -123,6 +123,8 @@ struct World {
     seen: Seen,
     /// Of so many faults one happens.
     calm: u32,
+    /// Whether the proxy that serves does more than the other.
+    is_uneven: bool,
     without: Option<Without>,
 }
 
@@ -134,6 +136,7 @@ impl World {
         let calm = *[1, 5, 20, 100].choose(&mut random).unwrap_or(&1);
         World {
             calm,
+            is_uneven: random.gen(),
             proxies: proxies.collect(),
             random,
             postgres,
@@ -144,7 +147,7 @@ impl World {
 
     /// Does one random thing. `faults`: also what nobody wants.
     fn step(&mut self, faults: bool) -> Result<(), String> {
-        let place = self.random.gen_range(0..PROXIES);
+        let place = self.place();
         let proxy = &mut self.proxies[place];
         let faults = faults && self.random.gen_range(0..self.calm) == 0;
         match self.random.gen_range(0..1000) {
@@ -164,10 +167,19 @@ impl World {
             27..=29 if faults => proxy.stop(self.random.gen_range(1..300)),
             30..=35 if faults => self.postgres.stall_one(&mut self.random),
             36..=38 if faults => proxy.stall_keeper(self.random.gen_range(1..300)),
-            36..=499 => self.postgres.step(&mut self.random),
+            36..=499 if self.postgres.has_work() => self.postgres.step(&mut self.random),
             _ => proxy.step(&mut self.postgres, &mut self.random, &mut self.seen)?,
         }
         self.check()
+    }
+
+    /// Chooses a proxy: mostly the one that serves.
+    fn place(&mut self) -> usize {
+        let serves = |it: &Relay| it.protocol.ownership() == Ownership::Serving;
+        match self.proxies.iter().position(serves) {
+            Some(place) if self.is_uneven && self.random.gen_range(0..4) > 0 => place,
+            _ => self.random.gen_range(0..PROXIES),
+        }
     }
 
     /// Tests what must hold at any time.

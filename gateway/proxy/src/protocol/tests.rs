@@ -261,6 +261,9 @@ fn torn_outcomes_are_asked_again() {
     ready(&mut it, Status::InBlock);
     let torn = [Verdict::Aborted, Verdict::InProgress];
     assert_eq!(verdicts(&mut it, &torn), [Action::Ask(ONE, vec![Id(8)])]);
+    assert_eq!(it.handle(Event::Lost { connection: ONE }), []);
+    let again = [Verdict::InProgress];
+    assert_eq!(verdicts(&mut it, &again), [Action::Ask(ONE, vec![Id(8)])]);
     let alarm = [Action::Alarm(Alarm::NoPrefix, None)];
     assert_eq!(verdicts(&mut it, &[Verdict::Committed]), alarm);
 }

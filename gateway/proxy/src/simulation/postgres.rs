@@ -167,6 +167,11 @@ impl Backend {
         self.is_alive && (self.is_cut || !waits)
     }
 
+    /// Returns whether both sides have ended.
+    fn is_gone(&self) -> bool {
+        !self.is_alive && self.is_cut
+    }
+
     fn rows(&self) -> impl Iterator<Item = Note> + '_ {
         self.levels.iter().flat_map(|it| it.rows.iter().copied())
     }
@@ -735,10 +740,15 @@ impl Postgres {
         self.visible.journal.contains_key(&grant)
     }
 
+    /// Returns whether anything can go on.
+    pub(super) fn has_work(&self) -> bool {
+        let has_work = |it: &Backend| it.has_work() || it.is_gone();
+        !self.late.is_empty() || self.backends.values().any(has_work)
+    }
+
     /// Lets one backend go on.
     pub(super) fn step(&mut self, random: &mut StdRng) {
-        let is_gone = |backend: &Backend| !backend.is_alive && backend.is_cut;
-        self.backends.retain(|_, backend| !is_gone(backend));
+        self.backends.retain(|_, backend| !backend.is_gone());
         if !self.late.is_empty() && random.gen_range(0..50) == 0 {
             let late = self.late.swap_remove(random.gen_range(0..self.late.len()));
             self.read_late(late, random);

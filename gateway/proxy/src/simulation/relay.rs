@@ -609,6 +609,9 @@ impl Relay {
                 if postgres.is_owner(self.place, self.epoch) {
                     verdicts.push(postgres.verdict(ids[verdicts.len()].0));
                     self.jobs[queue].push_front(Job::Verdicts(connection, ids, verdicts));
+                    if !self.is_finishing && random.gen_range(0..8) == 0 {
+                        self.keeper_stalled = random.gen_range(1..40);
+                    }
                 }
                 return Ok(());
             }
@@ -708,7 +711,8 @@ impl Relay {
             Waits::Ready if client.expected == 0 => {
                 // The client's patience is over before the fold is.
                 let over = Job::WaitOver(connection);
-                if self.jobs[SERVER].len() < 20 && random.gen_range(0..10) == 0 {
+                let patience = if self.keeper_stalled > 0 { 2 } else { 10 };
+                if self.jobs[SERVER].len() < 20 && random.gen_range(0..patience) == 0 {
                     self.jobs[SERVER].push_back(over);
                 }
                 Ok(())
@@ -976,6 +980,11 @@ fn with_savepoints(
     if random.gen() {
         let change = hot(random);
         add(random, change);
+    }
+    if random.gen() {
+        // It may go on before its outcome is known.
+        let others = [Rollback, Begin].map(|it| [Step::Statement(it), Step::Sync]);
+        steps.extend(others.concat());
     }
     steps.push_back(Step::Statement(Commit));
 }
