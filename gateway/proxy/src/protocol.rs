@@ -449,6 +449,8 @@ pub enum Ownership {
 pub struct Protocol<K: Row, C> {
     ownership: Ownership,
     clients: BTreeMap<Connection, Client<K, C>>,
+    /// How often clients hold each key or ask for it. There may be thousands of them, so nobody looks at all.
+    wanted: BTreeMap<K, usize>,
     /// The rows that the server has.
     loaded: BTreeSet<K>,
     /// Who waits for a row's load.
@@ -505,6 +507,7 @@ impl<K: Row, C: Clone> Protocol<K, C> {
         Protocol {
             ownership: Ownership::Standby,
             clients: BTreeMap::new(),
+            wanted: BTreeMap::new(),
             loaded: BTreeSet::new(),
             loading: BTreeMap::new(),
             leaving: BTreeMap::new(),
@@ -569,30 +572,35 @@ impl<K: Row, C: Clone> Protocol<K, C> {
             Some(client) if self.ownership == Ownership::Serving => client.alive(),
             _ => return BTreeSet::new(),
         };
-        let is_wanted = |key: &K| {
-            let others = self
-                .clients
-                .iter()
-                .filter(|(&other, _)| other != connection);
-            let mut others = others.into_iter();
-            self.is_stopped(key)
-                || self.folds.has(key)
-                || others.any(|(_, client)| client.wants(key))
+        let is_wanted = |(key, own): (&K, &usize)| {
+            self.is_stopped(key) || self.folds.has(key) || self.wanted.get(key) > Some(own)
         };
         if keys.iter().any(is_wanted) {
             return BTreeSet::new();
         }
-        keys
+        keys.into_keys().collect()
     }
 
     /// Returns whether a transaction may fold a change of this key with its note (rule 13): nobody else wants it, and none
     /// waits for its fold.
     pub fn may_fold(&self, connection: Connection, key: &K) -> bool {
-        let mut others = self
-            .clients
-            .iter()
-            .filter(|(&other, _)| other != connection);
-        !self.folds.has(key) && !others.any(|(_, client)| client.wants(key))
+        let client = self.clients.get(&connection);
+        let own = client.map_or(0, |client| client.wants(key));
+        !self.folds.has(key) && self.wanted.get(key).map_or(true, |&all| all <= own)
+    }
+
+    /// Forgets the rows of a table that is not declared any more, unless somebody has reserved some of it, asks for it or leaves it.
+    /// Returns whether it did.
+    pub fn forget_table(&mut self, table: K::Table) -> bool {
+        let is_its = |key: &K| key.table() == table;
+        let is_open = self.wanted.keys().any(is_its)
+            || self.loading.keys().any(is_its)
+            || self.leaving.keys().any(is_its)
+            || self.holds.rows().any(is_its);
+        if !is_open {
+            self.loaded.retain(|key| !is_its(key));
+        }
+        !is_open
     }
 
     /// Takes an event, and returns what is to be done.
@@ -681,7 +689,9 @@ impl<K: Row, C: Clone> Protocol<K, C> {
                 alone,
             } => {
                 let client = self.clients.entry(connection).or_insert_with(Client::new);
+                *self.wanted.entry(key.clone()).or_default() += 1;
                 client.request(key, change, alone);
+                client.release(&mut self.wanted);
                 self.advance(connection, &mut actions);
             }
             Event::Granted { connection } => self.granted(connection, &mut actions),
@@ -715,7 +725,22 @@ impl<K: Row, C: Clone> Protocol<K, C> {
                 verdicts,
             } => self.verdicts(connection, &verdicts, &mut actions),
         }
+        #[cfg(test)]
+        self.check_wanted();
         actions
+    }
+
+    /// Fails unless the counts of who wants each key are right.
+    #[cfg(test)]
+    fn check_wanted(&self) {
+        if self.clients.len() < 10 {
+            for key in self.clients.values().flat_map(Client::keys) {
+                let all: usize = self.clients.values().map(|it| it.wants(key)).sum();
+                assert_eq!(self.wanted.get(key), Some(&all));
+            }
+            let keys: BTreeSet<&K> = self.clients.values().flat_map(Client::keys).collect();
+            assert_eq!(self.wanted.len(), keys.len());
+        }
     }
 
     /// Serves once nobody holds a journal any more.
@@ -753,6 +778,7 @@ impl<K: Row, C: Clone> Protocol<K, C> {
             client.begin_anew();
             stays
         });
+        self.wanted.clear();
         self.holds = Holds::new();
         self.loaded.clear();
         self.loading.clear();
@@ -847,7 +873,8 @@ impl<K: Row, C: Clone> Protocol<K, C> {
         actions: &mut Vec<Action<K, C>>,
     ) {
         if let Some(client) = self.clients.get_mut(&connection) {
-            client.request = None;
+            client.end_request();
+            client.release(&mut self.wanted);
             if !client.is_lost {
                 actions.push(Action::Answer(connection, answer));
             }
@@ -876,7 +903,7 @@ impl<K: Row, C: Clone> Protocol<K, C> {
             }
             return;
         }
-        let (key, change) = match &client.request {
+        let (key, change) = match client.asks() {
             Some(request) => (request.key.clone(), request.change.clone()),
             None => return,
         };
@@ -908,7 +935,7 @@ impl<K: Row, C: Clone> Protocol<K, C> {
     fn leave(&mut self, connection: Option<Connection>, key: K, actions: &mut Vec<Action<K, C>>) {
         let is_wanted = self.holds.has_row(&key)
             || self.loading.contains_key(&key)
-            || self.clients.values().any(|client| client.wants(&key));
+            || self.wanted.contains_key(&key);
         let may_leave =
             self.ownership == Ownership::Serving && !is_wanted && !self.is_stopped(&key);
         if !may_leave {
@@ -957,7 +984,7 @@ impl<K: Row, C: Clone> Protocol<K, C> {
             return;
         }
         client.stage(Stage::Noting);
-        if let Some(request) = &client.request {
+        if let Some(request) = client.asks() {
             actions.push(Action::Note(
                 connection,
                 request.key.clone(),
@@ -1130,7 +1157,7 @@ impl<K: Row, C: Clone> Protocol<K, C> {
         }
         if !is_granting {
             // Otherwise the server's reply is still to come.
-            client.request = None;
+            client.end_request();
         }
         client.end();
         #[cfg(test)]
@@ -1213,7 +1240,10 @@ impl<K: Row, C: Clone> Protocol<K, C> {
     /// has kept end there (rules 23 and 25).
     fn looked(&mut self, news: Vec<News<K, C>>, actions: &mut Vec<Action<K, C>>) {
         let who = self.holds.looked();
-        let undecided: BTreeSet<Line> = self.clients.values().flat_map(Client::lines).collect();
+        let undecided: BTreeSet<Line> = match news.is_empty() {
+            true => BTreeSet::new(),
+            false => self.clients.values().flat_map(Client::lines).collect(),
+        };
         let mut ends = Vec::new();
         let mut fates = BTreeMap::new();
         let mut taken = BTreeSet::new();
@@ -1324,7 +1354,9 @@ impl<K: Row, C: Clone> Protocol<K, C> {
         if self.fault == Some(Fault::HoldUnseen) {
             client.tell_fates(&mut BTreeMap::new());
         }
-        let settled = match client.settle() {
+        let settled = client.settle();
+        client.release(&mut self.wanted);
+        let settled = match settled {
             Ok(settled) => settled,
             Err(alarm) => return self.alarm(alarm, actions),
         };

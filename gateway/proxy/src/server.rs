@@ -272,7 +272,8 @@ impl Server {
         match self.seats.get(&connection) {
             Some(&seat) => self.send(seat, asked, &statement),
             None => {
-                let mut waiting = self.waiting.iter_mut();
+                // It has come as the last one, or a moment ago.
+                let mut waiting = self.waiting.iter_mut().rev();
                 match waiting.find(|it| it.connection == connection) {
                     Some(waiting) => waiting.lines.push((asked, statement)),
                     None => self.begin(connection, asked, statement),

@@ -1,6 +1,6 @@
 //! What a proxy knows of one client's transaction.
 
-use std::collections::{BTreeMap, BTreeSet};
+use std::collections::BTreeMap;
 
 use super::folds::Turn;
 use super::{Alarm, Fate, Id, Line, Mark, Tag, Told, Verdict, MARKS};
@@ -96,7 +96,9 @@ pub(super) struct Settled<K, C> {
 
 /// A client's connection.
 pub(super) struct Client<K, C> {
-    pub(super) request: Option<Request<K, C>>,
+    request: Option<Request<K, C>>,
+    /// The keys that it wants no longer, until [`Client::release`].
+    released: Vec<K>,
     pub(super) is_lost: bool,
     /// What was reserved, in order.
     held: Vec<Reservation<K, C>>,
@@ -136,6 +138,7 @@ impl<K: Clone + Ord, C> Client<K, C> {
     pub(super) fn new() -> Client<K, C> {
         Client {
             request: None,
+            released: Vec::new(),
             is_lost: false,
             held: Vec::new(),
             has_ended: false,
@@ -238,12 +241,15 @@ impl<K: Clone + Ord, C> Client<K, C> {
         self.is_looked_for = false;
     }
 
-    /// Returns the keys that it holds, if all that is held is alive and its transaction goes on.
-    pub(super) fn alive(&self) -> BTreeSet<K> {
-        if self.has_ended || self.is_unsure || self.is_lost || self.question.is_some() {
-            return BTreeSet::new();
+    /// Returns the keys that it holds, and how often, if all that is held is alive and its transaction goes on.
+    pub(super) fn alive(&self) -> BTreeMap<K, usize> {
+        let mut alive = BTreeMap::new();
+        if !(self.has_ended || self.is_unsure || self.is_lost || self.question.is_some()) {
+            for it in &self.held {
+                *alive.entry(it.key.clone()).or_default() += 1;
+            }
         }
-        self.held.iter().map(|it| it.key.clone()).collect()
+        alive
     }
 
     /// Returns what it has reserved.
@@ -251,10 +257,30 @@ impl<K: Clone + Ord, C> Client<K, C> {
         self.held.iter().map(|it| (&it.key, &it.change))
     }
 
-    /// Returns whether it holds a key, or asks for it.
-    pub(super) fn wants(&self, key: &K) -> bool {
+    /// Returns how often it holds a key or asks for it.
+    pub(super) fn wants(&self, key: &K) -> usize {
         let is_asked = self.request.as_ref().map_or(false, |it| it.key == *key);
-        is_asked || self.held.iter().any(|it| it.key == *key)
+        let held = self.held.iter().filter(|it| it.key == *key).count();
+        held + usize::from(is_asked)
+    }
+
+    /// Returns the keys that it holds, and the one that it asks for.
+    #[cfg(test)]
+    pub(super) fn keys(&self) -> impl Iterator<Item = &K> {
+        let asked = self.request.iter().map(|it| &it.key);
+        asked.chain(self.held.iter().map(|it| &it.key))
+    }
+
+    /// Takes what it wants no longer out of the counts of who wants each key.
+    pub(super) fn release(&mut self, wanted: &mut BTreeMap<K, usize>) {
+        for key in self.released.drain(..) {
+            match wanted.get_mut(&key) {
+                Some(count) if *count > 1 => *count -= 1,
+                _ => {
+                    wanted.remove(&key);
+                }
+            }
+        }
     }
 
     /// The transaction has folded what it holds of a key, or all that it holds.
@@ -275,7 +301,19 @@ impl<K: Clone + Ord, C> Client<K, C> {
         self.held.is_empty()
     }
 
+    /// Returns what it asks for.
+    pub(super) fn asks(&self) -> Option<&Request<K, C>> {
+        self.request.as_ref()
+    }
+
+    /// Asks for nothing any more.
+    pub(super) fn end_request(&mut self) {
+        self.released
+            .extend(self.request.take().map(|request| request.key));
+    }
+
     pub(super) fn request(&mut self, key: K, change: C, alone: bool) {
+        self.end_request();
         self.request = Some(Request {
             key,
             change,
@@ -357,8 +395,11 @@ impl<K: Clone + Ord, C> Client<K, C> {
     /// Drops the request, whose grant cannot commit any more, and what shares its subtransaction. Returns what the server
     /// is to be told.
     pub(super) fn drop_request(&mut self) -> Option<Told> {
-        let mark = self.request.take()?.mark;
-        self.held.retain(|reservation| reservation.mark < mark);
+        let mark = self.request.as_ref()?.mark;
+        self.end_request();
+        let (held, dead): (Vec<_>, Vec<_>) = self.held.drain(..).partition(|it| it.mark < mark);
+        self.released.extend(dead.into_iter().map(|it| it.key));
+        self.held = held;
         self.needs_mark = true;
         Some(if self.held.is_empty() {
             Told::Rollback
@@ -369,7 +410,7 @@ impl<K: Clone + Ord, C> Client<K, C> {
 
     /// Drops all that it holds, which cannot commit any more.
     pub(super) fn drop_held(&mut self) {
-        self.held.clear();
+        self.released.extend(self.held.drain(..).map(|it| it.key));
         self.has_ended = false;
     }
 
@@ -527,7 +568,8 @@ impl<K: Clone + Ord, C> Client<K, C> {
             if self.held[..alive].iter().any(|it| it.mark == mark) {
                 return Err(Alarm::NoPrefix);
             }
-            self.held.truncate(alive);
+            let dead = self.held.drain(alive..);
+            self.released.extend(dead.map(|it| it.key));
             self.needs_mark = true;
             if alive > 0 {
                 settled.told.push(Told::BackTo(mark));
@@ -566,6 +608,7 @@ impl<K: Clone + Ord, C> Client<K, C> {
             lines: Vec::new(),
         };
         for it in self.held.drain(..) {
+            self.released.push(it.key.clone());
             match fates.remove(&it.line) {
                 None => {
                     match it.is_folded {

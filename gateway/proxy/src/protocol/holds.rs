@@ -68,6 +68,11 @@ impl<K: Clone + Ord, C> Holds<K, C> {
         self.kept.len()
     }
 
+    /// Returns the rows of which the server has lines.
+    pub(super) fn rows(&self) -> impl Iterator<Item = &K> {
+        self.rows.keys()
+    }
+
     /// Returns whether the server has a line of a row.
     pub(super) fn has_row(&self, key: &K) -> bool {
         self.rows.contains_key(key)

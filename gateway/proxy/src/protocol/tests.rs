@@ -941,3 +941,73 @@ fn what_a_transaction_has_not_folded_itself_is_folded() {
     assert_eq!(ready(&mut it, Status::Idle), told);
     assert_eq!(folded(&mut it, &["a"]), [Action::Deliver(ONE)]);
 }
+
+/// Reserves of a row that is loaded, and notes it.
+fn hold_by(it: &mut Machine, connection: Connection, key: &'static str, number: i64) {
+    it.handle(Event::Reserve {
+        connection,
+        key,
+        change: 1,
+        alone: false,
+    });
+    it.handle(Event::Granted { connection });
+    it.handle(Event::Noted {
+        connection,
+        id: Id(u64::from(connection.0)),
+        line: Line { epoch: 1, number },
+    });
+}
+
+#[test]
+fn nobody_looks_at_all_open_transactions() {
+    const MANY_OPEN: u32 = 3_000;
+    let begun = std::time::Instant::now();
+    let mut it = serving();
+    let keys: Vec<&'static str> = (0..MANY_OPEN)
+        .map(|at| &*Box::leak(format!("a{at}").into_boxed_str()))
+        .collect();
+    let mut number = 0;
+    for (connection, &key) in (10..).map(Connection).zip(&keys) {
+        it.handle(Event::Reserve {
+            connection,
+            key,
+            change: 1,
+            alone: false,
+        });
+        let lines = Vec::new();
+        it.handle(Event::Loaded { key, lines });
+        it.handle(Event::Refused { connection });
+        for _ in 0..10 {
+            number += 1;
+            hold_by(&mut it, connection, key, number);
+            assert!(it.may_fold(connection, &key));
+            assert!(!it.may_fold(ONE, &key));
+        }
+    }
+    for (connection, &key) in (10..).map(Connection).zip(&keys) {
+        assert_eq!(it.own_folds(connection), BTreeSet::from([key]));
+        let another = Event::Leave {
+            connection: None,
+            key,
+        };
+        assert_eq!(it.handle(another), []);
+    }
+    hold_by(&mut it, ONE, keys[5], 0);
+    assert_eq!(it.own_folds(Connection(15)), BTreeSet::new());
+    assert!(!it.forget_table('a'));
+    // Where each looks at all others, it takes minutes.
+    assert!(begun.elapsed().as_secs() < 60, "{:?}", begun.elapsed());
+}
+
+#[test]
+fn rows_of_a_table_that_is_ordinary_are_forgotten_once_nobody_has_reserved_one() {
+    let mut it = serving();
+    hold(&mut it, false, 7);
+    assert!(!it.forget_table('a'));
+    assert!(it.forget_table('b'));
+    completed(&mut it, "ROLLBACK");
+    ready(&mut it, Status::Idle);
+    verdicts(&mut it, &[Verdict::Aborted]);
+    assert!(it.forget_table('a'));
+    assert_eq!(reserve(&mut it, "a", false), [Action::Load("a")]);
+}
