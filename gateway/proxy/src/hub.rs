@@ -401,7 +401,16 @@ impl Hub {
                 self.resume(table); // it is ordinary now
             }
         }
-        self.catalog.send_replace(Some(Arc::new(catalog)));
+        let catalog = Arc::new(catalog);
+        self.catalog.send_replace(Some(catalog.clone()));
+        // The server has room for few tables. One of which something is open yet goes when what is declared is read next.
+        let mut state = lock(&self.state);
+        for table in state.server.tables() {
+            if catalog.of_number(table).is_none() && state.protocol.forget_table(table) {
+                state.server.drop_table(table);
+            }
+        }
+        state.write();
     }
 
     /// Stops a table whose fold PostgreSQL has refused.

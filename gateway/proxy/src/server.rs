@@ -8,7 +8,7 @@ use std::collections::{BTreeMap, BTreeSet, HashMap, VecDeque};
 use std::sync::Arc;
 use std::time::{Duration, Instant};
 
-use escrowd_pg::limits::{RESERVATIONS, ROWS};
+use escrowd_pg::limits::{RESERVATIONS, ROWS, TABLES};
 use escrowd_pg::reply::{self, Broken, Done, Outcome};
 
 use crate::catalog::{Column, Table};
@@ -41,6 +41,7 @@ enum Asked {
     Create(i32),
     Insert(Key),
     Delete(Key),
+    Drop(i32),
 }
 
 /// Why a reservation is refused.
@@ -482,6 +483,19 @@ impl Server {
         None
     }
 
+    /// Returns the numbers of its tables.
+    pub fn tables(&self) -> Vec<i32> {
+        self.tables.keys().copied().collect()
+    }
+
+    /// Takes a table away from it of which nobody has reserved anything. Those that found no room are tried anew.
+    pub fn drop_table(&mut self, table: i32) {
+        if self.tables.remove(&table).is_some() {
+            self.send(OWN, Asked::Drop(table), &format!("DROP TABLE T{table}"));
+            self.tables.retain(|_, made| !made.is_refused);
+        }
+    }
+
     /// Returns keys of a table whose rows were not used for the longest time, if it has no room for many more.
     pub fn oldest(&self, table: i32) -> Vec<Key> {
         let made = match self.tables.get(&table) {
@@ -535,10 +549,17 @@ impl Server {
             (Asked::Again, Some(Outcome::Done(Done::Reserved))) => Said::Nothing,
             (Asked::Told(told), Some(Outcome::Done(done))) if is_done(told, done) => Said::Nothing,
             (Asked::Create(_), Some(Outcome::Done(Done::Created | Done::Altered))) => Said::Nothing,
-            (Asked::Create(number), Some(Outcome::Refused(_))) => {
-                if let Some(made) = self.tables.get_mut(&number) {
-                    tracing::error!("the server refuses the table {}: {}", made.table.name, line);
+            (Asked::Create(number), Some(Outcome::Refused(refusal))) => {
+                if let Some(made) = self.tables.get_mut(&number).filter(|it| !it.is_refused) {
                     made.is_refused = true;
+                    let name = &made.table.name;
+                    match refusal {
+                        reply::Refusal::TooManyTables => tracing::error!(
+                            "nothing of the table {name} is reserved: the proxy serves {TABLES} tables at a time; \
+                             escrow.ordinary of another one makes room"
+                        ),
+                        _ => tracing::error!("the server refuses the table {name}: {line}"),
+                    }
                 }
                 Said::Nothing
             }
@@ -557,6 +578,10 @@ impl Server {
                 Said::NotInserted(key, line.to_owned())
             }
             (Asked::Delete(_), Some(Outcome::Done(Done::Deleted))) => Said::Nothing,
+            // A table that it has refused meanwhile does not exist.
+            (Asked::Drop(_), Some(Outcome::Done(Done::Dropped) | Outcome::Refused(_))) => {
+                Said::Nothing
+            }
             (asked, _) => Said::Broke(format!("{:?} was answered {:?}", asked, line)),
         }
     }

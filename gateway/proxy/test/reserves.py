@@ -520,6 +520,29 @@ def a_table_may_have_as_many_checks_as_can_be_declared(cluster: Cluster, proxy: 
 
 
 @case
+def a_table_that_is_ordinary_again_makes_room(cluster: Cluster, proxy: Proxy) -> None:
+    """The server has 32 tables at a time."""
+    # They look at all tables that are declared, which takes long.
+    triggers = ("escrow_keep_altered", "escrow_keep_dropped")
+    cluster.run(*(f"ALTER EVENT TRIGGER {it} DISABLE" for it in triggers))
+    with proxy.connect() as it, proxy.connect() as other:
+        for turn in range(2):
+            names = [f"turn{turn}_{at}" for at in range(20)]
+            for name in names:
+                it.execute(f"CREATE TABLE {name} (id integer PRIMARY KEY, n integer NOT NULL CHECK (n >= 0)); INSERT INTO {name} VALUES (1, 5)".encode())
+                it.execute("SELECT escrow.reservable(%s, 'n')", (name,))
+            for name in names:
+                it.execute("BEGIN")
+                expect(it.execute(f"UPDATE {name} SET n = n - 1 WHERE id = 1".encode()).statusmessage, "UPDATE 1")
+                with refused(errors.CheckViolation, "new row for relation"):
+                    other.execute(f"UPDATE {name} SET n = n - 5 WHERE id = 1".encode())
+                it.execute("ROLLBACK")
+            for name in names:
+                it.execute(f"SELECT escrow.ordinary('{name}'); DROP TABLE {name}".encode())
+    cluster.run(*(f"ALTER EVENT TRIGGER {it} ENABLE" for it in triggers))
+
+
+@case
 def a_table_is_known_once_it_is_declared(cluster: Cluster, proxy: Proxy) -> None:
     """Also if a session has declared it that does not pass the proxy."""
     table = "CREATE TABLE late (id integer PRIMARY KEY, n integer NOT NULL CHECK (n >= 0))"
