@@ -148,6 +148,11 @@ impl Expect {
         )
     }
 
+    /// Returns whether it runs something, or may stop errors from being skipped.
+    fn runs(&self) -> bool {
+        self.ends_ready() || matches!(self, Expect::Execute) || self.is_own()
+    }
+
     /// Returns whether a ReadyForQuery ends it.
     fn ends_ready(&self) -> bool {
         matches!(
@@ -327,9 +332,7 @@ impl Track {
     /// Returns whether something is not answered that may change what is reserved, or that may stop errors from being
     /// skipped.
     pub fn is_executing(&self) -> bool {
-        let executes =
-            |it: &Expect| it.ends_ready() || matches!(it, Expect::Execute) || it.is_own();
-        self.queue.iter().any(executes)
+        self.queue.iter().any(Expect::runs)
     }
 
     /// Returns whether something was sent behind what the next ReadyForQuery ends.
@@ -379,19 +382,31 @@ impl Track {
         self.is_fresh = false;
     }
 
-    /// Returns whether it may depend on what is not answered which portal of interest a name is: behind an end of a cycle it is not
-    /// known whether something in front of it has failed, and what runs may drop it.
+    /// Returns whether it depends on what is not answered which portal of interest a name is.
     pub fn may_lose_portal(&self, name: &str) -> bool {
         let binds = |it: &Expect| matches!(it, Expect::Bind(portal, Some(_)) if portal == name);
         let is_known = self.portals.contains_key(name) || self.queue.iter().any(binds);
-        is_known && self.is_executing()
+        is_known
+            && self.runs_behind(|it| {
+                matches!(it, Expect::Bind(other, _) | Expect::ClosePortal(other) if other == name)
+            })
     }
 
     /// Does the same for the name of a statement.
     pub fn may_lose_statement(&self, name: &str) -> bool {
         let parses = |it: &Expect| matches!(it, Expect::Parse(other, Some(_)) if other == name);
         let is_known = self.statements.contains_key(name) || self.queue.iter().any(parses);
-        is_known && self.is_executing()
+        is_known
+            && self.runs_behind(|it| {
+                matches!(it, Expect::Parse(other, _) | Expect::CloseStatement(other) if other == name)
+            })
+    }
+
+    /// Returns whether something is not answered that runs or ends a cycle behind the last message about a name. What runs may drop
+    /// what has the name. And behind the end of a cycle it is not known whether the message has failed.
+    fn runs_behind(&self, is_about: impl Fn(&Expect) -> bool) -> bool {
+        let mut behind = self.queue.iter().rev().take_while(|it| !is_about(it));
+        behind.any(Expect::runs)
     }
 
     /// Returns the portal of a name, as it will be when all is answered without an error.

@@ -269,12 +269,10 @@ impl Requests<'_> {
         results: &[i16],
         sent: Sent<'_>,
     ) -> Result<(), Error> {
-        let settles = !sent.is_execute() || self.shared.track().is_executing();
-        if settles && !self.is_heard().await? {
-            self.pass_on(sent);
-            return Ok(());
+        if !sent.is_execute() || self.shared.track().is_executing() {
+            self.settle().await?;
         }
-        if self.shared.track().is_skipping() {
+        if self.shared.track().is_deaf() {
             self.pass_on(sent);
             return Ok(());
         }

@@ -329,10 +329,16 @@ def played(path: Path, database: str, steps: Sequence[messages.Step]) -> List[st
     """Returns what comes back for a session of messages, in words."""
     found: List[str] = []
     with wire.Connection(path, database=database) as it:
-        for count, sent in steps:
-            it.send(*sent)
-            for _ in range(count):
-                found += [f"{told.shown()} {told.fields()['M']}" if told.kind == "E" else told.shown() for told in it.until_ready() if told.kind not in "NS"]
+        try:
+            for count, sent in steps:
+                it.send(*sent)
+                while count:
+                    told = it.read()
+                    count -= told.kind == "Z"
+                    if told.kind not in "NS":
+                        found.append(f"{told.shown()} {told.fields()['M']}" if told.kind == "E" else told.shown())
+        except wire.Ended:
+            found.append("ended")
     return found
 
 

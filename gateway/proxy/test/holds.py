@@ -160,7 +160,7 @@ def what_runs_a_function_is_noticed(cluster: Cluster, proxy: Proxy) -> None:
         for text, values in (
             ("DELETE FROM orders WHERE item = %s RETURNING escrow.release(%s)", (key,)),
             ("UPDATE stock SET pieces = pieces - 0 WHERE id = %s RETURNING escrow.release(%s)", (key,)),
-            ("WITH r AS (UPDATE orders SET pieces = 2 WHERE item = %s RETURNING escrow.release(%s)) UPDATE stock SET pieces = pieces - 0 WHERE id = %s", (key,)),
+            ("WITH r AS (DELETE FROM orders WHERE item = %s RETURNING escrow.release(%s)) UPDATE stock SET pieces = pieces - 0 WHERE id = %s", (key,)),
             ("SELECT concat(escrow.release(%s))", ()),
             ("EXECUTE releases('{}')", None),
             (f"SELECT escrow.release('{{}}') /* {large} */", None),

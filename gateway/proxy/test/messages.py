@@ -44,6 +44,7 @@ NAMES: Dict[str, Sequence[Step]] = {
     "none behind an UPDATE": (at_once(parse(OTHER)), (1, [query(TAKE)]), at_once(bind(), execute())),
     "none behind a string": (at_once(parse("SELECT 1")), (1, [query(f"{TAKE}; SELECT 2")]), at_once(bind(), execute())),
     "a Query that is skipped": ((1, [parse("SELECT FROM nothing"), query(TAKE), sync()]),),
+    "an UPDATE amid a COPY": ((1, [query("COPY taken FROM STDIN"), query(TAKE)]),),
     "a string that is skipped": ((1, [parse("SELECT FROM nothing"), query(f"{TAKE}; SELECT 2"), sync()]),),
 }
 
