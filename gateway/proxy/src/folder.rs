@@ -3,22 +3,21 @@
 //! A fold skips rows that somebody else has locked. A load waits for a lock for a short time (rule 21). COMMITs of all tables
 //! wait for one connection that folds, so it leaves a table whose fold is held up to a second connection, which has patience.
 
-use std::collections::{BTreeSet, HashMap, HashSet};
+use std::collections::{BTreeSet, HashMap};
 use std::future::Future;
-use std::iter;
-use std::sync::{Arc, Mutex, PoisonError};
+use std::sync::{Arc, Mutex, MutexGuard, PoisonError};
 use std::time::Duration;
 
-use tokio::sync::mpsc::{unbounded_channel, UnboundedReceiver, UnboundedSender};
+use tokio::sync::mpsc::{unbounded_channel, UnboundedReceiver};
 use tokio::sync::watch;
-use tokio::time::{sleep, timeout, timeout_at, Instant};
+use tokio::time::{sleep, sleep_until, timeout, timeout_at, Instant};
 use tokio_postgres::error::SqlState;
 use tokio_postgres::{Error, Statement};
 
 use crate::catalog::Catalog;
 use crate::hub::{FolderTask, Folding, Generation, Hub, Leaving, Left, LoaderTask};
 use crate::protocol::{Event, Line};
-use crate::target::{Session, Target};
+use crate::target::{Heard, Session, Target};
 use crate::update::{self, Change, Key};
 
 /// How long PostgreSQL may take to answer: many rows with slow triggers take long, and on a connection that the network has
@@ -36,6 +35,9 @@ const LONGEST_AGAIN: Duration = Duration::from_millis(100);
 /// a sweep found them locked.
 const REFRESH: Duration = Duration::from_secs(30);
 const RETRY: Duration = Duration::from_secs(1);
+
+/// How soon what is declared is read again at the earliest.
+const SPACING: Duration = Duration::from_millis(20);
 
 /// On which PostgreSQL notifies of what is declared.
 const CHANNEL: &str = "escrow_declared";
@@ -58,7 +60,7 @@ struct Own {
     prepared: HashMap<String, Statement>,
     generations: watch::Receiver<Generation>,
     /// Takes what [`CHANNEL`] says, if the connection listens. It is empty, or the number of a table that may go on.
-    news: Option<UnboundedSender<String>>,
+    heard: Option<Heard>,
 }
 
 /// Why nothing came of a query.
@@ -91,7 +93,7 @@ impl Own {
             session: None,
             prepared: HashMap::new(),
             generations: hub.generations(),
-            news: None,
+            heard: None,
         }
     }
 
@@ -104,9 +106,9 @@ impl Own {
                 let first = self.hub.address();
                 let login = self.target.login(first.as_ref(), self.name, &self.options);
                 let (own, _) = login.await.map_err(|it| Failure::Lost(it.to_string()))?;
-                match &self.news {
-                    Some(news) => {
-                        let session = Session::listening(own, news.clone());
+                match &self.heard {
+                    Some(heard) => {
+                        let session = Session::listening(own, heard.clone());
                         session.batch_execute(&format!("LISTEN {CHANNEL}")).await?;
                         session
                     }
@@ -195,24 +197,19 @@ async fn in_time<T>(
 
 /// The tables whose folds are held up: the patient connection has them, and the other one leaves them out.
 #[derive(Clone, Default)]
-struct Late(Arc<Mutex<HashSet<i32>>>);
+struct Late(Arc<Mutex<BTreeSet<i32>>>);
 
 impl Late {
     fn add(&self, table: i32) {
-        self.tables(|tables| tables.insert(table));
+        lock(&self.0).insert(table);
     }
 
     fn has(&self, table: i32) -> bool {
-        self.tables(|tables| tables.contains(&table))
+        lock(&self.0).contains(&table)
     }
 
     fn remove(&self, table: i32) {
-        self.tables(|tables| tables.remove(&table));
-    }
-
-    fn tables(&self, act: impl FnOnce(&mut HashSet<i32>) -> bool) -> bool {
-        // What is kept is whole after each change.
-        act(&mut self.0.lock().unwrap_or_else(PoisonError::into_inner))
+        lock(&self.0).remove(&table);
     }
 }
 
@@ -450,7 +447,7 @@ impl Sweep {
     }
 
     /// Goes on with a piece. What fails for a passing reason is tried again, as long as this proxy is the owner of the epoch.
-    async fn go_on(&mut self, hub: &Arc<Hub>, own: &mut Own) {
+    async fn go_on(&mut self, hub: &Hub, own: &mut Own) {
         let table = match self.tables.last() {
             Some(&table) if hub.serves(self.epoch) => table,
             _ => return *self = Sweep::default(),
@@ -628,18 +625,21 @@ async fn leave(own: &mut Own, Leaving { epoch, number }: Leaving, key: &Key) {
     }
 }
 
-/// Looks what is declared: when PostgreSQL notifies it of a change, when it is asked to, and now and then in any case.
+/// Looks what is declared: when PostgreSQL notifies it of a change, when it is asked to, and now and then in any case. Notices
+/// are anybody's: many of them cost no more than some, and let no table go on that is not stopped.
 pub async fn watch(hub: Arc<Hub>, target: Arc<Target>) {
-    let (sender, mut news) = unbounded_channel();
+    let asked = Arc::new(Mutex::new(BTreeSet::new()));
     let mut own = Own::new(
         &hub,
         target,
         "escrowd-proxy watcher",
         "-c lock_timeout=1000",
     );
-    own.news = Some(sender);
+    own.heard = Some(heard(hub.clone(), asked.clone()));
     let mut is_installed = true;
+    let mut resumed: Option<Instant> = None;
     loop {
+        let begun = Instant::now();
         let mut pause = RETRY;
         match own.read().await {
             Ok(catalog) => {
@@ -660,39 +660,38 @@ pub async fn watch(hub: Arc<Hub>, target: Arc<Target>) {
             }
             Err(Failure::Lost(why)) => tracing::debug!("what is declared cannot be read: {}", why),
         }
+        match resumed.map_or(Duration::ZERO, |at| RETRY.saturating_sub(at.elapsed())) {
+            Duration::ZERO => {
+                let tables = std::mem::take(&mut *lock(&asked));
+                if !tables.is_empty() {
+                    resumed = Some(Instant::now());
+                }
+                tables.into_iter().for_each(|table| hub.resume(table));
+            }
+            rest if !lock(&asked).is_empty() => pause = pause.min(rest),
+            _ => {}
+        }
         let mut generations = own.generations.clone();
         tokio::select! {
             _ = sleep(pause) => {}
             _ = generations.changed() => {}
             _ = hub.is_asked_to_refresh() => {}
-            // `own` has a sender, so the channel does not end.
-            Some(first) = news.recv() => {
-                for table in resumed(first, &mut news) {
-                    hub.resume(table);
-                }
-            }
         }
+        sleep_until(begun + SPACING).await;
     }
 }
 
-/// Returns the tables that may go on, by a notice and all that came behind it: any role may notify, as often as it likes.
-fn resumed(first: String, news: &mut UnboundedReceiver<String>) -> BTreeSet<i32> {
-    let others = iter::from_fn(|| news.try_recv().ok());
-    let all = iter::once(first).chain(others);
-    all.filter_map(|table| table.parse().ok()).collect()
+/// Returns what takes notices: it remembers which tables that are stopped may go on.
+fn heard(hub: Arc<Hub>, asked: Arc<Mutex<BTreeSet<i32>>>) -> Heard {
+    Arc::new(move |payload| {
+        if let Some(table) = payload.parse().ok().filter(|&it| hub.is_stopped(it)) {
+            lock(&asked).insert(table);
+        }
+        hub.refresh();
+    })
 }
 
-#[cfg(test)]
-mod tests {
-    use super::*;
-
-    #[test]
-    fn notices_that_came_together_are_read_at_once() {
-        let (sender, mut news) = unbounded_channel();
-        for notice in ["", "7", "9", "x".repeat(8_000).as_str(), "7"] {
-            assert!(sender.send(notice.to_owned()).is_ok());
-        }
-        assert_eq!(resumed("8".to_owned(), &mut news), [7, 8, 9].into());
-        assert!(news.try_recv().is_err());
-    }
+fn lock<T>(mutex: &Mutex<T>) -> MutexGuard<'_, T> {
+    // What is kept is whole after each change.
+    mutex.lock().unwrap_or_else(PoisonError::into_inner)
 }

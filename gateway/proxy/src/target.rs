@@ -10,7 +10,6 @@ use std::time::Duration;
 
 use futures_util::future::poll_fn;
 use tokio::net::{TcpStream, UnixStream};
-use tokio::sync::mpsc::UnboundedSender;
 use tokio::task::JoinHandle;
 use tokio::time::timeout;
 use tokio_postgres::config::{Host, SslMode, TargetSessionAttrs};
@@ -75,6 +74,9 @@ pub enum LoginError {
 /// A connection of the proxy's own. The second half has to be polled, for instance by a [`Session`].
 pub type Own = (Client, Connection<Stream, NoTlsStream>);
 
+/// Takes what a notification says. Anybody may notify, as often as he wants.
+pub type Heard = Arc<dyn Fn(&str) + Send + Sync>;
+
 /// A connection of the proxy's own with the task that serves it. It is closed when it is dropped, also if PostgreSQL is
 /// silent and the task would wait for an answer.
 #[derive(Debug)]
@@ -94,19 +96,18 @@ impl From<Own> for Session {
 }
 
 impl Session {
-    /// Serves a connection, and hands over what notifications say. Its end is news too, since something may be missed.
-    pub fn listening(own: Own, news: UnboundedSender<String>) -> Session {
+    /// Serves a connection, and hands over what each notification says. Its end is news too, since something may be missed.
+    pub fn listening(own: Own, heard: Heard) -> Session {
         let (client, mut connection) = own;
         let task = tokio::spawn(async move {
             while let Some(Ok(message)) = poll_fn(|context| connection.poll_message(context)).await
             {
                 if let AsyncMessage::Notification(it) = message {
-                    // If that fails, nobody waits for news any more.
-                    let _ = news.send(it.payload().to_owned());
+                    heard(it.payload());
                 }
             }
             drop(connection);
-            let _ = news.send(String::new());
+            heard("");
         });
         Session { client, task }
     }

@@ -471,6 +471,10 @@ def a_table_whose_fold_is_refused_stops_alone(cluster: Cluster, proxy: Proxy) ->
         it.execute("SELECT escrow.resume('stock')")
         wait_until("it is stopped again", lambda: proxy.said().count("ALARM") > 1)
         cluster.run("DROP TRIGGER not_today ON stock", "DROP FUNCTION not_today")
+        # Anybody may send such notices, and many of them hold up nobody's.
+        cluster.run("CREATE ROLE noisy LOGIN")
+        cluster.run("SELECT pg_notify('escrow_declared', i::text) FROM generate_series(100, 50000) AS i", user="noisy")
+        cluster.run("DROP ROLE noisy")
         it.execute("SELECT escrow.resume('stock')")
         wait_until("the change is in the row", lambda: pieces(cluster, key) == 8)
         expect(take(it, key, 8), "UPDATE 1")
