@@ -123,20 +123,18 @@ struct World {
     seen: Seen,
     /// Of so many faults one happens.
     calm: u32,
-    /// Whether the proxy that serves does more than the other.
-    is_uneven: bool,
     without: Option<Without>,
 }
 
 impl World {
     fn new(seed: u64, without: Option<Without>) -> World {
         let mut random = StdRng::seed_from_u64(seed);
-        let postgres = Postgres::new(random.gen(), without);
+        let (sync, is_slow) = (random.gen(), random.gen());
+        let postgres = Postgres::new(sync, is_slow, without);
         let proxies = (0..PROXIES).map(|place| Relay::new(place, without));
         let calm = *[1, 5, 20, 100].choose(&mut random).unwrap_or(&1);
         World {
             calm,
-            is_uneven: random.gen(),
             proxies: proxies.collect(),
             random,
             postgres,
@@ -173,11 +171,11 @@ impl World {
         self.check()
     }
 
-    /// Chooses a proxy: mostly the one that serves.
+    /// Chooses a proxy: mostly the one that serves, unless all are slow.
     fn place(&mut self) -> usize {
         let serves = |it: &Relay| it.protocol.ownership() == Ownership::Serving;
         match self.proxies.iter().position(serves) {
-            Some(place) if self.is_uneven && self.random.gen_range(0..4) > 0 => place,
+            Some(place) if !self.postgres.is_slow && self.random.gen_range(0..4) > 0 => place,
             _ => self.random.gen_range(0..PROXIES),
         }
     }
@@ -319,7 +317,7 @@ fn a_rule_that_is_taken_away_is_missed() {
     let is_asked = |it: &Without| format!("{:?}", it).contains(&asked);
     // What comes at rest may be a fault of the relay that was changed.
     let found_without = |without| {
-        (0..number("ESCROW_RUNS").unwrap_or(4_000))
+        (0..number("ESCROW_RUNS").unwrap_or(12_000))
             .filter_map(|seed| run(seed, Some(without)).err())
             .find(|text| !text.contains("at rest"))
     };

@@ -325,6 +325,8 @@ pub(super) struct Postgres {
     /// Who has locked each row: a backend, or a connection of a proxy's own.
     locks: [Option<Locker>; KEYS],
     sync: bool,
+    /// Who has nothing to do gets its turn too, so that all the others are late.
+    pub(super) is_slow: bool,
     epoch: u64,
     /// Who holds OWNER, with the epoch whose lock it holds.
     owner: Option<(usize, u64)>,
@@ -348,7 +350,7 @@ enum Locker {
 }
 
 impl Postgres {
-    pub(super) fn new(sync: bool, without: Option<Without>) -> Postgres {
+    pub(super) fn new(sync: bool, is_slow: bool, without: Option<Without>) -> Postgres {
         let image = Image {
             rows: [Some(START); KEYS],
             versions: [0; KEYS],
@@ -370,6 +372,7 @@ impl Postgres {
             numbers: 0,
             locks: [None; KEYS],
             sync,
+            is_slow,
             epoch: 0,
             owner: None,
             life: 0,
@@ -743,7 +746,7 @@ impl Postgres {
     /// Returns whether anything can go on.
     pub(super) fn has_work(&self) -> bool {
         let has_work = |it: &Backend| it.has_work() || it.is_gone();
-        !self.late.is_empty() || self.backends.values().any(has_work)
+        self.is_slow || !self.late.is_empty() || self.backends.values().any(has_work)
     }
 
     /// Lets one backend go on.
@@ -758,7 +761,8 @@ impl Postgres {
             self.base = self.visible.clone();
             self.log.clear();
         }
-        let mut busy = self.backends.iter().filter(|(_, it)| it.has_work());
+        let may_be = |it: &Backend| it.is_alive && (self.is_slow || it.has_work());
+        let mut busy = self.backends.iter().filter(|(_, it)| may_be(it));
         let number = match busy.by_ref().choose(random) {
             Some((&number, _)) => number,
             None => return,

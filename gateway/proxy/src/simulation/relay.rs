@@ -691,7 +691,8 @@ impl Relay {
             };
             self.clients.insert(connection, client);
         }
-        let is_busy = |it: &Client| it.has_next() || postgres.has_news(it.backend);
+        let is_slow = postgres.is_slow;
+        let is_busy = |it: &Client| is_slow || it.has_next() || postgres.has_news(it.backend);
         let mut busy = self.clients.iter_mut().filter(|it| is_busy(it.1));
         let (connection, client) = match busy.by_ref().choose(random) {
             Some((&connection, client)) => (connection, client),
