@@ -261,7 +261,8 @@ def a_trigger_of_another_table_folds_nothing(cluster: Cluster) -> None:
 def triggers_of_a_declared_table_are_its_owners(cluster: Cluster) -> None:
     """GRANT ALL has the right to make triggers. A fold runs them with the rights of the table's owner, here a superuser, whoever changes the row."""
     owner = stock(cluster)
-    cluster.run("CREATE ROLE mallory LOGIN", "GRANT ALL ON stock TO mallory", "CREATE FUNCTION noop() RETURNS trigger LANGUAGE plpgsql AS 'BEGIN RETURN NEW; END'")
+    cluster.run("CREATE ROLE mallory LOGIN", "GRANT ALL ON stock TO mallory",
+                "CREATE FUNCTION noop() RETURNS trigger LANGUAGE plpgsql AS 'BEGIN RETURN NEW; END'")
     with cluster.connect("mallory") as it:
         it.execute("CREATE FUNCTION pg_temp.acts() RETURNS trigger LANGUAGE plpgsql AS 'BEGIN ALTER ROLE mallory SUPERUSER; RETURN NEW; END'")
         for function in ("pg_temp.acts", "noop"):
