@@ -262,8 +262,9 @@ fn no_step_breaks_the_invariant() {
         println!("{:?}", run(seed, None).unwrap());
         return;
     }
-    let first = number("ESCROW_FIRST").unwrap_or_else(|| rand::thread_rng().gen_range(0..1 << 40));
-    let runs = number("ESCROW_STEPS").unwrap_or(1_000_000) / RUN;
+    // The gate takes the same steps each time. By hand there are others.
+    let first = number("ESCROW_FIRST").unwrap_or(0);
+    let runs = number("ESCROW_STEPS").unwrap_or(4_000_000) / RUN;
     println!("seeds {} to {}", first, first + runs - 1);
     let mut seen = Seen::default();
     for seed in first..first + runs {
@@ -279,51 +280,58 @@ fn no_step_breaks_the_invariant() {
     assert!(own.held_deletes > 0 && own.held_here > 0 && own.held_marks > 0);
 }
 
+/// Rules that are taken away, each with the seed of a run that misses it, by this simulation. Whoever changes the simulation lets the
+/// test search, and writes down what it finds.
+const RULES: [(Without, u64); 30] = [
+    (Without::Rule(Fault::LossIsRollback), 3),
+    (Without::Rule(Fault::EndByTag), 0),
+    (Without::Rule(Fault::LaterCycles), 29),
+    (Without::Rule(Fault::TornAnswers), 1324),
+    (Without::Rule(Fault::RollbackUnseen), 0),
+    (Without::Rule(Fault::LostGrants), 313),
+    (Without::Rule(Fault::NoWait), 6065),
+    (Without::Rule(Fault::AllAreFolded), 86),
+    (Without::Rule(Fault::OthersLooks), 6),
+    (Without::Rule(Fault::Unsaid), 1194),
+    (Without::Rule(Fault::HoldUnseen), 0),
+    (Without::Rule(Fault::HoldsForgotten), 3),
+    (Without::AnsweredNotes, 2),
+    (Without::PostgresFirst, 0),
+    (Without::Epoch, 0),
+    (Without::WholeFolds, 1),
+    (Without::OneSnapshot, 195),
+    (Without::OthersRows, 3),
+    (Without::RowLocks, 195),
+    (Without::Marks, 1),
+    (Without::LoadsThatWrite, 3),
+    (Without::LoadsTested, 1119),
+    (Without::SweepTested, 712),
+    (Without::LeavesOwn, 829),
+    (Without::LeavesBefore, 213),
+    (Without::DeleteLooks, 1),
+    (Without::GuardLooks, 72),
+    (Without::HereLooks, 218),
+    (Without::HereLooksForHolds, 45),
+    (Without::MarksOfHolds, 11),
+];
+
 #[test]
 fn a_rule_that_is_taken_away_is_missed() {
-    let rules = [
-        Without::Rule(Fault::LossIsRollback),
-        Without::Rule(Fault::EndByTag),
-        Without::Rule(Fault::LaterCycles),
-        Without::Rule(Fault::TornAnswers),
-        Without::Rule(Fault::RollbackUnseen),
-        Without::Rule(Fault::LostGrants),
-        Without::Rule(Fault::NoWait),
-        Without::Rule(Fault::AllAreFolded),
-        Without::Rule(Fault::OthersLooks),
-        Without::Rule(Fault::Unsaid),
-        Without::Rule(Fault::HoldUnseen),
-        Without::Rule(Fault::HoldsForgotten),
-        Without::AnsweredNotes,
-        Without::PostgresFirst,
-        Without::Epoch,
-        Without::WholeFolds,
-        Without::OneSnapshot,
-        Without::OthersRows,
-        Without::RowLocks,
-        Without::Marks,
-        Without::LoadsThatWrite,
-        Without::LoadsTested,
-        Without::SweepTested,
-        Without::LeavesOwn,
-        Without::LeavesBefore,
-        Without::DeleteLooks,
-        Without::GuardLooks,
-        Without::HereLooks,
-        Without::HereLooksForHolds,
-        Without::MarksOfHolds,
-    ];
     let asked = std::env::var("ESCROW_WITHOUT").unwrap_or_default();
     let is_asked = |it: &Without| format!("{:?}", it).contains(&asked);
     // What comes at rest may be a fault of the relay that was changed.
-    let found_without = |without| {
-        (0..number("ESCROW_RUNS").unwrap_or(12_000))
+    let found_without = |without, known| {
+        let first = number("ESCROW_FIRST").unwrap_or(0);
+        let others = first..first + number("ESCROW_RUNS").unwrap_or(12_000);
+        std::iter::once(known)
+            .chain(others)
             .filter_map(|seed| run(seed, Some(without)).err())
             .find(|text| !text.contains("at rest"))
     };
     std::thread::scope(|scope| {
-        let begin = |without| (without, scope.spawn(move || found_without(without)));
-        let searches: Vec<_> = rules.into_iter().filter(is_asked).map(begin).collect();
+        let begin = |(without, seed)| (without, scope.spawn(move || found_without(without, seed)));
+        let asked = RULES.into_iter().filter(|(without, _)| is_asked(without));
+        let searches: Vec<_> = asked.map(begin).collect();
         for (without, search) in searches {
             match search.join().expect("a search ends") {
                 Some(text) => println!("{:?}: {}", without, text),
