@@ -730,7 +730,8 @@ def messages_of_any_order_are_answered_as_by_postgres(cluster: Cluster, proxy: P
         # Portals end with their transactions.
         (wire.parse(update) + wire.bind(portal="p"), sync, wire.execute("p"), sync, served), (portal, once, sync, once, sync, served),
         (wire.query("BEGIN; SAVEPOINT a"), portal, once, sync, wire.query("ROLLBACK TO a"), once, sync, served),
-        (wire.run(update.replace("UPDATE", "WITH s AS (UPDATE") + " RETURNING id) INSERT INTO copied SELECT 1 FROM s RETURNING i"), wire.execute(), sync, served),
+        (wire.run(update.replace("UPDATE", "WITH s AS (UPDATE") + " RETURNING id) INSERT INTO copied SELECT 1 FROM s RETURNING i"),
+         wire.execute(), sync, served),
         # Messages that are too large to be looked at in one piece.
         (wire.run(large.format("loud()")), sync, served), (wire.query("BEGIN"), portal, once, once, once, sync),
     ]
