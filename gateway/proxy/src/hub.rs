@@ -498,7 +498,8 @@ impl Hub {
             Some(table) => state.server.insert(&table, &key, values),
             None => Some("the table is not declared any more".to_owned()),
         };
-        for key in state.server.oldest(key.table) {
+        let may_be_left = |key: &Key| state.protocol.may_be_left(key);
+        for key in state.server.oldest(key.table, may_be_left) {
             let connection = None;
             self.take(&mut state, Event::Leave { connection, key });
         }

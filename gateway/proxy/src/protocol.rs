@@ -933,11 +933,7 @@ impl<K: Row, C: Clone> Protocol<K, C> {
     /// Holds a row no longer, if nobody has reserved it, asks for it, or may still commit a change of it (event 16). If somebody
     /// waits for that, PostgreSQL is asked also where the server does not have the row: its mark may have stayed.
     fn leave(&mut self, connection: Option<Connection>, key: K, actions: &mut Vec<Action<K, C>>) {
-        let is_wanted = self.holds.has_row(&key)
-            || self.loading.contains_key(&key)
-            || self.wanted.contains_key(&key);
-        let may_leave =
-            self.ownership == Ownership::Serving && !is_wanted && !self.is_stopped(&key);
+        let may_leave = self.ownership == Ownership::Serving && self.may_be_left(&key);
         if !may_leave {
             let answer = |connection| Action::Answer(connection, Answer::Missing);
             actions.extend(connection.map(answer));
@@ -948,6 +944,14 @@ impl<K: Row, C: Clone> Protocol<K, C> {
             self.leaving.insert(key.clone(), waiting);
             actions.push(Action::Leave(key));
         }
+    }
+
+    /// Returns whether nobody has reserved a row, asks for it, or may still commit a change of it, and its table goes on.
+    pub fn may_be_left(&self, key: &K) -> bool {
+        let is_wanted = self.holds.has_row(key)
+            || self.loading.contains_key(key)
+            || self.wanted.contains_key(key);
+        !is_wanted && !self.is_stopped(key)
     }
 
     /// Goes on with those who waited for a row, or answers them.

@@ -496,21 +496,23 @@ impl Server {
         }
     }
 
-    /// Returns keys of a table whose rows were not used for the longest time, if it has no room for many more.
-    pub fn oldest(&self, table: i32) -> Vec<Key> {
+    /// Returns keys of a table whose rows were not used for the longest time, of those that may be left, if it has no room for
+    /// many more.
+    pub fn oldest(&self, table: i32, may_be_left: impl Fn(&Key) -> bool) -> Vec<Key> {
         let made = match self.tables.get(&table) {
             Some(made) if made.rows.len() >= ROWS - ROOM => made,
             _ => return Vec::new(),
         };
-        let mut rows: Vec<(u64, &Arc<str>)> = made
-            .rows
-            .iter()
-            .map(|(key, (_, used))| (*used, key))
-            .collect();
-        rows.select_nth_unstable(ROOM);
-        rows.truncate(ROOM);
-        let keys = rows.into_iter().map(|(_, text)| text.clone());
-        keys.map(|text| Key { table, text }).collect()
+        let keys = made.rows.iter().map(|(text, (_, used))| {
+            let text = text.clone();
+            (*used, Key { table, text })
+        });
+        let mut keys: Vec<(u64, Key)> = keys.filter(|(_, key)| may_be_left(key)).collect();
+        if keys.len() > ROOM {
+            keys.select_nth_unstable_by_key(ROOM, |(used, _)| *used);
+            keys.truncate(ROOM);
+        }
+        keys.into_iter().map(|(_, key)| key).collect()
     }
 
     /// Takes a row that nobody has reserved away from it.
@@ -755,7 +757,7 @@ mod tests {
     }
 
     impl Tried {
-        fn new(sessions: u16) -> Tried {
+        fn table() -> Arc<Table> {
             let column = Column {
                 name: "pieces".to_owned(),
                 place: 2,
@@ -763,7 +765,7 @@ mod tests {
                 digits: (10, 0),
                 range: None,
             };
-            let table = Arc::new(Table {
+            Arc::new(Table {
                 number: 7,
                 oid: 1,
                 schema: "public".to_owned(),
@@ -777,7 +779,10 @@ mod tests {
                 refusal_text: String::new(),
                 here_text: String::new(),
                 direct_text: String::new(),
-            });
+            })
+        }
+
+        fn new(sessions: u16) -> Tried {
             let mut tried = Tried {
                 server: Server::of(sessions),
                 model: Model::default(),
@@ -790,7 +795,9 @@ mod tests {
                 value: 0,
                 lines: 0,
             };
-            let refused = tried.server.insert(&table, &tried.key, &["0".to_owned()]);
+            let refused = tried
+                .server
+                .insert(&Tried::table(), &tried.key, &["0".to_owned()]);
             assert_eq!(refused, None);
             tried.check();
             tried
@@ -965,5 +972,25 @@ mod tests {
             }
         }
         assert!(sent.len() >= MOST_UNSENT);
+    }
+
+    #[test]
+    fn the_oldest_rows_of_those_that_may_be_left_make_room() {
+        let (table, mut server) = (Tried::table(), Server::of(1));
+        let key = |at: usize| Key {
+            table: 7,
+            text: at.to_string().into(),
+        };
+        for at in 0..ROWS - ROOM {
+            assert!(server.oldest(7, |_| true).is_empty());
+            assert_eq!(server.insert(&table, &key(at), &["0".to_owned()]), None);
+            server.clock += 1;
+        }
+        let keys = |from: usize| -> BTreeSet<Key> { (from..from + ROOM).map(key).collect() };
+        let oldest: BTreeSet<Key> = server.oldest(7, |_| true).into_iter().collect();
+        assert!(oldest == keys(0));
+        let others = server.oldest(7, |key| !oldest.contains(key));
+        assert!(others.into_iter().collect::<BTreeSet<_>>() == keys(ROOM));
+        assert!(server.oldest(7, |it| *it == key(9_999)) == [key(9_999)]);
     }
 }
