@@ -1254,6 +1254,7 @@ impl<K: Row, C: Clone> Protocol<K, C> {
         let mut unheld = BTreeSet::new();
         let mut is_loading = false;
         let mut told = 0;
+        let mut is_shown_again = false;
         for News {
             line,
             key,
@@ -1276,6 +1277,9 @@ impl<K: Row, C: Clone> Protocol<K, C> {
                 self.holds.forget([line]);
                 ends.push((line, change));
                 told += 1;
+            } else if self.holds.is_done(&line) {
+                // It was to be forgotten, and takes the room of another one.
+                is_shown_again = true;
             } else if is_ours {
                 return self.alarm(Alarm::HoldUnseen, actions);
             } else if self.loading.contains_key(&key) {
@@ -1292,7 +1296,7 @@ impl<K: Row, C: Clone> Protocol<K, C> {
                 }
             }
         }
-        let is_more = told >= MANY;
+        let is_more = told >= MANY || is_shown_again;
         if !ends.is_empty() {
             actions.push(Action::End(ends));
         }

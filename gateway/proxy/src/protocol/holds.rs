@@ -8,7 +8,7 @@ use super::{Connection, Line};
 pub(super) const MANY: usize = 100;
 
 /// The most lines that a look forgets: more would take it too long.
-const FORGETS: usize = 4_000;
+pub(super) const FORGETS: usize = 4_000;
 
 /// So many rows are left at a time because their holds have ended. A sweep does the others, and loads need not wait for them.
 pub(super) const LEAVES: usize = 64;
@@ -45,7 +45,7 @@ pub(super) struct Holds<K, C> {
     /// Who has waited for news, and was shown an end of which nothing can be said yet. A look begins for them once it can.
     again: BTreeSet<Connection>,
     /// Lines that have ended, and that PostgreSQL may forget.
-    done: Vec<Line>,
+    done: BTreeSet<Line>,
     /// Those that the look under way lets it forget.
     forgotten: Vec<Line>,
 }
@@ -58,7 +58,7 @@ impl<K: Clone + Ord, C> Holds<K, C> {
             waiting: Who::default(),
             looking: None,
             again: BTreeSet::new(),
-            done: Vec::new(),
+            done: BTreeSet::new(),
             forgotten: Vec::new(),
         }
     }
@@ -106,6 +106,11 @@ impl<K: Clone + Ord, C> Holds<K, C> {
         self.done.extend(lines);
     }
 
+    /// Returns whether a line has ended that PostgreSQL has not forgotten yet, since there were too many.
+    pub(super) fn is_done(&self, line: &Line) -> bool {
+        self.done.contains(line)
+    }
+
     /// Lets a connection wait for the next look, which shows which of its notes have become lines.
     pub(super) fn wait_for_fates(&mut self, connection: Connection) {
         self.waiting.fates.insert(connection);
@@ -148,8 +153,11 @@ impl<K: Clone + Ord, C> Holds<K, C> {
         if self.looking.is_some() || self.waiting.is_empty() && !is_due {
             return None;
         }
-        let rest = self.done.split_off(self.done.len().min(FORGETS));
-        let done = std::mem::replace(&mut self.done, rest);
+        let next = self.done.iter().nth(FORGETS).copied();
+        let rest = next.map_or_else(BTreeSet::new, |line| self.done.split_off(&line));
+        let done: Vec<Line> = std::mem::replace(&mut self.done, rest)
+            .into_iter()
+            .collect();
         self.forgotten.clone_from(&done);
         let who: &_ = self.looking.insert(std::mem::take(&mut self.waiting));
         Some((done, who))
@@ -170,6 +178,6 @@ impl<K: Clone + Ord, C> Holds<K, C> {
     /// Gives up the look that is under way: it has shown nothing, and nothing is forgotten. The next one does it all.
     pub(super) fn give_up_look(&mut self) {
         self.waiting.extend(self.looking.take().unwrap_or_default());
-        self.done.append(&mut self.forgotten);
+        self.done.extend(self.forgotten.drain(..));
     }
 }

@@ -1,5 +1,6 @@
 //! Single cases of the state machine, event by event. The simulation has all the others.
 
+use super::holds::FORGETS;
 use super::*;
 
 type Machine = Protocol<&'static str, i64>;
@@ -1010,4 +1011,50 @@ fn rows_of_a_table_that_is_ordinary_are_forgotten_once_nobody_has_reserved_one()
     verdicts(&mut it, &[Verdict::Aborted]);
     assert!(it.forget_table('a'));
     assert_eq!(reserve(&mut it, "a", false), [Action::Load("a")]);
+}
+
+/// More has ended at one moment than a look forgets, so that the next one shows the rest again.
+#[test]
+fn what_is_still_to_be_forgotten_is_no_alarm() {
+    let mut it = serving();
+    let clients = || (10..27).map(Connection);
+    for connection in clients() {
+        let runs = true;
+        it.handle(Event::Names { connection, runs });
+    }
+    let mut shown = Vec::new();
+    for connection in clients() {
+        for _ in 0..256 {
+            let number = shown.len() as u64 + 1;
+            hold_by(&mut it, connection, "a", number as i64);
+            shown.push(news(number, Fate::Free, true));
+        }
+    }
+    it.handle(Event::Tick);
+    for connection in clients() {
+        let (tag, status, goes_on) = (Tag::Commit, Status::Idle, false);
+        it.handle(Event::Completed { connection, tag });
+        it.handle(Event::Ready {
+            connection,
+            status,
+            goes_on,
+        });
+    }
+    looked(&mut it, vec![]);
+    looked(&mut it, shown.clone());
+    let rest = shown.split_off(FORGETS);
+    let forgotten = shown.iter().map(|it| it.line).collect();
+    let asked = Vec::new();
+    let first = Action::Look {
+        done: forgotten,
+        asked,
+    };
+    assert_eq!(it.handle(Event::Tick), [first]);
+    // Who has taken something waits until a look shows nothing else.
+    names(&mut it);
+    assert_eq!(ready(&mut it, Status::Idle), []);
+    let done = rest.iter().map(|it| it.line).collect();
+    let asked = Vec::new();
+    assert_eq!(looked(&mut it, rest), [Action::Look { done, asked }]);
+    assert_eq!(looked(&mut it, vec![]), [Action::Deliver(ONE)]);
 }
