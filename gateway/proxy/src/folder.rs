@@ -236,28 +236,46 @@ pub async fn fold(hub: Arc<Hub>, target: Arc<Target>, mut tasks: UnboundedReceiv
         to_patient,
     ));
     let mut pause = AGAIN;
-    while let Some(task) = tasks.recv().await {
+    // When rows that were locked are tried again. One try has all of them.
+    let mut again: Option<Instant> = None;
+    let mut generation = 0;
+    loop {
+        let task = tokio::select! {
+            biased;
+            _ = sleep_until(again.unwrap_or_else(Instant::now)), if again.is_some() => {
+                again = None;
+                hub.report(generation, Event::FoldAgain);
+                continue;
+            }
+            task = tasks.recv() => task,
+        };
         let (folding, keys) = match task {
-            FolderTask::Fold(folding, keys) => (folding, keys),
-            FolderTask::Sweep(epoch) => {
+            Some(FolderTask::Fold(folding, keys)) => (folding, keys),
+            Some(FolderTask::Sweep(epoch)) => {
                 let _ = patient.send(PatientTask::Sweep(epoch));
                 continue;
             }
-            FolderTask::SweepSoon(epoch) => {
+            Some(FolderTask::SweepSoon(epoch)) => {
                 let _ = patient.send(PatientTask::SweepSoon(epoch));
                 continue;
             }
+            None => return,
         };
+        generation = folding.generation;
         let begun = Instant::now();
-        let count = keys.len();
-        let mut folded = Vec::with_capacity(count);
+        let mut folded = Vec::with_capacity(keys.len());
+        let mut are_locked = false;
         let mut is_lost = false;
         for (table, keys) in by_table(keys) {
             if late.has(table) {
+                // The patient connection says when it is tried again.
                 continue;
             }
             match fold_table(&hub, &mut own, table, &keys).await {
-                Tried::Folded(some) => folded.extend(some),
+                Tried::Folded(some) => {
+                    are_locked |= some.len() < keys.len();
+                    folded.extend(some);
+                }
                 Tried::Refused => {}
                 Tried::HeldUp => {
                     late.add(table);
@@ -276,22 +294,15 @@ pub async fn fold(hub: Arc<Hub>, target: Arc<Target>, mut tasks: UnboundedReceiv
             continue;
         }
         hub.metrics().folded(begun.elapsed());
-        if folded.len() < count {
-            again(hub.clone(), folding.generation, pause);
+        if are_locked {
+            let next = Instant::now() + pause;
+            again = Some(again.map_or(next, |at| at.min(next)));
             pause = LONGEST_AGAIN.min(2 * pause);
         } else {
             pause = AGAIN;
         }
         hub.report(folding.generation, Event::Folded { keys: folded });
     }
-}
-
-/// Lets a fold try again, after a short while, what was locked.
-fn again(hub: Arc<Hub>, generation: Generation, pause: Duration) {
-    tokio::spawn(async move {
-        sleep(pause).await;
-        hub.report(generation, Event::FoldAgain);
-    });
 }
 
 /// Folds tables that are late, and what former owners have left. Nobody but they wait for it.

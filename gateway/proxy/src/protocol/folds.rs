@@ -116,17 +116,17 @@ impl<K: Clone + Ord> Folds<K> {
     }
 
     /// Begins a fold of what may be folded. Returns its keys, or none if one is under way or nothing is pending. `all` tries
-    /// the skipped ones again.
+    /// the skipped ones again, by the next fold if one is under way: else none would, as long as one follows another.
     pub(super) fn begin(
         &mut self,
         all: bool,
         may_be_folded: impl Fn(&K) -> bool,
     ) -> Option<Vec<K>> {
-        if self.folding.is_some() {
-            return None;
-        }
         if all {
             self.pending.append(&mut self.skipped);
+        }
+        if self.folding.is_some() {
+            return None;
         }
         let keys = self.pending.keys().filter(|key| may_be_folded(key));
         let keys: Vec<K> = keys.cloned().collect();
@@ -252,6 +252,21 @@ mod tests {
         assert_eq!(folds.begin(false, all), Some(vec!["a"]));
         assert_eq!(folds.folded(&["a"]), vec![ONE]);
         assert!(folds.is_empty());
+    }
+
+    #[test]
+    fn a_locked_row_is_tried_again_though_one_fold_follows_another() {
+        let mut folds = Folds::new();
+        commit(&mut folds, &["a"], ONE);
+        assert_eq!(folds.begin(false, all), Some(vec!["a"]));
+        commit(&mut folds, &["b"], TWO);
+        assert_eq!(folds.folded(&[]), vec![]);
+        assert_eq!(folds.begin(false, all), Some(vec!["b"]));
+        assert_eq!(folds.begin(true, all), None, "one is under way");
+        commit(&mut folds, &["c"], TWO);
+        assert_eq!(folds.folded(&["b"]), vec![]);
+        assert_eq!(folds.begin(false, all), Some(vec!["a", "c"]));
+        assert_eq!(folds.folded(&["a", "c"]), vec![ONE, TWO]);
     }
 
     #[test]
