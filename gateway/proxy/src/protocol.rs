@@ -857,7 +857,7 @@ impl<K: Row, C: Clone> Protocol<K, C> {
     fn wait_over(&mut self, connection: Connection, actions: &mut Vec<Action<K, C>>) {
         if let Some(client) = self.clients.get_mut(&connection) {
             if client.take_kept() {
-                client.give_up();
+                client.give_up(self.folds.turn());
                 self.folds.forget(connection);
                 self.holds.forget_news(connection);
                 actions.push(Action::Deliver(connection));

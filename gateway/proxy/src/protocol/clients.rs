@@ -203,9 +203,10 @@ impl<K: Clone + Ord, C> Client<K, C> {
         self.is_kept && self.awaits == Awaits::default()
     }
 
-    /// The client goes on without what it has waited for.
-    pub(super) fn give_up(&mut self) {
+    /// The client goes on without what it has waited for, at this turn.
+    pub(super) fn give_up(&mut self, turn: Turn) {
         self.is_given_up |= self.awaits.outcome;
+        self.runs_since = self.runs_since.map(|_| turn);
         self.awaits = Awaits::default();
     }
 

@@ -910,6 +910,27 @@ fn a_take_behind_another_that_was_sent_at_once_is_waited_for() {
     assert!(it.is_idle(ONE));
 }
 
+/// More was sent behind the take, before its row could be folded.
+#[test]
+fn what_a_client_has_not_waited_for_holds_up_nothing_that_was_sent_at_once() {
+    let mut it = serving();
+    names(&mut it);
+    let (connection, status, goes_on) = (ONE, Status::Idle, true);
+    let first = Event::Ready {
+        connection,
+        status,
+        goes_on,
+    };
+    assert_eq!(it.handle(first), [look(&[], &[])]);
+    let taken = vec![news(5, Fate::Taken(1), false)];
+    assert_eq!(looked(&mut it, taken), [Action::Fold(vec!["a"])]);
+    assert_eq!(folded(&mut it, &[]), [], "the row is locked");
+    let over = Event::WaitOver { connection };
+    assert_eq!(it.handle(over), [Action::Deliver(ONE)]);
+    assert_eq!(ready(&mut it, Status::Idle), [look(&[5], &[])]);
+    assert_eq!(looked(&mut it, vec![]), [Action::Deliver(ONE)]);
+}
+
 #[test]
 fn a_block_that_goes_on_behind_its_commit_sees_it() {
     let mut it = serving();
