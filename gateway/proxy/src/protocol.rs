@@ -1163,6 +1163,7 @@ impl<K: Row, C: Clone> Protocol<K, C> {
             // Otherwise the server's reply is still to come.
             client.end_request();
         }
+        client.release(&mut self.wanted);
         client.end();
         #[cfg(test)]
         if self.fault == Some(Fault::LossIsRollback) {

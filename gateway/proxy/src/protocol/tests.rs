@@ -292,6 +292,24 @@ fn goes_on_before_its_outcome_is_known() {
 }
 
 #[test]
+fn a_loss_amid_torn_outcomes_wants_nothing_more() {
+    let mut it = serving();
+    hold(&mut it, false, 7);
+    completed(&mut it, "SAVEPOINT");
+    hold(&mut it, false, 8);
+    completed(&mut it, "ROLLBACK");
+    let asked = [Action::Ask(ONE, vec![Id(7), Id(8)])];
+    assert_eq!(ready(&mut it, Status::Idle), asked);
+    it.handle(Event::WaitOver { connection: ONE });
+    assert_eq!(reserve(&mut it, "b", false), []);
+    let again = [Action::Ask(ONE, vec![Id(7)])];
+    let torn = [Verdict::InProgress, Verdict::Committed];
+    assert_eq!(verdicts(&mut it, &torn), again);
+    assert_eq!(it.handle(Event::Lost { connection: ONE }), []);
+    assert!(it.forget_table('b'));
+}
+
+#[test]
 fn an_error_frees_at_once_what_it_has_ended() {
     let mut it = serving();
     hold(&mut it, false, 7);
