@@ -25,6 +25,19 @@ pub struct Prepared {
     pub types: Vec<u32>,
 }
 
+impl Prepared {
+    /// Returns whether something may go wrong if a name means another statement by then. A DELETE only has a row left, at worst for
+    /// nothing, and a COMMIT passes as it is unless the hub is told of it.
+    fn matters(&self, is_engaged: bool) -> bool {
+        let passes = match self.statement {
+            Statement::Delete(_) => true,
+            Statement::Commit => !is_engaged,
+            _ => false,
+        };
+        self.names_holds || self.shows || !passes
+    }
+}
+
 /// A portal of such a statement.
 #[derive(Debug)]
 pub struct Bound {
@@ -221,6 +234,9 @@ pub struct Track {
     spare_syncs: usize,
     /// Whether PostgreSQL may have a statement or a portal without a name.
     has_unnamed: bool,
+    /// Whether something that is expected may give a name to what the proxy looks at. A long pipeline of other statements is not
+    /// searched for each of them.
+    gives_names: bool,
     /// Rows of the own request that is under way, or was last, which the client has not asked for yet. And whether it has got as
     /// many as it has asked for.
     kept_rows: (Vec<Bytes>, bool),
@@ -258,6 +274,7 @@ impl Track {
             is_copying: false,
             spare_syncs: 0,
             has_unnamed: false,
+            gives_names: false,
             kept_rows: (Vec::new(), false),
             refused_rows: Vec::new(),
             process: 0,
@@ -274,6 +291,8 @@ impl Track {
             }
             self.is_skipping = false;
         }
+        self.gives_names &= !self.queue.is_empty();
+        self.gives_names |= matches!(expect, Expect::Parse(_, Some(_)) | Expect::Bind(_, Some(_)));
         match &expect {
             Expect::Parse(name, _) | Expect::Bind(name, _) => self.has_unnamed |= name.is_empty(),
             Expect::Query => self.has_unnamed = false,
@@ -383,23 +402,33 @@ impl Track {
     }
 
     /// Returns whether it depends on what is not answered which portal of interest a name is.
-    pub fn may_lose_portal(&self, name: &str) -> bool {
-        let binds = |it: &Expect| matches!(it, Expect::Bind(portal, Some(_)) if portal == name);
-        let is_known = self.portals.contains_key(name) || self.queue.iter().any(binds);
-        is_known
-            && self.runs_behind(|it| {
-                matches!(it, Expect::Bind(other, _) | Expect::ClosePortal(other) if other == name)
-            })
+    pub fn may_lose_portal(&self, name: &str, is_engaged: bool) -> bool {
+        let matters = |it: &Arc<Bound>| it.statement.matters(is_engaged);
+        let binds = |it: &Expect| matches!(it, Expect::Bind(portal, Some(bound)) if portal == name && matters(bound));
+        let is_about = |it: &Expect| matches!(it, Expect::Bind(other, _) | Expect::ClosePortal(other) if other == name);
+        let is_known = self.portals.get(name).map_or(false, matters);
+        self.may_lose(is_known, binds, is_about)
     }
 
     /// Does the same for the name of a statement.
-    pub fn may_lose_statement(&self, name: &str) -> bool {
-        let parses = |it: &Expect| matches!(it, Expect::Parse(other, Some(_)) if other == name);
-        let is_known = self.statements.contains_key(name) || self.queue.iter().any(parses);
-        is_known
-            && self.runs_behind(|it| {
-                matches!(it, Expect::Parse(other, _) | Expect::CloseStatement(other) if other == name)
-            })
+    pub fn may_lose_statement(&self, name: &str, is_engaged: bool) -> bool {
+        let matters = |it: &Arc<Prepared>| it.matters(is_engaged);
+        let parses = |it: &Expect| matches!(it, Expect::Parse(other, Some(prepared)) if other == name && matters(prepared));
+        let is_about = |it: &Expect| matches!(it, Expect::Parse(other, _) | Expect::CloseStatement(other) if other == name);
+        let is_known = self.statements.get(name).map_or(false, matters);
+        self.may_lose(is_known, parses, is_about)
+    }
+
+    /// Does it for either: whether what is answered gives the name, or what is expected, and what is about it.
+    fn may_lose(
+        &self,
+        is_known: bool,
+        gives: impl Fn(&Expect) -> bool,
+        is_about: impl Fn(&Expect) -> bool,
+    ) -> bool {
+        (is_known || self.gives_names)
+            && self.runs_behind(is_about)
+            && (is_known || self.queue.iter().any(gives))
     }
 
     /// Returns whether something is not answered that runs or ends a cycle behind the last message about a name. What runs may drop
@@ -454,6 +483,7 @@ impl Track {
     /// The text of the Parse that was sent last, of which parts are still to come, names the functions of holds.
     pub fn parse_names_holds(&mut self) {
         if let Some(Expect::Parse(_, prepared)) = self.queue.back_mut() {
+            self.gives_names = true;
             *prepared = Some(Arc::new(Prepared {
                 statement: Statement::Named,
                 names_holds: true,
@@ -465,6 +495,9 @@ impl Track {
 
     /// Returns the statement of a name, as it will be when all is answered without an error.
     pub fn statement(&self, name: &str) -> Option<Arc<Prepared>> {
+        if !self.gives_names && !self.statements.contains_key(name) {
+            return None;
+        }
         let last = self.queue.iter().rev().find_map(|it| match it {
             Expect::Parse(statement, prepared) if statement == name => Some(prepared.clone()),
             Expect::CloseStatement(statement) if statement == name => Some(None),
@@ -927,6 +960,29 @@ mod tests {
         }
         track.reply(b'2', b"");
         assert!(track.portal("p").is_none());
+    }
+
+    #[test]
+    fn only_what_may_go_wrong_waits_for_what_runs() {
+        for (text, is_engaged, waits) in [
+            ("UPDATE t SET n = n - 1 WHERE id = 1", false, true),
+            ("DELETE FROM t WHERE id = 1", true, false),
+            ("COMMIT", false, false),
+            ("COMMIT", true, true),
+        ] {
+            let mut track = started();
+            let prepared = Arc::new(Prepared {
+                statement: Statement::read(text).unwrap(),
+                names_holds: false,
+                shows: false,
+                types: Vec::new(),
+            });
+            track.expect(Expect::Parse("a".to_owned(), Some(prepared)));
+            assert!(!track.may_lose_statement("a", is_engaged), "{text}");
+            track.expect(Expect::Execute);
+            assert_eq!(track.may_lose_statement("a", is_engaged), waits, "{text}");
+            assert!(track.statement("a").is_some() && !track.may_lose_statement("b", is_engaged));
+        }
     }
 
     #[test]

@@ -232,7 +232,8 @@ impl<'a> Requests<'a> {
         let mut frames = Frames::default();
         loop {
             while let Some(piece) = frames.next(&mut input)? {
-                self.has_sync = frames::has_sync(&input);
+                self.has_sync =
+                    matches!(piece, frames::Piece::Message(b'E', _)) && frames::has_sync(&input);
                 match piece {
                     frames::Piece::Message(kind, bytes) => self.message(kind, bytes).await?,
                     frames::Piece::Part(bytes, is_first) => self.part(&bytes, is_first).await?,
@@ -287,7 +288,12 @@ impl<'a> Requests<'a> {
                 }
                 Some(b'B') => {
                     let (portal, statement) = (name(), name());
-                    if self.shared.track().may_lose_statement(&statement) {
+                    let is_engaged = self.shared.is_engaged();
+                    if self
+                        .shared
+                        .track()
+                        .may_lose_statement(&statement, is_engaged)
+                    {
                         self.settle().await?;
                     }
                     let statement = self.shared.track().statement(&statement);
@@ -409,7 +415,12 @@ impl<'a> Requests<'a> {
             Message::Bind(bind) => {
                 self.check_name(bind.statement)?;
                 self.check_name(bind.portal)?;
-                if self.shared.track().may_lose_statement(bind.statement) {
+                let is_engaged = self.shared.is_engaged();
+                if self
+                    .shared
+                    .track()
+                    .may_lose_statement(bind.statement, is_engaged)
+                {
                     self.settle().await?;
                 }
                 let statement = self.shared.track().statement(bind.statement);
@@ -445,7 +456,8 @@ impl<'a> Requests<'a> {
             Message::Execute { portal, limit } => {
                 let limit = Some(limit as usize).filter(|&limit| limit > 0);
                 self.check_name(portal)?;
-                if self.shared.track().may_lose_portal(portal) {
+                let is_engaged = self.shared.is_engaged();
+                if self.shared.track().may_lose_portal(portal, is_engaged) {
                     self.settle().await?;
                 }
                 let bound = self.shared.track().portal(portal);
