@@ -846,6 +846,8 @@ impl<'a> Requests<'a> {
         if self.shared.track().is_skipping() {
             return Ok(OwnReply::Unsent);
         }
+        // Those of a request that has failed are nobody's.
+        drop(self.shared.track().take_kept_rows());
         let closed = self.close_left();
         self.own.names += 1;
         let name = format!("{}{}", own::PREFIX, self.own.names);

@@ -752,6 +752,15 @@ def messages_of_any_order_are_answered_as_by_postgres(cluster: Cluster, proxy: P
                     pass  # it has ended
                 answers.append([each.shown() for each in found + it.until_end()])
         expect(answers[1], answers[0], str(schedule))
+    # What fails amid its rows leaves none of them to the next one.
+    rows = [row(cluster) for _ in range(3)]
+    shows = f"UPDATE stock SET pieces = pieces - 0 WHERE id IN ({rows[0]}, {rows[1]}, {rows[2]}) RETURNING {{}}"
+    with wire.Connection(proxy.socket) as it:
+        for shown in (f"10 / (id - {rows[2]})", "7"):
+            it.do("BEGIN")
+            answer = it.extended(wire.parse(shows.format(shown)), wire.bind(), wire.execute(most=1), wire.execute())
+            it.do("ROLLBACK")
+        expect(answer, ["parsed", "bound", "row 7", "suspended", "row 7", "row 7", "complete UPDATE 2", "ready T"])
     cluster.run("DROP TABLE copied, never", "DROP FUNCTION no, loud")
 
 
