@@ -19,6 +19,8 @@ pub struct Prepared {
     pub statement: Statement,
     /// Whether its text names the functions of holds, so that they may run by it.
     pub names_holds: bool,
+    /// Whether the proxy may ask something in front of it, in its transaction.
+    pub may_come_second: bool,
     /// Whether its text names the function that shows what is reserved.
     pub shows: bool,
     /// The types of its parameters, as far as the client has told them, or PostgreSQL has described them.
@@ -487,6 +489,7 @@ impl Track {
             *prepared = Some(Arc::new(Prepared {
                 statement: Statement::Named,
                 names_holds: true,
+                may_come_second: true,
                 shows: false,
                 types: Vec::new(),
             }));
@@ -637,6 +640,7 @@ impl Track {
                     *prepared = Arc::new(Prepared {
                         statement: prepared.statement.clone(),
                         names_holds: prepared.names_holds,
+                        may_come_second: prepared.may_come_second,
                         shows: prepared.shows,
                         types,
                     });
@@ -940,6 +944,7 @@ mod tests {
             statement: Arc::new(Prepared {
                 statement,
                 names_holds: false,
+                may_come_second: true,
                 shows: false,
                 types,
             }),
@@ -974,6 +979,7 @@ mod tests {
             let prepared = Arc::new(Prepared {
                 statement: Statement::read(text).unwrap(),
                 names_holds: false,
+                may_come_second: true,
                 shows: false,
                 types: Vec::new(),
             });
@@ -992,6 +998,7 @@ mod tests {
         let prepared = Arc::new(Prepared {
             statement,
             names_holds: false,
+            may_come_second: true,
             shows: false,
             types: Vec::new(),
         });

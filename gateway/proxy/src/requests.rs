@@ -406,6 +406,7 @@ impl<'a> Requests<'a> {
                     Arc::new(Prepared {
                         statement,
                         names_holds,
+                        may_come_second: may_come_second(parse.text),
                         shows,
                         types,
                     })
@@ -466,7 +467,12 @@ impl<'a> Requests<'a> {
                     .map(|bound| (bound, &bound.statement.statement));
                 if bound.as_ref().map_or(false, |it| it.statement.names_holds) {
                     self.runs_holds().await?;
-                    self.know_wait().await?;
+                    if bound
+                        .as_ref()
+                        .map_or(false, |it| it.statement.may_come_second)
+                    {
+                        self.know_wait().await?;
+                    }
                 }
                 if bound.as_ref().map_or(false, |it| it.statement.shows) {
                     self.show().await?;
@@ -669,7 +675,7 @@ impl<'a> Requests<'a> {
         self.check_text(text)?;
         if self.may_run_holds(text) {
             self.runs_holds().await?;
-            if self.is_heard().await? && !self.know_wait().await? {
+            if may_come_second(text) && self.is_heard().await? && !self.know_wait().await? {
                 self.pass(own::SYNC, Expect::Sync);
                 return Ok(());
             }
@@ -970,6 +976,20 @@ impl<'a> Requests<'a> {
 /// Returns what a portal has left of its rows, once it has run.
 fn rows_left(bound: &Bound) -> MutexGuard<'_, Option<Left>> {
     bound.left.lock().unwrap_or_else(PoisonError::into_inner)
+}
+
+/// Returns whether the proxy may ask something in front of a text: it is one statement that may run functions. Of others some have
+/// to come first in their transaction, as VACUUM and what sets an isolation.
+fn may_come_second(text: &[u8]) -> bool {
+    const WORDS: [&str; 8] = [
+        "select", "with", "insert", "update", "delete", "execute", "call", "do",
+    ];
+    let text = String::from_utf8_lossy(text);
+    let begins = |word: &&str| {
+        let first = text.trim_start().get(..word.len());
+        first.map_or(false, |it| it.eq_ignore_ascii_case(word))
+    };
+    !script::may_be_several(&text) && WORDS.iter().any(begins)
 }
 
 /// Returns whether a text may be a statement that the proxy looks at.

@@ -727,6 +727,9 @@ def messages_of_any_order_are_answered_as_by_postgres(cluster: Cluster, proxy: P
         (wire.query(f"COPY copied FROM STDIN; {update}; COPY copied FROM STDIN"), good, done, good, done, served),
         (wire.query("COPY copied FROM STDIN /* escrow: reservable */"), ..., good, done, served),
         (done, wire.query("SELECT 1"), done, copies, sync, good, done, sync, pipeline, sync),
+        # What has to come first in its transaction.
+        (wire.query("BEGIN ISOLATION LEVEL SERIALIZABLE; SELECT 'escrow.take'; COMMIT"), wire.query("VACUUM copied /* escrow.hold_lines */"),
+         wire.run("VACUUM copied /* escrow.hold_lines */"), sync),
         # Portals end with their transactions.
         (wire.parse(update) + wire.bind(portal="p"), sync, wire.execute("p"), sync, served), (portal, once, sync, once, sync, served),
         (wire.query("BEGIN; SAVEPOINT a"), portal, once, sync, wire.query("ROLLBACK TO a"), once, sync, served),
