@@ -234,6 +234,8 @@ pub struct Track {
     /// How many Syncs in front of the data of COPYs that have failed were taken for ignored. PostgreSQL has answered one if a
     /// trigger failed before it read anything.
     spare_syncs: usize,
+    /// Whether something was answered since the last ReadyForQuery.
+    is_answered: bool,
     /// Whether PostgreSQL may have a statement or a portal without a name.
     has_unnamed: bool,
     /// Whether something that is expected may give a name to what the proxy looks at. A long pipeline of other statements is not
@@ -275,6 +277,7 @@ impl Track {
             is_kept: true,
             is_copying: false,
             spare_syncs: 0,
+            is_answered: false,
             has_unnamed: false,
             gives_names: false,
             kept_rows: (Vec::new(), false),
@@ -589,6 +592,7 @@ impl Track {
             }
             b'Z' if self.is_spare() => {
                 self.spare_syncs -= 1;
+                self.is_answered = false;
                 self.is_skipping &= !self.queue.is_empty();
                 return Reply::Pass;
             }
@@ -600,8 +604,10 @@ impl Track {
                     _ => Reply::Stray,
                 }
             }
-            b'E' => return self.error(),
-            _ => {}
+            _ => self.is_answered = true,
+        }
+        if kind == b'E' {
+            return self.error();
         }
         match (kind, self.queue.front()) {
             (b'1', Some(Expect::Parse(..))) => {
@@ -719,10 +725,13 @@ impl Track {
         }
     }
 
-    /// Returns whether a ReadyForQuery answers a Sync that was taken for ignored.
+    /// Returns whether a ReadyForQuery answers a Sync that was taken for ignored. A Query has other answers in front of its own one.
     fn is_spare(&self) -> bool {
-        let front = self.queue.front();
-        self.spare_syncs > 0 && !front.map_or(false, Expect::ends_ready)
+        let is_next = match self.queue.front() {
+            Some(Expect::Query | Expect::Function) => self.is_answered,
+            front => front.map_or(false, Expect::ends_ready),
+        };
+        self.spare_syncs > 0 && !is_next
     }
 
     /// Takes a row of an own request whose rows are the client's.
@@ -780,6 +789,7 @@ impl Track {
             }
         }
         self.status = status;
+        self.is_answered = false;
         self.is_plain = true;
         self.is_fresh = true;
         self.is_copying = false;

@@ -723,6 +723,7 @@ def messages_of_any_order_are_answered_as_by_postgres(cluster: Cluster, proxy: P
         *((copies, sync, *more, bad, done, sync, pipeline, sync, served) for more in ((), (...,))),
         *((copy, sync, bad, *more, sync, served, sync, served) for more in ((), (done,))),
         (never, sync, good, done, sync, pipeline, sync, served), (never, sync, ..., ..., ..., served),
+        (never, sync, good, done, sync, wire.query("SELECT 1"), served),
         # Several of them.
         (wire.query(f"COPY copied FROM STDIN; {update}; COPY copied FROM STDIN"), good, done, good, done, served),
         (wire.query("COPY copied FROM STDIN /* escrow: reservable */"), ..., good, done, served),
