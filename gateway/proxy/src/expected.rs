@@ -207,6 +207,17 @@ pub enum Reply {
     Stray,
 }
 
+/// What the session has lost of what the proxy has made in it.
+#[derive(Clone, Copy, Debug, PartialEq, Eq, PartialOrd, Ord)]
+pub enum Lost {
+    /// Nothing.
+    Nothing,
+    /// Its greeting.
+    Greeting,
+    /// Its statements too.
+    All,
+}
+
 /// What is known of one connection.
 #[derive(Debug)]
 pub struct Track {
@@ -227,8 +238,8 @@ pub struct Track {
     knows_wait: bool,
     /// What names of tables mean.
     resolved: HashMap<String, Option<u32>>,
-    /// Whether the session has kept the proxy's statements and its greeting.
-    is_kept: bool,
+    /// What the session has lost of the proxy's.
+    lost: Lost,
     /// Whether a COPY into PostgreSQL is under way.
     is_copying: bool,
     /// How many Syncs in front of the data of COPYs that have failed were taken for ignored. PostgreSQL has answered one if a
@@ -274,7 +285,7 @@ impl Track {
             is_volatile: false,
             knows_wait: false,
             resolved: HashMap::new(),
-            is_kept: true,
+            lost: Lost::Nothing,
             is_copying: false,
             spare_syncs: 0,
             is_answered: false,
@@ -568,9 +579,9 @@ impl Track {
         self.knows_wait = true;
     }
 
-    /// Returns whether the session has lost the proxy's statements and greeting since the last call.
-    pub fn take_lost(&mut self) -> bool {
-        !std::mem::replace(&mut self.is_kept, true)
+    /// Returns what the session has lost of the proxy's since the last call.
+    pub fn take_lost(&mut self) -> Lost {
+        std::mem::replace(&mut self.lost, Lost::Nothing)
     }
 
     /// Takes a reply, by its kind and its body.
@@ -831,16 +842,20 @@ impl Track {
             // PREPARE gives no name that another statement has.
             "PREPARE" => {}
             "DEALLOCATE" => self.forget_statements(),
-            "DISCARD" => {
-                self.forget_statements();
-                self.forget_meanings();
-                self.is_kept = false;
-            }
+            "DISCARD" => self.forget_meanings(),
             _ => self.forget_meanings(),
         }
-        if text == "DEALLOCATE ALL" {
-            self.is_kept = false;
-        }
+        let lost = match text {
+            "DEALLOCATE ALL" => Lost::All,
+            "DISCARD ALL" => {
+                self.forget_statements();
+                Lost::All
+            }
+            // It has the number of the greeting.
+            "DISCARD SEQUENCES" => Lost::Greeting,
+            _ => Lost::Nothing,
+        };
+        self.lost = self.lost.max(lost);
         tag
     }
 

@@ -13,7 +13,7 @@ use tokio::sync::mpsc::{UnboundedReceiver, UnboundedSender};
 
 use crate::catalog::Catalog;
 use crate::error::Error;
-use crate::expected::{Bound, Expect, Left, Prepared};
+use crate::expected::{Bound, Expect, Left, Lost, Prepared};
 use crate::frames::{self, Frames};
 use crate::hub::{Hub, Mail};
 use crate::own::{self, Value};
@@ -186,6 +186,18 @@ pub(crate) struct Session {
     prepares_holds: bool,
     /// Of a large Query or Parse: its kind, and the end of what has come of it.
     large: Option<(u8, Vec<u8>)>,
+}
+
+impl Session {
+    /// Forgets what is lost.
+    pub(crate) fn lose(&mut self, lost: Lost) {
+        if lost == Lost::All {
+            self.prepared.clear();
+        }
+        if lost != Lost::Nothing {
+            self.greeted = 0;
+        }
+    }
 }
 
 impl<'a> Requests<'a> {
@@ -921,10 +933,7 @@ impl<'a> Requests<'a> {
         if self.shared.track().is_skipping() {
             return Ok(OwnReply::Unsent);
         }
-        if self.shared.track().take_lost() {
-            self.own.prepared.clear();
-            self.own.greeted = 0;
-        }
+        self.own.lose(self.shared.track().take_lost());
         let closed = self.close_left();
         let session = &mut self.own;
         session.names += 1;

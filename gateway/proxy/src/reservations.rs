@@ -737,10 +737,7 @@ impl Requests<'_> {
 
     /// Greets the connection, unless it was greeted in this epoch. Returns the reply if it failed.
     async fn be_greeted(&mut self, secret: &Secret, epoch: i64) -> Result<Option<OwnReply>, Error> {
-        if self.shared.track().take_lost() {
-            self.own.prepared.clear();
-            self.own.greeted = 0;
-        }
+        self.own.lose(self.shared.track().take_lost());
         if self.own.greeted == epoch {
             return Ok(None);
         }
