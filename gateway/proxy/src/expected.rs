@@ -534,8 +534,7 @@ impl Track {
 
     /// Forgets all statements and portals: a message that was not looked at may have changed any of them.
     pub fn forget_statements(&mut self) {
-        self.statements.clear();
-        self.portals.clear();
+        self.forget_answered();
         for it in &mut self.queue {
             match it {
                 Expect::Parse(_, prepared) => *prepared = None,
@@ -543,6 +542,12 @@ impl Track {
                 _ => {}
             }
         }
+    }
+
+    /// Forgets those that PostgreSQL has made so far, and none that was sent behind what it answers now.
+    fn forget_answered(&mut self) {
+        self.statements.clear();
+        self.portals.clear();
     }
 
     /// Returns what a name of a table means, if that is known: a relation, or nothing.
@@ -834,21 +839,21 @@ impl Track {
                 let at = usize::from(matches!(self.queue.front(), Some(Expect::Query)));
                 match self.queue.get(at) {
                     Some(Expect::Deallocated(name)) => drop(self.statements.remove(name)),
-                    _ => self.forget_statements(),
+                    _ => self.forget_answered(),
                 }
             }
             // A cursor is a portal too.
             "CLOSE" => self.portals.clear(),
             // PREPARE gives no name that another statement has.
             "PREPARE" => {}
-            "DEALLOCATE" => self.forget_statements(),
+            "DEALLOCATE" => self.forget_answered(),
             "DISCARD" => self.forget_meanings(),
             _ => self.forget_meanings(),
         }
         let lost = match text {
             "DEALLOCATE ALL" => Lost::All,
             "DISCARD ALL" => {
-                self.forget_statements();
+                self.forget_answered();
                 Lost::All
             }
             // It has the number of the greeting.

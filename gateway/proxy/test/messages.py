@@ -74,6 +74,7 @@ KEPT: Dict[str, Sequence[Step]] = {
     "a large Parse of the name": (at_once(parse(TAKE)), at_once(*ran(f"SELECT length('{LARGE}')")), at_once(bind(), execute())),
     "a large Bind": (BOUND, at_once(parse("SELECT length($1::text)"), bind([LARGE]), execute()), RUNS),
     "PREPARE": (PREPARED, (1, [query("PREPARE t AS SELECT 1")]), RUNS),
+    "DISCARD ALL in front of the Parse": (PREPARED, (2, [query("DISCARD ALL"), parse(TAKE, "s"), sync()]), RUNS),
     "DISCARD of other things": (PREPARED, (2, [query("DISCARD TEMP"), query("DISCARD SEQUENCES")]), RUNS),
 }
 
