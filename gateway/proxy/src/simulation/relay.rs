@@ -490,7 +490,9 @@ impl Relay {
             return Ok(());
         }
         let shown = postgres.take_shown(client.backend);
-        let is_unseen = std::mem::take(&mut client.is_unseen);
+        let is_unseen = client.is_unseen;
+        // What passed unseen may be of the block that goes on.
+        client.is_unseen &= client.status == Status::InBlock;
         if !serves || client.is_over {
             return Ok(());
         }
