@@ -21,7 +21,6 @@ from typing import Dict, List, NamedTuple, Optional, Sequence, Tuple
 from psycopg import pq
 
 from clients import wire
-from clients.servers import PATIENCE
 from clients.suite import expect, load, main
 from proxy.test import messages
 from proxy.test.drivers import Both, opened
@@ -30,8 +29,6 @@ from proxy.test.harness import SharedPart
 PART = SharedPart("proxy_compare", opened)
 # What the gate sends; and its most seconds, behind which a slow machine sends no more.
 SEED, COUNT, SECONDS = 83, 1_200, 100.0
-# The seconds in which a row that is late is there.
-LATE = 5.0 * PATIENCE
 # The statements behind which the rows are made anew, and the differences that are shown.
 A_TABLE, MOST_SHOWN = 100, 12
 
@@ -284,18 +281,10 @@ class Comparison:
             self.errors += 1
         else:
             self.served += 1
-        tables, end = self.effects(), time.monotonic() + LATE
-        # The row may follow what a string commits before it reserves again.
-        while sent.is_string() and tables[0] != tables[1] and time.monotonic() < end:
-            time.sleep(0.05)
-            tables = self.effects()
+        tables = [it.execute(SHOWN.encode()).fetchall() for it in (self.straight, self.plain)]
         if tables[0] != tables[1]:
             self.differ(sent, "the effect", *tables)
             self.renew()
-
-    def effects(self) -> List[List[Tuple[str, ...]]]:
-        """Returns the rows behind the proxy and those of the plain database."""
-        return [it.execute(SHOWN.encode()).fetchall() for it in (self.straight, self.plain)]
 
     def end_blocks(self) -> None:
         """Ends the blocks that a statement has left open."""
