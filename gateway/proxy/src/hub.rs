@@ -471,7 +471,7 @@ impl Hub {
     pub fn tick(&self) {
         let mut state = lock(&self.state);
         for connection in state.server.tired() {
-            state.refusals.insert(connection, Refusal::NoSession);
+            state.refuse(connection, Refusal::NoSession);
             self.take(&mut state, Event::Refused { connection });
         }
         self.take(&mut state, Event::Tick);
@@ -537,7 +537,7 @@ impl Hub {
         match state.server.said(line) {
             Said::Granted(connection) => self.take(&mut state, Event::Granted { connection }),
             Said::Refused(connection, refusal) => {
-                state.refusals.insert(connection, refusal);
+                state.refuse(connection, refusal);
                 self.take(&mut state, Event::Refused { connection });
             }
             Said::Inserted(key) => {
@@ -707,6 +707,13 @@ impl Hub {
 }
 
 impl State {
+    /// Keeps why a connection is refused, until it is told. One that has gone is told nothing.
+    fn refuse(&mut self, connection: Connection, refusal: Refusal) {
+        if self.links.contains_key(&connection) {
+            self.refusals.insert(connection, refusal);
+        }
+    }
+
     /// Returns a number that is above all before.
     fn next_number(&mut self) -> i64 {
         self.number += 1;
