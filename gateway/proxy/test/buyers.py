@@ -660,6 +660,8 @@ def main() -> None:
         it.start()
     for it in buyers:
         it.join()
+    # All is said. No connection that is left may hold its end up.
+    os._exit(0)  # pylint: disable=protected-access
 
 
 if __name__ == "__main__":
