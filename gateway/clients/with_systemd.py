@@ -25,7 +25,7 @@ JOURNALD = Path("/lib/systemd/systemd-journald")
 UNIT = "escrowd-pg.service"
 # A user that the machine need not have.
 USER, ID = "escrowd", 64999
-# The seconds between two questions, each of which starts a process.
+# The seconds between two questions. Each question starts a process.
 PAUSE = 0.1
 # What the gateway says last.
 LAST = "all stores are closed"

@@ -1478,7 +1478,7 @@ GRANT SELECT ON escrow.holds TO PUBLIC;
 
 -- What the owner looks at. It forgets these lines, which have ended, and ends holds whose time is over, as many as take little
 -- time. Returns the lines of the notes of its epoch with these numbers, all of them, and others that have ended. It waits for
--- no lock for long (rule 21). It goes by single lines and holds, since a plan for all at once may compare each with each.
+-- no lock for long (rule 21). It takes lines and holds one by one, since a plan for all at once may compare each with each.
 CREATE OR REPLACE FUNCTION escrow.look(owner bigint, epochs bigint[], forgotten bigint[], numbers bigint[])
 RETURNS TABLE (epoch bigint, number bigint, "table" integer, key text, stands boolean, taken text[])
 LANGUAGE plpgsql SECURITY DEFINER SET search_path = pg_catalog, pg_temp SET lock_timeout = '100ms' AS $$

@@ -29,7 +29,7 @@ pub struct Prepared {
 
 impl Prepared {
     /// Returns whether something may go wrong if a name means another statement by then. A DELETE only has a row left, at worst for
-    /// nothing, and a COMMIT passes as it is unless the hub is told of it.
+    /// nothing, and a COMMIT passes as it is unless the hub hears of the connection.
     fn matters(&self, is_engaged: bool) -> bool {
         let passes = match self.statement {
             Statement::Delete(_) => true,
@@ -496,7 +496,7 @@ impl Track {
         }
     }
 
-    /// The text of the Parse that was sent last, of which parts are still to come, names the functions of holds.
+    /// The text of the last Parse names the functions of holds. More parts of that message may come.
     pub fn parse_names_holds(&mut self) {
         if let Some(Expect::Parse(_, prepared)) = self.queue.back_mut() {
             self.gives_names = true;

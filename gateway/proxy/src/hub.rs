@@ -403,7 +403,7 @@ impl Hub {
         }
         let catalog = Arc::new(catalog);
         self.catalog.send_replace(Some(catalog.clone()));
-        // The server has room for few tables. One of which something is open yet goes when what is declared is read next.
+        // The server has room for few tables. If something of one is open yet, it goes when what is declared is read next.
         let mut state = lock(&self.state);
         for table in state.server.tables() {
             if catalog.of_number(table).is_none() && state.protocol.forget_table(table) {

@@ -302,7 +302,7 @@ pub fn is_number(oid: u32) -> bool {
     NUMBERS.iter().any(|it| it.oid() == oid)
 }
 
-/// Returns the type by which PostgreSQL goes on where two types of numbers meet. 0: it is not known.
+/// Returns the type that PostgreSQL takes where two types of numbers meet. 0: it is not known.
 pub fn wider(one: u32, other: u32) -> u32 {
     let place = |oid: u32| NUMBERS.iter().position(|it| it.oid() == oid);
     match (place(one), place(other)) {

@@ -487,7 +487,7 @@ pub(crate) enum Fault {
     AllAreFolded,
     /// Rule 13a: what another look has shown is not waited for.
     OthersLooks,
-    /// Rule 13a: an end of a line is not waited for of which nothing can be said yet.
+    /// Rule 13a: nobody waits for an end of a line that was shown too early to say anything of it.
     Unsaid,
     /// Rule 23: what has committed is told the server, also if it was left as a hold.
     HoldUnseen,

@@ -42,7 +42,7 @@ pub(super) struct Holds<K, C> {
     waiting: Who,
     /// Who waits for the look that is under way.
     looking: Option<Who>,
-    /// Who has waited for news, and was shown an end of which nothing can be said yet. A look begins for them once it can.
+    /// Who has waited for news, and was shown an end too early to say anything of it. A look begins for them once that can be said.
     again: BTreeSet<Connection>,
     /// Lines that have ended, and that PostgreSQL may forget.
     done: BTreeSet<Line>,
@@ -68,7 +68,7 @@ impl<K: Clone + Ord, C> Holds<K, C> {
         self.kept.len()
     }
 
-    /// Returns the rows of which the server has lines.
+    /// Returns the rows that have lines in the server.
     pub(super) fn rows(&self) -> impl Iterator<Item = &K> {
         self.rows.keys()
     }
