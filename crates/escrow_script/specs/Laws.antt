@@ -1,6 +1,6 @@
 -- Believed: the statements of the laws in src/laws.rt.
 use Rattle.std.specs.Prelude.{◌≡◌, ◌≤◌, ℕ, List}
-use Rattle.escrow_script.specs.declared.limits.TheConstants.{MAX_DATABASES, MAX_LINE, MAX_SCRIPT, MAX_STREAM}
+use Rattle.escrow_script.specs.declared.limits.TheConstants.{MAX_DATABASES, MAX_LINE, MAX_READS, MAX_SCRIPT, MAX_STREAM}
 use Rattle.escrow_script.specs.Line.{Reading, Reads}
 
 -- a line has at most one reading
@@ -13,4 +13,5 @@ pub record Limits : Type 0 where
   pub databases : MAX_DATABASES ≡ 16
   pub lines : MAX_LINE ≡ 4096
   pub scripts : MAX_SCRIPT ≡ 16777216
+  pub reads : MAX_READS ≡ 33554432
   pub streams : MAX_STREAM ≡ 18446744073709551615

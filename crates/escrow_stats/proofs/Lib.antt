@@ -1,4 +1,5 @@
 pub mod Crossing
 pub mod Posting
 pub mod Rule
+pub mod SessionLemmas
 pub mod TallyLemmas

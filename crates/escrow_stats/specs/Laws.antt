@@ -1,7 +1,16 @@
 -- Believed: the statements of the laws in src/laws.rt.
-use Rattle.std.specs.Prelude.{◌≡◌, ◌+◌, ◌-◌, ◌^◌, ◌<◌, ◌≤◌, List, [], ◌∷◌, ◌++◌, length}
+use Rattle.std.specs.Prelude.{◌≡◌, ℕ, zero, suc, ◌+◌, ◌-◌, ◌^◌, ◌<◌, ◌≤◌, ◌==◌, List, [], ◌∷◌, ◌++◌, length, filter}
+use Rattle.std.specs.List.{AllByRecursion}
 use Rattle.escrow_machine.specs.declared.reply.Reply.{Reply}
+use Rattle.escrow_transcript.specs.declared.entry.Entry.{Entry}
+use Rattle.escrow_stats.specs.declared.board.TheConstants.{MAX_WATCHERS}
+use Rattle.escrow_stats.specs.declared.tally.Tally.{Tally}
 use Rattle.escrow_stats.specs.Tally.{kind_of, tally_of, with_one, sum_of}
+use Rattle.escrow_stats.specs.Watching.{replies_of}
+
+-- the limit of this crate, as a number
+abbrev pub Limits : Type 0
+Limits = MAX_WATCHERS ≡ 8
 
 -- no replies have a tally of zeros
 abbrev pub NothingIsZero : Type 0
@@ -24,6 +33,20 @@ OneMoreIsWithOne = (replies : List Reply) (r : Reply) → length replies < 2 ^ 6
 -- two lists, one after another, have the sum of their tallies
 abbrev pub ListsAdd : Type 0
 ListsAdd = (before after : List Reply) → tally_of (before ++ after) ≡ sum_of (tally_of before) (tally_of after)
+
+-- the entries of a session, in order
+abbrev pub of_session : ℕ → List Entry → List Entry
+of_session session entries = filter (λ e. e.session == session) entries
+
+-- the totals of the first sessions of a history, added up
+abbrev pub totals_by : ℕ → List Entry → Tally
+totals_by zero entries = tally_of []
+totals_by (suc earlier) entries = sum_of (totals_by earlier entries) (tally_of (replies_of (of_session (earlier + 1) entries)))
+
+-- the totals of a history are the sum of its sessions' totals
+abbrev pub SessionsAdd : Type 0
+SessionsAdd = (sessions : ℕ) (entries : List Entry) → AllByRecursion (λ e. (1 ≤ e.session) × (e.session ≤ sessions)) entries
+    → tally_of (replies_of entries) ≡ totals_by sessions entries
 
 -- the sum of all totals but served is at most served, which is at most the number of replies
 pub record PartsAreWithin : Type 0 where

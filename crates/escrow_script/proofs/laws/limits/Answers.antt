@@ -7,4 +7,5 @@ returns c = record {
   lines = refl;
   scripts = refl;
   streams = refl;
+  reads = refl;
 }
