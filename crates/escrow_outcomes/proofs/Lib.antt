@@ -1,3 +1,4 @@
+pub mod Apart
 pub mod Held
 pub mod Lines
 pub mod Once

@@ -90,7 +90,7 @@ answers_against_totals place sitting session text out new prints totals none =
         let same : request.Statement served.0 ≡ request.Statistics = asks_once text (request.Statement served.0) request.Statistics served.1 totals in absurd (cc)
     against (inr refused) succeeds = never_both text request.Statistics refused.0 prints.0 totals refused.1 refused.2 succeeds
 
-text_once : (place : ℕ) (sitting : Sitting) (session : ℕ) (text out other : List ℕ) (new another : Sitting) → PrintsText (database_name place) sitting session text out new
+pub text_once : (place : ℕ) (sitting : Sitting) (session : ℕ) (text out other : List ℕ) (new another : Sitting) → PrintsText (database_name place) sitting session text out new
     → PrintsText (database_name place) sitting session text other another → ¬ (ShowsFailure out) → ¬ (ShowsFailure other) → Sames out new other another
 text_once place sitting session text out other new another (inl one) (inl two) none also =
     let same = answer_once sitting.state session text one.0 two.0 one.1 two.1 one.2 two.2
@@ -110,7 +110,7 @@ restart_is sitting answer after (inl done) succeeds = done
 restart_is sitting answer after (inr (inl is, same)) succeeds = let failed = sym succeeds ∙ ap failure_of is in absurd (cc)
 restart_is sitting answer after (inr (inr is, same)) succeeds = let failed = sym succeeds ∙ ap failure_of is in absurd (cc)
 
-restart_once : (place : ℕ) (sitting : Sitting) (out other : List ℕ) (new another : Sitting) → Restarts (database_name place) sitting out new
+pub restart_once : (place : ℕ) (sitting : Sitting) (out other : List ℕ) (new another : Sitting) → Restarts (database_name place) sitting out new
     → Restarts (database_name place) sitting other another → ¬ (ShowsFailure out) → ¬ (ShowsFailure other) → Sames out new other another
 restart_once place sitting out other new another one two none also =
     let first = restart_is sitting one.0 one.1 one.2 (restart_succeeds place one.0 out one.3 none) in

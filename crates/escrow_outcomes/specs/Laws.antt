@@ -1,5 +1,5 @@
 -- Believed: the statements of the laws in src/laws.rt.
-use Rattle.std.specs.Prelude.{◌≡◌, ◌≤◌, ℕ, ℤ, ◌+ℤ◌, Bool, Some, List, [], ◌∷◌, length, slice_get, codes}
+use Rattle.std.specs.Prelude.{◌≡◌, ◌≤◌, ℕ, ℤ, ◌+ℤ◌, Bool, Some, List, [], ◌∷◌, length, slice_get, slice_set, codes}
 use Rattle.std.specs.List.{AllByRecursion}
 use Rattle.sqlite.specs.Effect.{Database as Sql}
 use Rattle.sqlite.specs.Held.{state}
@@ -25,6 +25,7 @@ use Rattle.escrow_reply.specs.Text.{rendered_whole}
 use Rattle.escrow_script.specs.declared.limits.TheConstants.{MAX_DATABASES}
 use Rattle.escrow_serve.specs.Left.{LeavesItsRows}
 use Rattle.escrow_serve.specs.Output.{WritesLines}
+use Rattle.escrow_outcomes.specs.Apart.{Served, bytes_of, output_of, ServesEach, lines_at}
 use Rattle.escrow_outcomes.specs.Asked.{Given, GivesLines, events_at, answers_at}
 use Rattle.escrow_outcomes.specs.Failed.{ShowsFailure}
 use Rattle.escrow_outcomes.specs.Texts.{HasReadableTexts, IsReadableEvent}
@@ -45,6 +46,37 @@ pub record FailuresShow (s : State) : Type 0 where
 
 abbrev pub RestartsShow : Type 0
 RestartsShow = (s : State) → FailuresShow s
+
+-- EACH DATABASE BY ITSELF. What lines write is what each of them writes, in their order
+pub record AreCut (sessions : ℕ) (lines : List (List ℕ)) (states : List State) (out : List ℕ) (new : List State) : Type 0 where
+  pub served : List Served
+  pub are_lines : bytes_of served ≡ lines
+  pub are_output : output_of served ≡ out
+  pub serves : ServesEach sessions states served new
+
+-- so it is, and nothing else is meant by a script line by line
+pub record CutsAreOutputs : Type 0 where
+  pub cut : (sessions : ℕ) (lines : List (List ℕ)) (states : List State) (out : List ℕ) (new : List State)
+      → WritesLines sessions states lines out new → AreCut sessions lines states out new
+  pub whole : (sessions : ℕ) (states : List State) (served : List Served) (new : List State)
+      → ServesEach sessions states served new → WritesLines sessions states (bytes_of served) (output_of served) new
+
+-- the lines of one database write the same, and leave it the same state, in a script that has none but these, whatever the
+-- other databases are. Those stay as they are
+abbrev pub DatabasesStandAlone : Type 0
+DatabasesStandAlone = (sessions place : ℕ) (states others : List State) (served : List Served) (new : List State) (before after : State)
+    → ServesEach sessions states served new → slice_get states place ≡ Some before → slice_get new place ≡ Some after → slice_get others place ≡ Some before
+    → ServesEach sessions others (lines_at place served) (slice_set others place after)
+
+-- the lines of one database in two scripts are equal, and it begins in the same state. Then each of them writes the same, and
+-- its end is the same state, unless one of them shows that it failed for memory or by the store. What lines the other
+-- databases have, in which states they are, what fails there, and how many they are, makes no difference
+abbrev pub OthersMakeNoDifference : Type 0
+OthersMakeNoDifference = (sessions place : ℕ) (states others : List State) (served more : List Served) (new another : List State) (before : State)
+    → length states ≤ MAX_DATABASES → ServesEach sessions states served new → ServesEach sessions others more another
+    → slice_get states place ≡ Some before → slice_get others place ≡ Some before → bytes_of (lines_at place served) ≡ bytes_of (lines_at place more)
+    → AllByRecursion (λ l. ¬ (ShowsFailure l.wrote)) (lines_at place served) → AllByRecursion (λ l. ¬ (ShowsFailure l.wrote)) (lines_at place more)
+    → (lines_at place served ≡ lines_at place more) × (slice_get new place ≡ slice_get another place)
 
 -- THE DATABASES. What lines give to the databases: at each place a run of the machine, which is accounted for
 pub record ArePlayed (sessions : ℕ) (lines : List (List ℕ)) (states : List State) (out : List ℕ) (new : List State) : Type 0 where

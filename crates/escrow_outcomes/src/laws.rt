@@ -1,6 +1,6 @@
 //! Laws of what a script writes and leaves. Each is the contract of a function that does nothing.
 
-ghost use Rattle.escrow_outcomes.specs.Laws.{OutputIsAFunction, RestartsShow, ScriptsAreAccountedFor, TextsStayReadable, ReadableCanBeHeld, WhatIsLeftIsOpened};
+ghost use Rattle.escrow_outcomes.specs.Laws.{OutputIsAFunction, RestartsShow, CutsAreOutputs, DatabasesStandAlone, OthersMakeNoDifference, ScriptsAreAccountedFor, TextsStayReadable, ReadableCanBeHeld, WhatIsLeftIsOpened};
 
 use sqlite::Alter;
 
@@ -14,6 +14,24 @@ pub fn output_is_a_function()
 /// no failure, or as failed, which shows one.
 pub fn restarts_show()
     ensures { RestartsShow }
+{}
+
+/// What lines write is what each of them writes, in their order.
+pub fn cuts_are_outputs()
+    ensures { CutsAreOutputs }
+{}
+
+/// Databases don't disturb each other. The lines of one write the same, and leave it the same state,
+/// in a script that has none but these, whatever the other databases are.
+pub fn databases_stand_alone()
+    ensures { DatabasesStandAlone }
+{}
+
+/// So what other databases are asked, hold or fail at makes no difference to one. If two scripts have
+/// the same lines for a database that begins in the same state, each of these lines writes the same,
+/// and the database ends in the same state, unless one of them shows a 51 or a 60.
+pub fn others_make_no_difference()
+    ensures { OthersMakeNoDifference }
 {}
 
 /// What lines write is the replies to what they ask of the databases, in order. For each database

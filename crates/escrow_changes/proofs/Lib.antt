@@ -1,0 +1,5 @@
+pub mod Accepted
+pub mod Altered
+pub mod Replaced
+pub mod Shown
+pub mod Taken
