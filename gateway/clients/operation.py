@@ -76,7 +76,13 @@ class Operated(Gateway):
             # No thread of a case runs yet.
             # pylint: disable-next=subprocess-popen-preexec-fn
             self.process = subprocess.Popen(self.words(), stdin=subprocess.DEVNULL, stdout=said, stderr=said, env={**os.environ, **self.env},
-                                            start_new_session=True, preexec_fn=self.before)
+                                            start_new_session=True, preexec_fn=self.prepare)
+
+    def prepare(self) -> None:
+        """Prepares the process: what `nohup` has told the tests is not the gateway's."""
+        signal.signal(signal.SIGHUP, signal.SIG_DFL)
+        if self.before is not None:
+            self.before()
 
     def start(self) -> None:
         self.begin()

@@ -142,7 +142,7 @@ impl Number {
     ///
     /// Fails if it isn't written so, or has more digits than the program's numbers.
     pub fn from_text(text: &str) -> Result<Number, NumberFault> {
-        let text = text.trim_matches(|blank: char| blank.is_ascii_whitespace() || blank == '\x0b');
+        let text = text.trim_matches(is_blank);
         let (negative, unsigned) = match text.as_bytes().first() {
             Some(b'-') => (true, &text[1..]),
             Some(b'+') => (false, &text[1..]),
@@ -165,7 +165,7 @@ impl Number {
         Number::from_digits(negative, digits, whole.len() as i64 + exponent)
     }
 
-    /// Reads numeric in binary.
+    /// Reads numeric in binary. As in PostgreSQL the number of digits behind the point that it tells hides those behind them.
     ///
     /// # Errors
     ///
@@ -178,6 +178,7 @@ impl Number {
             Ok(u16::from_be_bytes([bytes[0], bytes[1]]))
         };
         let (count, weight, sign) = (usize::from(word(0)?), word(1)? as i16, word(2)?);
+        let shown = i64::from(word(3)?);
         if bytes.len() != 8 + 2 * count {
             return Err(NumberFault::Syntax);
         }
@@ -196,7 +197,9 @@ impl Number {
             }
             digits.extend_from_slice(format!("{:04}", group).as_bytes());
         }
-        Number::from_digits(negative, digits, 4 * (i64::from(weight) + 1))
+        let point = 4 * (i64::from(weight) + 1);
+        digits.truncate(usize::try_from(point + shown).unwrap_or(0));
+        Number::from_digits(negative, digits, point)
     }
 
     /// Returns it as a whole number. None: it has a point.
@@ -270,6 +273,11 @@ fn read_exponent(text: &str) -> Result<i64, NumberFault> {
     } else {
         exponent
     })
+}
+
+/// Returns whether a character is one of the blanks that PostgreSQL takes around a number and in an array.
+pub fn is_blank(character: char) -> bool {
+    character.is_ascii_whitespace() || character == '\x0b'
 }
 
 /// Returns whether a type that a parameter may have is one of texts. None: it is another type.
@@ -365,7 +373,7 @@ pub fn integer(oid: Oid, text: &str) -> Result<i64, Failure> {
         oid::INT4 => ("integer", i64::from(i32::MIN), i64::from(i32::MAX)),
         _ => ("bigint", i64::MIN, i64::MAX),
     };
-    let trimmed = text.trim_matches(|blank: char| blank.is_ascii_whitespace() || blank == '\x0b');
+    let trimmed = text.trim_matches(is_blank);
     let digits = trimmed.strip_prefix(['+', '-']).unwrap_or(trimmed);
     if digits.is_empty() || !digits.bytes().all(|byte| byte.is_ascii_digit()) {
         return Err(invalid_input(name, text));
@@ -629,7 +637,7 @@ mod tests {
     #[test]
     fn refuses_what_is_no_number_or_has_too_many_digits() {
         for text in [
-            "", "-", ".", "1e", "1e+", "1 2", "0x1", "1_0", "--1", "abc", "NaN", "1,5",
+            "", "-", ".", "1e", "1e+", "1 2", "\u{a0}1", "0x1", "1_0", "--1", "abc", "NaN", "1,5",
         ] {
             assert_eq!(from_text(text), "Syntax", "{}", text);
         }
@@ -668,6 +676,21 @@ mod tests {
                 "{}",
                 text
             );
+        }
+    }
+
+    #[test]
+    fn a_numeric_in_binary_has_the_digits_that_its_scale_shows() {
+        // From numeric_recv of such bytes: an array of one numeric, COPY .. WITH BINARY.
+        for (groups, weight, scale, text) in [
+            (&[1, 9999][..], 0, 2, "1.99"),
+            (&[1, 9999], 0, 0, "1"),
+            (&[100], -2, 1, "0"),
+            (&[100], -2, 6, "0.000001"),
+            (&[5000], -1, 9, "0.5"),
+        ] {
+            let bytes = numeric(groups, weight, 0, scale);
+            assert_eq!(written(Number::from_binary(&bytes)), text);
         }
     }
 

@@ -1,5 +1,20 @@
--- Installs schema escrow, version 3, or brings an older version to it. A superuser runs it, in one transaction, since it
+-- Installs schema escrow, version 4, or brings an older version to it. A superuser runs it, in one transaction, since it
 -- creates event triggers. Rules are those of PROTOCOL.md.
+
+-- Nothing of anybody else's stands for what PostgreSQL has: this runs as a superuser.
+SET LOCAL search_path = pg_catalog, pg_temp;
+
+DO $do$
+DECLARE
+	owner text := (SELECT r.rolname FROM pg_namespace AS n JOIN pg_roles AS r ON r.oid = n.nspowner
+		WHERE n.nspname = 'escrow' AND NOT r.rolsuper AND r.rolname <> current_user);
+BEGIN
+	IF owner IS NOT NULL THEN
+		RAISE EXCEPTION 'schema escrow belongs to the role %, which is no superuser', owner
+			USING ERRCODE = 'object_not_in_prerequisite_state', HINT = 'It may have functions of anybody''s. Drop it.';
+	END IF;
+END
+$do$;
 
 DO $do$
 BEGIN
@@ -7,11 +22,11 @@ BEGIN
 		RAISE EXCEPTION 'escrowd-proxy needs PostgreSQL 15 or later' USING ERRCODE = 'feature_not_supported';
 	END IF;
 	IF to_regprocedure('escrow.version()') IS NOT NULL THEN
-		IF escrow.version() > 3 THEN
-			RAISE EXCEPTION 'schema escrow has version %, which is newer than 3', escrow.version()
+		IF escrow.version() > 4 THEN
+			RAISE EXCEPTION 'schema escrow has version %, which is newer than 4', escrow.version()
 				USING ERRCODE = 'object_not_in_prerequisite_state';
 		END IF;
-		IF escrow.version() < 3 AND escrow.is_live((SELECT nullif(last_value, 0) FROM escrow.epoch)) THEN
+		IF escrow.version() < 4 AND escrow.is_live((SELECT nullif(last_value, 0) FROM escrow.epoch)) THEN
 			RAISE EXCEPTION 'an escrowd-proxy is running' USING ERRCODE = 'object_in_use', HINT = 'Stop it first.';
 		END IF;
 		-- Where a dump was restored, columns may have got other numbers. The event trigger leaves these tables alone until the end
@@ -36,7 +51,7 @@ GRANT CREATE ON SCHEMA escrow TO escrow_journal;
 -- Whatever default privileges who installs has: these, and escrow.take_rights behind.
 ALTER DEFAULT PRIVILEGES IN SCHEMA escrow GRANT EXECUTE ON FUNCTIONS TO PUBLIC;
 
-CREATE OR REPLACE FUNCTION escrow.version() RETURNS integer LANGUAGE sql IMMUTABLE AS 'SELECT 3';
+CREATE OR REPLACE FUNCTION escrow.version() RETURNS integer LANGUAGE sql IMMUTABLE AS 'SELECT 4';
 
 -- Rule 8. Unlogged, so that it is 0 after a crash, a promotion and a restore.
 CREATE UNLOGGED SEQUENCE IF NOT EXISTS escrow.epoch MINVALUE 0 START 0;
@@ -193,7 +208,9 @@ BEGIN
 	SELECT n.nspname, c.relname INTO it FROM escrow.declared AS d JOIN pg_class AS c ON c.oid = d.relation JOIN pg_namespace AS n ON n.oid = c.relnamespace
 	WHERE d.number = table_number;
 	PERFORM escrow.refuse_other(it.relname, is_meant);
-	IF EXISTS (SELECT FROM generate_subscripts(changed, 1) AS i WHERE changed[i] AND allowed[i] IS NOT TRUE) THEN
+	IF current_setting('transaction_read_only') = 'on' THEN
+		RAISE EXCEPTION 'cannot execute UPDATE in a read-only transaction' USING ERRCODE = 'read_only_sql_transaction';
+	ELSIF EXISTS (SELECT FROM generate_subscripts(changed, 1) AS i WHERE changed[i] AND allowed[i] IS NOT TRUE) THEN
 		RAISE EXCEPTION 'permission denied for table %', it.relname USING ERRCODE = 'insufficient_privilege';
 	ELSIF state = '00000' THEN
 		RETURN;
@@ -800,13 +817,20 @@ CREATE OR REPLACE FUNCTION escrow.refuse_truncate() RETURNS trigger LANGUAGE plp
 BEGIN
 	RAISE EXCEPTION '% has reservable columns and cannot be truncated', TG_TABLE_NAME
 		USING ERRCODE = 'object_in_use', SCHEMA = TG_TABLE_SCHEMA, TABLE = TG_TABLE_NAME,
-			HINT = format('Call escrow.ordinary(%L) first.', TG_RELID::regclass);
+			HINT = pg_catalog.format('Call escrow.ordinary(%L) first.', TG_RELID::pg_catalog.regclass);
 END
 $$;
 
--- Returns what makes a key's one text of a key: numbers have no zeros at their end.
+-- Returns what makes a key's one text of a key: numbers have no zeros at their end. It has the collation of the lines of holds,
+-- whose index serves no other one.
 CREATE OR REPLACE FUNCTION escrow.key_text(key_type text, key text) RETURNS text LANGUAGE sql IMMUTABLE SET search_path = pg_catalog, pg_temp AS $$
-	SELECT format(CASE WHEN key_type LIKE 'numeric%' THEN 'trim_scale(%s)::text' ELSE '(%s)::text' END, key)
+	SELECT format(CASE WHEN key_type LIKE 'numeric%' THEN 'trim_scale(%s)::text' ELSE '(%s)::text COLLATE pg_catalog."default"' END, key)
+$$;
+
+-- The collation of a declared table's key, as a column has it behind its type. An index serves comparisons of its own collation alone.
+CREATE OR REPLACE FUNCTION escrow.collation_of(relation regclass, key name) RETURNS text LANGUAGE sql STABLE SET search_path = pg_catalog, pg_temp AS $$
+	SELECT coalesce((SELECT ' COLLATE ' || attcollation::regcollation FROM pg_attribute
+		WHERE attrelid = relation AND attname = key AND attcollation <> 0), '')
 $$;
 
 -- The view of a declared table. Its comment has the number; an owner of another view may have written that too.
@@ -940,8 +964,9 @@ BEGIN
 	END LOOP;
 
 	-- Rule 11. A fold locks the row, and the guard adds to it what it takes out of the journal. It runs with the rights of the
-	-- table's owner, as triggers on the table do then, and with the usual path of search for these. No caller tells it what
-	-- to change, so anybody's fold is harmless (rule 12). It returns the transaction or subtransaction that has written the
+	-- table's owner, as triggers on the table do then, and with the usual path of search for these. Temporary tables of the client come
+	-- last in it: otherwise they, with triggers of the client's, would stand for the tables that an owner's trigger names. No caller
+	-- tells it what to change, so anybody's fold is harmless (rule 12). It returns the transaction or subtransaction that has written the
 	-- row anew, or nothing if the row is locked or not there. It waits for the row's lock unless it skips it, and for the table's unless
 	-- it has to have that at once. The text finds the row once, by its place. A row that somebody has written anew since the snapshot
 	-- was taken has another place then, which the snapshot does not see: its fold is left to what comes behind.
@@ -949,7 +974,7 @@ BEGIN
 				(SELECT s.ctid FROM %1$s AS s WHERE s.%3$I OPERATOR(pg_catalog.=) which FOR NO KEY UPDATE SKIP LOCKED)', relation, texts[3], k);
 	EXECUTE format($f$
 		CREATE OR REPLACE FUNCTION escrow.row_%1$s(which %2$s, skips boolean, at_once boolean DEFAULT false) RETURNS xid
-		LANGUAGE plpgsql SECURITY DEFINER SET search_path = "$user", public SET escrow.fold = on AS $body$
+		LANGUAGE plpgsql SECURITY DEFINER SET search_path = "$user", public, pg_temp SET escrow.fold = on AS $body$
 		DECLARE
 			writer pg_catalog.xid;
 		BEGIN
@@ -1016,7 +1041,7 @@ BEGIN
 	-- not skipped: that of the table, and what triggers and foreign keys wait for. OTHERS has neither a cancel nor a failed ASSERT.
 	EXECUTE format($f$
 		CREATE OR REPLACE FUNCTION escrow.own_%1$s(keys text[], may_change boolean) RETURNS boolean
-		LANGUAGE plpgsql SECURITY DEFINER SET search_path = "$user", public SET escrow.fold = on SET lock_timeout = '1ms' AS $body$
+		LANGUAGE plpgsql SECURITY DEFINER SET search_path = "$user", public, pg_temp SET escrow.fold = on SET lock_timeout = '1ms' AS $body$
 		DECLARE
 			which %4$s;
 			are_all boolean := true;
@@ -1055,7 +1080,7 @@ BEGIN
 		$body$
 	$f$, n, it.key_type);
 	-- Rule 16. Changes a row that this transaction has locked, or that nobody has, if no proxy holds it. Returns whether it
-	-- did. In REPEATABLE READ a mark or a row of the journal may be there unseen. If they came behind the snapshot, the row
+	-- did, and null if this transaction sees no such row, as one that it has deleted itself. In REPEATABLE READ a mark or a row of the journal may be there unseen. If they came behind the snapshot, the row
 	-- was written anew, and its lock raises 40001; with a mark from before it is left alone.
 	EXECUTE format($f$
 		CREATE OR REPLACE FUNCTION escrow.here_%1$s(epoch bigint, number bigint, key text, changes text[], proof bytea, allowed boolean[], is_meant boolean)
@@ -1077,7 +1102,7 @@ BEGIN
 				END IF;
 			END LOOP;
 			IF escrow.lock_%1$s(which, true) IS NULL THEN
-				RETURN false;
+				RETURN CASE WHEN escrow.value_%1$s(which) IS NOT NULL THEN false END;
 			END IF;
 			-- Rules 7 and 10, as a note: a new owner looks for holders of the journal behind its epoch. Until they have ended,
 			-- marks of the former epoch are those of rows that somebody may still have reserved.
@@ -1496,7 +1521,8 @@ BEGIN
 	FOR i IN 1 .. cardinality(forgotten) LOOP
 		DELETE FROM escrow.hold_lines AS l WHERE l.number = forgotten[i] AND l.epoch = epochs[i] AND NOT l.stands;
 	END LOOP;
-	-- Nobody can take or prolong a hold whose time is over, so one of many lines may end in parts.
+	-- Nobody can take or prolong a hold whose time is over, so one of many lines may end in parts. Then its time is over by the clock of
+	-- any standby too, which may be promoted and late.
 	FOR over IN SELECT h.number FROM escrow.hold_names AS h WHERE h.state = 'standing' AND h.until <= clock
 		ORDER BY h.until LIMIT room FOR UPDATE SKIP LOCKED
 	LOOP
@@ -1504,7 +1530,10 @@ BEGIN
 		WHERE l.ctid = ANY (ARRAY(SELECT s.ctid FROM escrow.hold_lines AS s WHERE s.hold = over AND s.stands LIMIT room));
 		GET DIAGNOSTICS gone = ROW_COUNT;
 		room := room - gone;
-		EXIT WHEN room = 0;
+		IF room = 0 THEN
+			UPDATE escrow.hold_names AS h SET until = '-infinity' WHERE h.number = over;
+			EXIT;
+		END IF;
 		UPDATE escrow.hold_names AS h SET state = 'expired', ended = clock WHERE h.number = over;
 		EXIT WHEN clock_timestamp() > clock + interval '500 milliseconds';
 	END LOOP;
@@ -1599,10 +1628,15 @@ LANGUAGE plpgsql SECURITY DEFINER SET search_path = pg_catalog, pg_temp SET stan
 DECLARE
 	it escrow.declared;
 	proprietor oid := (SELECT relowner FROM pg_class WHERE oid = relation);
+	key_column text;
 	largest text;
 BEGIN
 	IF escrow.is_owners(proprietor) IS NOT TRUE THEN
 		RAISE EXCEPTION 'must be owner of table %', relation USING ERRCODE = 'insufficient_privilege';
+	END IF;
+	-- Otherwise it would not see the CHECKs of who had the lock before.
+	IF current_setting('transaction_isolation') <> 'read committed' THEN
+		RAISE EXCEPTION 'escrow.reservable needs READ COMMITTED' USING ERRCODE = 'invalid_transaction_state';
 	END IF;
 	EXECUTE format('LOCK TABLE %s IN SHARE ROW EXCLUSIVE MODE', relation);
 	IF EXISTS (SELECT FROM escrow.declared AS d WHERE d.relation = reservable.relation) THEN
@@ -1618,10 +1652,11 @@ BEGIN
 	INSERT INTO escrow.declared (relation, key_name, key_type, columns, checks, definition, note_text, own_text)
 	VALUES (it.relation, it.key_name, it.key_type, it.columns, it.checks, '{}', '', '') RETURNING number INTO it.number;
 	-- The tag is the number, too.
-	EXECUTE format('CREATE TABLE escrow.journal_%s (epoch bigint NOT NULL, tag bigint NOT NULL, number bigint NOT NULL, key %s NOT NULL, %s)', it.number, it.key_type,
+	key_column := it.key_type || escrow.collation_of(relation, it.key_name);
+	EXECUTE format('CREATE TABLE escrow.journal_%s (epoch bigint NOT NULL, tag bigint NOT NULL, number bigint NOT NULL, key %s NOT NULL, %s)', it.number, key_column,
 		(SELECT string_agg(format('change_%s numeric NOT NULL', i), ', ') FROM generate_subscripts(reservable, 1) AS i));
 	EXECUTE format('CREATE INDEX ON escrow.journal_%s (key)', it.number);
-	EXECUTE format('CREATE TABLE escrow.held_%s (key %s PRIMARY KEY, epoch bigint NOT NULL, load bigint NOT NULL)', it.number, it.key_type);
+	EXECUTE format('CREATE TABLE escrow.held_%s (key %s PRIMARY KEY, epoch bigint NOT NULL, load bigint NOT NULL)', it.number, key_column);
 	-- A publication of all tables refuses a DELETE otherwise, and so each fold.
 	EXECUTE format('ALTER TABLE escrow.journal_%1$s REPLICA IDENTITY FULL; ALTER TABLE escrow.journal_%1$s OWNER TO escrow_journal; '
 		'ALTER TABLE escrow.held_%1$s OWNER TO escrow_journal', it.number);
@@ -1633,11 +1668,13 @@ BEGIN
 END
 $$;
 
--- Makes a table ordinary again. It waits for open reservations, and folds what is pending.
+-- Makes a table ordinary again. It waits for open reservations, and folds what is pending. Of one that was dropped while the event
+-- triggers were off it removes the rest, if who owns the schema calls it.
 CREATE OR REPLACE FUNCTION escrow.ordinary(relation regclass) RETURNS void
 LANGUAGE plpgsql SECURITY DEFINER SET search_path = pg_catalog, pg_temp SET standard_conforming_strings = on SET quote_all_identifiers = off AS $$
 DECLARE
 	n integer := (SELECT number FROM escrow.declared AS d WHERE d.relation = ordinary.relation);
+	proprietor oid := (SELECT relowner FROM pg_class WHERE oid = relation);
 	which text;
 	view_name text;
 	it record;
@@ -1645,7 +1682,7 @@ BEGIN
 	IF n IS NULL THEN
 		RAISE EXCEPTION '% is not declared reservable', relation USING ERRCODE = 'object_not_in_prerequisite_state';
 	END IF;
-	IF escrow.is_owners((SELECT relowner FROM pg_class WHERE oid = relation)) IS NOT TRUE THEN
+	IF escrow.is_owners(coalesce(proprietor, (SELECT nspowner FROM pg_namespace WHERE nspname = 'escrow'))) IS NOT TRUE THEN
 		RAISE EXCEPTION 'must be owner of table %', relation USING ERRCODE = 'insufficient_privilege';
 	END IF;
 	IF current_setting('transaction_isolation') <> 'read committed' THEN
@@ -1655,12 +1692,14 @@ BEGIN
 	IF EXISTS (SELECT FROM escrow.hold_lines AS l WHERE l."table" = n AND l.stands) THEN
 		RAISE EXCEPTION 'holds of % stand', relation USING ERRCODE = 'object_in_use', HINT = 'Release them first: escrow.holds shows them.';
 	END IF;
-	FOR which IN EXECUTE format('SELECT DISTINCT key::text FROM escrow.journal_%s', n) LOOP
+	FOR which IN EXECUTE format('SELECT DISTINCT key::text FROM escrow.journal_%s WHERE $1', n) USING proprietor IS NOT NULL LOOP
 		EXECUTE format('SELECT escrow.row_%s($1::%s, false)', n, (SELECT key_type FROM escrow.declared WHERE number = n)) USING which;
 	END LOOP;
 	view_name := escrow.now_view(n)::text;
 	DELETE FROM escrow.declared WHERE number = n;
-	EXECUTE (SELECT string_agg(format('DROP TRIGGER %I ON %s', tgname, relation), '; ') FROM pg_trigger WHERE tgrelid = relation AND tgname ~ '^~?escrow ');
+	FOR it IN SELECT tgname FROM pg_trigger WHERE tgrelid = relation AND tgname ~ '^~?escrow ' LOOP
+		EXECUTE format('DROP TRIGGER %I ON %s', it.tgname, relation);
+	END LOOP;
 	IF view_name IS NOT NULL THEN
 		EXECUTE format('DROP VIEW %s', view_name);
 	END IF;
@@ -1686,6 +1725,23 @@ BEGIN
 			JOIN escrow.declared AS d ON d.relation = t.tgrelid JOIN pg_class AS c ON c.oid = t.tgrelid WHERE NOT escrow.is_owners(c.relowner)) THEN
 		RAISE EXCEPTION 'must be owner of a declared table to create a trigger on it' USING ERRCODE = 'insufficient_privilege';
 	END IF;
+	-- Temporary tables, which applications make all the time, change nothing that is declared, unless one is a child.
+	IF TG_EVENT = 'sql_drop' THEN
+		IF NOT EXISTS (SELECT FROM pg_event_trigger_dropped_objects() AS dropped WHERE NOT dropped.is_temporary) THEN
+			RETURN;
+		END IF;
+	ELSIF TG_TAG IN ('CREATE TABLE', 'ALTER TABLE', 'CREATE INDEX') AND EXISTS (SELECT FROM pg_event_trigger_ddl_commands())
+		AND NOT EXISTS (SELECT FROM pg_event_trigger_ddl_commands() AS command WHERE command.schema_name IS DISTINCT FROM 'pg_temp')
+		AND NOT EXISTS (SELECT FROM pg_inherits AS i JOIN escrow.declared AS d ON d.relation = i.inhparent) THEN
+		RETURN;
+	END IF;
+	-- In REPEATABLE READ a table may have been declared behind the snapshot. Names are looked up as they are.
+	IF current_setting('transaction_isolation') <> 'read committed' AND EXISTS (
+			SELECT FROM generate_series(1, (SELECT last_value FROM escrow.declared_number_seq)) AS n
+			WHERE NOT EXISTS (SELECT FROM escrow.declared AS d WHERE d.number = n) AND to_regclass('escrow.journal_' || n) IS NOT NULL) THEN
+		RAISE EXCEPTION '% could not see which tables are declared reservable', TG_TAG
+			USING ERRCODE = 'serialization_failure', HINT = 'Repeat the transaction.';
+	END IF;
 	FOR it IN SELECT * FROM escrow.declared AS d WHERE d.definition <> '{}' AND (TG_TAG NOT IN ('ALTER FUNCTION', 'ALTER ROUTINE')
 		OR EXISTS (SELECT FROM pg_event_trigger_ddl_commands() AS command JOIN pg_proc AS p ON p.oid = command.objid WHERE p.proname LIKE '%\_' || d.number))
 	LOOP
@@ -1696,6 +1752,9 @@ BEGIN
 			found := NULL;
 			why := SQLERRM;
 		WHEN no_data_found THEN
+			-- If not this command has dropped it, somebody did while this trigger was off. That is no reason to refuse all DDL.
+			CONTINUE WHEN TG_EVENT <> 'sql_drop' OR NOT EXISTS (SELECT FROM pg_event_trigger_dropped_objects() AS dropped
+				WHERE dropped.classid = 'pg_class'::regclass AND dropped.objid = it.relation);
 			found := NULL;
 		END;
 		IF found.definition IS DISTINCT FROM it.definition THEN
@@ -1703,6 +1762,18 @@ BEGIN
 				USING ERRCODE = 'object_in_use', DETAIL = why, HINT = format('Call escrow.ordinary(%L) first.', it.relation);
 		END IF;
 	END LOOP;
+END
+$$;
+
+-- Rule 16: what its own transaction has written may be changed, and so all rows of a table that it has written anew. In REPEATABLE READ
+-- it would not see marks that were made between its snapshot and its lock of the table.
+CREATE OR REPLACE FUNCTION escrow.keep_rewritten() RETURNS event_trigger
+LANGUAGE plpgsql SET search_path = pg_catalog, pg_temp AS $$
+BEGIN
+	IF current_setting('transaction_isolation') <> 'read committed'
+		AND EXISTS (SELECT FROM escrow.declared AS d WHERE d.relation = pg_event_trigger_table_rewrite_oid()) THEN
+		RAISE EXCEPTION '% would write a table with reservable columns anew, which needs READ COMMITTED', TG_TAG USING ERRCODE = 'invalid_transaction_state';
+	END IF;
 END
 $$;
 DROP EVENT TRIGGER IF EXISTS escrow_keep_altered;
@@ -1714,6 +1785,8 @@ CREATE EVENT TRIGGER escrow_keep_altered ON ddl_command_end
 	EXECUTE FUNCTION escrow.keep_declared();
 DROP EVENT TRIGGER IF EXISTS escrow_keep_dropped;
 CREATE EVENT TRIGGER escrow_keep_dropped ON sql_drop EXECUTE FUNCTION escrow.keep_declared();
+DROP EVENT TRIGGER IF EXISTS escrow_keep_rewritten;
+CREATE EVENT TRIGGER escrow_keep_rewritten ON table_rewrite EXECUTE FUNCTION escrow.keep_rewritten();
 
 -- Reads a CREATE INDEX CONCURRENTLY: the table's name, what is behind it, and whether the index is unique. Both texts are null if
 -- it is not understood, and all is null if the text is another statement.
@@ -1780,9 +1853,18 @@ BEGIN
 	PERFORM escrow.take_rights('^(secret|declared|holds|hold_names|hold_lines|epoch|greeted|heard|.*_seq|mac|is_fresh|set_epoch|end_holders|end_owner|is_held|standing|take_hold|look)$');
 	GRANT SELECT ON escrow.declared, escrow.holds TO PUBLIC;
 	FOR it IN SELECT * FROM escrow.declared LOOP
+		IF NOT EXISTS (SELECT FROM pg_class WHERE oid = it.relation) THEN
+			RAISE WARNING 'declared table % was dropped', it.relation USING HINT = format('Call escrow.ordinary(%L).', it.relation);
+			CONTINUE;
+		END IF;
 		-- Of before loads had numbers, and all tables could be published.
 		EXECUTE format('ALTER TABLE escrow.held_%1$s ADD COLUMN IF NOT EXISTS load bigint NOT NULL DEFAULT 0; '
 			'ALTER TABLE escrow.journal_%1$s REPLICA IDENTITY FULL', it.number);
+		-- Of before these tables had the collation of the key.
+		IF escrow.collation_of(it.relation, it.key_name) <> escrow.collation_of(format('escrow.held_%s', it.number)::regclass, 'key') THEN
+			EXECUTE format('CREATE INDEX IF NOT EXISTS journal_%1$s_collated ON escrow.journal_%1$s (key%2$s); '
+				'CREATE INDEX IF NOT EXISTS held_%1$s_collated ON escrow.held_%1$s (key%2$s)', it.number, escrow.collation_of(it.relation, it.key_name));
+		END IF;
 		FOR old IN SELECT p.oid FROM escrow.functions(it.number) AS f JOIN pg_proc AS p ON p.oid = f WHERE p.proname ~ '^(load|open|leave)_' LOOP
 			EXECUTE format('DROP FUNCTION %s', old);
 		END LOOP;

@@ -51,6 +51,9 @@ pub enum Error {
     /// PostgreSQL has not answered a greeting in time.
     #[error("PostgreSQL does not answer")]
     Silent,
+    /// PostgreSQL has ended the session of a client that takes nothing of what it is sent.
+    #[error("PostgreSQL has ended the session of a client that reads nothing")]
+    Forsaken,
     /// What a note answered is not what PostgreSQL's function answers.
     #[error("an answer that no note gives")]
     Forged,

@@ -4,7 +4,8 @@
 //! reply is: the client's, or the proxy's own. An error takes all away that PostgreSQL skips, up to the next Sync.
 
 use std::collections::{HashMap, VecDeque};
-use std::sync::{Arc, Mutex};
+use std::sync::atomic::{AtomicU64, Ordering};
+use std::sync::{Arc, Mutex, MutexGuard, PoisonError};
 
 use bytes::Bytes;
 
@@ -55,6 +56,8 @@ pub struct Bound {
     pub is_large: bool,
     /// What an Execute has left of its rows, once it has run.
     pub left: Mutex<Option<Left>>,
+    /// How often names of tables had changed their meanings, at most, when PostgreSQL bound it. 0: that is not answered yet.
+    pub meanings: AtomicU64,
 }
 
 impl Bound {
@@ -67,7 +70,19 @@ impl Bound {
             results: Vec::new(),
             is_large: true,
             left: Mutex::default(),
+            meanings: AtomicU64::default(),
         }
+    }
+
+    /// Returns what an Execute has left of its rows, once it has run.
+    pub fn left(&self) -> MutexGuard<'_, Option<Left>> {
+        self.left.lock().unwrap_or_else(PoisonError::into_inner)
+    }
+
+    /// Returns how many bytes the rows take that are left.
+    fn bytes_left(&self) -> usize {
+        let left = self.left();
+        left.iter().flat_map(|it| &it.rows).map(size).sum()
     }
 }
 
@@ -92,6 +107,43 @@ impl Left {
         }
         out
     }
+}
+
+/// The most bytes of rows that are kept for portals of a connection.
+const MOST_KEPT: usize = 16 << 20;
+
+/// Rows of an own request that the client has not asked for yet.
+#[derive(Debug, Default)]
+pub struct Kept {
+    /// The rows, as messages.
+    pub rows: Vec<Bytes>,
+    /// Whether the client has got as many as it has asked for.
+    pub is_full: bool,
+    /// Whether they are too many to be kept, so that some are missing.
+    pub are_too_many: bool,
+    /// The bytes that there is room for.
+    room: usize,
+}
+
+impl Kept {
+    /// Keeps a row, if there is room.
+    fn push(&mut self, row: Bytes) {
+        match self.room.checked_sub(size(&row)) {
+            Some(room) if !self.are_too_many => {
+                self.room = room;
+                self.rows.push(row);
+            }
+            _ => {
+                self.are_too_many = true;
+                self.rows = Vec::new();
+            }
+        }
+    }
+}
+
+/// Returns how many bytes a row takes that is kept.
+fn size(row: &Bytes) -> usize {
+    row.len() + std::mem::size_of::<Bytes>()
 }
 
 /// What is expected next.
@@ -238,6 +290,8 @@ pub struct Track {
     knows_wait: bool,
     /// What names of tables mean.
     resolved: HashMap<String, Option<u32>>,
+    /// How often that may have changed, and 1.
+    meanings: u64,
     /// What the session has lost of the proxy's.
     lost: Lost,
     /// Whether a COPY into PostgreSQL is under way.
@@ -252,9 +306,8 @@ pub struct Track {
     /// Whether something that is expected may give a name to what the proxy looks at. A long pipeline of other statements is not
     /// searched for each of them.
     gives_names: bool,
-    /// Rows of the own request that is under way, or was last, which the client has not asked for yet. And whether it has got as
-    /// many as it has asked for.
-    kept_rows: (Vec<Bytes>, bool),
+    /// Rows of the own request that is under way, or was last.
+    kept_rows: Kept,
     /// The rows for which PostgreSQL has refused something to the client, since the proxy holds them.
     refused_rows: Vec<KeptRow>,
     /// The process that serves the client.
@@ -263,6 +316,8 @@ pub struct Track {
     pub is_conforming: bool,
     /// Whether texts are in UTF-8.
     pub is_utf8: bool,
+    /// Whether PostgreSQL takes texts in UTF-8 as they are: they are so, or in no encoding.
+    pub takes_utf8: bool,
 }
 
 impl Default for Track {
@@ -285,17 +340,19 @@ impl Track {
             is_volatile: false,
             knows_wait: false,
             resolved: HashMap::new(),
+            meanings: 1,
             lost: Lost::Nothing,
             is_copying: false,
             spare_syncs: 0,
             is_answered: false,
             has_unnamed: false,
             gives_names: false,
-            kept_rows: (Vec::new(), false),
+            kept_rows: Kept::default(),
             refused_rows: Vec::new(),
             process: 0,
             is_conforming: true,
             is_utf8: false,
+            takes_utf8: false,
         }
     }
 
@@ -465,13 +522,22 @@ impl Track {
         last.unwrap_or_else(|| self.portals.get(name).cloned())
     }
 
-    /// Keeps a row that the client has not asked for yet.
-    pub fn keep_row(&mut self, row: Bytes) {
-        self.kept_rows.0.push(row);
+    /// Keeps no rows of former requests, and makes room for those of another one.
+    pub fn make_room(&mut self) {
+        let kept: usize = self.portals.values().map(|it| it.bytes_left()).sum();
+        self.kept_rows = Kept {
+            room: MOST_KEPT.saturating_sub(kept),
+            ..Kept::default()
+        };
     }
 
-    /// Returns the rows that were kept, and whether the client has got as many as it has asked for.
-    pub fn take_kept_rows(&mut self) -> (Vec<Bytes>, bool) {
+    /// Keeps a row that the client has not asked for yet.
+    pub fn keep_row(&mut self, row: Bytes) {
+        self.kept_rows.push(row);
+    }
+
+    /// Returns the rows that were kept.
+    pub fn take_kept_rows(&mut self) -> Kept {
         std::mem::take(&mut self.kept_rows)
     }
 
@@ -525,11 +591,17 @@ impl Track {
     }
 
     /// The proxy serves a Query itself, which drops the statement and the portal without a name. All is answered. Returns whether
-    /// PostgreSQL may have them.
+    /// PostgreSQL may have them: then two messages that close them are to be sent. An error in their place is the client's, since no
+    /// request of the proxy's own waits for it.
     pub fn drop_unnamed(&mut self) -> bool {
         self.statements.remove("");
         self.portals.remove("");
-        std::mem::take(&mut self.has_unnamed)
+        let are_closed = std::mem::take(&mut self.has_unnamed);
+        if are_closed {
+            self.expect(Expect::Piece(0));
+            self.expect(Expect::Piece(0));
+        }
+        are_closed
     }
 
     /// Forgets all statements and portals: a message that was not looked at may have changed any of them.
@@ -558,6 +630,12 @@ impl Track {
         self.resolved.get(name).copied()
     }
 
+    /// Returns whether the names in a portal may mean something else than when PostgreSQL bound it.
+    pub fn has_other_meanings(&self, bound: &Bound) -> bool {
+        let then = bound.meanings.load(Ordering::Relaxed);
+        then != 0 && then != self.meanings
+    }
+
     /// Keeps what a name of a table means.
     pub fn set_meaning(&mut self, name: String, oid: Option<u32>) {
         // A client that makes up names gets no more than this.
@@ -570,6 +648,7 @@ impl Track {
     /// Forgets what names mean, and the settings that are known.
     pub fn forget_meanings(&mut self) {
         self.resolved.clear();
+        self.meanings += 1;
         self.knows_wait = false;
         self.is_volatile = true;
     }
@@ -638,7 +717,10 @@ impl Track {
             (b'2', Some(Expect::Bind(..))) => {
                 if let Some(Expect::Bind(name, bound)) = self.queue.pop_front() {
                     match bound {
-                        Some(bound) => self.portals.insert(name, bound),
+                        Some(bound) => {
+                            bound.meanings.store(self.meanings, Ordering::Relaxed);
+                            self.portals.insert(name, bound)
+                        }
                         None => self.portals.remove(&name),
                     };
                 }
@@ -718,7 +800,7 @@ impl Track {
             }
             (b'D', Some(Expect::OwnRows(_))) => self.own_row(),
             (b'C', Some(&Expect::OwnRows(left))) => {
-                self.kept_rows.1 = left == Some(0);
+                self.kept_rows.is_full = left == Some(0);
                 self.queue.pop_front();
                 Reply::OwnTag
             }
@@ -730,13 +812,16 @@ impl Track {
         }
     }
 
-    /// Returns whether a large message of this kind has to be looked at as a whole: an error that answers the proxy, or whose place
-    /// in the client's text changes, and a row that the client has not asked for yet.
+    /// Returns whether a large message of this kind has to be looked at as a whole: an error that answers the proxy, or with which
+    /// PostgreSQL skips a request of the proxy's, or whose place in the client's text changes; and a row that the client has not
+    /// asked for yet.
     pub fn needs_whole(&self, kind: u8) -> bool {
-        let front = self.queue.iter().find(|it| !it.is_silent());
+        let mut queue = self.queue.iter().filter(|it| !it.is_silent());
         match kind {
-            b'E' => front.map_or(false, |it| it.is_own() || matches!(it, Expect::Piece(_))),
-            b'D' => matches!(front, Some(Expect::OwnRows(Some(0)))),
+            b'E' => queue
+                .take_while(|it| !matches!(it, Expect::Sync))
+                .any(|it| it.is_own() || matches!(it, Expect::Piece(_))),
+            b'D' => matches!(queue.next(), Some(Expect::OwnRows(Some(0)))),
             _ => false,
         }
     }
@@ -870,9 +955,15 @@ impl Track {
             (Some(b"standard_conforming_strings"), Some(value)) => {
                 self.is_conforming = value == b"on";
             }
-            (Some(b"client_encoding"), Some(value)) => self.is_utf8 = value == b"UTF8",
+            (Some(b"client_encoding"), Some(value)) => self.set_encoding(value),
             _ => {}
         }
+    }
+
+    /// Notes the encoding of the client's texts.
+    pub fn set_encoding(&mut self, name: &[u8]) {
+        self.is_utf8 = name == b"UTF8";
+        self.takes_utf8 = self.is_utf8 || name == b"SQL_ASCII";
     }
 }
 
@@ -937,6 +1028,61 @@ mod tests {
     }
 
     #[test]
+    fn rows_are_kept_while_there_is_room() {
+        let row = Bytes::from(vec![0; MOST_KEPT / 4]);
+        let mut track = started();
+        let statement = Statement::read("UPDATE t SET n = n - 1 WHERE id = 1").unwrap();
+        let bound = Arc::new(Bound::large(Arc::new(Prepared {
+            statement,
+            names_holds: false,
+            may_come_second: true,
+            shows: false,
+            types: Vec::new(),
+        })));
+        *bound.left() = Some(Left {
+            rows: VecDeque::from([row.clone()]),
+            tag: "SELECT".to_owned(),
+        });
+        track.expect(Expect::Bind("p".to_owned(), Some(bound)));
+        track.reply(b'2', b"");
+        for (count, are_too_many) in [(2, false), (3, true), (4, true), (0, false)] {
+            track.make_room();
+            (0..count).for_each(|_| track.keep_row(row.clone()));
+            let kept = track.take_kept_rows();
+            let all = if are_too_many { 0 } else { count };
+            assert_eq!((kept.rows.len(), kept.are_too_many), (all, are_too_many));
+        }
+    }
+
+    #[test]
+    fn a_large_error_is_whole_where_it_skips_what_is_the_proxys() {
+        let mut track = started();
+        for (expect, is_whole) in [
+            (Expect::Parse("s".to_owned(), None), false),
+            (Expect::Sync, false),
+            (Expect::Parse("t".to_owned(), None), false),
+            (Expect::OwnParse, false),
+        ] {
+            track.expect(expect);
+            assert_eq!(track.needs_whole(b'E'), is_whole);
+        }
+        track.reply(b'1', b"");
+        track.ready(Status::Idle);
+        assert!(track.needs_whole(b'E') && !track.needs_whole(b'N'));
+    }
+
+    #[test]
+    fn an_error_where_the_unnamed_are_closed_is_the_clients() {
+        let mut track = started();
+        track.expect(Expect::Parse("".to_owned(), None));
+        track.reply(b'1', b"");
+        assert!(track.drop_unnamed() && !track.drop_unnamed());
+        assert_eq!(track.reply(b'3', b""), Reply::Own);
+        let (skips_own, moved) = (false, 0);
+        assert_eq!(track.reply(b'E', b""), Reply::Failed { skips_own, moved });
+    }
+
+    #[test]
     fn a_statement_of_a_string_shows_its_rows_and_its_errors() {
         let mut track = started();
         for _ in 0..2 {
@@ -983,6 +1129,7 @@ mod tests {
             results: Vec::new(),
             is_large: false,
             left: Mutex::default(),
+            meanings: AtomicU64::default(),
         });
         for is_answered in [true, false] {
             track.expect(Expect::Bind("p".to_owned(), Some(bound.clone())));

@@ -11,13 +11,14 @@ use std::time::Duration;
 use tokio::sync::mpsc::{unbounded_channel, UnboundedReceiver};
 use tokio::sync::watch;
 use tokio::time::{sleep, sleep_until, timeout, timeout_at, Instant};
-use tokio_postgres::error::SqlState;
+use tokio_postgres::error::{Severity, SqlState};
 use tokio_postgres::{Error, Statement};
 
 use crate::catalog::Catalog;
 use crate::hub::{FolderTask, Folding, Generation, Hub, Leaving, Left, LoaderTask};
 use crate::protocol::{Event, Line};
-use crate::target::{Heard, Session, Target};
+use crate::target::{Heard, LoginError, Session, Target};
+use crate::told::Told;
 use crate::update::{self, Change, Key};
 
 /// How long PostgreSQL may take to answer: many rows with slow triggers take long, and on a connection that the network has
@@ -61,6 +62,8 @@ struct Own {
     generations: watch::Receiver<Generation>,
     /// Takes what [`CHANNEL`] says, if the connection listens. It is empty, or the number of a table that may go on.
     heard: Option<Heard>,
+    /// Why PostgreSQL did not let it in.
+    told: Told,
 }
 
 /// Why nothing came of a query.
@@ -76,9 +79,13 @@ enum Failure {
 
 impl From<Error> for Failure {
     fn from(error: Error) -> Failure {
-        match error.as_db_error() {
+        // PostgreSQL has ended the connection if the error is more than an ERROR, and refused nothing.
+        let severity = error.as_db_error().map(|it| it.parsed_severity());
+        match severity {
+            None | Some(Some(Severity::Fatal | Severity::Panic)) => {
+                Failure::Lost(error.to_string())
+            }
             Some(_) => Failure::Refused(error),
-            None => Failure::Lost(error.to_string()),
         }
     }
 }
@@ -94,6 +101,7 @@ impl Own {
             prepared: HashMap::new(),
             generations: hub.generations(),
             heard: None,
+            told: Told::default(),
         }
     }
 
@@ -105,7 +113,11 @@ impl Own {
                 self.prepared.clear();
                 let first = self.hub.address();
                 let login = self.target.login(first.as_ref(), self.name, &self.options);
-                let (own, _) = login.await.map_err(|it| Failure::Lost(it.to_string()))?;
+                let own = match login.await {
+                    Ok((own, _)) => own,
+                    Err(error) => return Err(self.told.lost(self.name, &error)),
+                };
+                self.told.forget();
                 match &self.heard {
                     Some(heard) => {
                         let session = Session::listening(own, heard.clone());
@@ -178,6 +190,17 @@ impl Own {
             _ => {}
         }
         result
+    }
+}
+
+impl Told {
+    /// Returns that there is no connection, and tells it if PostgreSQL has refused it: too many are open, for instance. The keeper
+    /// tells of a PostgreSQL that is away.
+    fn lost(&mut self, name: &str, error: &LoginError) -> Failure {
+        if let LoginError::Postgres(_) = error {
+            self.warn(&format!("{name} has no connection: {error}"));
+        }
+        Failure::Lost(error.to_string())
     }
 }
 
@@ -464,16 +487,22 @@ impl Sweep {
             _ => return *self = Sweep::default(),
         };
         match sweep_piece(own, table, self.epoch).await {
-            Ok(Swept::Some) => return,
-            Ok(Swept::AllButLocked) => self.is_left = true,
-            Ok(Swept::All) => {}
+            Ok(swept) => {
+                own.told.forget();
+                match swept {
+                    Swept::Some => return,
+                    Swept::AllButLocked => self.is_left = true,
+                    Swept::All => {}
+                }
+            }
             Err(Failure::Refused(error)) if !is_passing(&error) => {
                 if !is_ordinary(own, table).await {
                     hub.fold_refused(table, &words(&error));
                 }
             }
             Err(failure) => {
-                tracing::warn!("a journal is not folded yet (table {table}): {failure}");
+                let why = format!("a journal is not folded yet (table {table}): {failure}");
+                own.told.warn(&why);
                 self.tables.rotate_right(1); // the others go on
                 self.due = Some(Instant::now() + PAUSE);
                 return;
@@ -705,4 +734,56 @@ fn heard(hub: Arc<Hub>, asked: Arc<Mutex<BTreeSet<i32>>>) -> Heard {
 fn lock<T>(mutex: &Mutex<T>) -> MutexGuard<'_, T> {
     // What is kept is whole after each change.
     mutex.lock().unwrap_or_else(PoisonError::into_inner)
+}
+
+#[cfg(test)]
+mod tests {
+    use tokio::io::{AsyncReadExt, AsyncWriteExt};
+    use tokio_postgres::{Config, NoTls};
+
+    use super::*;
+    use crate::own;
+
+    /// Returns what comes of a query that a server answers so.
+    async fn failure(answer: Vec<u8>) -> Failure {
+        let (near, mut far) = tokio::io::duplex(4_096);
+        tokio::spawn(async move {
+            let mut asked = [0; 1_024];
+            for answer in [b"R\0\0\0\x08\0\0\0\0Z\0\0\0\x05I".to_vec(), answer] {
+                assert!(far.read(&mut asked).await.unwrap() > 0);
+                far.write_all(&answer).await.unwrap();
+            }
+        });
+        let login = Config::new().user("escrowd").connect_raw(near, NoTls).await;
+        let (client, connection) = login.unwrap();
+        tokio::spawn(connection);
+        client.batch_execute("SELECT 1").await.unwrap_err().into()
+    }
+
+    #[tokio::test]
+    async fn an_end_of_the_connection_refuses_nothing() {
+        // PostgreSQL 17 ends a transaction that takes too long by this.
+        let fatal = own::fatal("25P04", "terminating connection due to transaction timeout");
+        let error = [&fatal[..], b"Z\0\0\0\x05I"].concat();
+        let error = String::from_utf8(error).unwrap().replace("FATAL", "ERROR");
+        assert!(matches!(failure(fatal).await, Failure::Lost(_)));
+        assert!(matches!(
+            failure(error.into_bytes()).await,
+            Failure::Refused(_)
+        ));
+    }
+
+    #[tokio::test]
+    async fn a_sweep_that_is_asked_for_amid_another_begins_behind_it() {
+        let mut sweep = Sweep {
+            epoch: 7,
+            tables: vec![1],
+            ..Sweep::default()
+        };
+        sweep.begin_soon(7);
+        assert!(sweep.is_left);
+        let mut idle = Sweep::default();
+        idle.begin_soon(7);
+        assert!(!idle.is_left && idle.due.is_some() && idle.epoch == 7);
+    }
 }

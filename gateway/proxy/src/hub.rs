@@ -8,7 +8,7 @@ use std::sync::{Arc, Mutex, MutexGuard, PoisonError};
 use std::time::{Duration, Instant, SystemTime};
 
 use tokio::sync::mpsc::{unbounded_channel, UnboundedReceiver, UnboundedSender};
-use tokio::sync::{watch, Notify};
+use tokio::sync::{oneshot, watch, Notify};
 
 use crate::catalog::Catalog;
 use crate::json;
@@ -73,6 +73,8 @@ pub enum KeeperTask {
     Do(Action<Key, Change>),
     /// The server has ended: ownership begins anew.
     Abandon,
+    /// Say whether this process of PostgreSQL serves a client.
+    Find(i32, oneshot::Sender<bool>),
 }
 
 /// When a fold began.
@@ -308,6 +310,14 @@ impl Hub {
         if let Some(link) = lock(&self.state).links.get_mut(&connection) {
             link.process = process;
         }
+    }
+
+    /// Returns whether a process of PostgreSQL has ended, as far as the keeper knows.
+    pub async fn has_ended(&self, process: i32) -> bool {
+        let (tell, told) = oneshot::channel();
+        let _ = self.workers.keeper.send(KeeperTask::Find(process, tell));
+        // Without a keeper nobody answers.
+        told.await == Ok(false)
     }
 
     /// Returns all that is reserved and the tables that are stopped, as `escrow.show` reads it.

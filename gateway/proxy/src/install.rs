@@ -12,7 +12,7 @@ use crate::args::Script;
 use crate::target::{BadTarget, LoginError, Own, Target};
 
 /// The version that this program works with.
-pub const VERSION: i32 = 3;
+pub const VERSION: i32 = 4;
 
 /// The scripts.
 const INSTALL: &str = include_str!("../sql/install.sql");
@@ -21,6 +21,11 @@ const UNINSTALL: &str = include_str!("../sql/uninstall.sql");
 /// How long a script waits for a lock, for instance of a declared table that a transaction uses.
 const SETTINGS: &str = "-c default_transaction_isolation=read\\ committed -c default_transaction_read_only=off \
     -c lock_timeout=10s -c statement_timeout=0 -c idle_in_transaction_session_timeout=0 -c session_replication_role=origin";
+
+/// Who has schema `escrow`, unless it is the caller or a superuser.
+const FOREIGN: &str =
+    "SELECT r.rolname::text FROM pg_namespace AS n JOIN pg_roles AS r ON r.oid = n.nspowner
+    WHERE n.nspname = 'escrow' AND NOT r.rolsuper AND r.rolname <> current_user";
 
 /// How long a connection may take.
 const PATIENCE: Duration = Duration::from_secs(30);
@@ -46,6 +51,9 @@ pub enum Error {
     /// It took too long.
     #[error("PostgreSQL does not answer")]
     Silent,
+    /// Schema `escrow` is of a role that may have put anything into it.
+    #[error("schema escrow belongs to the role {0}, which is no superuser: it may have functions of anybody's; drop it")]
+    Foreign(String),
     /// PostgreSQL refused a statement. Nothing has changed.
     #[error("{}", told(.0))]
     Postgres(#[from] tokio_postgres::Error),
@@ -116,6 +124,10 @@ fn in_background((client, mut connection): Own) -> Client {
 
 /// Runs a script in one transaction, and returns what became of it.
 async fn apply(act: Act, client: &Client) -> Result<String, Error> {
+    // The scripts say so too. Even a look at the version would run a function of the schema's.
+    if let Some(row) = client.query_opt(FOREIGN, &[]).await? {
+        return Err(Error::Foreign(row.get(0)));
+    }
     let before = version(client).await?;
     if (act, before) == (Act::Uninstall, None) {
         return Ok("schema escrow is not installed".to_owned());

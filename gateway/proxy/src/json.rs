@@ -23,6 +23,22 @@ pub fn string(text: &str) -> String {
     out
 }
 
+/// Writes a JSON in letters that all encodings have.
+pub fn in_ascii(json: &str) -> String {
+    let mut out = String::with_capacity(json.len());
+    for character in json.chars() {
+        if character.is_ascii() {
+            out.push(character);
+        } else {
+            for unit in character.encode_utf16(&mut [0; 2]) {
+                // Nothing refuses to be written to a string.
+                let _ = write!(out, "\\u{unit:04x}");
+            }
+        }
+    }
+    out
+}
+
 /// Writes a time of after 1970 in UTC, by its seconds.
 pub fn time(time: SystemTime) -> String {
     let seconds = time.duration_since(UNIX_EPOCH).map_or(0, |it| it.as_secs());
@@ -63,6 +79,10 @@ mod tests {
     #[test]
     fn texts_are_quoted() {
         assert_eq!(string("a\"b\\c\n"), "\"a\\\"b\\\\c\\u000a\"");
+        assert_eq!(
+            in_ascii("\"a\u{e4}\u{1f600}\""),
+            "\"a\\u00e4\\ud83d\\ude00\""
+        );
     }
 
     #[test]

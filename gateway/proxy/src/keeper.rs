@@ -7,7 +7,8 @@ use std::time::Duration;
 
 use rand::Rng;
 use tokio::sync::mpsc::UnboundedReceiver;
-use tokio::time::{interval, timeout, MissedTickBehavior};
+use tokio::sync::oneshot;
+use tokio::time::{interval, timeout, Instant, MissedTickBehavior};
 use tokio_postgres::error::SqlState;
 
 use crate::hub::{Hub, KeeperTask};
@@ -15,6 +16,7 @@ use crate::install::{self, WrongVersion};
 use crate::note::Secret;
 use crate::protocol::{Action, Event, Fate, Id, Line, News, Verdict};
 use crate::target::{Address, LoginError, Session, Target};
+use crate::told::Told;
 use crate::update::{self, Change, Key};
 
 /// How often what was not done is tried again. The owner says something as often.
@@ -25,6 +27,9 @@ pub const SILENCE: f64 = 3.0;
 
 /// How long PostgreSQL may take to answer the keeper.
 const PATIENCE: Duration = Duration::from_secs(3);
+
+/// How long looks may be cut off before the log says it.
+const BLIND: Duration = Duration::from_secs(10);
 
 /// The key of OWNER, as `escrow.set_epoch` expects it.
 const OWNER: (i32, i32) = (1_702_064_993, 1);
@@ -94,6 +99,8 @@ impl Holders {
 pub struct Keeper {
     client: Session,
     epoch: i64,
+    /// Since when no look was done, but cut off. None: the last one was done.
+    blind: Option<Instant>,
 }
 
 impl Keeper {
@@ -110,7 +117,12 @@ impl Keeper {
         let query = "SELECT key FROM escrow.secret";
         let row = in_time(client.query_one(query, &[])).await?;
         let secret = Secret::new(row.get(0)).ok_or(Error::Secret)?;
-        Ok((Keeper { client, epoch: 0 }, secret, address.clone()))
+        let keeper = Keeper {
+            client,
+            epoch: 0,
+            blind: None,
+        };
+        Ok((keeper, secret, address.clone()))
     }
 
     /// Returns the epoch whose lock it holds, or 0.
@@ -213,6 +225,13 @@ impl Keeper {
         Ok(news.collect())
     }
 
+    /// Returns whether a process serves a client.
+    pub async fn has_process(&self, process: i32) -> Result<bool, Error> {
+        let query = "SELECT FROM pg_catalog.pg_stat_get_activity($1)";
+        let rows = in_time(self.client.query(query, &[&process])).await?;
+        Ok(!rows.is_empty())
+    }
+
     /// Says something, so that it is not taken for silent.
     pub async fn beat(&self) -> Result<(), Error> {
         in_time(self.client.simple_query("")).await?;
@@ -259,6 +278,7 @@ pub async fn keep(hub: Arc<Hub>, target: Arc<Target>, mut tasks: UnboundedReceiv
             task = tasks.recv() => match task {
                 Some(KeeperTask::Do(action)) => carry_out(&hub, &target, &mut keeper, &mut told, action).await,
                 Some(KeeperTask::Abandon) => Err(Error::ServerEnded),
+                Some(KeeperTask::Find(process, tell)) => find(&keeper, process, tell).await,
                 None => return,
             },
         };
@@ -269,29 +289,36 @@ pub async fn keep(hub: Arc<Hub>, target: Arc<Target>, mut tasks: UnboundedReceiv
             if target.asks_for_writes() {
                 hub.forget_address();
             }
+            // OWNER is tried again at the next tick.
             hub.handle(Event::KeeperLost);
-            // What was asked before is of no matter any more. OWNER is tried again at the next tick.
-            while tasks.try_recv().is_ok() {}
+            while drop_tasks(&mut tasks) {
+                hub.handle(Event::KeeperLost);
+            }
         }
     }
 }
 
-/// Why there is no keeper, as the log has it. What is the same again and again is told once.
-#[derive(Default)]
-struct Told(Option<String>);
-
-impl Told {
-    fn warn(&mut self, error: &Error) {
-        let text = error.to_string();
-        if self.0.as_deref() != Some(&text) {
-            tracing::warn!("this proxy cannot be the owner: {text}");
-            self.0 = Some(text);
-        }
+/// Drops what was asked before, which is of no matter any more. Returns whether a server has ended: it may be the one that was
+/// just started.
+fn drop_tasks(tasks: &mut UnboundedReceiver<KeeperTask>) -> bool {
+    let mut has_ended = false;
+    while let Ok(task) = tasks.try_recv() {
+        has_ended |= matches!(task, KeeperTask::Abandon);
     }
+    has_ended
+}
 
-    fn forget(&mut self) {
-        self.0 = None;
+/// Says whether a process serves a client, if there is a keeper.
+async fn find(
+    keeper: &Option<Keeper>,
+    process: i32,
+    tell: oneshot::Sender<bool>,
+) -> Result<(), Error> {
+    if let Some(open) = keeper {
+        // Who has asked may have gone.
+        let _ = tell.send(open.has_process(process).await?);
     }
+    Ok(())
 }
 
 async fn carry_out(
@@ -310,7 +337,7 @@ async fn carry_out(
                 keeper.insert(open)
             }
             Err(error) => {
-                told.warn(&error);
+                told.warn(&format!("this proxy cannot be the owner: {error}"));
                 return Ok(());
             }
         },
@@ -355,6 +382,9 @@ async fn carry_out(
             Ok(news) => {
                 let is_formers = |it: &News<Key, Change>| !it.is_ours && it.fate != Fate::Stands;
                 let have_ended = news.iter().any(is_formers);
+                if open.blind.take().is_some() {
+                    told.forget();
+                }
                 hub.handle(Event::Looked { news });
                 if have_ended {
                     hub.sweep_soon(open.epoch);
@@ -362,6 +392,9 @@ async fn carry_out(
             }
             Err(error) if error.is_passing() => {
                 tracing::debug!("holds cannot be looked at: {error}");
+                if open.blind.get_or_insert_with(Instant::now).elapsed() > BLIND {
+                    told.warn(&format!("holds that have ended are not free yet: {error}"));
+                }
                 hub.handle(Event::LookFailed);
             }
             Err(error) => return Err(error),
@@ -373,7 +406,19 @@ async fn carry_out(
 
 #[cfg(test)]
 mod tests {
+    use tokio::sync::mpsc::unbounded_channel;
+
     use super::*;
+
+    #[test]
+    fn a_server_that_ends_meanwhile_is_noticed() {
+        let (to_keeper, mut tasks) = unbounded_channel();
+        let _ = to_keeper.send(KeeperTask::Abandon);
+        let _ = to_keeper.send(KeeperTask::Do(Action::TakeOwner));
+        assert!(drop_tasks(&mut tasks));
+        let _ = to_keeper.send(KeeperTask::Do(Action::TakeOwner));
+        assert!(!drop_tasks(&mut tasks));
+    }
 
     #[test]
     fn outcomes_are_known_or_an_error() {

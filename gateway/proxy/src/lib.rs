@@ -38,5 +38,6 @@ pub mod stream;
 pub mod target;
 pub mod threads;
 pub mod tls;
+mod told;
 pub mod unix;
 pub mod update;

@@ -7,7 +7,7 @@ use escrowd_pg::statement::constant::{self, Datum, Input};
 use escrowd_pg::statement::query::{
     Expression, ExpressionKind, Name, Operator, QualifiedName, Span, TypeName,
 };
-use escrowd_pg::value::array;
+use escrowd_pg::value::{array, is_blank};
 use tokio_postgres::types::Type;
 
 use crate::catalog::KeyType;
@@ -33,13 +33,11 @@ pub struct Parameters<'a> {
 }
 
 impl Parameters<'_> {
-    /// Returns whether an expression is a parameter that the client has told to be a float.
+    /// Returns whether an expression is a parameter that is a float, perhaps with signs in front.
     pub fn is_float(&self, expression: &Expression) -> bool {
-        match expression.kind {
-            ExpressionKind::Parameter(number) => {
-                let at = usize::from(number).checked_sub(1);
-                at.and_then(|at| self.types.get(at)) == Some(&Type::FLOAT8.oid())
-            }
+        match &expression.kind {
+            ExpressionKind::Parameter(number) => self.told(*number) == Some(Type::FLOAT8.oid()),
+            ExpressionKind::Unary(_, operand) => self.is_float(operand),
             _ => false,
         }
     }
@@ -89,8 +87,12 @@ impl Parameters<'_> {
     pub fn elements(&self, expression: &Expression, oid: u32) -> Option<Vec<Datum>> {
         let elements = match &expression.kind {
             ExpressionKind::Cast(operand, to) => {
-                self.array(operand, Some(element_oid(to)?), oid)?
+                // Without an element nothing else tells that PostgreSQL has no such operator.
+                let told = element_oid(to).filter(|&told| are_comparable(told, oid))?;
+                self.array(operand, Some(told), oid)?
             }
+            // PostgreSQL knows no type of it.
+            ExpressionKind::Array(elements) if elements.is_empty() => return None,
             _ => self.array(expression, None, oid)?,
         };
         elements
@@ -247,8 +249,10 @@ impl Parameters<'_> {
 /// Reads a value of a type in text.
 fn text_literal(oid: u32, text: &str) -> Option<ExpressionKind> {
     match oid {
-        oid if is_number(oid) => number_literal(text.trim()),
-        oid if oid == Type::FLOAT8.oid() => number_literal(&float(text.trim().parse().ok()?)?),
+        oid if is_number(oid) => number_literal(text.trim_matches(is_blank)),
+        oid if oid == Type::FLOAT8.oid() => {
+            number_literal(&float(text.trim_matches(is_blank).parse().ok()?)?)
+        }
         oid if oid == Type::UUID.oid() || is_text(oid) => {
             Some(ExpressionKind::Text(text.to_owned()))
         }
@@ -300,6 +304,11 @@ const NUMBERS: [Type; 4] = [Type::INT2, Type::INT4, Type::INT8, Type::NUMERIC];
 /// Returns whether a type is one of numbers.
 pub fn is_number(oid: u32) -> bool {
     NUMBERS.iter().any(|it| it.oid() == oid)
+}
+
+/// Returns whether PostgreSQL compares values of two types that the proxy understands.
+fn are_comparable(one: u32, other: u32) -> bool {
+    one == other || is_number(one) && is_number(other) || is_text(one) && is_text(other)
 }
 
 /// Returns the type that PostgreSQL takes where two types of numbers meet. 0: it is not known.
@@ -446,7 +455,9 @@ pub fn number(value: Datum, oid: u32) -> Option<Decimal> {
     match value {
         Datum::Integer(value, _) => Some(Decimal::from(value)),
         Datum::Numeric(value) => Some(value),
-        Datum::Unknown(text) if oid == Type::NUMERIC.oid() => Decimal::parse(text.trim()),
+        Datum::Unknown(text) if oid == Type::NUMERIC.oid() => {
+            Decimal::parse(text.trim_matches(is_blank))
+        }
         Datum::Unknown(text) => escrowd_pg::value::integer(oid, &text)
             .ok()
             .map(Decimal::from),

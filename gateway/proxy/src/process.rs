@@ -11,7 +11,7 @@ use std::time::Duration;
 use tokio::io::{AsyncBufReadExt, AsyncReadExt, AsyncWriteExt, BufReader};
 use tokio::process::{Child, ChildStderr, ChildStdout, Command};
 use tokio::sync::mpsc::{unbounded_channel, UnboundedReceiver, UnboundedSender};
-use tokio::time::sleep;
+use tokio::time::{sleep, sleep_until, Instant};
 
 use crate::hub::{Generation, Hub};
 use crate::server::SESSIONS;
@@ -24,7 +24,7 @@ const WITHOUT_KEYS: &str = r#"trap '' HUP INT QUIT TERM USR1 USR2 ALRM VTALRM PR
 /// The bytes that are read at once.
 const CHUNK: usize = 16_384;
 
-/// How long a start that failed waits for the next.
+/// How soon behind a start the next one comes at the earliest: a program may end as soon as it begins, again and again.
 const PAUSE: Duration = Duration::from_millis(200);
 
 /// Where the server's lines go. A task writes all that has come when it gets its turn at once.
@@ -48,6 +48,7 @@ pub async fn run(hub: Arc<Hub>, program: PathBuf, mut starts: UnboundedReceiver<
             next = Some(later);
             continue;
         }
+        let begun = Instant::now();
         match spawn(&program) {
             Ok((mut child, lines)) => {
                 if let (Some(output), Some(errors)) = (child.stdout.take(), child.stderr.take()) {
@@ -57,6 +58,7 @@ pub async fn run(hub: Arc<Hub>, program: PathBuf, mut starts: UnboundedReceiver<
                 }
                 next = starts.recv().await;
                 end(child).await;
+                sleep_until(begun + PAUSE).await;
             }
             Err(error) => {
                 tracing::error!("{} cannot be started: {}", program.display(), error);

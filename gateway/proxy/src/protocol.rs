@@ -827,6 +827,7 @@ impl<K: Row, C: Clone> Protocol<K, C> {
     fn alarm(&mut self, alarm: Alarm, actions: &mut Vec<Action<K, C>>) {
         self.ownership = Ownership::Stopped;
         actions.push(Action::Alarm(alarm, None));
+        self.advance_all(actions);
     }
 
     /// Grants and folds nothing more of a table. What has committed stays in its journal, so nobody waits for it.
@@ -1087,6 +1088,7 @@ impl<K: Row, C: Clone> Protocol<K, C> {
         #[cfg(test)]
         let is_plain = is_plain || self.fault == Some(Fault::EndByTag) && client.ends_with_commit();
         let has_commit = client.has_commit();
+        let has_commit_behind = client.has_commit_behind();
         client.next_cycle();
         let ends = status == Status::Idle || status == Status::InBlock && has_commit;
         if ends && self.ownership == Ownership::Serving {
@@ -1115,7 +1117,7 @@ impl<K: Row, C: Clone> Protocol<K, C> {
             Status::InBlock => {
                 // What a ROLLBACK TO has ended is free for others at once.
                 asks = client.is_unsure();
-                if asks && has_commit {
+                if asks && has_commit_behind {
                     // COMMIT AND CHAIN.
                     client.await_outcome();
                 }

@@ -228,13 +228,14 @@ pub async fn authenticate(
     output: &mut BytesMut,
     guarded: bool,
 ) -> Result<bool, Error> {
-    let mut is_asked = false;
+    let (mut is_asked, mut is_waiting) = (false, false);
     let may_bind = client.certificate() == server.certificate();
     let is_tls = client.certificate().is_some() && server.certificate().is_some();
     let (mut from_client, mut from_server) = (Frames::default(), Frames::default());
     loop {
         while let Some(piece) = from_server.next(output)? {
             is_asked |= sasl::asks(piece.bytes());
+            is_waiting |= sasl::waits(piece.bytes());
             if guarded && !is_asked && sasl::is_ok(piece.bytes()) {
                 client.write_all(&own::fatal("28000", UNASKED)).await?;
                 client.shutdown().await?;
@@ -250,18 +251,28 @@ pub async fn authenticate(
             }
         }
         client.flush().await?;
-        while let Some(piece) = from_client.next(input)? {
+        // What PostgreSQL does not wait for is a statement that the client has sent in advance. It is looked at later.
+        let is_early = |frames: &Frames, input: &BytesMut, is_waiting: bool| {
+            !is_waiting && !frames.is_amid() && !matches!(input.first(), None | Some(b'X'))
+        };
+        while !is_early(&from_client, input, is_waiting) {
+            let piece = match from_client.next(input)? {
+                Some(piece) => piece,
+                None => break,
+            };
             if is_tls && !may_bind && sasl::misses_binding(piece.bytes()) {
                 client.write_all(&own::fatal("28000", NO_BINDING)).await?;
                 client.shutdown().await?;
                 return Err(Error::Binding);
             }
             server.write_all(piece.bytes()).await?;
+            is_waiting = false;
         }
         server.flush().await?;
+        let may_read = !is_early(&from_client, input, is_waiting);
         let read = tokio::select! {
             read = server.read_buf(output) => read?,
-            read = client.read_buf(input) => read?,
+            read = client.read_buf(input), if may_read => read?,
         };
         if read == 0 {
             return Ok(false);

@@ -8,6 +8,7 @@ use std::time::Duration;
 
 use bytes::{Bytes, BytesMut};
 use tokio::io::AsyncReadExt;
+use tokio::sync::mpsc::error::SendError;
 use tokio::sync::mpsc::{UnboundedReceiver, UnboundedSender};
 use tokio::time::sleep;
 
@@ -20,6 +21,9 @@ use crate::protocol::{Connection, Event, Status};
 use crate::relay::{Shared, CHUNK};
 use crate::requests::{OwnReply, Resumed};
 use crate::stream::{Outgoing, Reader};
+
+/// How long a client with reservations may take nothing before the proxy asks whether PostgreSQL has ended its session.
+const STUCK: Duration = Duration::from_secs(3);
 
 /// The direction from PostgreSQL to a client.
 pub struct Replies<'a> {
@@ -91,7 +95,11 @@ impl Replies<'_> {
     async fn flush(&mut self) -> Result<(), Error> {
         if !self.to.is_empty() && !self.shared.has_turn() {
             self.shared.set_writing(true);
-            self.to.flush().await?;
+            tokio::select! {
+                biased;
+                written = self.to.flush() => written?,
+                _ = until_forsaken(self.shared, self.hub) => return Err(Error::Forsaken),
+            }
             self.shared.set_writing(false);
             self.shared.changed.notify_one();
         }
@@ -175,7 +183,7 @@ impl Replies<'_> {
                     moved => self.to.push(&own::moved(bytes, moved as i64)),
                 }
                 if skips_own {
-                    self.hand_over(OwnReply::Skipped).await?;
+                    self.hand_over(OwnReply::Skipped).await;
                 }
             }
             Reply::Ready(status) => {
@@ -198,11 +206,11 @@ impl Replies<'_> {
             }
             Reply::OwnDone => {
                 let row = self.row.take();
-                self.hand_over(OwnReply::Row(row)).await?;
+                self.hand_over(OwnReply::Row(row)).await;
             }
             Reply::OwnFailed => {
                 self.row = None;
-                self.hand_over(OwnReply::Failed(bytes.clone())).await?;
+                self.hand_over(OwnReply::Failed(bytes.clone())).await;
             }
             Reply::Stray => return Err(Error::Stray(char::from(kind))),
         }
@@ -217,12 +225,19 @@ impl Replies<'_> {
     }
 
     /// Hands an own reply over, and waits until what the client gets behind it is known.
-    async fn hand_over(&mut self, reply: OwnReply) -> Result<(), Error> {
-        self.own.send(reply).map_err(|_| Error::Ended)?;
+    async fn hand_over(&mut self, reply: OwnReply) {
+        let handed = self.own.send(reply);
         self.shared.changed.notify_one();
-        let resumed = self.resumed.recv().await.ok_or(Error::Ended)?;
-        self.resume(&resumed);
-        Ok(())
+        match handed {
+            Ok(()) => {
+                if let Some(resumed) = self.resumed.recv().await {
+                    self.resume(&resumed);
+                }
+            }
+            // The other direction can write nothing more to PostgreSQL, whose last words are the client's.
+            Err(SendError(OwnReply::Failed(error))) => self.to.push(&error),
+            Err(_) => {}
+        }
     }
 
     /// Keeps a ReadyForQuery back until the hub delivers it, or the client has waited long enough.
@@ -251,5 +266,17 @@ impl Replies<'_> {
             self.shared.disengage();
         }
         Ok(())
+    }
+}
+
+/// Waits until PostgreSQL has ended the session of a client with reservations. That end is behind what the client has not taken
+/// yet, so it is not seen in the stream.
+async fn until_forsaken(shared: &Shared, hub: &Hub) {
+    loop {
+        sleep(STUCK).await;
+        let process = shared.track().process;
+        if shared.is_engaged() && hub.has_ended(process).await {
+            return;
+        }
     }
 }

@@ -3,8 +3,10 @@
 //! Such an UPDATE is asked of the server, and then noted in the client's own transaction (rules 3 to 6). Nothing else of
 //! the client's is sent in between.
 
+use std::borrow::Cow;
 use std::collections::{HashMap, VecDeque};
-use std::sync::{Arc, Mutex, MutexGuard, PoisonError};
+use std::sync::atomic::AtomicU64;
+use std::sync::{Arc, Mutex};
 
 use bytes::{Bytes, BytesMut};
 use escrowd_pg::wire::frontend::{self, Message, Raw};
@@ -132,6 +134,9 @@ pub struct Requests<'a> {
     forms: Forms,
     out: Vec<u8>,
 }
+
+/// The bytes of a name of a statement or a portal that PostgreSQL compares.
+const LONGEST_NAME: usize = 63;
 
 /// At least as many bytes as a word has that is looked for in parts of a text.
 const LONGEST_WORD: usize = 32;
@@ -285,7 +290,7 @@ impl<'a> Requests<'a> {
     async fn part(&mut self, bytes: &[u8], is_first: bool) -> Result<(), Error> {
         if is_first {
             let names = self.check_part(bytes[0], &bytes[5..])?;
-            let mut names = names.into_iter();
+            let mut names = names.iter().map(|name| known_name(name).into_owned());
             let mut name = || names.next().unwrap_or_default();
             match bytes.first() {
                 Some(b'Q') => {
@@ -423,20 +428,18 @@ impl<'a> Requests<'a> {
                         types,
                     })
                 });
-                self.pass(&bytes, Expect::Parse(parse.name.to_owned(), prepared));
+                let name = known_name(parse.name).into_owned();
+                self.pass(&bytes, Expect::Parse(name, prepared));
             }
             Message::Bind(bind) => {
                 self.check_name(bind.statement)?;
                 self.check_name(bind.portal)?;
+                let (portal, name) = (known_name(bind.portal), known_name(bind.statement));
                 let is_engaged = self.shared.is_engaged();
-                if self
-                    .shared
-                    .track()
-                    .may_lose_statement(bind.statement, is_engaged)
-                {
+                if self.shared.track().may_lose_statement(&name, is_engaged) {
                     self.settle().await?;
                 }
-                let statement = self.shared.track().statement(bind.statement);
+                let statement = self.shared.track().statement(&name);
                 let bound = statement.map(|statement| {
                     let values = bind.values.iter().map(|it| it.map(<[u8]>::to_vec));
                     Arc::new(Bound {
@@ -446,14 +449,15 @@ impl<'a> Requests<'a> {
                         results: bind.result_formats.clone(),
                         is_large: false,
                         left: Mutex::default(),
+                        meanings: AtomicU64::default(),
                     })
                 });
-                self.pass(&bytes, Expect::Bind(bind.portal.to_owned(), bound));
+                self.pass(&bytes, Expect::Bind(portal.into_owned(), bound));
             }
             Message::Describe(target) => {
                 self.check_target(target)?;
                 let statement = match target {
-                    frontend::Target::Statement(name) => Some(name.to_owned()),
+                    frontend::Target::Statement(name) => Some(known_name(name).into_owned()),
                     frontend::Target::Portal(_) => None,
                 };
                 self.pass(&bytes, Expect::Describe(statement));
@@ -461,19 +465,24 @@ impl<'a> Requests<'a> {
             Message::Close(target) => {
                 self.check_target(target)?;
                 let expect = match target {
-                    frontend::Target::Statement(name) => Expect::CloseStatement(name.to_owned()),
-                    frontend::Target::Portal(name) => Expect::ClosePortal(name.to_owned()),
+                    frontend::Target::Statement(name) => {
+                        Expect::CloseStatement(known_name(name).into_owned())
+                    }
+                    frontend::Target::Portal(name) => {
+                        Expect::ClosePortal(known_name(name).into_owned())
+                    }
                 };
                 self.pass(&bytes, expect);
             }
             Message::Execute { portal, limit } => {
                 let limit = Some(limit as usize).filter(|&limit| limit > 0);
                 self.check_name(portal)?;
+                let portal = known_name(portal);
                 let is_engaged = self.shared.is_engaged();
-                if self.shared.track().may_lose_portal(portal, is_engaged) {
+                if self.shared.track().may_lose_portal(&portal, is_engaged) {
                     self.settle().await?;
                 }
-                let bound = self.shared.track().portal(portal);
+                let bound = self.shared.track().portal(&portal);
                 let prepared = bound
                     .as_ref()
                     .map(|bound| (bound, &bound.statement.statement));
@@ -495,6 +504,12 @@ impl<'a> Requests<'a> {
                         if self.goes_on(bound, limit).await? {
                             return Ok(());
                         }
+                        self.settle_what_runs().await?;
+                        if self.shared.track().has_other_meanings(bound) {
+                            // PostgreSQL runs it as it was bound.
+                            self.pass(&bytes, Expect::Execute);
+                            return Ok(());
+                        }
                         let parameters = Parameters {
                             types: &bound.statement.types,
                             formats: &bound.formats,
@@ -503,8 +518,8 @@ impl<'a> Requests<'a> {
                         let sent = Sent::Execute(&bytes, limit);
                         self.update(form, parameters, &bound.results, sent).await?;
                         match self.own.rows_left.take() {
-                            None => self.shared.track().spend_portal(portal),
-                            left => *rows_left(bound) = left,
+                            None => self.shared.track().spend_portal(&portal),
+                            left => *bound.left() = left,
                         }
                     }
                     Some((bound, Statement::Delete(deletion))) => {
@@ -518,7 +533,7 @@ impl<'a> Requests<'a> {
                     }
                     Some((_, Statement::Deallocate(name))) => {
                         self.pass(&bytes, Expect::Execute);
-                        self.expect(Expect::Deallocated(name.clone()));
+                        self.expect(Expect::Deallocated(known_name(name).into_owned()));
                     }
                     Some((_, Statement::Commit)) => {
                         self.commit(Sent::Execute(&bytes, limit)).await?;
@@ -543,14 +558,14 @@ impl<'a> Requests<'a> {
     /// Gives the client more of what a portal has left of its rows. Returns false if it has not run yet, or its transaction has
     /// failed.
     async fn goes_on(&mut self, bound: &Bound, limit: Option<usize>) -> Result<bool, Error> {
-        if rows_left(bound).is_none() {
+        if bound.left().is_none() {
             return Ok(false);
         }
         self.settle().await?;
         if self.has_failed() {
             return Ok(false);
         }
-        if let Some(left) = rows_left(bound).as_mut() {
+        if let Some(left) = bound.left().as_mut() {
             self.say(left.take(limit.unwrap_or(0)), false);
         }
         Ok(true)
@@ -565,7 +580,8 @@ impl<'a> Requests<'a> {
             b'Q' => self.expect(Expect::Query),
             b'P' => self.expect(Expect::Parse(name, None)),
             b'B' => self.expect(Expect::Bind(name, None)),
-            b'D' => self.expect(Expect::Describe(None)),
+            // A Flush has an answer too then: the error, behind which PostgreSQL skips what comes.
+            b'D' | b'H' => self.expect(Expect::Describe(None)),
             b'E' => self.expect(Expect::Execute),
             b'C' => self.expect(Expect::CloseStatement(name)),
             b'S' => self.expect(Expect::Sync),
@@ -649,22 +665,23 @@ impl<'a> Requests<'a> {
     }
 
     /// Learns the settings by which PostgreSQL reads a text that comes next. PostgreSQL tells a change of them at the next
-    /// ReadyForQuery, so they are asked for if something has run since the last one.
-    async fn learn_letters(&mut self) -> Result<(), Error> {
+    /// ReadyForQuery, so they are asked for if something has run since the last one. Returns false if that failed: its error has
+    /// answered the client.
+    pub(crate) async fn learn_letters(&mut self) -> Result<bool, Error> {
         self.settle_what_runs().await?;
         if self.shared.track().is_fresh() || self.has_failed() {
-            return Ok(());
+            return Ok(true);
         }
         let reply = self.ask(LETTERS, &[], &[], End::Flush).await?;
         if let OwnReply::Row(Some(row)) = &reply {
-            let is = |at: usize, value: &[u8]| matches!(row.get(at), Some(Some(it)) if it == value);
+            let at = |at: usize| row.get(at).and_then(Option::as_deref).unwrap_or_default();
             let mut track = self.shared.track();
-            track.is_conforming = is(0, b"on");
-            track.is_utf8 = is(1, b"UTF8");
+            track.is_conforming = at(0) == b"on";
+            track.set_encoding(at(1));
         }
         self.tell_failure(&reply);
         self.go_on(&reply, Vec::new());
-        Ok(())
+        Ok(matches!(reply, OwnReply::Row(_)))
     }
 
     /// Reads a text that the proxy looks at.
@@ -692,8 +709,10 @@ impl<'a> Requests<'a> {
                 return Ok(());
             }
         }
-        if depends_on_settings(text) && may_be_looked_at(text) {
-            self.learn_letters().await?;
+        let is_looked_at = depends_on_settings(text) && may_be_looked_at(text);
+        if is_looked_at && !self.learn_letters().await? {
+            self.pass(own::SYNC, Expect::Sync);
+            return Ok(());
         }
         if let Some(pieces) = self.pieces(text).await {
             return self.string(&pieces, bytes).await;
@@ -711,7 +730,7 @@ impl<'a> Requests<'a> {
             }
             Some(Statement::Deallocate(name)) => {
                 self.pass(bytes, Expect::Query);
-                self.expect(Expect::Deallocated(name));
+                self.expect(Expect::Deallocated(known_name(&name).into_owned()));
                 Ok(())
             }
             Some(Statement::Commit) => self.commit(Sent::Query(bytes)).await,
@@ -793,8 +812,6 @@ impl<'a> Requests<'a> {
         if self.shared.track().drop_unnamed() {
             own::close_statement(&mut self.out, "");
             own::close_portal(&mut self.out, "");
-            self.expect(Expect::OwnShut);
-            self.expect(Expect::OwnShut);
         }
     }
 
@@ -864,8 +881,7 @@ impl<'a> Requests<'a> {
         if self.shared.track().is_skipping() {
             return Ok(OwnReply::Unsent);
         }
-        // Those of a request that has failed are nobody's.
-        drop(self.shared.track().take_kept_rows());
+        self.shared.track().make_room();
         let closed = self.close_left();
         self.own.names += 1;
         let name = format!("{}{}", own::PREFIX, self.own.names);
@@ -898,7 +914,7 @@ impl<'a> Requests<'a> {
         self.expect(Expect::OwnClose);
         self.flush().await?;
         let reply = self.replies.recv().await.ok_or(Error::Ended)?;
-        if !matches!(reply, OwnReply::Row(_)) {
+        if matches!(reply, OwnReply::Failed(_)) {
             self.own.left.push(name);
         }
         self.end_of_closing(&reply, closed);
@@ -938,15 +954,14 @@ impl<'a> Requests<'a> {
         let session = &mut self.own;
         session.names += 1;
         let portal = format!("{}{}", own::PREFIX, session.names);
-        let name = match session.prepared.get(text) {
-            Some(name) => name.clone(),
-            None => {
-                own::parse(&mut self.out, &portal, text, &[]);
-                self.shared.track().expect(Expect::OwnParse);
-                session.prepared.insert(text.to_owned(), portal.clone());
-                portal.clone()
-            }
-        };
+        let known = session.prepared.get(text).cloned();
+        let is_new = known.is_none();
+        let name = known.unwrap_or_else(|| portal.clone());
+        if is_new {
+            own::parse(&mut self.out, &portal, text, &[]);
+            self.shared.track().expect(Expect::OwnParse);
+            session.prepared.insert(text.to_owned(), portal.clone());
+        }
         own::bind(&mut self.out, &portal, &name, values, results);
         own::execute(&mut self.out, &portal);
         own::close_portal(&mut self.out, &portal);
@@ -970,21 +985,34 @@ impl<'a> Requests<'a> {
         }
         self.flush().await?;
         let reply = self.replies.recv().await.ok_or(Error::Ended)?;
-        if !matches!(reply, OwnReply::Row(_)) {
-            // Its statements may be gone, and its greeting; what a name means may have been wrong.
-            let names = self.own.prepared.drain().map(|(_, name)| name);
-            self.own.left.extend(names);
-            self.own.greeted = 0;
-            self.shared.track().forget_meanings();
+        match reply {
+            OwnReply::Row(_) => {}
+            // PostgreSQL has seen nothing of it.
+            OwnReply::Skipped => {
+                if is_new {
+                    self.own.prepared.remove(text);
+                }
+            }
+            OwnReply::Failed(_) | OwnReply::Unsent => {
+                // Its statements may be gone, and its greeting; what a name means may have been wrong.
+                let names = self.own.prepared.drain().map(|(_, name)| name);
+                self.own.left.extend(names);
+                self.own.greeted = 0;
+                self.shared.track().forget_meanings();
+            }
         }
         self.end_of_closing(&reply, closed);
         Ok(reply)
     }
 }
 
-/// Returns what a portal has left of its rows, once it has run.
-fn rows_left(bound: &Bound) -> MutexGuard<'_, Option<Left>> {
-    bound.left.lock().unwrap_or_else(PoisonError::into_inner)
+/// Returns the name of a statement or a portal as PostgreSQL knows it: what is behind its first 63 bytes counts for nothing.
+fn known_name(name: &str) -> Cow<'_, str> {
+    match name.as_bytes().get(..LONGEST_NAME) {
+        // They may end amid a letter.
+        Some(bytes) => bytes.iter().map(|&byte| char::from(byte)).collect(),
+        None => name.into(),
+    }
 }
 
 /// Returns whether the proxy may ask something in front of a text: it is one statement that may run functions. Of others some have
@@ -1043,6 +1071,20 @@ mod tests {
         assert!(Arc::ptr_eq(&first, &read(0)), "{KEPT} are kept");
         read(KEPT);
         assert!(!Arc::ptr_eq(&first, &read(0)), "the oldest has gone");
+    }
+
+    #[test]
+    fn names_are_the_same_as_in_postgres() {
+        let begin = format!("{}\u{e4}", "n".repeat(LONGEST_NAME - 1));
+        let same = known_name(&begin);
+        assert_eq!(
+            known_name(&begin[..LONGEST_NAME - 1]),
+            "n".repeat(LONGEST_NAME - 1)
+        );
+        assert!(
+            same == known_name(&format!("{begin}a"))
+                && same != known_name(&begin.replace('\u{e4}', "b"))
+        );
     }
 
     #[test]

@@ -13,8 +13,9 @@ use tokio::time::timeout;
 
 use crate::catalog::{Catalog, Table};
 use crate::error::Error;
-use crate::expected::{Expect, Left};
+use crate::expected::{Expect, Kept, Left};
 use crate::hub::Mail;
+use crate::json;
 use crate::note::{changes_array, Grant, Noted, Secret};
 use crate::own::{self, Value};
 use crate::parameters::{key_text, Parameters};
@@ -41,6 +42,13 @@ const MEANING: &str = "SELECT pg_catalog.to_regclass($1)::pg_catalog.oid::pg_cat
 
 /// The text that finds out the latter alone.
 const WAIT: &str = "SELECT pg_catalog.current_setting('escrow.wait', true)";
+
+/// The text that finds out whether the client's role may know what is reserved.
+const MAY_KNOW: &str = "SELECT EXISTS (SELECT FROM pg_catalog.pg_roles AS r \
+    WHERE r.rolname OPERATOR(pg_catalog.=) ANY ('{pg_monitor,escrow_proxy}'::pg_catalog.name[]) AND pg_catalog.pg_has_role(r.oid, 'USAGE'))";
+
+/// The text that finds out whether functions of some of these names are aggregates, or return sets.
+const KINDS: &str = "SELECT EXISTS (SELECT FROM pg_catalog.pg_proc WHERE proname OPERATOR(pg_catalog.=) ANY ($1::pg_catalog.name[]) AND (proretset OR prokind OPERATOR(pg_catalog.<>) 'f'))";
 
 /// The text that tells what is reserved.
 const SHOW: &str = "SELECT escrow.show($1)";
@@ -102,8 +110,10 @@ enum RowEnd {
 enum Here {
     /// It is done. The other direction waits behind this reply.
     Done(OwnReply),
-    /// Somebody holds the row or has locked it, or there is none.
+    /// Somebody holds the row or has locked it.
     Not,
+    /// The client sees no such row.
+    Missing,
     /// An error has answered the client.
     Failed,
 }
@@ -169,7 +179,16 @@ impl Requests<'_> {
         if !is_sure {
             return tables;
         }
-        for key in self.hub.own_folds(self.connection) {
+        let keys = self.hub.own_folds(self.connection);
+        let takes_utf8 = {
+            let track = self.shared.track();
+            // A setting that has changed is told at the next ReadyForQuery.
+            track.takes_utf8 && track.is_fresh()
+        };
+        if !takes_utf8 && !keys.iter().all(|key| key.text.is_ascii()) {
+            return tables;
+        }
+        for key in keys {
             match tables.last_mut() {
                 Some((table, keys)) if table.number == key.table => keys.push(key),
                 _ => match catalog.of_number(key.table) {
@@ -209,17 +228,35 @@ impl Requests<'_> {
         self.shared.track().learn_wait();
     }
 
-    /// Tells PostgreSQL what is reserved, so that `escrow.reservations()` of this client shows it.
+    /// Tells PostgreSQL what is reserved, so that `escrow.reservations()` of this client shows it. Nothing is sent for a role that
+    /// may not know it: a client can have PostgreSQL print the plans, with their values, of all that its connection runs.
     pub(crate) async fn show(&mut self) -> Result<(), Error> {
         self.settle().await?;
-        if self.has_failed() {
+        if self.has_failed() || !self.may_know().await? {
             return Ok(());
         }
-        let values = [Value::Text(self.hub.reservations())];
+        let reserved = self.hub.reservations();
+        let values = [Value::Text(match self.shared.track().takes_utf8 {
+            true => reserved,
+            false => json::in_ascii(&reserved),
+        })];
         let reply = self.ask(SHOW, &values, &[], End::Flush).await?;
         self.tell_failure(&reply);
         self.go_on(&reply, Vec::new());
         Ok(())
+    }
+
+    /// Asks whether the client's role may know what is reserved.
+    async fn may_know(&mut self) -> Result<bool, Error> {
+        let reply = self.ask(MAY_KNOW, &[], &[0], End::Flush).await?;
+        self.tell_failure(&reply);
+        self.go_on(&reply, Vec::new());
+        let row = match &reply {
+            OwnReply::Row(row) => row.as_ref(),
+            _ => None,
+        };
+        let value = row.and_then(|row| row.first()?.as_deref());
+        Ok(value == Some(b"t"))
     }
 
     /// Has the rows left that a DELETE may be of, since PostgreSQL deletes no row that is held. The tables of its name are
@@ -289,6 +326,11 @@ impl Requests<'_> {
                 return Ok(());
             }
         };
+        // PostgreSQL has read what an Execute runs.
+        if !sent.is_execute() && !self.are_plain(plan.shown_functions()).await? {
+            self.pass_update(sent);
+            return Ok(());
+        }
         let Asked {
             keys,
             change,
@@ -299,6 +341,14 @@ impl Requests<'_> {
             // The rest would have to be that of some rows.
             self.pass_update(sent);
             return Ok(());
+        }
+        if !keys.iter().all(|key| key.text.is_ascii()) {
+            // The proxy reads them as UTF-8, and sends them so to the client's own session.
+            self.learn_letters().await?;
+            if self.has_failed() || !self.shared.track().takes_utf8 {
+                self.pass_update(sent);
+                return Ok(());
+            }
         }
         let (alone, is_first) = {
             let mut track = self.shared.track();
@@ -350,7 +400,7 @@ impl Requests<'_> {
                         self.go_on(&reply, Vec::new());
                         count += 1;
                     }
-                    Here::Not => {}
+                    Here::Not | Here::Missing => {}
                     Here::Failed => return Ok(()),
                 },
                 RowEnd::NotSo => {}
@@ -383,6 +433,25 @@ impl Requests<'_> {
         rest: Option<Rest>,
     ) -> Result<(), Error> {
         let tag = own::command_complete(&format!("UPDATE {count}"));
+        if count == 0 {
+            // Nothing else has tested whether the client's role may ask for it.
+            let words = Words {
+                state: "00000",
+                message: String::new(),
+                detail: String::new(),
+                about: String::new(),
+            };
+            let reply = self.tell(job, words, End::Flush).await?;
+            self.tell_failure(&reply);
+            let is_allowed = matches!(reply, OwnReply::Row(_));
+            if !is_allowed || rest.is_none() {
+                let tag = if is_allowed { tag } else { Vec::new() };
+                self.go_on_to(&reply, tag, is_allowed && job.sent.is_end());
+                self.end_query(job.sent);
+                return Ok(());
+            }
+            self.go_on(&reply, Vec::new());
+        }
         match rest {
             Some(rest) => {
                 let reply = self.ask_rest(&rest).await?;
@@ -409,20 +478,13 @@ impl Requests<'_> {
                     Some(served) if !job.form.is_main() => own::command_complete(served),
                     _ => tag,
                 };
+                let kept = self.shared.track().take_kept_rows();
+                if kept.are_too_many {
+                    self.go_on(&reply, Vec::new());
+                    return self.refuse(job, too_many_rows()).await;
+                }
                 let served = served.unwrap_or_default();
-                let tag = self.rows_end(job, &rest, served, tag);
-                self.go_on_to(&reply, tag, job.sent.is_end());
-            }
-            None if count == 0 => {
-                // The client's role may ask for it, or not.
-                let words = Words {
-                    state: "00000",
-                    message: String::new(),
-                    detail: String::new(),
-                    about: String::new(),
-                };
-                let reply = self.tell(job, words, End::Flush).await?;
-                self.tell_failure(&reply);
+                let tag = self.rows_end(job, &rest, kept, served, tag);
                 self.go_on_to(&reply, tag, job.sent.is_end());
             }
             None => self.say(tag, job.sent.is_end()),
@@ -433,17 +495,23 @@ impl Requests<'_> {
 
     /// Returns what tells the client how its rows end: the tag, or that there may be more (as in PostgreSQL, where it has got as
     /// many as it has asked for). Keeps what is left of them.
-    fn rows_end(&mut self, job: &Job<'_>, rest: &Rest, served: &str, tag: Vec<u8>) -> Vec<u8> {
-        let (rows, is_full) = self.shared.track().take_kept_rows();
+    fn rows_end(
+        &mut self,
+        job: &Job<'_>,
+        rest: &Rest,
+        kept: Kept,
+        served: &str,
+        tag: Vec<u8>,
+    ) -> Vec<u8> {
         // PostgreSQL keeps such a portal, also where it has no more rows.
-        let may_go_on = is_full || rest.has_rows;
+        let may_go_on = kept.is_full || rest.has_rows;
         if may_go_on && job.sent.is_execute() {
             let word = served.rsplit_once(' ').map_or(served, |(word, _)| word);
             let word = if job.form.is_main() { "UPDATE" } else { word };
-            let (rows, tag) = (rows.into(), word.to_owned());
+            let (rows, tag) = (kept.rows.into(), word.to_owned());
             self.own.rows_left = Some(Left { rows, tag });
         }
-        match is_full {
+        match kept.is_full {
             true => own::SUSPENDED.to_vec(),
             false => tag,
         }
@@ -486,6 +554,8 @@ impl Requests<'_> {
                 match self.change_here(job, key).await? {
                     Here::Done(reply) => return Ok(RowEnd::Done(reply, End::Flush)),
                     Here::Failed => return Ok(RowEnd::Failed),
+                    // The client itself may have deleted it.
+                    Here::Missing => return Ok(RowEnd::Missing),
                     Here::Not if begun.elapsed() < LOCK_WAIT => continue,
                     Here::Not => {}
                 }
@@ -526,9 +596,10 @@ impl Requests<'_> {
         self.tell_failure(&reply);
         match &reply {
             OwnReply::Row(Some(row)) if is_true(row.first()) => return Ok(Here::Done(reply)),
-            OwnReply::Row(_) => {
+            OwnReply::Row(row) => {
                 self.go_on(&reply, Vec::new());
-                return Ok(Here::Not);
+                let is_seen = row.as_ref().map_or(true, |row| row.first() != Some(&None));
+                return Ok(if is_seen { Here::Not } else { Here::Missing });
             }
             _ => {}
         }
@@ -627,6 +698,23 @@ impl Requests<'_> {
             self.learn_wait(row.get(1));
         }
         Ok(oid.flatten())
+    }
+
+    /// Returns whether all functions of these names return one value for each row. If that cannot be asked, an error has answered the
+    /// client.
+    async fn are_plain(&mut self, names: &[String]) -> Result<bool, Error> {
+        if names.is_empty() {
+            return Ok(true);
+        }
+        let names: Vec<String> = names.iter().map(|name| quoted_element(name)).collect();
+        let values = [Value::Text(format!("{{{}}}", names.join(",")))];
+        let reply = self.ask(KINDS, &values, &[0], End::Flush).await?;
+        self.tell_failure(&reply);
+        self.go_on(&reply, Vec::new());
+        Ok(match &reply {
+            OwnReply::Row(Some(row)) => !is_true(row.first()),
+            _ => false,
+        })
     }
 
     /// Goes through a reservation to its end, as the hub says.
@@ -818,11 +906,13 @@ impl Requests<'_> {
             .iter()
             .map(|it| if it.is_some() { "t" } else { "f" })
             .collect();
+        let takes_utf8 = self.shared.track().takes_utf8;
+        let told = |text: String| Value::Text(if takes_utf8 { text } else { in_ascii(&text) });
         let values = [
             Value::Text(words.state.to_owned()),
-            Value::Text(words.message),
-            Value::Text(words.detail),
-            Value::Text(words.about),
+            told(words.message),
+            told(words.detail),
+            told(words.about),
             Value::Text(format!("{{{}}}", changed.join(","))),
             Value::Text(job.form.relation()),
         ];
@@ -864,6 +954,12 @@ fn is_off(setting: &[u8]) -> bool {
     }
 }
 
+/// Writes a text for a client of another encoding than UTF-8: what is not in ASCII becomes a question mark.
+fn in_ascii(text: &str) -> String {
+    let of = |it: char| if it.is_ascii() { it } else { '?' };
+    text.chars().map(of).collect()
+}
+
 /// Returns whether a value is a boolean in text that is true.
 fn is_true(value: Option<&Option<Bytes>>) -> bool {
     matches!(value, Some(Some(text)) if &text[..] == b"t")
@@ -895,6 +991,16 @@ fn changed_row() -> Words {
     }
 }
 
+/// The words for rows that a client asks for later, where they are more than the proxy keeps.
+fn too_many_rows() -> Words {
+    Words {
+        state: "54000",
+        message: "too many rows are left of a portal".to_owned(),
+        detail: "A client has at most 16 MB of them. Ask for all rows at once.".to_owned(),
+        about: String::new(),
+    }
+}
+
 /// Writes a text as an element of an array.
 fn quoted_element(text: &str) -> String {
     format!("\"{}\"", text.replace('\\', "\\\\").replace('"', "\\\""))
@@ -903,6 +1009,11 @@ fn quoted_element(text: &str) -> String {
 #[cfg(test)]
 mod tests {
     use super::*;
+
+    #[test]
+    fn words_are_told_in_letters_of_all_encodings() {
+        assert_eq!(in_ascii("\"gr\u{f6}\u{df}e\" = 1"), "\"gr??e\" = 1");
+    }
 
     #[test]
     fn settings_are_off_as_in_postgres() {

@@ -39,6 +39,11 @@ pub fn asks(message: &[u8]) -> bool {
     )
 }
 
+/// Returns whether PostgreSQL waits for an answer to its message: it asks, or goes on with an exchange.
+pub fn waits(message: &[u8]) -> bool {
+    asks(message) || matches!(message, [AUTHENTICATION, _, _, _, _, 0, 0, 0, 8 | 11, ..])
+}
+
 /// Returns whether a client's SASLInitialResponse says that the client could bind and believes that the server cannot: the
 /// flag `y` of RFC 5802. PostgreSQL refuses it over TLS, since somebody between may have changed its list, as the proxy has.
 pub fn misses_binding(message: &[u8]) -> bool {
@@ -75,6 +80,8 @@ mod tests {
         assert_eq!(without_binding(b"R\0\0\0\x08\0\0\0\0"), None);
         assert!(asks(&both) && asks(b"R\0\0\0\x08\0\0\0\x03") && !asks(b"R\0\0\0\x08\0\0\0\0"));
         assert!(is_ok(b"R\0\0\0\x08\0\0\0\0") && !is_ok(&both));
+        let (goes_on, is_final) = (b"R\0\0\0\x0a\0\0\0\x0br=", b"R\0\0\0\x0a\0\0\0\x0cv=");
+        assert!(waits(&both) && waits(goes_on) && !asks(goes_on) && !waits(is_final));
         assert_eq!(without_binding(b"E\0\0\0\x08\0\0\0\x0a"), None);
         assert_eq!(without_binding(b"R"), None);
     }

@@ -993,4 +993,36 @@ mod tests {
         assert!(others.into_iter().collect::<BTreeSet<_>>() == keys(ROOM));
         assert!(server.oldest(7, |it| *it == key(9_999)) == [key(9_999)]);
     }
+
+    #[test]
+    fn a_table_that_found_no_room_is_tried_anew() {
+        let mut server = Server::new();
+        let one = Tried::table();
+        let other = Table {
+            number: 8,
+            ..(*one).clone()
+        };
+        let tables = [one, Arc::new(other)];
+        let insert = |server: &mut Server, at: usize| {
+            let table = tables[at].number;
+            let text = "5".into();
+            server.insert(&tables[at], &Key { table, text }, &["0".to_owned()])
+        };
+        assert_eq!(
+            (insert(&mut server, 0), insert(&mut server, 1)),
+            (None, None)
+        );
+        while let Some((session, asked)) = server.asked.front().cloned() {
+            let reply = match asked {
+                Asked::Create(8) => "ERR 35",
+                Asked::Create(_) => "OK created T7",
+                _ => "OK inserted",
+            };
+            let said = server.said(&format!("bank.{session}> {reply}"));
+            assert!(!matches!(said, Said::Broke(_)), "{said:?}");
+        }
+        assert!(insert(&mut server, 1).is_some());
+        server.drop_table(7);
+        assert_eq!(insert(&mut server, 1), None);
+    }
 }

@@ -131,7 +131,8 @@ impl World {
         let mut random = StdRng::seed_from_u64(seed);
         let (sync, is_slow) = (random.gen(), random.gen());
         let postgres = Postgres::new(sync, is_slow, without);
-        let proxies = (0..PROXIES).map(|place| Relay::new(place, without));
+        let sends_ahead = random.gen();
+        let proxies = (0..PROXIES).map(|place| Relay::new(place, sends_ahead, without));
         let calm = *[1, 5, 20, 100].choose(&mut random).unwrap_or(&1);
         World {
             calm,
@@ -283,36 +284,36 @@ fn no_step_breaks_the_invariant() {
 /// Rules that are taken away, each with the seed of a run that misses it, by this simulation. Whoever changes the simulation lets the
 /// test search, and writes down what it finds.
 const RULES: [(Without, u64); 30] = [
-    (Without::Rule(Fault::LossIsRollback), 3),
-    (Without::Rule(Fault::EndByTag), 0),
-    (Without::Rule(Fault::LaterCycles), 29),
-    (Without::Rule(Fault::TornAnswers), 1324),
-    (Without::Rule(Fault::RollbackUnseen), 0),
-    (Without::Rule(Fault::LostGrants), 313),
-    (Without::Rule(Fault::NoWait), 6065),
-    (Without::Rule(Fault::AllAreFolded), 86),
-    (Without::Rule(Fault::OthersLooks), 6),
-    (Without::Rule(Fault::Unsaid), 1194),
+    (Without::Rule(Fault::LossIsRollback), 7),
+    (Without::Rule(Fault::EndByTag), 21),
+    (Without::Rule(Fault::LaterCycles), 22),
+    (Without::Rule(Fault::TornAnswers), 816),
+    (Without::Rule(Fault::RollbackUnseen), 4),
+    (Without::Rule(Fault::LostGrants), 2553),
+    (Without::Rule(Fault::NoWait), 813),
+    (Without::Rule(Fault::AllAreFolded), 119),
+    (Without::Rule(Fault::OthersLooks), 3),
+    (Without::Rule(Fault::Unsaid), 117),
     (Without::Rule(Fault::HoldUnseen), 0),
     (Without::Rule(Fault::HoldsForgotten), 3),
-    (Without::AnsweredNotes, 2),
+    (Without::AnsweredNotes, 16),
     (Without::PostgresFirst, 0),
-    (Without::Epoch, 0),
+    (Without::Epoch, 18),
     (Without::WholeFolds, 1),
-    (Without::OneSnapshot, 195),
-    (Without::OthersRows, 3),
-    (Without::RowLocks, 195),
-    (Without::Marks, 1),
-    (Without::LoadsThatWrite, 3),
-    (Without::LoadsTested, 1119),
-    (Without::SweepTested, 712),
-    (Without::LeavesOwn, 829),
-    (Without::LeavesBefore, 213),
-    (Without::DeleteLooks, 1),
-    (Without::GuardLooks, 72),
-    (Without::HereLooks, 218),
-    (Without::HereLooksForHolds, 45),
-    (Without::MarksOfHolds, 11),
+    (Without::OneSnapshot, 5),
+    (Without::OthersRows, 108),
+    (Without::RowLocks, 22),
+    (Without::Marks, 3),
+    (Without::LoadsThatWrite, 117),
+    (Without::LoadsTested, 2722),
+    (Without::SweepTested, 21),
+    (Without::LeavesOwn, 459),
+    (Without::LeavesBefore, 8),
+    (Without::DeleteLooks, 6),
+    (Without::GuardLooks, 6),
+    (Without::HereLooks, 344),
+    (Without::HereLooksForHolds, 51),
+    (Without::MarksOfHolds, 457),
 ];
 
 #[test]

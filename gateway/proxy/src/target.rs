@@ -24,6 +24,10 @@ use crate::tls::{BadFile, Connector};
 /// `connect_timeout`.
 const PATIENCE: Duration = Duration::from_secs(5);
 
+/// The path of search of the proxy's own connections. By another one a function or an operator that anybody has made, who may create
+/// in the schema public for instance, could stand for one of PostgreSQL's, and run with the rights of the proxy.
+const PATH: &str = "-c search_path=pg_catalog,pg_temp";
+
 /// Where one server listens.
 #[derive(Clone, Debug, PartialEq, Eq)]
 pub enum Address {
@@ -264,13 +268,16 @@ impl Target {
         let stream = self.connect_to(address).await;
         let stream = stream.map_err(LoginError::Unreachable)?;
         let mut config = self.config.clone();
-        config.application_name(name).options(options);
+        config.application_name(name);
+        config.options(&format!("{options} {PATH}"));
         let (client, mut connection) = config.connect_raw(stream, NoTls).await?;
         let is_ordinary = connection.parameter("is_superuser") == Some("off");
         self.is_ordinary.store(is_ordinary, Ordering::Relaxed);
-        // The proxy writes whatever the default of its role or its database is.
+        // The proxy writes whatever the default of its role or its database is, and takes its time. PostgreSQL has transaction_timeout
+        // since 17, and refuses it in `options` before.
         let query = "SELECT pg_catalog.pg_is_in_recovery(), pg_catalog.current_setting('transaction_read_only') = 'on', \
-            pg_catalog.set_config('default_transaction_read_only', 'off', false)";
+            pg_catalog.set_config('default_transaction_read_only', 'off', false), \
+            (SELECT pg_catalog.set_config(name, '0', false) FROM pg_catalog.pg_settings WHERE name = 'transaction_timeout')";
         let asked = client.query_one(query, &[]);
         let answer = tokio::select! {
             row = asked => row?,

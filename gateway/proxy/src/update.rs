@@ -14,12 +14,16 @@ use escrowd_pg::statement::query::{
 };
 
 use escrowd_pg::statement::served::Served;
+use tokio_postgres::types::Type;
 
 use crate::catalog::Table;
 use crate::parameters::{
     array_oid, change_text, is_number, key_text, number, number_oid, to_oid, wider, Parameters,
 };
 use crate::protocol::Row;
+
+/// The columns of each table that tell of a row's version, which is not yet the one that the UPDATE leaves.
+const OF_VERSIONS: [&str; 5] = ["ctid", "xmin", "xmax", "cmin", "cmax"];
 
 /// A row of a declared table.
 #[derive(Clone, Debug, PartialEq, Eq, PartialOrd, Ord, Hash)]
@@ -188,6 +192,8 @@ struct Reads {
     columns: Vec<Vec<String>>,
     /// The numbers of parameters.
     numbers: Vec<u16>,
+    /// The names of functions.
+    functions: Vec<String>,
 }
 
 /// `column - value`.
@@ -355,7 +361,9 @@ impl Form {
         }
         if let Some(returning) = &self.returning {
             self.check_reads(table, &returning.reads)?;
-            if !self.is_main() && !returning.are_columns {
+            let names = returning.reads.columns.iter().filter_map(|it| it.last());
+            let mut of_versions = names.filter(|name| OF_VERSIONS.contains(&name.as_str()));
+            if of_versions.next().is_some() || !self.is_main() && !returning.are_columns {
                 return None;
             }
         }
@@ -595,6 +603,15 @@ impl Plan<'_> {
         Some(Part { text, moved })
     }
 
+    /// Returns the functions that may give the rest other rows than the UPDATE has: PostgreSQL refuses aggregates, and functions that
+    /// return sets, in RETURNING alone.
+    pub fn shown_functions(&self) -> &[String] {
+        match &self.form.returning {
+            Some(returning) if self.plain.is_empty() => &returning.reads.functions,
+            _ => &[],
+        }
+    }
+
     /// Returns whether the rest has as many rows as were reserved.
     pub fn rest_counts(&self) -> bool {
         let form = self.form;
@@ -747,7 +764,9 @@ fn reads(expression: &Expression, found: &mut Reads) -> Option<()> {
                 && !call.is_distinct
                 && call.order.is_empty() =>
         {
-            all(&call.arguments.iter().collect::<Vec<_>>())
+            all(&call.arguments.iter().collect::<Vec<_>>())?;
+            found.functions.push(call.name.name.text.clone());
+            Some(())
         }
         ExpressionKind::Case {
             operand,
@@ -768,7 +787,12 @@ fn reads(expression: &Expression, found: &mut Reads) -> Option<()> {
 fn typed(expression: &Expression, oid: u32, found: &mut Vec<(u16, u32)>) {
     match &expression.kind {
         ExpressionKind::Parameter(number) => found.push((*number, oid)),
-        ExpressionKind::Unary(_, operand) => typed(operand, oid, found),
+        ExpressionKind::Unary(sign, operand) => {
+            // Behind + PostgreSQL takes one for a float. Behind - it refuses one.
+            let is_float = sign == "+" && matches!(operand.kind, ExpressionKind::Parameter(_));
+            let oid = if is_float { Type::FLOAT8.oid() } else { oid };
+            typed(operand, oid, found);
+        }
         ExpressionKind::Cast(operand, to) => typed(operand, to_oid(to).unwrap_or(0), found),
         _ => {}
     }
@@ -782,7 +806,9 @@ fn own_column(expression: &Expression) -> Option<(Vec<String>, Option<u32>)> {
         ExpressionKind::Function(call)
             if call.name.schema.is_none()
                 && call.name.name.text == "coalesce"
-                && call.arguments.len() == 2 =>
+                && call.arguments.len() == 2
+                // The grammar's own word, whose place is all of it, and not a function "coalesce".
+                && call.arguments[1].span.end < call.name.name.span.end =>
         {
             match (&call.arguments[0].kind, &call.arguments[1].kind) {
                 (ExpressionKind::Column(column), ExpressionKind::Number(number)) => {
@@ -1017,6 +1043,7 @@ mod tests {
             ("UPDATE stock SET pieces = pieces - 3 WHERE id = SOME (ARRAY[7, 5, -1])", "-1,5,7: -3 _"),
             ("UPDATE stock SET pieces = pieces - 3 WHERE id = ANY (ARRAY['7', '5']::int[])", "5,7: -3 _"),
             ("UPDATE stock SET pieces = pieces - 3 WHERE id = ANY ('{}')", ": -3 _"),
+            ("UPDATE stock SET pieces = pieces - 3 WHERE id = ANY (ARRAY[]::bigint[])", ": -3 _"),
         ] {
             let found = read(text, INTEGER, Parameters::default());
             assert_eq!(found.as_deref(), Some(expected), "{}", text);
@@ -1084,6 +1111,18 @@ mod tests {
             "UPDATE stock SET pieces = pieces - 3 WHERE id = ANY ('{5}'::text[])",
             "UPDATE stock SET pieces = pieces - 3 WHERE id = ANY ('{{5}}')",
             "UPDATE stock SET pieces = pieces - 3 WHERE id = ANY (ARRAY(SELECT 5))",
+            "UPDATE stock SET pieces = pieces - 3 WHERE id = ANY ('{\u{a0}5}'::numeric[])",
+            "UPDATE stock SET price = price - '\u{2003}3' WHERE id = 5",
+            "UPDATE stock SET price = price - '3\u{a0}'::numeric WHERE id = 5",
+            "UPDATE stock SET pieces = pieces - 3 WHERE id = ANY (ARRAY[])",
+            "UPDATE stock SET pieces = pieces - 3 WHERE id = ANY (ARRAY[]::text[])",
+            "UPDATE stock SET pieces = pieces - 3 WHERE id = ANY ('{NULL}'::uuid[])",
+            "UPDATE ONLY stock * SET pieces = pieces - 3 WHERE id = 5",
+            "UPDATE stock SET pieces = pieces - 3 WHERE id = 5 RETURNING id, xmin",
+            "UPDATE stock AS s SET pieces = pieces - 3, title = 'x' WHERE id = 5 RETURNING s.ctid::text",
+            "UPDATE stock SET pieces = \"coalesce\"(pieces, 0) - 3 WHERE id = 5",
+            "WITH stock AS (SELECT 7 AS id) UPDATE stock SET pieces = pieces - 3 WHERE id = 5 RETURNING id",
+            "WITH s AS (UPDATE Stock SET pieces = pieces - 3 WHERE id = 5 RETURNING id), stock AS (SELECT 7 AS id) SELECT * FROM s",
         ] {
             assert_eq!(read(text, INTEGER, Parameters::default()), None, "{}", text);
         }
@@ -1102,6 +1141,10 @@ mod tests {
             (
                 "WITH o AS (INSERT INTO orders VALUES (5, 3) RETURNING id) UPDATE stock SET pieces = pieces - 3 WHERE id = 5",
                 "5: -3 _; WITH o AS (INSERT INTO orders VALUES (5, 3) RETURNING id) SELECT FROM stock WHERE id = 5 AND false",
+            ),
+            (
+                "WITH stock AS (SELECT 7 AS id) UPDATE public.stock SET pieces = pieces - 3 WHERE id = 5 RETURNING id",
+                "5: -3 _; WITH stock AS (SELECT 7 AS id) SELECT id FROM public.stock WHERE id = 5",
             ),
             (
                 "WITH s AS (UPDATE stock SET pieces = pieces - 3 WHERE id = 5 AND pieces >= 3 RETURNING id) INSERT INTO orders SELECT id, 3 FROM s",
@@ -1314,6 +1357,9 @@ mod tests {
             found(&[0, 0], &[1, 1], &values(&[0, 0, 0, 3], &[0, 0, 0, 5])),
             expected
         );
+        // 3.5 that shows no digit behind the point.
+        let hidden = [0, 2, 0, 0, 0, 0, 0, 0, 0, 3, 0x13, 0x88];
+        assert_eq!(found(&[1700, 0], &[1, 0], &values(&hidden, b"5")), expected);
         assert_eq!(
             found(&[701, 0], &[1, 0], &values(&3f64.to_be_bytes(), b"5")),
             expected
@@ -1324,6 +1370,23 @@ mod tests {
         );
         assert_eq!(
             found(&[23, 701], &[0, 1], &values(b"3", &5f64.to_be_bytes())),
+            None
+        );
+        let signed = |text: &str| {
+            let values = values(&3f64.to_be_bytes(), &5f64.to_be_bytes());
+            let parameters = Parameters {
+                types: &[0, 701],
+                formats: &[1],
+                values: &values,
+            };
+            read(text, KeyType::Integer(i64::MIN, i64::MAX), parameters)
+        };
+        assert_eq!(
+            signed("UPDATE stock SET pieces = pieces - (+ $1) WHERE id = 5"),
+            expected
+        );
+        assert_eq!(
+            signed("UPDATE stock SET pieces = pieces - 3 WHERE id = - $2"),
             None
         );
         assert_eq!(

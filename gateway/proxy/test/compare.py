@@ -107,7 +107,9 @@ SHOWN = """SELECT 'stock', id::text, title, pieces::text, '' FROM stock UNION AL
 
 
 # Sessions of messages, which have to be equal.
-SESSIONS: Dict[str, Sequence[messages.Step]] = {**messages.NAMES, **messages.LETTERS, **messages.KEPT, **messages.TYPES}
+SESSIONS: Dict[str, Sequence[messages.Step]] = {
+    **messages.NAMES, **messages.LETTERS, **messages.ENCODINGS, **messages.KEPT, **messages.TYPES, **messages.WHOLE
+}
 
 
 @dataclass(frozen=True)
@@ -350,6 +352,48 @@ def sessions_of_messages(both: Both) -> None:
             expect((len(refusals), comparison.straight.execute(SHOWN.encode()).fetchall()), (1, before), name)
     finally:
         comparison.close()
+
+
+def renew(both: Both) -> None:
+    """Makes the rows anew on both."""
+    comparison = Comparison(both)
+    try:
+        comparison.renew()
+    finally:
+        comparison.close()
+
+
+@PART.case
+def requests_that_postgresql_skips(both: Both) -> None:
+    """They leave what the proxy has made in the session before, and make nothing."""
+    renew(both)
+    made = "SELECT name FROM pg_prepared_statements WHERE name LIKE 'escrowd-proxy %' ORDER BY name"
+    with wire.Connection(both.proxy.socket) as it:
+        it.do(messages.TAKE)
+        before = it.rows(made)
+        for _, sent in [messages.SKIPPED] * 3:
+            it.send(*sent)
+            expect([told.shown() for told in it.until_ready()], ["parsed", "ERROR 22P02", "ready I"])
+        it.do(messages.TAKE)
+        expect(it.rows(made), before)
+
+
+@PART.case
+def more_rows_of_a_portal_than_are_kept(both: Both) -> None:
+    """They fail the statement, and nothing else."""
+    renew(both)
+    told = played(both.proxy.socket, "bank", messages.MANY_ROWS)
+    expect([told[0], told[1], *(it[:11] for it in told[3:])], ["parsed", "bound", "ERROR 54000", "ready I", "complete UP", "ready I"])
+    with both.cluster.connect() as it:
+        expect(it.execute("SELECT pieces FROM stock WHERE id = 1").fetchall(), [(9,)])
+
+
+@PART.case
+def a_setting_that_cannot_be_asked_for(both: Both) -> None:
+    """The error of that answers the Query."""
+    renew(both)
+    told = played(both.proxy.socket, "bank", messages.UNASKED)
+    expect([told[-2][:11], told[-1]], ["ERROR 26000", "ready I"])
 
 
 def compared(both: Both, seed: int, count: int, seconds: float = math.inf) -> None:

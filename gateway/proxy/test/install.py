@@ -29,7 +29,7 @@ def bare() -> Iterator[Tuple[Cluster]]:
 
 
 PART = SharedPart("proxy_install", bare)
-VERSION = 3
+VERSION = 4
 
 # What version 1 lacks.
 WITHOUT_HOLDS = """DO $do$

@@ -16,6 +16,7 @@ from typing import Any, Iterator, Tuple
 import psycopg
 from psycopg import errors
 
+from clients import wire
 from clients.servers import END, PORT, children, free_port, wait_until
 from clients.suite import main
 from proxy.test.harness import Proxy, SharedPart, Standby, expect_cancel
@@ -169,6 +170,16 @@ def ends_reach_the_other_side(cluster: Cluster, proxy: Proxy) -> None:
                     got += more
             assert got in (b"", b"NNN"), got
     assert opens(proxy)
+
+
+@part
+def a_statement_may_come_with_the_startup(cluster: Cluster, proxy: Proxy) -> None:
+    for path in (cluster.socket, proxy.socket):
+        with wire.Connection(path, ready=False) as it:
+            it.send(wire.startup(), wire.query("SELECT 7"), wire.parse("SELECT 8"), wire.bind(), wire.execute(), wire.sync())
+            it.until_ready()
+            found = [told.shown() for _ in range(2) for told in it.until_ready()]
+            assert found[1:] == ["row 7", "complete SELECT 1", "ready I", "parsed", "bound", "row 8", "complete SELECT 1", "ready I"], found
 
 
 @part

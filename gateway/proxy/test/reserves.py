@@ -1,6 +1,7 @@
 """What a client of escrowd-proxy may rely on: grants, refusals, ends of transactions, rights, settings, and who is served when."""
 from __future__ import annotations
 
+import signal
 import socket
 import struct
 import threading
@@ -8,6 +9,7 @@ import time
 from contextlib import contextmanager
 from decimal import Decimal
 from functools import partial
+from pathlib import Path
 from typing import Any, Iterator, List, Tuple
 
 import psycopg
@@ -173,13 +175,19 @@ def shows(cluster: Cluster, key: int, left: int) -> bool:
 @case
 def a_prepared_statement_shows_what_is_reserved_then(cluster: Cluster, proxy: Proxy) -> None:
     key = row(cluster)
-    with proxy.connect() as it, proxy.connect() as other:
+    with proxy.connect() as it, proxy.connect() as other, proxy.connect() as later:
         other.execute("BEGIN")
         for count in range(3):
             found = it.execute("SELECT count(*) FROM escrow.reservations() WHERE key = %s", (str(key),), prepare=True).fetchone()
             expect(found, (count,))
             take(other, key, 1)
+        time.sleep(1.1)
+        later.execute("BEGIN")
+        take(later, key, 1)
+        since = "SELECT change, max(since) OVER () - since >= interval '1 second' FROM escrow.reservations() WHERE key = %s ORDER BY since"
+        expect(it.execute(since, (str(key),)).fetchall(), [(-1, True)] * 3 + [(-1, False)])
         other.execute("ROLLBACK")
+        later.execute("ROLLBACK")
 
 
 @case
@@ -258,8 +266,11 @@ def rights_and_modes_are_those_of_postgres(cluster: Cluster, proxy: Proxy) -> No
     key = row(cluster)
     cluster.run("CREATE ROLE reader LOGIN", "CREATE ROLE buyer LOGIN", "GRANT SELECT ON stock TO reader", "GRANT SELECT, UPDATE (pieces) ON stock TO buyer",
                 "GRANT reader TO buyer")
-    with proxy.connect(user="reader") as it, refused(errors.InsufficientPrivilege):
-        take(it, key, 1)
+    with proxy.connect(user="reader") as it:
+        for text in ("1 WHERE id = {}", "1000 WHERE id = {}", "1000 WHERE id = {} AND pieces >= 1000", "1000 WHERE id = {} AND pieces >= 1000 RETURNING id",
+                     "1 WHERE id = ANY ('{{}}')", "1 WHERE id = ANY ('{{}}') RETURNING id"):
+            with refused(errors.InsufficientPrivilege):
+                it.execute(f"UPDATE stock SET pieces = pieces - {text.format(key)}".encode())
     with proxy.connect(user="buyer") as it:
         expect(take(it, key, 1), "UPDATE 1")
         it.execute("SET ROLE reader")
@@ -795,6 +806,44 @@ def a_client_that_takes_nothing_stops_no_greeting(cluster: Cluster, proxy: Proxy
         for it in silent:
             expect(it.until_ready()[-1].shown(), "ready I")
             it.close()
+
+
+@case
+def what_is_reserved_goes_with_its_backend(cluster: Cluster, proxy: Proxy) -> None:
+    """Also where the client takes nothing of what PostgreSQL has sent before that end."""
+    key = row(cluster)
+    with wire.Connection(proxy.socket) as silent, cluster.connect() as watcher, proxy.connect() as other:
+        silent.do("SET application_name = silent", "BEGIN", f"UPDATE stock SET pieces = pieces - 10 WHERE id = {key}")
+        silent.send(wire.query("SELECT repeat('x', 1000) FROM generate_series(1, 5000)"))
+        ends = "SELECT pg_terminate_backend(pid) FROM pg_stat_activity WHERE application_name = 'silent' AND wait_event = 'ClientWrite'"
+        wait_until("it waits for its client", lambda: watcher.execute(ends).fetchall())
+        wait_until("its reservation has gone", lambda: is_given(other, key, 1))
+
+
+@case
+def a_backend_that_is_ended_has_the_last_word(cluster: Cluster, proxy: Proxy) -> None:
+    """Also where the proxy comes to know of that end as it sends something of its own."""
+    key = row(cluster, 100)
+    gone = "SELECT 1 FROM pg_stat_activity WHERE application_name = 'ended'"
+    with cluster.connect() as watcher:
+        for _ in range(10):
+            with wire.Connection(proxy.socket) as it:
+                it.do("SET application_name = ended", "BEGIN", f"UPDATE stock SET pieces = pieces - 1 WHERE id = {key}")
+                proxy.running().send_signal(signal.SIGSTOP)
+                try:
+                    wait_until("the proxy has stopped", partial(is_stopped, proxy.running().pid))
+                    watcher.execute(gone.replace("1", "pg_terminate_backend(pid)"))
+                    wait_until("its backend has ended", lambda: not watcher.execute(gone).fetchall())
+                    it.send(wire.query("COMMIT"))
+                finally:
+                    proxy.running().send_signal(signal.SIGCONT)
+                expect([told.fields()["M"] for told in it.until_end()], ["terminating connection due to administrator command"])
+
+
+def is_stopped(process: int) -> bool:
+    """Returns whether all threads of a process have stopped."""
+    states = [each.read_text(encoding="utf-8").rpartition(")")[2].split()[0] for each in Path(f"/proc/{process}/task").glob("*/stat")]
+    return set(states) == {"T"}
 
 
 def is_served(proxy: Proxy) -> bool:

@@ -5,6 +5,7 @@
 """
 from __future__ import annotations
 
+import re
 import socket
 import struct
 import subprocess
@@ -12,6 +13,7 @@ import tempfile
 import threading
 import time
 from contextlib import contextmanager
+from functools import partial
 from pathlib import Path
 from typing import Any, Callable, Iterator, List, Tuple
 
@@ -21,7 +23,7 @@ from psycopg import errors
 from clients import wire
 from clients.servers import END, wait_until
 from clients.suite import main
-from proxy.test.harness import FOLDED, Proxy, SharedPart, installed
+from proxy.test.harness import FOLDED, PROXY, Proxy, SharedPart, installed
 from proxy.test.sql import Copy, refused, same, stock, until_free, value
 from proxy.test.standin import ROLE, Client, Cluster, Owner, of_proxy, perform
 
@@ -187,6 +189,60 @@ def a_path_that_a_trigger_sets_is_nobody_elses(cluster: Cluster) -> None:
     cluster.run("DROP OWNED BY mallory", "DROP ROLE mallory")
 
 
+# Functions that fit calls better than those of PostgreSQL, which take arrays or values of any type. Each writes down who runs it.
+FITTING = {
+    "unnest(it bigint[])": ("SETOF bigint", "FOR i IN 1 .. cardinality(it) LOOP RETURN NEXT it[i]; END LOOP;"),
+    "array_to_string(it text[], parts text)": ("text", "RETURN (SELECT string_agg(x, parts) FROM unnest(it) AS x);"),
+    "format(it text, value integer)": ("text", "RETURN replace(replace(it, '%1$s', value::text), '%s', value::text);"),
+    "format(it text, value regclass)": ("text", "RETURN replace(it, '%L', value::text);"),
+    "format(it text, value text)": ("text", "RETURN replace(replace(it, '%I', quote_ident(value)), '%s', value);"),
+}
+
+
+@part
+def nothing_in_public_runs_with_the_rights_of_the_proxy(cluster: Cluster) -> None:
+    """All may create there in a database that is older than PostgreSQL 15."""
+    stock(cluster).keeper.close()
+    cluster.run("CREATE ROLE mallory LOGIN", "GRANT CREATE ON SCHEMA public TO mallory")
+    with cluster.connect("mallory") as it:
+        it.execute("CREATE TABLE public.loot (who name); GRANT INSERT ON loot TO PUBLIC")
+        for name, (result, act) in FITTING.items():
+            it.execute(f"CREATE FUNCTION public.{name} RETURNS {result} LANGUAGE plpgsql AS $$ BEGIN INSERT INTO public.loot VALUES (current_user); "
+                       f"{act} END $$".encode())
+        it.execute("SELECT array_to_string('{a}'::text[], ',') || format('%s', 1)")
+    looted = "SELECT array_agg(DISTINCT who) FROM loot"
+    with owner_of(cluster) as proxy, proxy.connect() as it:
+        for text in ("BEGIN", "SAVEPOINT a", "UPDATE stock SET pieces = pieces - 1 WHERE id = 1", "ROLLBACK TO a",
+                     "UPDATE stock SET pieces = pieces - 2 WHERE id = 1", "COMMIT"):
+            it.execute(text.encode())
+        same(it.execute("SELECT pieces FROM stock WHERE id = 1").fetchall(), [(8,)])
+        same(value(cluster, looted), ["mallory"])
+    with cluster.connect() as it, refused(errors.ObjectInUse, "cannot be truncated"):
+        it.execute("TRUNCATE stock")
+    for script in ("install.sql", "uninstall.sql", "install.sql"):
+        cluster.script(script)
+        same((script, value(cluster, looted)), (script, ["mallory"]))
+    cluster.run("DROP OWNED BY mallory", "DROP ROLE mallory")
+
+
+@part
+def a_schema_of_somebody_elses_is_left_alone(cluster: Cluster) -> None:
+    """Who may create schemas could make it before it is installed, with a function for the superuser to run."""
+    cluster.run("CREATE ROLE mallory LOGIN", "DROP DATABASE IF EXISTS copy", "CREATE DATABASE copy OWNER mallory")
+    copied = Copy(cluster)
+    with copied.connect("mallory") as it:
+        it.execute("CREATE SCHEMA escrow")
+        for name, result in (("version()", "integer"), ("is_live(bigint)", "boolean")):
+            it.execute(f"CREATE FUNCTION escrow.{name} RETURNS {result} LANGUAGE plpgsql AS 'BEGIN ALTER ROLE mallory SUPERUSER; RETURN NULL; END'".encode())
+    for script in ("install", "uninstall"):
+        with refused(errors.ObjectNotInPrerequisiteState, "schema escrow belongs to the role mallory"):
+            copied.script(f"{script}.sql")
+        run = subprocess.run([str(PROXY), script, "--apply", "--postgres", copied.dsn()], stderr=subprocess.PIPE, text=True, check=False)
+        assert run.returncode == 1 and "schema escrow belongs to the role mallory" in run.stderr, run
+        same(value(cluster, "SELECT rolsuper FROM pg_roles WHERE rolname = 'mallory'"), False)
+    cluster.run("DROP DATABASE copy WITH (FORCE)", "DROP ROLE mallory")
+
+
 @part
 def an_owner_gets_another_name(cluster: Cluster) -> None:
     """No event trigger hears of it. So it may change nothing that DDL of any table is compared with."""
@@ -200,7 +256,14 @@ def an_owner_gets_another_name(cluster: Cluster) -> None:
         it.execute("CREATE TABLE other (id integer); DROP TABLE other; CREATE ROLE shop")
         with refused(errors.ObjectInUse, "would change what is declared reservable of a"):
             it.execute("ALTER TABLE shop.a OWNER TO shop")
+    # It gives all that it owns away. No event trigger hears of that either.
+    cluster.run("REASSIGN OWNED BY market TO shop", "CREATE TABLE other (id integer)", "DROP TABLE other")
     cluster.script("install.sql")
+    with cluster.connect() as it:
+        for role, may_read in (("shop", True), ("market", False)):
+            it.execute(f"SET ROLE {role}".encode())
+            same([takes(it, text) for text in ("SELECT FROM escrow.now_a", "ALTER TABLE shop.a ADD COLUMN more text")], [may_read, may_read])
+            it.execute("RESET ROLE")
     all_ordinary(cluster)
     cluster.run("DROP SCHEMA shop CASCADE", "DROP ROLE shop, market")
 
@@ -276,6 +339,58 @@ def triggers_of_a_declared_table_are_its_owners(cluster: Cluster) -> None:
 
 
 @part
+def temporary_tables_stand_for_none_of_the_owners(cluster: Cluster) -> None:
+    """A trigger that names its table without a schema writes into the owner's, also if the client has a temporary one with a trigger of its own."""
+    owner = stock(cluster)
+    cluster.run("CREATE ROLE mallory LOGIN", "GRANT SELECT, UPDATE ON stock TO mallory", "CREATE TABLE audit (pieces integer)",
+                "CREATE FUNCTION record() RETURNS trigger LANGUAGE plpgsql AS 'BEGIN INSERT INTO audit VALUES (NEW.pieces); RETURN NULL; END'",
+                "CREATE TRIGGER record AFTER UPDATE ON stock FOR EACH ROW EXECUTE FUNCTION record()")
+    mallory = Client(owner, "mallory")
+    mallory.execute("CREATE TEMP TABLE audit (pieces integer); GRANT ALL ON audit TO PUBLIC; CREATE FUNCTION pg_temp.acts() RETURNS trigger "
+                    "LANGUAGE plpgsql AS 'BEGIN ALTER ROLE mallory SUPERUSER; RETURN NEW; END'; "
+                    "CREATE TRIGGER acts BEFORE INSERT ON audit FOR EACH ROW EXECUTE FUNCTION pg_temp.acts()")
+
+    def fold_own() -> None:
+        mallory.execute("BEGIN")
+        mallory.note("stock", 2, -1)
+        mallory.fold("stock", 2)
+        mallory.execute("COMMIT")
+
+    acts: List[Callable[[], object]] = [lambda: mallory.direct("stock", 1, -1), fold_own, lambda: change_here(mallory, "stock", 3, -2)]
+    for act in acts:
+        act()
+        same(value(cluster, "SELECT rolsuper FROM pg_roles WHERE rolname = 'mallory'"), False)
+    same(value(cluster, "SELECT array_agg(pieces ORDER BY pieces) FROM audit"), [8, 9, 9])
+    mallory.connection.close()
+    cluster.run("DROP TRIGGER record ON stock", "DROP FUNCTION record", "DROP TABLE audit", "DROP OWNED BY mallory", "DROP ROLE mallory")
+
+
+def keep_detail(said: List[str], notice: psycopg.errors.Diagnostic) -> None:
+    """Keeps the detail of a notice."""
+    said.append(notice.message_detail or "")
+
+
+@part
+def plans_print_no_reservations(cluster: Cluster) -> None:
+    """PostgreSQL prints plans with the values of parameters, also of what the proxy runs on the client's connection."""
+    stock(cluster).keeper.close()
+    cluster.run("CREATE ROLE mallory LOGIN", "CREATE ROLE watcher LOGIN", "GRANT pg_monitor TO watcher")
+    asked = "SELECT 1 FROM escrow.reservations()"
+    with owner_of(cluster) as proxy, proxy.connect() as it:
+        it.execute("BEGIN; UPDATE stock SET pieces = pieces - 3 WHERE id = 4")
+        for user, is_told in (("mallory", False), ("watcher", True)):
+            with proxy.connect(user=user) as other:
+                said: List[str] = []
+                other.add_notice_handler(partial(keep_detail, said))
+                other.execute("SET debug_print_plan = on; SET debug_pretty_print = off; SET client_min_messages = log; SET plan_cache_mode = force_custom_plan")
+                same(takes(other, asked), is_told)
+                # The words of the entries.
+                values = (bytes(int(byte) % 256 for byte in it.split()) for plan in said for it in re.findall(r":constvalue [0-9]+ \[ ([^]]*)\]", plan))
+                same(any(b"echangesprocess" in it for it in values), is_told)
+    cluster.run("DROP ROLE mallory, watcher")
+
+
+@part
 def a_view_of_another_owner_stays_that_owners(cluster: Cluster) -> None:
     """The owner of a view may write the number of a table that comes later into its comment, and may have granted the view to all."""
     all_ordinary(cluster)
@@ -328,6 +443,56 @@ def definitions_stay_on_other_ways(cluster: Cluster) -> None:
             it.execute(text.encode())
     cluster.run("CREATE SCHEMA more", "ALTER SCHEMA more RENAME TO less", "DROP SCHEMA less", "SELECT escrow.ordinary('mallory.t')",
                 "DROP OWNED BY mallory", "DROP ROLE mallory")
+
+
+@part
+def an_old_snapshot_declares_and_alters_nothing(cluster: Cluster) -> None:
+    """In REPEATABLE READ the catalog and the marks are those of the snapshot, and a lock that was waited for shows nothing newer."""
+    owner = stock(cluster)
+    rewrites = "ALTER TABLE stock ALTER title TYPE varchar(50)"
+    cases: List[Tuple[Callable[[], object], str, str]] = [
+        (lambda: owner.load("stock", 5), rewrites, "would write a table with reservable columns anew"),
+        (lambda: cluster.run("SELECT escrow.ordinary('stock')", "ALTER TABLE stock ADD CHECK (pieces < 50)"), "SELECT escrow.reservable('stock', 'pieces')",
+         "escrow.reservable needs READ COMMITTED"),
+        (lambda: cluster.run("SELECT escrow.reservable('stock', 'pieces')"), "ALTER TABLE stock DISABLE TRIGGER ALL",
+         "could not see which tables are declared"),
+        (lambda: cluster.run("SELECT escrow.ordinary('stock'); SELECT escrow.reservable('stock', 'pieces')"), "CREATE UNIQUE INDEX ON stock (id, pieces)",
+         "could not see which tables are declared"),
+    ]
+    for level in ("REPEATABLE READ", "SERIALIZABLE"):
+        for before, act, why in cases:
+            with cluster.connect() as it:
+                it.execute(f"BEGIN ISOLATION LEVEL {level}; SELECT FROM orders".encode())
+                before()
+                with refused(psycopg.Error, why):
+                    it.execute(act.encode())
+    with cluster.connect() as it:
+        it.execute("BEGIN ISOLATION LEVEL SERIALIZABLE; ALTER TABLE stock ADD COLUMN more text; ALTER TABLE orders ALTER pieces TYPE bigint; COMMIT")
+        it.execute(rewrites.encode())
+    same(value(cluster, "SELECT count(*) FROM pg_trigger WHERE tgrelid = 'stock'::regclass AND tgenabled = 'A'"), 3)
+
+
+@part
+def a_table_that_was_dropped_unseen_stops_no_ddl(cluster: Cluster) -> None:
+    """A superuser drops tables while event triggers are off. What they have left can be removed."""
+    stock(cluster).keeper.close()
+    cluster.run("CREATE ROLE mallory LOGIN", "CREATE TABLE ware (id integer PRIMARY KEY, n integer NOT NULL)", "INSERT INTO ware VALUES (1, 9)",
+                "SELECT escrow.reservable('ware', 'n'), escrow.reservable('orders', 'pieces')")
+    gone = value(cluster, "SELECT array_agg(relation::oid ORDER BY relation) FROM escrow.declared WHERE relation IN ('stock'::regclass, 'orders'::regclass)")
+    with cluster.connect() as it:
+        it.execute("SET session_replication_role = replica; DROP TABLE stock, orders CASCADE; RESET session_replication_role")
+        it.execute("CREATE TABLE other (id integer); ALTER TABLE other ADD COLUMN n integer; DROP TABLE other")
+        for text in ("ALTER TABLE ware ADD CHECK (n < 100)", "DROP TABLE ware CASCADE"):
+            with refused(errors.ObjectInUse, "would change what is declared reservable of"):
+                it.execute(text.encode())
+        cluster.script("install.sql")
+        for relation in gone:
+            with cluster.connect("mallory") as other, refused(errors.InsufficientPrivilege, "must be owner of table"):
+                other.execute("SELECT escrow.ordinary(%s::oid::regclass)", (relation,))
+            it.execute("SELECT escrow.ordinary(%s::oid::regclass)", (relation,))
+    same(value(cluster, "SELECT array_agg(relation::text) FROM escrow.declared"), ["ware"])
+    same(value(cluster, "SELECT count(*) FROM pg_class WHERE relnamespace = 'escrow'::regnamespace AND relname ~ '^(journal|held)_[0-9]+$'"), 2)
+    cluster.run("SELECT escrow.ordinary('ware')", "DROP TABLE ware", "DROP ROLE mallory")
 
 
 @part
@@ -698,6 +863,21 @@ def settings_of_the_proxys_role_change_nothing(cluster: Cluster) -> None:
         it.execute("BEGIN; UPDATE stock SET pieces = pieces - 1 WHERE id = 1; COMMIT")
         wait_until("it is folded", lambda: value(cluster, "SELECT pieces FROM stock WHERE id = 1") == 8)
     cluster.run(f"ALTER ROLE {ROLE} RESET ALL")
+
+
+@part
+def a_connection_that_is_refused_is_told(cluster: Cluster) -> None:
+    """The proxy lacks a connection of its own: the first one has taken the last place. That is the keeper, or the watcher."""
+    stock(cluster).keeper.close()
+    cluster.run(f"ALTER ROLE {ROLE} CONNECTION LIMIT 1")
+    why = f"has no connection: db error: FATAL: too many connections for role \"{ROLE}\""
+    with Proxy(cluster) as proxy:
+        wait_until("it is told", lambda: why in proxy.said() or why.replace("has no connection", "cannot be the owner") in proxy.said())
+        cluster.run(f"ALTER ROLE {ROLE} CONNECTION LIMIT -1")
+        with proxy.connect() as it:
+            wait_until("it reserves", lambda: takes(it, "UPDATE stock SET pieces = pieces - 1 WHERE id = 1"))
+        # Once by each of its connections.
+        assert proxy.said().count(why) <= 8, proxy.said()
 
 
 @part

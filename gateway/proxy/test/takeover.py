@@ -2,13 +2,18 @@
 """Tests that there is one owner: two programs, of which one is killed, stopped, or loses its keeper or its PostgreSQL."""
 from __future__ import annotations
 
+import os
+import shutil
 import signal
+import tempfile
 import time
+from pathlib import Path
 from typing import Any, Optional
 
+import psycopg
 from psycopg import errors
 
-from clients.servers import PORT, wait_until
+from clients.servers import PORT, PROGRAM, children, wait_until
 from clients.suite import main
 from proxy.test.harness import Forwarder, Proxy, SharedPart, installed
 from proxy.test.sql import refused, same, stock, value
@@ -110,6 +115,7 @@ def one_that_is_stopped_is_replaced_and_can_do_nothing(cluster: Cluster) -> None
         took = until_owned(cluster, one)
         print(f"  stopped: {took:.2f} s")
         assert took > 1, took  # its last word may have come before
+        wait_until("it has ended who holds a journal", lambda: "owner of epoch" in other.said())
         with refused(errors.SerializationFailure, "not the owner any more"):
             zombie.note("stock", 1, -1)
         stopped.running().send_signal(signal.SIGCONT)
@@ -203,6 +209,36 @@ def what_a_former_owner_left_is_folded(cluster: Cluster) -> None:
         wait_until("it waits", lambda: "cannot be the owner" in proxy.said())
         cluster.again()
         wait_until("they are folded too", lambda: is_folded(1, 7) and is_folded(2, 7))
+
+
+@part
+def a_program_that_ends_at_once_is_started_now_and_then(cluster: Cluster) -> None:
+    """It may be gone, or want memory. The proxy serves as soon as it stays."""
+    prepare(cluster)
+    with tempfile.TemporaryDirectory() as folder:
+        program = Path(shutil.copy(PROGRAM, folder))
+        with Proxy(cluster, "", "--program", program) as proxy:
+            proxy.await_owner()
+            hidden = program.rename(program.with_suffix(".away"))
+            for child in children(proxy.running().pid):
+                os.kill(child, signal.SIGKILL)
+            ended = "the server has ended; it is started anew"
+            wait_until("it has ended twice", lambda: proxy.said().count(ended) > 1)
+            begin, before = time.monotonic(), proxy.said().count(ended)
+            time.sleep(1)
+            ends = proxy.said().count(ended) - before
+            assert ends <= 2 + (time.monotonic() - begin) / 0.2, f"it has ended {ends} times"
+            hidden.rename(program)
+            wait_until("it serves again", lambda: is_reserved(proxy))
+
+
+def is_reserved(proxy: Proxy) -> bool:
+    """Returns whether a reservation is served."""
+    try:
+        with proxy.connect() as it:
+            return it.execute("UPDATE stock SET pieces = pieces - 1 WHERE id = 1").rowcount == 1
+    except psycopg.Error:
+        return False
 
 
 @part

@@ -387,7 +387,7 @@ fn cast(datum: Datum, to: CastTo) -> Result<Datum, Failure> {
     };
     Ok(match to {
         CastTo::Integer(oid) => Datum::Integer(value::integer(oid, &text)?, oid),
-        CastTo::Numeric(size) => match Decimal::parse(text.trim()) {
+        CastTo::Numeric(size) => match Decimal::parse(text.trim_matches(value::is_blank)) {
             Some(decimal) => return numeric(decimal, size),
             None => return Err(value::no_number(&text)),
         },

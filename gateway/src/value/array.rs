@@ -4,7 +4,7 @@ use postgres_protocol::Oid;
 
 use crate::catalog::types;
 use crate::sqlstate::{Failure, Report, SqlState};
-use crate::value::{no_binary, oid};
+use crate::value::{is_blank, no_binary, oid};
 
 /// The types of arrays that are understood, each with the type of its elements.
 const TYPES: [(Oid, Oid); 6] = [
@@ -48,18 +48,18 @@ fn too_deep() -> Failure {
 /// Fails if the text is no array, or one of several dimensions.
 pub fn elements(text: &str) -> Result<Vec<Option<String>>, Failure> {
     let inner = text
-        .trim()
+        .trim_matches(is_blank)
         .strip_prefix('{')
         .and_then(|rest| rest.strip_suffix('}'))
         .ok_or_else(|| malformed(text))?;
     let mut elements = Vec::new();
-    if inner.trim().is_empty() {
+    if inner.trim_matches(is_blank).is_empty() {
         return Ok(elements);
     }
     let mut rest = inner.chars().peekable();
     loop {
         let (mut element, mut is_quoted) = (String::new(), false);
-        while rest.next_if(|next| next.is_ascii_whitespace()).is_some() {}
+        while rest.next_if(|&next| is_blank(next)).is_some() {}
         if rest.next_if_eq(&'"').is_some() {
             is_quoted = true;
             loop {
@@ -70,17 +70,28 @@ pub fn elements(text: &str) -> Result<Vec<Option<String>>, Failure> {
                     None => return Err(malformed(text)),
                 }
             }
-            while rest.next_if(|next| next.is_ascii_whitespace()).is_some() {}
+            while rest.next_if(|&next| is_blank(next)).is_some() {}
         } else {
+            // An escaped blank is a letter, and what has an escape is no NULL.
+            let mut end = 0;
             while let Some(next) = rest.next_if(|next| *next != ',') {
                 match next {
                     '{' => return Err(too_deep()),
                     '}' | '"' => return Err(malformed(text)),
-                    '\\' => element.push(rest.next().ok_or_else(|| malformed(text))?),
-                    next => element.push(next),
+                    '\\' => {
+                        element.push(rest.next().ok_or_else(|| malformed(text))?);
+                        is_quoted = true;
+                        end = element.len();
+                    }
+                    next => {
+                        element.push(next);
+                        if !is_blank(next) {
+                            end = element.len();
+                        }
+                    }
                 }
             }
-            element.truncate(element.trim_end().len());
+            element.truncate(end);
             if element.is_empty() {
                 return Err(malformed(text));
             }
@@ -171,6 +182,13 @@ mod tests {
                 "{a b,\"x,\\\"y\\\\\",NULL,\"NULL\",\\n}",
                 Ok("a b|x,\"y\\|-|NULL|n"),
             ),
+            ("{a\\ ,\\ b , c\\\\ }", Ok("a | b|c\\")),
+            (
+                "{\\NULL,N\\ull,\u{a0}a\u{a0}}",
+                Ok("NULL|Null|\u{a0}a\u{a0}"),
+            ),
+            ("\x0b{\x0b1\x0b}\x0b", Ok("1")),
+            ("\u{a0}{1}", Err("22P02")),
             ("{1,}", Err("22P02")),
             ("{,1}", Err("22P02")),
             ("1,2", Err("22P02")),

@@ -113,6 +113,8 @@ pub(super) struct Client<K, C> {
     /// The transaction is one UPDATE and its Sync.
     is_alone: bool,
     cycle: Cycle,
+    /// Whether a COMMIT was answered since the last ReadyForQuery, also one before anything of `held` was reserved.
+    has_commit: bool,
     question: Option<Question>,
     /// Whether a ReadyForQuery is kept back.
     is_kept: bool,
@@ -123,6 +125,8 @@ pub(super) struct Client<K, C> {
     may_hold: bool,
     /// Whether it has run them since the last end of a transaction, and how many commits folds knew before.
     runs_since: Option<Turn>,
+    /// The same, by what was sent while the ReadyForQuery was kept back.
+    runs_behind: Option<Turn>,
     /// Whether a look is to show the fates.
     is_looked_for: bool,
     /// What a look has found out about `held`: it is no line of a hold if it is not in it.
@@ -147,12 +151,14 @@ impl<K: Clone + Ord, C> Client<K, C> {
             needs_mark: true,
             is_alone: false,
             cycle: Cycle::default(),
+            has_commit: false,
             question: None,
             is_kept: false,
             awaits: Awaits::default(),
             is_given_up: false,
             may_hold: false,
             runs_since: None,
+            runs_behind: None,
             is_looked_for: false,
             fates: None,
         }
@@ -162,6 +168,9 @@ impl<K: Clone + Ord, C> Client<K, C> {
     pub(super) fn names(&mut self, runs: Option<Turn>) {
         self.may_hold = true;
         self.runs_since = self.runs_since.or(runs);
+        if self.is_kept {
+            self.runs_behind = self.runs_behind.or(runs);
+        }
     }
 
     pub(super) fn may_hold(&self) -> bool {
@@ -203,10 +212,10 @@ impl<K: Clone + Ord, C> Client<K, C> {
         self.is_kept && self.awaits == Awaits::default()
     }
 
-    /// The client goes on without what it has waited for, at this turn.
+    /// The client goes on without what it has waited for, at this turn. What it has sent meanwhile is to be waited for.
     pub(super) fn give_up(&mut self, turn: Turn) {
         self.is_given_up |= self.awaits.outcome;
-        self.runs_since = self.runs_since.map(|_| turn);
+        self.runs_since = self.runs_behind.or(self.runs_since.map(|_| turn));
         self.awaits = Awaits::default();
     }
 
@@ -222,10 +231,11 @@ impl<K: Clone + Ord, C> Client<K, C> {
         self.runs_since = self.runs_since.map(|_| 0);
     }
 
-    /// Returns whether a look has to show what the transaction has left as holds: all that it holds has committed.
+    /// Returns whether a look has to show what the transaction has left as holds: all of it that survives has committed.
     pub(super) fn must_look(&self) -> bool {
-        let has_committed = |it: &Reservation<K, C>| it.verdict == Verdict::Committed;
-        let is_committed = !self.held.is_empty() && self.held.iter().all(has_committed);
+        let survives = self.held.iter().map(|it| it.verdict);
+        let mut survives = survives.filter(|&it| it != Verdict::Aborted).peekable();
+        let is_committed = survives.peek().is_some() && survives.all(|it| it == Verdict::Committed);
         is_committed && self.may_hold && self.fates.is_none()
     }
 
@@ -428,7 +438,10 @@ impl<K: Clone + Ord, C> Client<K, C> {
                 self.needs_mark = true;
                 return;
             }
-            Tag::Commit => self.cycle.commits += 1,
+            Tag::Commit => {
+                self.cycle.commits += 1;
+                self.has_commit = true;
+            }
             Tag::Other => self.cycle.others = true,
         }
         self.needs_mark = true;
@@ -442,8 +455,13 @@ impl<K: Clone + Ord, C> Client<K, C> {
         }
     }
 
-    /// Returns whether the cycle has a COMMIT.
+    /// Returns whether the cycle has a COMMIT, of what is held or of what was before it.
     pub(super) fn has_commit(&self) -> bool {
+        self.has_commit
+    }
+
+    /// Returns whether the cycle has a COMMIT behind the first reservation of what is held.
+    pub(super) fn has_commit_behind(&self) -> bool {
         self.cycle.commits > 0
     }
 
@@ -461,6 +479,7 @@ impl<K: Clone + Ord, C> Client<K, C> {
     pub(super) fn next_cycle(&mut self) {
         self.was_unsure = self.is_unsure;
         self.cycle = Cycle::default();
+        self.has_commit = false;
     }
 
     /// Nothing more is heard of the transaction of what is held.
@@ -636,6 +655,7 @@ impl<K: Clone + Ord, C> Client<K, C> {
     /// Keeps a ReadyForQuery back.
     pub(super) fn keep(&mut self) {
         self.is_kept = true;
+        self.runs_behind = None;
     }
 
     /// Gives the ReadyForQuery free. Returns whether one was kept.

@@ -289,6 +289,50 @@ mod tests {
     }
 
     #[test]
+    fn a_locked_row_of_a_later_commit_is_not_folded_before_it() {
+        let mut folds = Folds::new();
+        commit(&mut folds, &["a"], ONE);
+        assert_eq!(folds.begin(false, all), Some(vec!["a"]));
+        assert_eq!(folds.folded(&[]), vec![]);
+        commit(&mut folds, &["b"], ONE);
+        assert_eq!(folds.begin(true, all), Some(vec!["a", "b"]));
+        assert_eq!(folds.folded(&["b"]), vec![]);
+        assert_eq!(folds.len(), 1);
+        commit(&mut folds, &["a"], TWO);
+        assert_eq!(folds.len(), 1, "it is tried at once");
+        assert_eq!(folds.begin(true, all), Some(vec!["a"]));
+        commit(&mut folds, &["a"], TWO);
+        assert_eq!(folds.folded(&["a"]), vec![ONE]);
+        assert_eq!(folds.begin(false, all), Some(vec!["a"]));
+        assert_eq!(folds.folded(&["a"]), vec![TWO]);
+        assert!(folds.is_empty());
+    }
+
+    #[test]
+    fn a_row_whose_lock_is_free_is_tried_at_once() {
+        let mut folds = Folds::new();
+        commit(&mut folds, &["a", "b"], ONE);
+        folds.begin(false, all);
+        assert_eq!(folds.folded(&[]), vec![]);
+        assert_eq!(folds.begin(false, all), None, "both are locked");
+        folds.unlocked(&["a", "c"]);
+        assert_eq!(folds.begin(false, all), Some(vec!["a"]));
+    }
+
+    #[test]
+    fn a_take_behind_the_beginning_of_a_fold_waits_for_the_next() {
+        let mut folds = Folds::new();
+        folds.committed(&["a"]);
+        let since = folds.turn();
+        assert_eq!(folds.begin(false, all), Some(vec!["a"]));
+        folds.taken(&["a"]);
+        assert_eq!(folds.folded(&["a"]), vec![]);
+        folds.wait_for_takes(since, ONE, all);
+        assert_eq!(folds.begin(false, all), Some(vec!["a"]));
+        assert_eq!(folds.folded(&["a"]), vec![ONE]);
+    }
+
+    #[test]
     fn nobody_waits_for_what_may_not_be_folded() {
         let mut folds = Folds::new();
         let is_b = |key: &&str| *key == "b";

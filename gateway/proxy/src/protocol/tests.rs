@@ -291,6 +291,28 @@ fn goes_on_before_its_outcome_is_known() {
     assert_eq!(told.last(), Some(&Action::Grant(ONE, "a", 1)));
 }
 
+/// The fold of what it has waited for long enough holds none of its later statements up.
+#[test]
+fn a_wait_for_an_outcome_that_is_over_is_over_for_its_fold() {
+    let mut it = serving();
+    hold(&mut it, false, 7);
+    completed(&mut it, "DO");
+    completed(&mut it, "COMMIT");
+    let asked = [Action::Ask(ONE, vec![Id(7)])];
+    assert_eq!(ready(&mut it, Status::Idle), asked);
+    let over = Event::WaitOver { connection: ONE };
+    assert_eq!(it.handle(over), [Action::Deliver(ONE)]);
+    let told = [Action::Tell(ONE, Told::Commit), Action::Fold(vec!["a"])];
+    assert_eq!(verdicts(&mut it, &[Verdict::Committed]), told);
+    assert_eq!(ready(&mut it, Status::Idle), [Action::Deliver(ONE)]);
+    assert_eq!(it.handle(Event::Folded { keys: vec!["a"] }), []);
+    // It waits for its next transaction.
+    hold(&mut it, true, 8);
+    assert_eq!(ready(&mut it, Status::Idle), told);
+    let folded = Event::Folded { keys: vec!["a"] };
+    assert_eq!(it.handle(folded), [Action::Deliver(ONE)]);
+}
+
 #[test]
 fn a_loss_amid_torn_outcomes_wants_nothing_more() {
     let mut it = serving();
@@ -382,6 +404,25 @@ fn a_note_without_an_answer_is_dropped_with_its_connection() {
     assert_eq!(it.handle(Event::Lost { connection: ONE }), []);
     assert_eq!(it.handle(Event::Granted { connection: ONE }), told);
     assert!(it.is_quiet());
+}
+
+/// Rule 6: PostgreSQL rolls the subtransaction back, and keeps what is in front of it.
+#[test]
+fn a_note_that_failed_is_dead_with_its_subtransaction() {
+    let mut it = serving();
+    hold(&mut it, false, 7);
+    completed(&mut it, "SAVEPOINT");
+    hold(&mut it, false, 8);
+    reserve(&mut it, "a", false);
+    it.handle(Event::Granted { connection: ONE });
+    let failed = [
+        Action::Tell(ONE, Told::BackTo(Mark(2))),
+        Action::Answer(ONE, Answer::Failed),
+    ];
+    assert_eq!(it.handle(Event::NoteFailed { connection: ONE }), failed);
+    assert_eq!(it.counts().reservations, 1);
+    let asked = [Action::Ask(ONE, vec![Id(7)]), Action::Deliver(ONE)];
+    assert_eq!(ready(&mut it, Status::Failed), asked);
 }
 
 /// Otherwise a part of it is found dead first, and the server goes back to a mark in front of the one that the grant has.
@@ -510,6 +551,12 @@ fn a_row_whose_mark_may_have_stayed_is_left_again() {
 #[test]
 fn a_fold_that_is_refused_stops_its_table_alone() {
     let mut it = serving();
+    reserve(&mut it, "a1", false);
+    let (key, lines) = ("a1", Vec::new());
+    it.handle(Event::Loaded { key, lines });
+    it.handle(Event::Refused { connection: ONE });
+    hold_by(&mut it, TWO, "a1", 5);
+    assert_eq!(it.own_folds(TWO), BTreeSet::from(["a1"]));
     hold(&mut it, true, 7);
     let told = [Action::Tell(ONE, Told::Commit), Action::Fold(vec!["a"])];
     assert_eq!(ready(&mut it, Status::Idle), told);
@@ -522,6 +569,7 @@ fn a_fold_that_is_refused_stops_its_table_alone() {
     let ticked = it.handle(Event::Tick);
     assert_eq!(ticked, [look(&[], &[])], "its folds stand still");
     assert_eq!((it.counts().stopped, it.counts().pending), (1, 1));
+    assert_eq!(it.own_folds(TWO), BTreeSet::new());
     let refused = [Action::Answer(ONE, Answer::TableStopped)];
     assert_eq!(reserve(&mut it, "a", false), refused);
     assert_eq!(reserve(&mut it, "b", false), [Action::Load("b")]);
@@ -532,7 +580,8 @@ fn a_fold_that_is_refused_stops_its_table_alone() {
     let resumed = it.handle(Event::Resumed { table: 'a' });
     assert_eq!(resumed, [Action::Fold(vec!["a"])]);
     it.handle(Event::Folded { keys: vec!["a"] });
-    assert!(it.is_quiet());
+    assert_eq!(it.counts().pending, 0);
+    assert_eq!(it.own_folds(TWO), BTreeSet::from(["a1"]));
     hold(&mut it, false, 8);
 }
 
@@ -630,7 +679,11 @@ fn a_hold_is_kept_and_the_rest_is_committed() {
 
 #[test]
 fn a_hold_that_has_ended_before_it_is_known_is_no_hold() {
-    for (fate, committed) in [(Fate::Taken(1), vec![("a", 1)]), (Fate::Free, vec![])] {
+    for (fate, committed) in [
+        (Fate::Taken(1), vec![("a", 1)]),
+        (Fate::Taken(0), vec![("a", 0)]),
+        (Fate::Free, vec![]),
+    ] {
         let mut it = serving();
         names(&mut it);
         hold(&mut it, false, 7);
@@ -755,6 +808,23 @@ fn a_look_that_fails_is_done_again() {
         kept: vec![(line(8), "a", 1)],
     };
     assert_eq!(found[0], kept);
+}
+
+/// No look comes any more that it could wait for.
+#[test]
+fn an_alarm_answers_whoever_waits() {
+    let mut it = serving();
+    names(&mut it);
+    hold(&mut it, false, 7);
+    completed(&mut it, "COMMIT");
+    assert_eq!(ready(&mut it, Status::Idle), [look(&[], &[7])]);
+    it.handle(Event::WaitOver { connection: ONE });
+    assert_eq!(reserve(&mut it, "a", false), []);
+    let stopped = [
+        Action::Alarm(Alarm::ServerBroke, None),
+        Action::Answer(ONE, Answer::Stopped),
+    ];
+    assert_eq!(it.handle(Event::ServerBroke), stopped);
 }
 
 /// Two connections wait for a look: one for what it has taken, which has committed more meanwhile, and the other for its notes.
@@ -910,6 +980,55 @@ fn a_take_of_what_is_not_decided_is_waited_for() {
     assert_eq!(folded(&mut it, &["a"]), delivered);
 }
 
+/// The row is being loaded when the look shows it, and what the load shows is not known yet.
+#[test]
+fn a_take_of_a_row_that_is_loaded_is_waited_for() {
+    let mut it = serving();
+    names(&mut it);
+    let reserve = Event::Reserve {
+        connection: TWO,
+        key: "b",
+        change: 1,
+        alone: false,
+    };
+    assert_eq!(it.handle(reserve), [Action::Load("b")]);
+    assert_eq!(ready(&mut it, Status::Idle), [look(&[], &[])]);
+    let mut shown = news(5, Fate::Taken(1), false);
+    shown.key = "b";
+    assert_eq!(looked(&mut it, vec![shown.clone()]), []);
+    let (key, lines) = ("b", vec![(line(5), 1)]);
+    let loaded = it.handle(Event::Loaded { key, lines });
+    assert_eq!(loaded.last(), Some(&look(&[], &[])));
+    let ended = [
+        Action::End(vec![(line(5), Some(1))]),
+        Action::Fold(vec!["b"]),
+    ];
+    assert_eq!(looked(&mut it, vec![shown]), ended);
+    assert_eq!(folded(&mut it, &["b"]), [Action::Deliver(ONE)]);
+}
+
+/// Another owner's folds count anew, and whatever it shows was taken since.
+#[test]
+fn a_take_over_a_takeover_is_waited_for() {
+    let mut it = serving();
+    for id in 7..10 {
+        hold(&mut it, true, id);
+        ready(&mut it, Status::Idle);
+        folded(&mut it, &["a"]);
+    }
+    names(&mut it);
+    it.handle(Event::KeeperLost);
+    it.handle(Event::OwnerTaken);
+    it.handle(Event::EpochSet);
+    it.handle(Event::Holders { any: false });
+    it.handle(Event::Tick);
+    let shown = vec![news(5, Fate::Taken(1), false)];
+    assert!(looked(&mut it, shown).contains(&Action::Fold(vec!["a"])));
+    assert_eq!(ready(&mut it, Status::Idle), [look(&[5], &[])]);
+    assert_eq!(looked(&mut it, vec![]), []);
+    assert_eq!(folded(&mut it, &["a"]), [Action::Deliver(ONE)]);
+}
+
 #[test]
 fn a_take_behind_another_that_was_sent_at_once_is_waited_for() {
     let mut it = serving();
@@ -949,6 +1068,28 @@ fn what_a_client_has_not_waited_for_holds_up_nothing_that_was_sent_at_once() {
     assert_eq!(looked(&mut it, vec![]), [Action::Deliver(ONE)]);
 }
 
+/// It was sent while the client still waited for the fold of another transaction, and a look has shown it before that wait was over.
+#[test]
+fn a_take_that_was_sent_during_a_wait_is_waited_for_behind_it() {
+    let mut it = serving();
+    hold(&mut it, true, 7);
+    ready(&mut it, Status::Idle);
+    assert_eq!(folded(&mut it, &[]), [], "the row is locked");
+    names(&mut it);
+    let tried = [Action::Fold(vec!["a"]), look(&[], &[])];
+    assert_eq!(it.handle(Event::Tick), tried);
+    let taken = vec![news(5, Fate::Taken(1), false)];
+    assert_eq!(looked(&mut it, taken), []);
+    assert_eq!(folded(&mut it, &[]), [Action::Fold(vec!["a"])]);
+    assert_eq!(folded(&mut it, &[]), []);
+    let over = Event::WaitOver { connection: ONE };
+    assert_eq!(it.handle(over), [Action::Deliver(ONE)]);
+    assert_eq!(ready(&mut it, Status::Idle), [look(&[5], &[])]);
+    assert_eq!(looked(&mut it, vec![]), []);
+    assert_eq!(it.handle(Event::FoldAgain), [Action::Fold(vec!["a"])]);
+    assert_eq!(folded(&mut it, &["a"]), [Action::Deliver(ONE)]);
+}
+
 #[test]
 fn a_block_that_goes_on_behind_its_commit_sees_it() {
     let mut it = serving();
@@ -958,6 +1099,42 @@ fn a_block_that_goes_on_behind_its_commit_sees_it() {
     assert_eq!(ready(&mut it, Status::InBlock), asked);
     let told = [Action::Tell(ONE, Told::Commit), Action::Fold(vec!["a"])];
     assert_eq!(verdicts(&mut it, &[Verdict::Committed]), told);
+    assert_eq!(folded(&mut it, &["a"]), [Action::Deliver(ONE)]);
+}
+
+/// Something of the next transaction is reserved before the ReadyForQuery behind the COMMIT.
+#[test]
+fn a_block_that_goes_on_and_reserves_sees_what_it_has_taken() {
+    let mut it = serving();
+    names(&mut it);
+    completed(&mut it, "SELECT 1");
+    completed(&mut it, "COMMIT");
+    hold(&mut it, false, 7);
+    assert_eq!(ready(&mut it, Status::InBlock), [look(&[], &[])]);
+    let taken = vec![news(5, Fate::Taken(1), false)];
+    assert_eq!(looked(&mut it, taken), [Action::Fold(vec!["a"])]);
+    assert_eq!(folded(&mut it, &["a"]), [Action::Deliver(ONE)]);
+}
+
+/// A part of it was rolled back, and the rest may have been left as a hold.
+#[test]
+fn a_block_that_goes_on_waits_for_the_look_at_what_survives() {
+    let mut it = serving();
+    names(&mut it);
+    hold(&mut it, false, 7);
+    completed(&mut it, "SAVEPOINT");
+    hold(&mut it, false, 8);
+    completed(&mut it, "ROLLBACK");
+    completed(&mut it, "COMMIT");
+    let asked = [Action::Ask(ONE, vec![Id(7), Id(8)]), look(&[], &[])];
+    assert_eq!(ready(&mut it, Status::InBlock), asked);
+    let back = [Action::Tell(ONE, Told::BackTo(Mark(2)))];
+    let survives = [Verdict::Committed, Verdict::Aborted];
+    assert_eq!(verdicts(&mut it, &survives), back);
+    // The look that is under way shows what it has taken, and the next one what it has left.
+    assert_eq!(looked(&mut it, vec![]), [look(&[], &[7])]);
+    let committed = [Action::Tell(ONE, Told::Commit), Action::Fold(vec!["a"])];
+    assert_eq!(looked(&mut it, vec![]), committed);
     assert_eq!(folded(&mut it, &["a"]), [Action::Deliver(ONE)]);
 }
 
@@ -996,6 +1173,49 @@ fn hold_by(it: &mut Machine, connection: Connection, key: &'static str, number: 
         id: Id(u64::from(connection.0)),
         line: Line { epoch: 1, number },
     });
+}
+
+#[test]
+fn what_an_own_fold_has_locked_is_tried_once_it_has_ended() {
+    let mut it = serving();
+    hold(&mut it, false, 7);
+    hold_by(&mut it, TWO, "a", 1);
+    let (connection, tag) = (TWO, Tag::Commit);
+    it.handle(Event::Completed { connection, tag });
+    let (status, goes_on) = (Status::Idle, false);
+    let told = it.handle(Event::Ready {
+        connection,
+        status,
+        goes_on,
+    });
+    assert_eq!(told.last(), Some(&Action::Fold(vec!["a"])));
+    let (connection, key) = (ONE, None);
+    it.handle(Event::OwnFolded { connection, key });
+    completed(&mut it, "COMMIT");
+    assert_eq!(folded(&mut it, &[]), [], "its row is locked");
+    let told = [
+        Action::Tell(ONE, Told::Commit),
+        Action::Fold(vec!["a"]),
+        Action::Deliver(ONE),
+    ];
+    assert_eq!(ready(&mut it, Status::Idle), told);
+    assert_eq!(folded(&mut it, &["a"]), [Action::Deliver(TWO)]);
+}
+
+/// Rule 13: its row would be locked over the client's flush.
+#[test]
+fn what_waits_for_a_fold_is_folded_by_none_of_its_own() {
+    let mut it = serving();
+    hold_by(&mut it, TWO, "a", 1);
+    assert_eq!(it.own_folds(TWO), BTreeSet::from(["a"]));
+    hold(&mut it, true, 7);
+    assert_eq!(it.own_folds(TWO), BTreeSet::new(), "it is wanted");
+    ready(&mut it, Status::Idle);
+    assert_eq!(it.own_folds(TWO), BTreeSet::new());
+    assert!(!it.may_fold(TWO, &"a"));
+    folded(&mut it, &["a"]);
+    assert_eq!(it.own_folds(TWO), BTreeSet::from(["a"]));
+    assert!(it.may_fold(TWO, &"a"));
 }
 
 #[test]
@@ -1050,6 +1270,19 @@ fn rows_of_a_table_that_is_ordinary_are_forgotten_once_nobody_has_reserved_one()
     verdicts(&mut it, &[Verdict::Aborted]);
     assert!(it.forget_table('a'));
     assert_eq!(reserve(&mut it, "a", false), [Action::Load("a")]);
+    // It is loaded, though nobody wants it any more; it has a hold; it is left.
+    it.handle(Event::Lost { connection: ONE });
+    assert!(!it.forget_table('a'));
+    let (key, lines) = ("a", vec![(line(3), -2)]);
+    it.handle(Event::Loaded { key, lines });
+    assert!(!it.forget_table('a'));
+    it.handle(Event::Tick);
+    looked(&mut it, vec![news(3, Fate::Free, false)]);
+    let connection = None;
+    it.handle(Event::Leave { connection, key });
+    assert!(!it.forget_table('a'));
+    it.handle(Event::Left { key });
+    assert!(it.forget_table('a'));
 }
 
 /// More has ended at one moment than a look forgets, so that the next one shows the rest again.

@@ -143,6 +143,8 @@ struct Backend {
     number: u32,
     inbox: VecDeque<Message>,
     outbox: VecDeque<Reply>,
+    /// What was committed up to each ReadyForQuery in the outbox.
+    shown: VecDeque<Shown>,
     /// The proxy has closed it.
     is_cut: bool,
     /// The process runs.
@@ -337,7 +339,7 @@ pub(super) struct Postgres {
     pub(super) own_counts: Counts,
     /// What is in sockets whose proxy reads no answer any more.
     late: Vec<Late>,
-    /// What each connection has committed since it was asked for last.
+    /// What each connection has committed since its last ReadyForQuery.
     shown: BTreeMap<u32, Shown>,
     without: Option<Without>,
 }
@@ -593,6 +595,7 @@ impl Postgres {
             number,
             inbox: VecDeque::new(),
             outbox: VecDeque::new(),
+            shown: VecDeque::new(),
             is_cut: false,
             is_alive: true,
             levels: Vec::new(),
@@ -616,16 +619,16 @@ impl Postgres {
         }
     }
 
-    /// Returns the next reply, or Err if the connection has ended and nothing is left to read.
-    pub(super) fn receive(&mut self, number: u32) -> Result<Option<Reply>, ()> {
-        match self.backends.get_mut(&number) {
-            Some(backend) => match backend.outbox.pop_front() {
-                Some(reply) => Ok(Some(reply)),
-                None if backend.is_alive => Ok(None),
-                None => Err(()),
-            },
-            None => Err(()),
-        }
+    /// Returns the next reply.
+    pub(super) fn receive(&mut self, number: u32) -> Option<Reply> {
+        let backend = self.backends.get_mut(&number);
+        backend.and_then(|it| it.outbox.pop_front())
+    }
+
+    /// Returns whether the connection has ended, and nothing is left to read.
+    pub(super) fn has_ended(&self, number: u32) -> bool {
+        let has = |backend: &Backend| backend.outbox.is_empty() && !backend.is_alive;
+        self.backends.get(&number).map_or(true, has)
     }
 
     /// Returns whether something is left to read, or the connection has ended.
@@ -733,9 +736,18 @@ impl Postgres {
         shown.ends.extend(ends);
     }
 
-    /// Returns what a connection has committed since the last call.
+    fn be_ready(&mut self, backend: &mut Backend, status: Status) {
+        backend.outbox.push_back(Reply::Ready(status));
+        let shown = self.shown.remove(&backend.number);
+        backend.shown.push_back(shown.unwrap_or_default());
+    }
+
+    /// Returns what a connection has committed between the ReadyForQuery that was read last and the one before.
     pub(super) fn take_shown(&mut self, number: u32) -> Shown {
-        self.shown.remove(&number).unwrap_or_default()
+        let backend = self.backends.get_mut(&number);
+        backend
+            .and_then(|it| it.shown.pop_front())
+            .unwrap_or_default()
     }
 
     /// Returns whether a row of the journal is not folded yet.
@@ -800,7 +812,12 @@ impl Postgres {
                 if after == After::Fail {
                     self.fail(&mut backend);
                 } else {
-                    backend.outbox.extend(replies);
+                    for reply in replies {
+                        match reply {
+                            Reply::Ready(status) => self.be_ready(&mut backend, status),
+                            reply => backend.outbox.push_back(reply),
+                        }
+                    }
                 }
             }
         }
@@ -820,7 +837,7 @@ impl Postgres {
                     (true, false) => Status::InBlock,
                     (true, true) => Status::Failed,
                 };
-                backend.outbox.push_back(Reply::Ready(status));
+                self.be_ready(backend, status);
             }
             _ if backend.skips => {}
             Message::Note(_) | Message::Direct(_) | Message::Here(_) | Message::OwnFold(_)

@@ -6,7 +6,7 @@ use rand::rngs::StdRng;
 use rand::seq::{IteratorRandom, SliceRandom};
 use rand::Rng;
 
-use super::postgres::{Folding, Late, Mark, Message, Note, Postgres, Reply, Statement};
+use super::postgres::{Folding, Late, Mark, Message, Note, Postgres, Reply, Shown, Statement};
 use super::server::{Grant, Server};
 use super::{Change, Key, Seen, Without, CLIENTS, KEYS};
 use crate::protocol::{
@@ -46,8 +46,16 @@ struct Client {
     backend: u32,
     script: VecDeque<Step>,
     waits: Waits,
-    /// Replies that are still to come.
+    /// Replies that are still to come, up to the next ReadyForQuery.
     expected: u32,
+    /// A Sync is sent whose ReadyForQuery is not read.
+    has_sync: bool,
+    /// Replies that are still to come behind that.
+    behind: u32,
+    /// The ReadyForQuery that is kept back. Nothing is read behind it.
+    kept: Option<Status>,
+    /// What it has committed up to that, since a ReadyForQuery behind a COMMIT.
+    shown: Shown,
     /// The present UPDATE is a transaction by itself, and the proxy sends its Sync.
     by_itself: bool,
     /// It is outside of a block.
@@ -75,9 +83,37 @@ impl Client {
     fn has_next(&self) -> bool {
         match self.waits {
             Waits::Nothing => true,
-            Waits::Replies | Waits::Ready => self.expected == 0,
+            Waits::Replies | Waits::Ready => self.is_answered(),
             Waits::Answer | Waits::Here | Waits::Note => false,
         }
+    }
+
+    /// Returns whether no reply is still to come, but what is kept back.
+    fn is_answered(&self) -> bool {
+        self.expected + self.behind == 0
+    }
+
+    /// A message is sent that has a reply.
+    fn expect(&mut self) {
+        match self.has_sync {
+            true => self.behind += 1,
+            false => self.expected += 1,
+        }
+    }
+
+    /// Sends a Sync.
+    fn sync(&mut self, postgres: &mut Postgres) {
+        postgres.send(self.backend, Message::Sync);
+        self.expect();
+        self.has_sync = true;
+        self.skips = false;
+    }
+
+    /// What was sent up to the next Sync is skipped.
+    fn fail(&mut self) {
+        self.skips = !self.has_sync;
+        self.is_plain = false;
+        self.expected = u32::from(self.has_sync);
     }
 
     /// Sends the Sync of an UPDATE by itself.
@@ -86,13 +122,15 @@ impl Client {
             return;
         }
         if self.expected == 0 || without != Some(Without::AnsweredNotes) {
-            postgres.send(self.backend, Message::Sync);
-            self.expected += 1;
+            self.sync(postgres);
         }
         self.waits = Waits::Ready;
         self.skips = false;
     }
 }
+
+/// How many commits were known at a moment.
+type Turn = u64;
 
 /// What is under way outside of the state machine.
 enum Job {
@@ -104,6 +142,10 @@ enum Job {
     Looked(Vec<News<Key, Change>>),
     Leave(Key, Mark),
     Fold(Folding),
+    /// A key whose table is held up, and what had committed when it was left out.
+    Late(Key, Turn),
+    FoldLate(Folding, Turn),
+    LookFailed,
     Granted(Connection, bool),
     Holders(bool),
     EpochSet,
@@ -122,11 +164,13 @@ pub(super) struct Relay {
     clients: BTreeMap<Connection, Client>,
     next: u32,
     /// In order, as each connection of the proxy's own answers: the place says which.
-    jobs: [VecDeque<Job>; 4],
+    jobs: [VecDeque<Job>; 5],
     stopped: u32,
     /// The keeper is not answered for so many of its steps.
     keeper_stalled: u32,
     is_finishing: bool,
+    /// Clients may send on before they have got a ReadyForQuery, looks may fail, and folds may leave a row out.
+    sends_ahead: bool,
     without: Option<Without>,
 }
 
@@ -135,9 +179,10 @@ const KEEPER: usize = 0;
 const LOADER: usize = 1;
 const FOLDER: usize = 2;
 const SERVER: usize = 3;
+const PATIENT: usize = 4;
 
 impl Relay {
-    pub(super) fn new(place: usize, without: Option<Without>) -> Relay {
+    pub(super) fn new(place: usize, sends_ahead: bool, without: Option<Without>) -> Relay {
         let mut protocol = Protocol::new();
         if let Some(Without::Rule(fault)) = without {
             protocol.fault = Some(fault);
@@ -154,6 +199,7 @@ impl Relay {
             stopped: 0,
             keeper_stalled: 0,
             is_finishing: false,
+            sends_ahead,
             without,
         }
     }
@@ -169,14 +215,14 @@ impl Relay {
         }
         Relay {
             next: self.next,
-            ..Relay::new(self.place, without)
+            ..Relay::new(self.place, self.sends_ahead, without)
         }
     }
 
     fn let_folds_end(&mut self, postgres: &mut Postgres) {
         for job in self.jobs.iter_mut().flat_map(|jobs| jobs.drain(..)) {
             match job {
-                Job::Fold(folding) | Job::Load(_, Some(folding), _) => {
+                Job::Fold(folding) | Job::FoldLate(folding, _) | Job::Load(_, Some(folding), _) => {
                     postgres.folded(&folding);
                 }
                 Job::Leave(key, before) if self.life == postgres.life => {
@@ -283,6 +329,9 @@ impl Relay {
                 }
                 Ok(())
             }
+            0 if self.sends_ahead && random.gen() => {
+                self.give(Event::FoldAgain, postgres, random, seen)
+            }
             0 => self.give(Event::Tick, postgres, random, seen),
             1..=5 => self.job(postgres, random, seen),
             _ => self.serve(postgres, random, seen),
@@ -349,6 +398,9 @@ impl Relay {
                 seen.questions += 1;
                 self.jobs[KEEPER].push_back(Job::Verdicts(connection, ids, Vec::new()));
             }
+            Action::Look { .. } if self.sends_ahead && random.gen_range(0..8) == 0 => {
+                self.jobs[KEEPER].push_back(Job::LookFailed);
+            }
             // The keeper is gone, which it will see.
             Action::Look { done, asked } if postgres.is_owner(self.place, self.epoch) => {
                 let done = done.into_iter().map(|it| it.number as Grant).collect();
@@ -413,9 +465,10 @@ impl Relay {
                 let before = self.mark(postgres);
                 self.jobs[LOADER].push_back(Job::Leave(key, before));
             }
-            Action::Fold(keys) => {
+            Action::Fold(mut keys) => {
                 if self.is_connected(postgres) {
                     seen.folds += 1;
+                    self.leave_out(&mut keys, random);
                     let folding = postgres.fold(&keys, None, random)?;
                     self.jobs[FOLDER].push_back(Job::Fold(folding));
                 }
@@ -447,15 +500,18 @@ impl Relay {
                     };
                     postgres.send(client.backend, message);
                     if self.without == Some(Without::AnsweredNotes) && client.by_itself {
-                        postgres.send(client.backend, Message::Sync);
-                        client.expected += 1;
+                        client.sync(postgres);
                     }
                 }
             }
             Action::Answer(connection, answer) => self.answer(connection, answer, postgres)?,
             Action::Deliver(connection) => {
                 if let Some(client) = self.clients.get_mut(&connection) {
-                    if client.waits == Waits::Ready && client.expected == 0 {
+                    if let Some(status) = client.kept.take() {
+                        client.status = status;
+                        client.is_plain = true;
+                    }
+                    if client.waits == Waits::Ready && client.is_answered() {
                         client.waits = Waits::Nothing;
                     }
                 }
@@ -489,10 +545,10 @@ impl Relay {
         if !may_see && !client.is_over {
             return Ok(());
         }
-        let shown = postgres.take_shown(client.backend);
+        let shown = std::mem::take(&mut client.shown);
         let is_unseen = client.is_unseen;
-        // What passed unseen may be of the block that goes on.
-        client.is_unseen &= client.status == Status::InBlock;
+        // What passed unseen may be of the block that goes on, or of what was sent behind.
+        client.is_unseen &= client.status == Status::InBlock || !client.is_answered();
         if !serves || client.is_over {
             return Ok(());
         }
@@ -531,7 +587,7 @@ impl Relay {
             Answer::Reserved => {}
             Answer::Missing => {
                 postgres.send(client.backend, Message::Statement(client.asked));
-                client.expected += 1;
+                client.expect();
             }
             Answer::Failed => client.skips = true,
             // It may be the client itself that has locked the row.
@@ -557,7 +613,7 @@ impl Relay {
             | Answer::Stopped
             | Answer::TableStopped => {
                 postgres.send(client.backend, Message::Statement(Statement::Fail));
-                client.expected += 1;
+                client.expect();
                 client.skips = true;
             }
         }
@@ -655,8 +711,31 @@ impl Relay {
             Job::Load(key, _, missing) => Event::NotLoaded { key, missing },
             Job::Fold(folding) if postgres.folded(&folding) => Event::Folded { keys: folding.keys },
             Job::Fold(_) => Event::FoldFailed,
+            Job::Late(key, commits) if self.is_connected(postgres) => {
+                let folding = postgres.fold(&[key], None, random)?;
+                self.jobs[PATIENT].push_front(Job::FoldLate(folding, commits));
+                return Ok(());
+            }
+            Job::FoldLate(folding, commits) if postgres.folded(&folding) => {
+                let keys = folding.keys;
+                Event::FoldedLate { keys, commits }
+            }
+            Job::Late(..) | Job::FoldLate(..) => return Ok(()),
+            Job::LookFailed => Event::LookFailed,
         };
         self.give(event, postgres, random, seen)
+    }
+
+    /// Leaves out of a fold what is held up, as by a lock of its table: another connection folds that.
+    fn leave_out(&mut self, keys: &mut Vec<Key>, random: &mut StdRng) {
+        if self.sends_ahead && self.jobs[PATIENT].is_empty() && random.gen_range(0..5) == 0 {
+            let key = keys[random.gen_range(0..keys.len())];
+            let late = Job::Late(key, self.protocol.commits());
+            self.jobs[PATIENT].push_back(late);
+        }
+        if let Some(Job::Late(late, _)) = self.jobs[PATIENT].front() {
+            keys.retain(|key| key != late);
+        }
     }
 
     fn be_over(&mut self, connection: Connection, is_over: bool) {
@@ -680,6 +759,10 @@ impl Relay {
                 script: VecDeque::new(),
                 waits: Waits::Nothing,
                 expected: 0,
+                has_sync: false,
+                behind: 0,
+                kept: None,
+                shown: Shown::default(),
                 by_itself: false,
                 alone: false,
                 is_plain: true,
@@ -694,30 +777,34 @@ impl Relay {
             self.clients.insert(connection, client);
         }
         let is_slow = postgres.is_slow;
-        let is_busy = |it: &Client| is_slow || it.has_next() || postgres.has_news(it.backend);
+        let has_news = |it: &Client| it.kept.is_none() && postgres.has_news(it.backend);
+        let is_busy = |it: &Client| is_slow || it.has_next() || it.kept.is_some() || has_news(it);
         let mut busy = self.clients.iter_mut().filter(|it| is_busy(it.1));
         let (connection, client) = match busy.by_ref().choose(random) {
             Some((&connection, client)) => (connection, client),
             None => return Ok(()),
         };
-        match postgres.receive(client.backend) {
-            Err(()) => return self.lose(connection, postgres, random, seen),
-            Ok(Some(reply)) => return self.reply(connection, reply, postgres, random, seen),
-            Ok(None) => {}
+        let is_kept = client.kept.is_some();
+        if postgres.has_ended(client.backend) {
+            return self.lose(connection, postgres, random, seen);
+        } else if !is_kept {
+            if let Some(reply) = postgres.receive(client.backend) {
+                return self.reply(connection, reply, postgres, random, seen);
+            }
         }
         match client.waits {
-            Waits::Nothing => self.send(connection, postgres, random, seen),
-            Waits::Replies if client.expected == 0 => {
-                client.waits = Waits::Nothing;
-                Ok(())
-            }
-            Waits::Ready if client.expected == 0 => {
-                // The client's patience is over before the fold is.
+            // The client's patience is over before the fold is.
+            _ if is_kept && (client.waits == Waits::Ready || random.gen()) => {
                 let over = Job::WaitOver(connection);
                 let patience = if self.keeper_stalled > 0 { 2 } else { 10 };
                 if self.jobs[SERVER].len() < 20 && random.gen_range(0..patience) == 0 {
                     self.jobs[SERVER].push_back(over);
                 }
+                Ok(())
+            }
+            Waits::Nothing => self.send(connection, postgres, random, seen),
+            Waits::Replies if client.is_answered() => {
+                client.waits = Waits::Nothing;
                 Ok(())
             }
             Waits::Replies | Waits::Answer | Waits::Here | Waits::Note | Waits::Ready => Ok(()),
@@ -768,7 +855,7 @@ impl Relay {
                 client.waits = Waits::Nothing;
                 if !is_so {
                     postgres.send(client.backend, Message::Statement(Statement::Fail));
-                    client.expected += 1;
+                    client.expect();
                     client.skips = true;
                 }
                 client.end_alone(postgres, self.without);
@@ -786,10 +873,7 @@ impl Relay {
                 Event::NoteFailed { connection }
             }
             Reply::Error => {
-                // What was sent behind it is skipped up to the Sync.
-                client.skips = true;
-                client.is_plain = false;
-                client.expected = u32::from(client.waits == Waits::Ready);
+                client.fail();
                 Event::Failed { connection }
             }
             Reply::Completed(tag) => {
@@ -803,13 +887,17 @@ impl Relay {
                 }
             }
             Reply::Ready(status) => {
-                client.expected -= 1;
-                client.status = status;
-                client.is_plain = true;
+                let goes_on = client.behind > 0;
+                client.expected = std::mem::take(&mut client.behind);
+                client.has_sync = false;
+                client.kept = Some(status);
+                let shown = postgres.take_shown(client.backend);
+                client.shown.rows.extend(shown.rows);
+                client.shown.ends.extend(shown.ends);
                 Event::Ready {
                     connection,
                     status,
-                    goes_on: false,
+                    goes_on,
                 }
             }
         };
@@ -840,28 +928,39 @@ impl Relay {
             };
         }
         match client.script.front().copied() {
+            // One Sync is sent at a time, and what may make or end a hold behind its reply.
+            Some(Step::Sync)
+            | Some(Step::Statement(Statement::Hold))
+            | Some(Step::Statement(Statement::Take(..)))
+            | Some(Step::Statement(Statement::Release(_)))
+                if client.has_sync =>
+            {
+                client.waits = Waits::Replies;
+                return Ok(());
+            }
             Some(Step::Sync) => {
-                postgres.send(client.backend, Message::Sync);
-                client.expected += 1;
-                client.waits = Waits::Ready;
-                client.skips = false;
+                client.sync(postgres);
+                client.waits = match self.sends_ahead && !is_finishing && random.gen() {
+                    true => Waits::Nothing,
+                    false => Waits::Ready,
+                };
             }
             Some(_) if client.skips => {}
-            Some(Step::Statement(Statement::Commit)) if client.expected == 0 => {
+            Some(Step::Statement(Statement::Commit)) if client.is_answered() => {
                 let keys = self.protocol.own_folds(connection);
                 let is_last = matches!(client.script.get(1), Some(Step::Sync));
                 if is_last && client.status == Status::InBlock && !keys.is_empty() && random.gen() {
                     let mut asked = [false; KEYS];
                     keys.iter().for_each(|&key| asked[key] = true);
                     postgres.send(client.backend, Message::OwnFold(asked));
-                    client.expected += 1;
+                    client.expect();
                 }
                 postgres.send(client.backend, Message::Statement(Statement::Commit));
-                client.expected += 1;
+                client.expect();
             }
             Some(Step::Statement(statement)) => {
                 postgres.send(client.backend, Message::Statement(statement));
-                client.expected += 1;
+                client.expect();
                 let is_seen = match statement {
                     Statement::Hold => true,
                     // A function that takes it passes unseen.
@@ -877,7 +976,7 @@ impl Relay {
                 }
             }
             // What was sent before it is answered first.
-            Some(Step::Hot(..)) | Some(Step::Delete(_)) if client.expected > 0 => {
+            Some(Step::Hot(..)) | Some(Step::Delete(_)) if !client.is_answered() => {
                 client.waits = Waits::Replies;
                 return Ok(());
             }

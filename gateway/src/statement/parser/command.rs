@@ -151,7 +151,8 @@ impl<'a> Parser<'a> {
 
     /// Reads a query, an INSERT, an UPDATE or a DELETE, which may have WITH in front. Returns the UPDATEs of one table in it.
     pub(super) fn updates(&mut self) -> Result<Vec<FoundUpdate>, Failure> {
-        let mut found = Vec::new();
+        let mut found: Vec<FoundUpdate> = Vec::new();
+        let mut names = Vec::new();
         let mut place = Place::Whole;
         if self.keyword("WITH") {
             if self.at_keyword("RECURSIVE") {
@@ -159,7 +160,7 @@ impl<'a> Parser<'a> {
             }
             let mut number = 0;
             self.list(|parser| {
-                parser.with_name()?;
+                names.push(parser.with_name()?.name.text);
                 if parser.at_keyword("WITH") {
                     parser.query()?;
                 } else {
@@ -171,6 +172,14 @@ impl<'a> Parser<'a> {
             place = Place::BehindWith;
         }
         self.data(place, &mut found)?;
+        // Such a name is the table's in the UPDATE, and the query's in any other statement.
+        let is_hidden = |it: &FoundUpdate| {
+            let table = &it.update.table;
+            table.schema.is_none() && names.contains(&table.name.text)
+        };
+        if found.iter().any(is_hidden) {
+            return Err(self.missing("an UPDATE of a table with the name of a query in WITH"));
+        }
         Ok(found)
     }
 
@@ -479,9 +488,11 @@ impl<'a> Parser<'a> {
 
     /// Reads the table of a statement that changes it. SET is no alias.
     fn changed_table(&mut self) -> Result<(QualifiedName, Option<Name>), Failure> {
-        self.keyword("ONLY");
+        let is_only = self.keyword("ONLY");
         let name = self.qualified_name()?;
-        self.take_operator("*");
+        if !is_only {
+            self.take_operator("*");
+        }
         let alias = if self.keyword("AS") {
             Some(self.name()?)
         } else if self.at_keyword("SET") {
