@@ -3,7 +3,7 @@ use Rattle.std.specs.Prelude.{◌≡◌, ℕ, zero, suc, ◌+◌, ◌≤◌, ◌
 use Rattle.std.specs.List.{AllByRecursion}
 use Rattle.std.proofs.Common.{inl, inr, refl, sym, ap, ap₂, subst, eq-eqb, arith, ◌∙◌}
 use Rattle.std.proofs.lemmas.Bool.{cases_lt, false_from_ne_true, eqb-true}
-use Rattle.std.proofs.lemmas.List.{append-nil, append_assoc, length-append, length-map, length-replicate, length-take-le, drop-append-le, map-append}
+use Rattle.std.proofs.lemmas.List.{append-nil, append_assoc, length-append, length-map, length-replicate, length-take-le, drop_all, drop_at, drop-append-le, map-append}
 use Rattle.std.proofs.Math.Seq.{drop-append_seam, take-append_seam}
 use Rattle.sqlite.specs.State.{State as Store, HasCleanDisk, Survives}
 use Rattle.sqlite.proofs.StateLemmas.{survives_then}
@@ -16,21 +16,24 @@ use Rattle.escrow_machine.specs.declared.event.Event.{Event}
 use Rattle.escrow_machine.specs.declared.event.Event.TheVariants as event
 use Rattle.escrow_machine.specs.declared.reply.Reply.{Reply}
 use Rattle.escrow_statement.specs.declared.statement.Statement.{Statement}
+use Rattle.escrow_journal.specs.Reservations.{own}
 use Rattle.escrow_machine.specs.Held.{IsHeldBack, IsServedBeside, IsHeldRun, Outcome, Waiting, answer_by, answers_by, ended_by, events_of}
 use Rattle.escrow_machine.specs.Reply.{failure_of, tells_write}
 use Rattle.escrow_machine.specs.Settle.{after_end}
 use Rattle.escrow_machine.specs.State.{State}
 use Rattle.escrow_machine.specs.Step.{step, may_fail, IsRun, IsServed, IsStep}
-use Rattle.escrow_machine.proofs.Choices.{all_append}
+use Rattle.escrow_machine.proofs.Choices.{all_append, append_all}
 use Rattle.escrow_machine.proofs.LawsHeld.{run_more}
 use Rattle.escrow_machine.proofs.LawsSteps.{machine_never_fails}
 use Rattle.escrow_rows.specs.Answers.{IsUsable}
-use Rattle.escrow_core.specs.Beside.{AreAfterEvent, AreAfterOutcomes, AreAllSettled, AreApart, AreServed, AreSettled, HeldBack, IsBatch, IsLeftBatch, Joins, ended, none_held, plan_of}
-use Rattle.escrow_core.specs.Left.{AreAfterSome, AreCounted}
+use Rattle.escrow_core.specs.Beside.{AreAfterDone, AreAfterEvent, AreAfterOutcomes, AreAllSettled, AreApart, AreHolding, AreServed, AreSettled, HaveFailed, HeldBack, IsBatch, IsLeftBatch, Joins, ended, none_held, plan_of}
+use Rattle.escrow_core.specs.Left.{AreAfterAnswered, AreAfterSome, AreCounted, Lasts, TellNoWrite}
 use Rattle.escrow_core.specs.Serves.{AreHeldOf}
 use Rattle.escrow_core.proofs.Batches.{batch_ends, batch_joins, nothing_served, nothing_waits, runs_on, served_more, waits_as_run}
-use Rattle.escrow_core.proofs.HeldOutcomes.{others_found, outcome_in, outcomes_by}
+use Rattle.escrow_core.proofs.HeldOutcomes.{found_again, others_found, outcome_in, outcomes_by}
 use Rattle.escrow_core.proofs.HeldReplies.{answer_if, as_many_answers, as_many_events, ended_is_after}
+use Rattle.escrow_core.proofs.Holding.{plan_holds}
+use Rattle.escrow_core.proofs.Lasting.{drop_both, lasts_survives, lasts_then}
 use Rattle.escrow_core.proofs.Quiet.{AreKept, held_before, held_kept, kept_then, quiet_beside, quiet_served}
 use Rattle.escrow_core.proofs.Served.{stepped}
 use Rattle.escrow_core.proofs.Serving.{still_clean, survives_itself}
@@ -86,6 +89,27 @@ after_some_all s events answers now latest trees ran kept held = record {
   ran = ran;
   held = held_before now latest trees kept held;
 }
+
+-- WRITES THAT WERE ANSWERED
+
+-- more was requested, and no write was answered
+answered_more : (s : State) (events more : List Event) (given told : List Reply) (trees : Trees) → TellNoWrite told → AreAfterAnswered s events given trees
+    → AreAfterAnswered s (events ++ more) (given ++ told) trees
+unfolding after_some_more
+answered_more s events more given told trees quiet it = record {
+  some = after_some_more s events more given told trees it.some;
+  none_missing = drop_both (λ (answer : Reply). tells_write answer ≡ false) (length it.some.first) given told it.none_missing quiet;
+}
+
+-- after all events, none is missing
+none_behind : (n : ℕ) (answers : List Reply) → length answers ≤ n → TellNoWrite (drop n answers)
+none_behind n answers past = subst TellNoWrite (sym (drop_all n answers past)) tt
+
+answered_all : (s : State) (events : List Event) (answers : List Reply) (now latest : State) (trees : Trees) → length answers ≡ length events → IsRun s events answers now → AreKept now latest
+    → AreHeldOf latest trees → AreAfterAnswered s events answers trees
+unfolding after_some_all
+answered_all s events answers now latest trees as_many ran kept held =
+    record { some = after_some_all s events answers now latest trees ran kept held; none_missing = none_behind (length events) answers (omega (arith, as_many)) }
 
 -- COMMITS OF WHICH ONLY THE FIRST ONES COUNT
 
@@ -190,6 +214,12 @@ run_less s (e ∷ events) [] happened answer new run as_many = absurd (cc)
 run_less s (e ∷ events) (a ∷ answers) happened answer new run as_many =
     let rest = run_less run.0 events answers happened answer new run.2 (cc) in (rest.0, (run.0, run.1, rest.1), rest.2)
 
+-- a refusal reports no write
+quiet_failure : (outcome : Option Failure) (answer : Reply) → IsSome outcome → tells_write (answer_if outcome answer) ≡ false
+quiet_failure None answer failed = absurd (cc)
+quiet_failure (Some failure.Memory) answer failed = refl
+quiet_failure (Some failure.Store) answer failed = refl
+
 -- the last waiting statement comes after those that count, and its reply reports no write
 dropped : (b : Bool) (session : ℕ) (asked : Statement) (answer : Reply) (mid now : State) (by : Outcome) (plan : List (ℕ × End)) (k : ℕ)
     → MatchBool b (IsHeldBack session asked answer mid now) (IsServedBeside session asked answer mid now)
@@ -268,7 +298,49 @@ plan_append : (rest first : List Waiting) → plan_of (rest ++ first) ≡ plan_o
 plan_append [] first = sym (append-nil (plan_of first))
 plan_append (w ∷ rest) first = plan_if w.is_held w.session (plan_of (rest ++ first)) (plan_of first) (plan_of rest) (plan_append rest first)
 
+-- if the COMMITs among them failed, the replies to the last statements report no write
+quiet_one : (b : Bool) (session : ℕ) (asked : Statement) (answer : Reply) (mid now : State) (by : Outcome) (plan : List (ℕ × End))
+    → MatchBool b (IsHeldBack session asked answer mid now) (IsServedBeside session asked answer mid now)
+    → HaveFailed (outcomes_by by (if b then plan ++ (session, end.Commit) ∷ [] else plan))
+    → HaveFailed (outcomes_by by plan) × (tells_write (answer_if (if b then by session else None) answer) ≡ false)
+quiet_one true session asked answer mid now by plan held failed =
+    let parts = all_append IsSome (outcomes_by by plan) (by session ∷ [])
+    (subst HaveFailed (map-append (λ (entry : ℕ × End). by entry.0) plan ((session, end.Commit) ∷ [])) failed) in
+    (parts.0, quiet_failure (by session) answer parts.1.0)
+quiet_one false session asked answer mid now by plan beside failed = (failed, quiet_beside session asked answer mid now beside)
+
+quiet_rest : (by : Outcome) (mid : State) (rest first : List Waiting) (latest : State) → IsHeldRun mid (rest ++ first) latest → HaveFailed (outcomes_by by (plan_of rest)) → TellNoWrite (answers_by by rest)
+quiet_rest by mid [] first latest held failed = tt
+quiet_rest by mid (w ∷ rest) first latest held failed =
+    let one = quiet_one w.is_held w.session w.asked w.answer held.0 latest by (plan_of rest) held.3 failed in
+    append_all (λ (answer : Reply). tells_write answer ≡ false) (answers_by by rest) (answer_by by w ∷ []) (quiet_rest by mid rest first held.0 held.1 one.0) (one.1, tt)
+
 -- THE COMMITS ARE WRITTEN
+
+-- as many outcomes count
+so_many : (outcomes : List (Option Failure)) (n more : ℕ) → n ≤ length outcomes → length (take n outcomes ++ replicate more None) ≡ n + more
+so_many outcomes n more few =
+    let rest : List (Option Failure) = replicate more None in
+    length-append (take n outcomes) rest ∙ ap₂ (λ a b. a + b) (length-take-le n outcomes few) (length-replicate more None)
+
+-- the first events of a batch, up to the last COMMIT that counts
+batch_cut : (sure later : Type 0) (s : State) (events : List Event) (before replies : List Reply) (held : HeldBack) (latest new : State) (written : List Reply) (trees : Trees)
+    (batch : IsBatch sure s events before replies held latest) (settled : AreSettled later held.plan held.places latest replies new written) → sure
+    → (left : AreAfterOutcomes held.plan settled.outcomes latest trees)
+    → let co : List (Option Failure) = take left.0 settled.outcomes ++ replicate left.1 None in
+    let by : Outcome = outcome_else held.plan co in
+    IsCut by batch.mid batch.waiting (length co) (ended_by by batch.waiting latest)
+batch_cut sure later s events before replies held latest new written trees batch settled surely left =
+    let ws = batch.waiting in
+    let plan = held.plan in
+    let co = take left.0 settled.outcomes ++ replicate left.1 None in
+    let by : Outcome = outcome_else plan co in
+    let plan_is : plan ≡ plan_of ws = ap (λ (h : HeldBack). h.plan) batch.is_held in
+    let fails : AllByRecursion Fails (drop (length co) (outcomes_by by (plan_of ws))) =
+    subst (λ (p : List (ℕ × End)). AllByRecursion Fails (drop (length co) (outcomes_by by p))) plan_is (past_fail plan co batch.apart) in
+    cut by batch.mid ws latest (ended_by by ws latest) (length co) (batch.waits surely)
+    (omega (arith, so_many settled.outcomes left.0 left.1 left.2, left.3, ap length plan_is)) fails
+    (waits_as_run by ws batch.mid latest (batch.waits surely) (batch.in_order surely))
 
 -- a crash during the write leaves the tables and rows after the first events of the batch
 batch_left : (sure later : Type 0) (s : State) (events : List Event) (before replies : List Reply) (held : HeldBack) (latest new : State) (written : List Reply) (trees : Trees)
@@ -280,18 +352,13 @@ batch_left sure later s events before replies held latest new written trees batc
     let plan = held.plan in
     let outcomes = settled.outcomes in
     let co = take left.0 outcomes ++ replicate left.1 None in
-    let many : length co ≡ left.0 + left.1 =
-    length-append (take left.0 outcomes) (replicate left.1 None) ∙ ap₂ (λ m n. m + n) (length-take-le left.0 outcomes left.2) (length-replicate left.1 None) in
+    let many : length co ≡ left.0 + left.1 = so_many outcomes left.0 left.1 left.2 in
     let by : Outcome = outcome_else plan co in
     let became : Outcome = outcome_in plan outcomes in
     let plan_is : plan ≡ plan_of ws = ap (λ (h : HeldBack). h.plan) batch.is_held in
     let after : ended_by by ws latest ≡ ended plan co latest =
     sym (ended_is_after by ws latest) ∙ ap (λ (p : List (ℕ × End)). ended p (outcomes_by by p) latest) (sym plan_is) ∙ ended_else plan co latest batch.apart in
-    let fails : AllByRecursion Fails (drop (length co) (outcomes_by by (plan_of ws))) =
-    subst (λ (p : List (ℕ × End)). AllByRecursion Fails (drop (length co) (outcomes_by by p))) plan_is (past_fail plan co batch.apart) in
-    let it =
-    cut by batch.mid ws latest (ended_by by ws latest) (length co) (batch.waits surely) (omega (arith, many, left.3, ap length plan_is)) fails
-    (waits_as_run by ws batch.mid latest (batch.waits surely) (batch.in_order surely)) in
+    let it = batch_cut sure later s events before replies held latest new written trees batch settled surely left in
     let whole : plan ≡ plan_of it.first ++ plan_of it.rest = plan_is ∙ ap plan_of it.is ∙ plan_append it.rest it.first in
     let front : take (left.0 + left.1) plan ≡ plan_of it.first =
     ap₂ (λ (n : ℕ) (p : List (ℕ × End)). take n p) (sym (it.many ∙ many)) whole ∙ take-append_seam (plan_of it.first) (plan_of it.rest) in
@@ -312,11 +379,57 @@ batch_left sure later s events before replies held latest new written trees batc
       held = held_before it.now (ended_by by ws latest) trees it.kept (subst (λ (t : State). AreHeldOf t trees) (sym after) left.4);
     }
 
+-- no write behind them was answered
+batch_answered : (sure later : Type 0) (s : State) (events : List Event) (before replies : List Reply) (held : HeldBack) (latest new : State) (written : List Reply) (trees : Trees)
+    (batch : IsBatch sure s events before replies held latest) (settled : AreSettled later held.plan held.places latest replies new written) → sure
+    → AreAfterDone held.plan settled.outcomes latest trees
+    → AreAfterAnswered s events (batch.first.answers ++ answers_by (outcome_in held.plan settled.outcomes) batch.waiting) trees
+unfolding batch_left
+batch_answered sure later s events before replies held latest new written trees batch settled surely done =
+    let left = done.some in
+    let ws = batch.waiting in
+    let plan = held.plan in
+    let outcomes = settled.outcomes in
+    let answers = batch.first.answers in
+    let became : Outcome = outcome_in plan outcomes in
+    let it = batch_cut sure later s events before replies held latest new written trees batch settled surely left in
+    let plan_is : plan ≡ plan_of it.first ++ plan_of it.rest = ap (λ (h : HeldBack). h.plan) batch.is_held ∙ ap plan_of it.is ∙ plan_append it.rest it.first in
+    let parted : outcomes ≡ outcomes_by became (plan_of it.first) ++ outcomes_by became (plan_of it.rest) =
+    sym (found_again plan outcomes batch.apart settled.as_many) ∙ ap (outcomes_by became) plan_is ∙ map-append (λ (entry : ℕ × End). became entry.0) (plan_of it.first) (plan_of it.rest) in
+    let count : length (outcomes_by became (plan_of it.first)) ≡ left.0 + left.1 =
+    length-map (plan_of it.first) (λ (entry : ℕ × End). became entry.0) ∙ it.many ∙ so_many outcomes left.0 left.1 left.2 in
+    let behind : drop (left.0 + left.1) outcomes ≡ outcomes_by became (plan_of it.rest) =
+    ap (drop (left.0 + left.1)) parted ∙ drop_at (outcomes_by became (plan_of it.first)) (outcomes_by became (plan_of it.rest)) (left.0 + left.1) count in
+    let quiet : TellNoWrite (answers_by became it.rest) =
+    quiet_rest became batch.mid it.rest it.first latest (subst (λ (xs : List Waiting). IsHeldRun batch.mid xs latest) it.is (batch.waits surely)) (subst HaveFailed behind done.none_missing) in
+    let front = answers ++ answers_by became it.first in
+    let told : answers ++ answers_by became ws ≡ front ++ answers_by became it.rest =
+    ap (λ xs. answers ++ xs) (ap (answers_by became) it.is ∙ answers_append became it.rest it.first) ∙ sym (append_assoc answers (answers_by became it.first) (answers_by became it.rest)) in
+    let long : length front ≡ length (batch.served ++ events_of it.first) =
+    length-append answers (answers_by became it.first) ∙ ap₂ (λ a b. a + b) batch.first.as_many (as_many_answers became it.first ∙ sym (as_many_events it.first))
+    ∙ sym (length-append batch.served (events_of it.first)) in
+    record {
+      some = batch_left sure later s events before replies held latest new written trees batch settled surely left;
+      none_missing =
+          subst TellNoWrite (sym (ap (drop (length (batch.served ++ events_of it.first))) told ∙ drop_at front (answers_by became it.rest) (length (batch.served ++ events_of it.first)) long)) quiet;
+    }
+
+-- if each COMMIT failed, no write was answered
+all_quiet : (sure later : Type 0) (s : State) (events : List Event) (before replies : List Reply) (held : HeldBack) (latest new : State) (written : List Reply)
+    (batch : IsBatch sure s events before replies held latest) (settled : AreSettled later held.plan held.places latest replies new written) → sure → HaveFailed settled.outcomes
+    → TellNoWrite (answers_by (outcome_in held.plan settled.outcomes) batch.waiting)
+all_quiet sure later s events before replies held latest new written batch settled surely failed =
+    let became : Outcome = outcome_in held.plan settled.outcomes in
+    let same : settled.outcomes ≡ outcomes_by became (plan_of batch.waiting) =
+    sym (found_again held.plan settled.outcomes batch.apart settled.as_many) ∙ ap (λ (h : HeldBack). outcomes_by became h.plan) batch.is_held in
+    quiet_rest became batch.mid batch.waiting [] latest (subst (λ (ws : List Waiting). IsHeldRun batch.mid ws latest) (sym (append-nil batch.waiting)) (batch.waits surely)) (subst HaveFailed same failed)
+
 -- what was served, and what a crash leaves of it
 pub record AreServedAll (first now : Store) (s : State) (events : List Event) (before replies : List Reply) (latest : State) : Type 0 where
   pub served : AreServed (HasCleanDisk now) s events before replies latest
   pub usable : IsUsable now → IsUsable first
   pub left : Survives first now (λ trees. IsTrue first.is_open × AreAfterSome s events served.answers trees)
+  pub durable : Lasts first now (TellNoWrite served.answers) (AreAfterAnswered s events served.answers)
 
 pub batch_settles : (first now new : Store) (s : State) (events : List Event) (before replies : List Reply) (held : HeldBack) (latest after : State) (written : List Reply)
     → IsLeftBatch first now s events before replies held latest → (IsUsable new → IsUsable now) → AreAllSettled now new held.plan held.places latest replies after written
@@ -342,6 +455,24 @@ batch_settles first now new s events before replies held latest after written it
             batch_left (HasCleanDisk now) (HasCleanDisk new) s events before replies held latest after written trees batch all.settled was k.1,
           ))
           it.left all.left;
+      durable = λ clean trees may.
+          let was = still_clean now new _ all.left clean in
+          let holds : AreHolding held.plan latest = record {
+            apart = batch.apart;
+            holds = subst (λ (h : HeldBack). AllByRecursion (λ (entry : ℕ × End). (entry.1 ≡ end.Commit) × (0 < length (own entry.0 latest.reservations))) h.plan) (sym batch.is_held)
+                (plan_holds batch.mid batch.waiting latest (batch.waits was));
+          } in
+          elim (all.durable holds clean trees may) [
+            | inr done ↦ inr (batch_answered (HasCleanDisk now) (HasCleanDisk new) s events before replies held latest after written trees batch all.settled was done)
+            | inl kept ↦
+                let quiet : TellNoWrite told = all_quiet (HasCleanDisk now) (HasCleanDisk new) s events before replies held latest after written batch all.settled was kept.0 in
+                elim (it.durable was trees kept.1) [
+                  | inl nothing ↦ inl (append_all (λ (answer : Reply). tells_write answer ≡ false) batch.first.answers told nothing.0 quiet, nothing.1)
+                  | inr made ↦
+                      inr (subst (λ (es : List Event). AreAfterAnswered s es (batch.first.answers ++ told) trees) (sym batch.is_events)
+                      (answered_more s batch.served (events_of batch.waiting) batch.first.answers told trees quiet made))
+                ]
+          ];
     }
 
 -- ONE MORE EVENT
@@ -369,12 +500,24 @@ event_left s events answers mid (event.Statement session asked) answer new trees
 }
 event_left s events answers mid event.Restart answer new trees ran served held = absurd held
 
+event_answered : (s : State) (events : List Event) (answers : List Reply) (mid : State) (happened : Event) (answer : Reply) (new : State) (trees : Trees) → length answers ≡ length events → IsRun s events answers mid
+    → IsServed mid happened answer new → AreAfterEvent mid happened trees → AreAfterAnswered s (events ++ happened ∷ []) (answers ++ answer ∷ []) trees
+unfolding event_left
+event_answered s events answers mid (event.Statement session asked) answer new trees as_many ran served held =
+    let happened = event.Statement session asked in
+    record {
+      some = event_left s events answers mid happened answer new trees ran served held;
+      none_missing = none_behind (length (events ++ happened ∷ [])) (answers ++ answer ∷ []) (omega (arith, as_many, length-append events (happened ∷ []), length-append answers (answer ∷ [])));
+    }
+event_answered s events answers mid event.Restart answer new trees as_many ran served held = absurd held
+
 pub serves_more : (first mid new : Store) (s : State) (events : List Event) (before replies : List Reply) (latest : State) (happened : Event) (answer : Reply) (after : State)
     → AreServedAll first mid s events before replies latest → (IsUsable new → IsUsable mid) → (HasCleanDisk new → IsServed latest happened answer after)
     → Survives mid new (λ trees. IsTrue mid.is_open × AreAfterEvent latest happened trees)
+    → Lasts mid new (tells_write answer ≡ false) (AreAfterEvent latest happened)
     → AreServedAll first new s (events ++ happened ∷ []) before (replies ++ answer ∷ []) after
 unfolding served_more
-serves_more first mid new s events before replies latest happened answer after it usable event survives = record {
+serves_more first mid new s events before replies latest happened answer after it usable event survives lasts = record {
   served = served_more (HasCleanDisk mid) (HasCleanDisk new) s events before replies latest happened answer after it.served (still_clean mid new _ survives) event;
   usable = λ still. it.usable (usable still);
   left =
@@ -384,6 +527,14 @@ serves_more first mid new s events before replies latest happened answer after i
       let was = still_clean mid new _ survives clean in
       ((it.usable (was, k.0)).1, event_left s events it.served.answers latest happened answer after trees (it.served.ran was) (event clean) k.1))
       it.left survives;
+  durable =
+      lasts_then first mid new (TellNoWrite it.served.answers) (tells_write answer ≡ false) (TellNoWrite (it.served.answers ++ answer ∷ [])) _ _
+      (AreAfterAnswered s (events ++ happened ∷ []) (it.served.answers ++ answer ∷ [])) (still_clean mid new _ survives)
+      (λ quiet one. append_all (λ (a : Reply). tells_write a ≡ false) it.served.answers (answer ∷ []) quiet (one, tt))
+      (λ _ trees one made. answered_more s events (happened ∷ []) it.served.answers (answer ∷ []) trees (one, tt) made)
+      (λ clean trees made.
+      event_answered s events it.served.answers latest happened answer after trees it.served.as_many (it.served.ran (still_clean mid new _ survives clean)) (event clean) made)
+      it.durable lasts;
 }
 
 -- no event waits
@@ -394,6 +545,7 @@ none_wait first now s events before replies latest it = record {
   batch = nothing_waits (HasCleanDisk now) s events before replies latest it.served;
   usable = it.usable;
   left = it.left;
+  durable = it.durable;
 }
 
 -- if nothing is written, a crash leaves no more of a batch
@@ -410,6 +562,16 @@ module _ (first now new : Store) (s : State) (events : List Event) (before repli
       ))
       it.left survives
 
+  unwritten_lasts : Lasts first new (TellNoWrite it.batch.first.answers) (AreAfterAnswered s it.batch.served it.batch.first.answers)
+  unwritten_lasts =
+      let surely = still_clean now new _ survives in
+      lasts_then first now new (TellNoWrite it.batch.first.answers) (Unit {0}) (TellNoWrite it.batch.first.answers) _ (AreHeldOf latest) (AreAfterAnswered s it.batch.served it.batch.first.answers) surely
+      (λ quiet _. quiet) (λ _ trees _ made. made)
+      (λ clean trees held.
+      answered_all s it.batch.served it.batch.first.answers it.batch.mid latest trees it.batch.first.as_many (it.batch.first.ran (surely clean))
+      (held_kept it.batch.mid it.batch.waiting latest (it.batch.waits (surely clean))) held)
+      it.durable (lasts_survives now new (Unit {0}) _ (AreHeldOf latest) tt (λ _ trees k. k.1) survives)
+
   -- one more event joins the waiting ones
   pub one_joins : (happened : Event) (answer : Reply) (held_later : HeldBack) (after : State) → Joins (HasCleanDisk new) happened (length replies) held latest answer held_later after
       → IsLeftBatch first new s (events ++ happened ∷ []) before (replies ++ answer ∷ []) held_later after
@@ -418,6 +580,7 @@ module _ (first now new : Store) (s : State) (events : List Event) (before repli
     batch = batch_joins (HasCleanDisk now) (HasCleanDisk new) s events before replies held latest happened answer held_later after it.batch (still_clean now new _ survives) joins;
     usable = λ still. it.usable (usable still);
     left = unwritten;
+    durable = unwritten_lasts;
   }
 
   -- no event joins
@@ -441,13 +604,15 @@ module _ (first now new : Store) (s : State) (events : List Event) (before repli
         };
         usable = λ still. it.usable (usable still);
         left = unwritten;
+        durable = unwritten_lasts;
       }
 
 -- nothing was served yet
 pub nothing_left : (now : Store) (s : State) (before : List Reply) → IsLeftBatch now now s [] before before none_held s
+unfolding nothing_served
 nothing_left now s before =
     none_wait now now s [] before before s
-    (record { served = nothing_served (HasCleanDisk now) s before; usable = λ usable. usable; left = survives_itself now _ })
+    (record { served = nothing_served (HasCleanDisk now) s before; usable = λ usable. usable; left = survives_itself now _; durable = λ _ _ may. inl (tt, may) })
 
 -- the answers of this call are the replies after the earlier ones
 pub left_behind : (first now : Store) (s : State) (events : List Event) (before replies : List Reply) (latest : State) → AreServedAll first now s events before replies latest
@@ -455,3 +620,9 @@ pub left_behind : (first now : Store) (s : State) (events : List Event) (before 
 left_behind first now s events before replies latest it =
     subst (λ (answers : List Reply). Survives first now (λ trees. IsTrue first.is_open × AreAfterSome s events answers trees))
     (sym (ap (drop (length before)) it.served.is_replies ∙ drop-append_seam before it.served.answers)) it.left
+
+pub lasts_behind : (first now : Store) (s : State) (events : List Event) (before replies : List Reply) (latest : State) → AreServedAll first now s events before replies latest
+    → Lasts first now (TellNoWrite (drop (length before) replies)) (AreAfterAnswered s events (drop (length before) replies))
+lasts_behind first now s events before replies latest it =
+    subst (λ (answers : List Reply). Lasts first now (TellNoWrite answers) (AreAfterAnswered s events answers))
+    (sym (ap (drop (length before)) it.served.is_replies ∙ drop-append_seam before it.served.answers)) it.durable

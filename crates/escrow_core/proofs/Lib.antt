@@ -9,9 +9,11 @@ pub mod Ending
 pub mod HeldOutcomes
 pub mod HeldReplies
 pub mod HeldSettling
+pub mod Holding
 pub mod Inserting
 pub mod Joining
 pub mod Keyed
+pub mod Lasting
 pub mod Leaving
 pub mod Looking
 pub mod Parts

@@ -1,10 +1,10 @@
 -- A plan of ends, settled part by part.
 use Rattle.std.specs.Prelude.{◌≡◌, ℕ, zero, suc, ◌+◌, ◌-◌, ◌^◌, ◌<◌, ◌≤◌, ◌==◌, ◌||◌, Bool, false, IfErr, IfOk, IsTrue, OnOk, Result, Ok, Err, List, [], ◌∷◌, ◌++◌, length, take, slice_get}
 use Rattle.std.specs.List.{list_any}
-use Rattle.std.proofs.Common.{refl, sym, ap, ap₂, subst, append-nil, arith, drop, eq-eqb, get_or, ◌∙◌}
+use Rattle.std.proofs.Common.{inl, inr, refl, sym, ap, ap₂, subst, append-nil, arith, drop, eq-eqb, get_or, le_refl, ◌∙◌}
 use Rattle.std.proofs.lemmas.Bool.{eqb-true, false_from_ne_true, false≢true}
 use Rattle.std.proofs.Math.Seq.{take-add}
-use Rattle.std.proofs.lemmas.List.{drop_all, drop_more, drop-drop, length-drop, length-take-le, take_all, take_more, take-append-drop, take-take}
+use Rattle.std.proofs.lemmas.List.{drop_all, drop_more, drop-drop, length-drop, length-take, length-take-le, take_all, take_more, take-append-drop, take-take}
 use Rattle.std.proofs.lemmas.List.Folds.{list_any-append}
 use Rattle.sqlite.specs.Held.{state}
 use Rattle.sqlite.specs.State.{State as Store, HasCleanDisk, Survives}
@@ -18,7 +18,7 @@ use Rattle.escrow_num.specs.declared.session.End.TheVariants as end
 use Rattle.escrow_journal.specs.Reservations.{own, others}
 use Rattle.escrow_machine.specs.declared.settled.Settled.{Settled}
 use Rattle.escrow_machine.specs.declared.settled.Stop.{Stop}
-use Rattle.escrow_machine.specs.Settle.{AreCounts, IsStop, settled, after_ends, after_end}
+use Rattle.escrow_machine.specs.Settle.{AreCounts, IsStop, committed_by, settled, after_ends, after_end}
 use Rattle.escrow_machine.specs.State.{State}
 use Rattle.escrow_machine.specs.Walked.{counted_end}
 use Rattle.escrow_machine.proofs.Shapes.{HasOrder, few_reservations}
@@ -26,7 +26,7 @@ use Rattle.escrow_machine.proofs.Settling.{CountsSoFar, counts_end, counts_next,
 use Rattle.escrow_rows.specs.Answers.{IsUsable}
 use Rattle.escrow_core.specs.Ends.{AreCommits, Settles, left_after}
 use Rattle.escrow_core.specs.Database.{Database}
-use Rattle.escrow_core.specs.Serves.{AreAfterEnds, AreHeldOf}
+use Rattle.escrow_core.specs.Serves.{AreAfterAtLeast, AreAfterEnds, AreHeldOf, done_of}
 use Rattle.escrow_core.proofs.Serving.{still_clean}
 use Rattle.escrow_core.proofs.Together.{neither}
 
@@ -55,7 +55,7 @@ pub part_within : {A : Type 0} (plan : List A) (i : ℕ) (part : List A) → IsP
 part_within plan i part p within = omega (arith, part_len plan i part p, p.few, length-drop i plan, within)
 
 -- the first entries of a part, after the entries before it
-part_take : {A : Type 0} (plan : List A) (i : ℕ) (part : List A) (m : ℕ) (p : IsPart plan i part) → m ≤ length part → take (i + m) plan ≡ take i plan ++ take m part
+pub part_take : {A : Type 0} (plan : List A) (i : ℕ) (part : List A) (m : ℕ) (p : IsPart plan i part) → m ≤ length part → take (i + m) plan ≡ take i plan ++ take m part
 part_take plan i part m p few =
     take-add i m plan
     ∙ ap (λ xs. take i plan ++ xs) (sym (ap (take m) p.is ∙ take-take m p.n (drop i plan) (omega (arith, few, part_len plan i part p))))
@@ -104,7 +104,7 @@ left_more plan i entry all reservations left below at so_far is =
     is ∙ ap (others entry.0) so_far ∙ sym (left_push (take i plan) entry all)
     ∙ ap (λ (p : List (ℕ × End)). left_after p all) (sym (take_more plan i entry below ∙ ap (λ (e : ℕ × End). take i plan ++ e ∷ []) (sym at)))
 
-ends_append : (s : State) (first second : List (ℕ × End)) → after_ends s (first ++ second) ≡ after_ends (after_ends s first) second
+pub ends_append : (s : State) (first second : List (ℕ × End)) → after_ends s (first ++ second) ≡ after_ends (after_ends s first) second
 ends_append s [] second = refl
 ends_append s (entry ∷ first) second = ends_append (after_end s entry.0 entry.1) first second
 
@@ -174,10 +174,19 @@ pub after_all : (plan : List (ℕ × End)) (s : State) (trees : Trees) → AreHe
 after_all plan s trees held =
     (length plan, subst (λ (t : State). AreHeldOf t trees) (sym (settled_is_the_run s (take (length plan) plan) ∙ ap (after_ends s) (take_all (length plan) plan (omega arith)))) held)
 
+pub all_at_least : (plan : List (ℕ × End)) (s : State) (least : ℕ) (trees : Trees) → least ≤ length plan → AreHeldOf (after_ends s plan) trees → AreAfterAtLeast least plan s trees
+all_at_least plan s least trees few held =
+    (length plan, few, subst (λ (t : State). AreHeldOf t trees) (sym (settled_is_the_run s (take (length plan) plan) ∙ ap (after_ends s) (take_all (length plan) plan (omega arith)))) held)
+
 -- what a successful call implies
 on_ok : {A E : Type 0} {P Q : Type 0} (r : Result A E) → (P → Q) → OnOk r P → OnOk r Q
 on_ok (Ok x) then holds = then holds
 on_ok (Err e) then holds = tt
+
+-- no more entries were done than there are
+done_within : (plan : List (ℕ × End)) (r : Result Settled Stop) → length (done_of plan r) ≤ length plan
+done_within plan (Ok done) = le_refl (length plan)
+done_within plan (Err stop) = omega (arith, length-take stop.place plan)
 
 -- a plan is settled after a write of the whole plan was refused, if the store is still open
 pub settles_after : {S : Type 0} (g : Ghosts S) (plan : List (ℕ × End)) (old mid new : Database S) (r : Result Settled Stop) → mid.state ≡ old.state → (HasCleanDisk (state g mid.store) → IsTrue (state g mid.store).is_open)
@@ -197,6 +206,16 @@ settles_after g plan old mid new r same opened usable survives it = record {
       (λ clean trees k. (k.0, after_all plan old.state trees k.1))
       (λ clean trees k. ((usable (still_clean (state g mid.store) (state g new.store) _ it.crash clean, k.0)).1, subst (λ (t : State). AreAfterEnds plan t trees) same k.1))
       survives it.crash;
+  durable = λ clean trees may.
+      elim (it.durable clean trees may) [
+        | inr made ↦ inr (made.0, made.1, subst (λ (t : State). AreHeldOf (settled (take made.0 plan) t) trees) same made.2)
+        | inl kept ↦
+            let none : committed_by (done_of plan r) old.state.reservations ≡ [] = subst (λ (t : State). committed_by (done_of plan r) t.reservations ≡ []) same kept.0 in
+            elim (survives.crash (still_clean (state g mid.store) (state g new.store) _ it.crash clean) trees kept.1) [
+              | inl before ↦ inl (none, before)
+              | inr made ↦ inr (all_at_least plan old.state (length (done_of plan r)) trees (done_within plan r) made.1)
+            ]
+      ];
 }
 
 -- COUNTS
@@ -261,6 +280,12 @@ whole plan reservations =
     let first : CountsSoFar plan reservations plan reservations (record { committed = 0; released = 0 }) = record { committed = omega arith; released = omega arith; few = omega arith } in
     counts_by plan reservations plan (drop (length plan) plan) 0 reservations (record { committed = 0; released = 0 })
     (sym (ap (λ xs. plan ++ xs) (drop_all (length plan) plan (omega arith)) ∙ append-nil plan)) first
+
+-- the number of reservations that a plan commits
+pub commits_number : (plan : List (ℕ × End)) (reservations : List Reservation) → length (committed_by plan reservations) ≡ commits_of plan reservations
+commits_number plan reservations =
+    let all = counts_end plan reservations (length plan) (left_after plan reservations) _ (omega arith) (whole plan reservations) in
+    omega (arith, all.committed)
 
 counts_are : (plan : List (ℕ × End)) (reservations : List Reservation) (done : Settled) → AreCounts plan reservations done
     → (done.committed ≡ commits_of plan reservations) × (done.released ≡ releases_of plan reservations)

@@ -40,6 +40,9 @@ kept_then a b c one two = (two.0 ∙ one.0, two.1 ∙ one.1)
 pub held_before : (old new : State) (trees : Trees) → AreKept old new → AreHeldOf new trees → AreHeldOf old trees
 held_before old new trees kept held = subst₂ (λ catalog rows. AreHeld catalog rows trees) kept.0 kept.1 held
 
+pub held_after : (old new : State) (trees : Trees) → AreKept old new → AreHeldOf old trees → AreHeldOf new trees
+held_after old new trees kept held = subst₂ (λ catalog rows. AreHeld catalog rows trees) (sym kept.0) (sym kept.1) held
+
 -- ONE STEP
 
 quiet_update : (s : State) (session : ℕ) (table : List ℕ) (o : Option Plan) → tells_write (unwrap_or (option_map (update_reply s) o) reply.Updated) ≡ false

@@ -1,5 +1,5 @@
 -- Helps: definitions for COMMITs that are held back, and for what is served beside them.
-use Rattle.std.specs.Prelude.{◌≡◌, ℕ, ◌+◌, ◌≤◌, Bool, IsTrue, true, false, not, if◌then◌else◌, MatchBool, Option, None, is_none, option_map, unwrap_or, List, [], ◌∷◌, ◌++◌, length, take, replicate, slice_set}
+use Rattle.std.specs.Prelude.{◌≡◌, ℕ, ◌+◌, ◌≤◌, ◌<◌, Bool, IsTrue, IsSome, true, false, not, if◌then◌else◌, MatchBool, Option, None, is_none, option_map, unwrap_or, List, [], ◌∷◌, ◌++◌, length, take, drop, replicate, slice_set}
 use Rattle.std.specs.List.{AllByRecursion, list_any}
 use Rattle.sqlite.specs.State.{State as Store, HasCleanDisk, Survives}
 use Rattle.sqlite_trees.specs.Tree.{Trees}
@@ -10,7 +10,7 @@ use Rattle.escrow_num.specs.Refusal.{refusal_for}
 use Rattle.escrow_num.specs.Ascending.{IsAscending}
 use Rattle.escrow_statement.specs.declared.statement.Statement.{Statement}
 use Rattle.escrow_statement.specs.declared.statement.Statement.TheVariants as statement
-use Rattle.escrow_journal.specs.Reservations.{savepoint_before}
+use Rattle.escrow_journal.specs.Reservations.{own, savepoint_before}
 use Rattle.escrow_schema.specs.Plan.{is_literal}
 use Rattle.escrow_machine.specs.declared.event.Event.{Event}
 use Rattle.escrow_machine.specs.declared.event.Event.TheVariants as event
@@ -21,7 +21,7 @@ use Rattle.escrow_machine.specs.Settle.{after_end}
 use Rattle.escrow_machine.specs.State.{State}
 use Rattle.escrow_machine.specs.Step.{IsRun}
 use Rattle.escrow_rows.specs.Answers.{IsUsable}
-use Rattle.escrow_core.specs.Left.{AreAfterSome}
+use Rattle.escrow_core.specs.Left.{AreAfterAnswered, AreAfterSome, Lasts, TellNoWrite}
 use Rattle.escrow_core.specs.Serves.{AreAfter, AreHeldOf}
 
 -- COMMITs that are held back, in order: the plan that writes them, and the places of their replies
@@ -91,10 +91,30 @@ abbrev pub AreAfterOutcomes : List (ℕ × End) → List (Option Failure) → St
 AreAfterOutcomes plan outcomes s trees =
     (n : ℕ) × (more : ℕ) × (n ≤ length outcomes) × (n + more ≤ length plan) × AreHeldOf (ended plan (take n outcomes ++ replicate more None) s) trees
 
+-- each of these COMMITs failed
+abbrev pub HaveFailed : List (Option Failure) → Type 0
+HaveFailed outcomes = AllByRecursion IsSome outcomes
+
+-- the same, and no COMMIT behind the first entries was done
+pub record AreAfterDone (plan : List (ℕ × End)) (outcomes : List (Option Failure)) (s : State) (trees : Trees) : Type 0 where
+  pub some : AreAfterOutcomes plan outcomes s trees
+  pub none_missing : HaveFailed (drop (some.0 + some.1) outcomes)
+
+-- no two entries of a plan are of one session
+abbrev pub AreApart : List (ℕ × End) → Type 0
+AreApart [] = Unit {0}
+AreApart (entry ∷ plan) = AllByRecursion (λ later. ¬ (later.0 ≡ entry.0)) plan × AreApart plan
+
+-- each entry of a plan is a COMMIT, of a session of its own, which holds a reservation
+pub record AreHolding (plan : List (ℕ × End)) (s : State) : Type 0 where
+  pub apart : AreApart plan
+  pub holds : AllByRecursion (λ entry. (entry.1 ≡ end.Commit) × (0 < length (own entry.0 s.reservations))) plan
+
 -- how a plan was settled, and what a crash leaves of it
 pub record AreAllSettled (old new : Store) (plan : List (ℕ × End)) (places : List ℕ) (before : State) (replies : List Reply) (after : State) (later : List Reply) : Type 0 where
   pub settled : AreSettled (HasCleanDisk new) plan places before replies after later
   pub left : Survives old new (λ trees. IsTrue old.is_open × AreAfterOutcomes plan settled.outcomes before trees)
+  pub durable : AreHolding plan before → Lasts old new (HaveFailed settled.outcomes) (AreAfterDone plan settled.outcomes before)
 
 -- A BATCH OF EVENTS
 
@@ -118,11 +138,6 @@ plan_of (w ∷ earlier) = if w.is_held then plan_of earlier ++ (w.session, end.C
 abbrev pub places_of : ℕ → List Waiting → List ℕ
 places_of start [] = []
 places_of start (w ∷ earlier) = if w.is_held then places_of start earlier ++ (start + length earlier) ∷ [] else places_of start earlier
-
--- no two entries of a plan are of one session
-abbrev pub AreApart : List (ℕ × End) → Type 0
-AreApart [] = Unit {0}
-AreApart (entry ∷ plan) = AllByRecursion (λ later. ¬ (later.0 ≡ entry.0)) plan × AreApart plan
 
 -- the savepoints were in order when the first of the statements that wait was asked, if there is one
 abbrev pub BeginsInOrder : State → List Waiting → Type 0
@@ -149,3 +164,4 @@ pub record IsLeftBatch (first now : Store) (s : State) (events : List Event) (be
   pub batch : IsBatch (HasCleanDisk now) s events before replies held latest
   pub usable : IsUsable now → IsUsable first
   pub left : Survives first now (λ trees. IsTrue first.is_open × AreAfterSome s batch.served batch.first.answers trees)
+  pub durable : Lasts first now (TellNoWrite batch.first.answers) (AreAfterAnswered s batch.served batch.first.answers)

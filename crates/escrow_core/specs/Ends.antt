@@ -11,9 +11,10 @@ use Rattle.escrow_journal.specs.Reservations.{own, others}
 use Rattle.escrow_rows.specs.Answers.{IsUsable}
 use Rattle.escrow_machine.specs.declared.settled.Settled.{Settled}
 use Rattle.escrow_machine.specs.declared.settled.Stop.{Stop}
-use Rattle.escrow_machine.specs.Settle.{AreCounts, IsStop, after_ends}
+use Rattle.escrow_machine.specs.Settle.{AreCounts, IsStop, after_ends, committed_by}
 use Rattle.escrow_core.specs.Database.{Database}
-use Rattle.escrow_core.specs.Serves.{AreAfterEnds}
+use Rattle.escrow_core.specs.Left.{Lasts}
+use Rattle.escrow_core.specs.Serves.{AreAfterAtLeast, AreAfterEnds, done_of}
 
 -- each entry of a plan is a COMMIT, and no session is named twice
 abbrev pub AreCommits : List (ℕ × End) → Type 0
@@ -31,7 +32,8 @@ left_after [] reservations = reservations
 left_after (entry ∷ plan) reservations = left_after plan (others entry.0 reservations)
 
 -- A plan was settled, or stopped at a COMMIT that failed. A store that a fault has shut stays shut. After a crash the
--- disk has what it might have had before, or what some first entries of the plan make, if the store was open.
+-- disk has what it might have had before, or what some first entries of the plan make, if the store was open. Once a
+-- reservation was committed, it has what at least the entries that were done make.
 pub record Settles {S : Type 0} (g : Ghosts S) (plan : List (ℕ × End)) (old : Database S) (result : Result Settled Stop) (new : Database S) : Type 0 where
   pub ok : HasCleanDisk (state g new.store) → OnOk result (new.state ≡ after_ends old.state plan)
   pub counts : IfOk result (λ done. AreCounts plan old.state.reservations done)
@@ -41,3 +43,4 @@ pub record Settles {S : Type 0} (g : Ghosts S) (plan : List (ℕ × End)) (old :
   pub within : IfErr result (λ stop. stop.place < length plan)
   pub usable : IsUsable (state g new.store) → IsUsable (state g old.store)
   pub crash : Survives (state g old.store) (state g new.store) (λ trees. IsTrue (state g old.store).is_open × AreAfterEnds plan old.state trees)
+  pub durable : Lasts (state g old.store) (state g new.store) (committed_by (done_of plan result) old.state.reservations ≡ []) (AreAfterAtLeast (length (done_of plan result)) plan old.state)

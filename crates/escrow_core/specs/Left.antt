@@ -1,9 +1,11 @@
 -- Believed: what a crash leaves of a list of events.
-use Rattle.std.specs.Prelude.{◌≡◌, ◌⊎◌, IsSome, List, [], ◌∷◌, ◌++◌}
+use Rattle.std.specs.Prelude.{◌≡◌, ◌⊎◌, false, IsSome, List, [], ◌∷◌, ◌++◌, drop, length}
+use Rattle.std.specs.List.{AllByRecursion}
+use Rattle.sqlite.specs.State.{State as Store, HasCleanDisk}
 use Rattle.sqlite_trees.specs.Tree.{Trees}
 use Rattle.escrow_machine.specs.declared.event.Event.{Event}
 use Rattle.escrow_machine.specs.declared.reply.Reply.{Reply}
-use Rattle.escrow_machine.specs.Reply.{failure_of}
+use Rattle.escrow_machine.specs.Reply.{failure_of, tells_write}
 use Rattle.escrow_machine.specs.State.{State}
 use Rattle.escrow_machine.specs.Step.{IsRun}
 use Rattle.escrow_core.specs.Serves.{AreHeldOf}
@@ -26,3 +28,18 @@ pub record AreAfterSome (s : State) (events : List Event) (given : List Reply) (
   pub now : State
   pub ran : IsRun s first counted now
   pub held : AreHeldOf now trees
+
+-- none of these replies says that the store was written
+abbrev pub TellNoWrite : List Reply → Type 0
+TellNoWrite replies = AllByRecursion (λ answer. tells_write answer ≡ false) replies
+
+-- NO ANSWERED WRITE IS MISSING: the same, and no reply behind the first events says that the store was written
+pub record AreAfterAnswered (s : State) (events : List Event) (given : List Reply) (trees : Trees) : Type 0 where
+  pub some : AreAfterSome s events given trees
+  pub none_missing : TellNoWrite (drop (length some.first) given)
+
+-- what a crash leaves after a call, if the disk has returned what was written: what it might have left before, if the
+-- call has written nothing; or what the call makes
+abbrev pub Lasts : Store → Store → Type 0 → (Trees → Type 0) → Type 0
+Lasts old new WroteNothing Makes =
+    HasCleanDisk new → (trees : Trees) → new.may_leave trees → (WroteNothing × old.may_leave trees) ⊎ Makes trees

@@ -1,5 +1,5 @@
 -- Believed: how serving a statement changes a database and its store.
-use Rattle.std.specs.Prelude.{◌≡◌, ℕ, false, IsTrue, Some, List, take}
+use Rattle.std.specs.Prelude.{◌≡◌, ℕ, ◌≤◌, false, IsTrue, Some, Result, Ok, Err, List, take}
 use Rattle.sqlite.specs.Held.{state}
 use Rattle.sqlite.specs.State.{HasCleanDisk, Survives}
 use Rattle.sqlite_trees.specs.declared.store.Store.{Ghosts}
@@ -15,6 +15,8 @@ use Rattle.escrow_machine.specs.declared.reply.Reply.{Reply}
 use Rattle.escrow_machine.specs.declared.reply.Reply.TheVariants as reply
 use Rattle.escrow_machine.specs.Promised.{asks_store, reads_rows}
 use Rattle.escrow_machine.specs.Reply.{failure_of, is_refused, tells_write}
+use Rattle.escrow_machine.specs.declared.settled.Settled.{Settled}
+use Rattle.escrow_machine.specs.declared.settled.Stop.{Stop}
 use Rattle.escrow_machine.specs.Settle.{settled}
 use Rattle.escrow_core.specs.Database.{Database}
 use Rattle.escrow_machine.specs.State.{State}
@@ -32,6 +34,15 @@ AreAfter s session asked trees = AreHeldOf (step s session asked).1 trees
 -- the disk has a database that holds the tables and the rows after some first entries of a plan of ends
 abbrev pub AreAfterEnds : List (ℕ × End) → State → Trees → Type 0
 AreAfterEnds plan s trees = (n : ℕ) × AreHeldOf (settled (take n plan) s) trees
+
+-- the same, after at least so many first entries
+abbrev pub AreAfterAtLeast : ℕ → List (ℕ × End) → State → Trees → Type 0
+AreAfterAtLeast least plan s trees = (n : ℕ) × (least ≤ n) × AreHeldOf (settled (take n plan) s) trees
+
+-- the entries of a plan that were done: all of them, or those before the place at which it stopped
+abbrev pub done_of : List (ℕ × End) → Result Settled Stop → List (ℕ × End)
+done_of plan (Ok done) = plan
+done_of plan (Err stop) = take stop.place plan
 
 -- A statement of a session was served. If the disk has returned what was written, the reply and the state are the
 -- step's, or the statement failed as it may. If the statement is refused early, or isn't answered from rows, this holds

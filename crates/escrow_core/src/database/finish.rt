@@ -9,15 +9,16 @@ use sqlite::Alter;
 use std::alloc::Global;
 
 impl<S: Alter> Database<S> {
-    ghost use Rattle.std.specs.Prelude.{◌<◌, IfOk, IfErr, IsTrue, OnOk, OnErr};
+    ghost use Rattle.std.specs.Prelude.{◌<◌, [], ◌∷◌, IfOk, IfErr, IsTrue, OnOk, OnErr};
     ghost use Rattle.sqlite.specs.Held.{state};
     ghost use Rattle.sqlite.specs.State.{HasCleanDisk, Survives};
     ghost use Rattle.escrow_rows.specs.Answers.{IsUsable};
     ghost use Rattle.escrow_journal.specs.Reservations.{others};
     ghost use Rattle.escrow_num.specs.Refusal.{refusal_for};
-    ghost use Rattle.escrow_core.specs.Serves.{Serves};
+    ghost use Rattle.escrow_core.specs.Left.{Lasts};
+    ghost use Rattle.escrow_core.specs.Serves.{AreHeldOf, Serves};
     ghost use Rattle.escrow_core.specs.Serving.{Answers, AreAfterEnd};
-    ghost use Rattle.escrow_machine.specs.Settle.{after_end};
+    ghost use Rattle.escrow_machine.specs.Settle.{after_end, committed_by};
     ghost use Rattle.escrow_machine.specs.Transition.{after_rollback};
 
     /// COMMIT: ends the session's transaction, and replies how many reservations it held.
@@ -45,6 +46,7 @@ impl<S: Alter> Database<S> {
         ensures stays { HasCleanDisk (state S.Store self.new.store) → OnOk result (IsTrue (state S.Store self.old.store).is_open → IsTrue (state S.Store self.new.store).is_open) }
         ensures usable { IsUsable (state S.Store self.new.store) → IsUsable (state S.Store self.old.store) }
         ensures crash { Survives (state S.Store self.old.store) (state S.Store self.new.store) (λ trees. IsTrue (state S.Store self.old.store).is_open × AreAfterEnd self.old.state session end trees) }
+        ensures durable { OnOk result (Lasts (state S.Store self.old.store) (state S.Store self.new.store) (committed_by ((session, end) ∷ []) self.old.state.reservations ≡ []) (AreHeldOf self.new.state)) }
     {
         match end {
             End::Commit => self.apply(alloc, session),

@@ -10,7 +10,7 @@ use sqlite::Alter;
 use std::alloc::{AllocError, Global};
 
 impl<S: Alter> Database<S> {
-    ghost use Rattle.std.specs.Prelude.{◌≡◌, IfOk, IsTrue, OnErr};
+    ghost use Rattle.std.specs.Prelude.{◌≡◌, false, IfOk, IsTrue, OnErr};
     ghost use Rattle.sqlite.specs.Held.{Held as Shown, state};
     ghost use Rattle.sqlite.specs.State.{HasCleanDisk, Survives};
     ghost use Rattle.sqlite_trees.specs.Tree.{Trees};
@@ -18,8 +18,9 @@ impl<S: Alter> Database<S> {
     ghost use Rattle.escrow_machine.specs.State.{State};
     ghost use Rattle.escrow_machine.specs.Step.{IsServed, IsRun};
     ghost use Rattle.escrow_core.specs.Beside.{AreAfterEvent, IsLeftBatch};
-    ghost use Rattle.escrow_core.specs.Left.{AreAfterSome};
+    ghost use Rattle.escrow_core.specs.Left.{AreAfterAnswered, AreAfterSome, Lasts, TellNoWrite};
     ghost use Rattle.escrow_core.specs.Serves.{AreHeldOf};
+    ghost use Rattle.escrow_machine.specs.Reply.{tells_write};
 
     /// Serves events, one after another, and returns their replies. Takes room for the replies
     /// first. If this is refused, no event was served.
@@ -29,9 +30,11 @@ impl<S: Alter> Database<S> {
         ensures refused { OnErr result (self.new ≡ self.old) }
 
         // After a crash the disk has what it might have had before, or the tables and rows after
-        // some first events, if the store was open.
+        // some first events, if the store was open. Once a write was answered, it has the latter,
+        // and no event behind them was answered as written. This holds over a fault of the store.
         ensures usable { IsUsable (state S.Store self.new.store) → IsUsable (state S.Store self.old.store) }
         ensures crash { IfOk result (λ replies. Survives (state S.Store self.old.store) (state S.Store self.new.store) (λ trees. IsTrue (state S.Store self.old.store).is_open × AreAfterSome self.old.state events.now replies.items trees)) }
+        ensures durable { IfOk result (λ replies. Lasts (state S.Store self.old.store) (state S.Store self.new.store) (TellNoWrite replies.items) (AreAfterAnswered self.old.state events.now replies.items)) }
     {
         let mut replies = Vec::with_capacity(alloc, events.len())?;
         self.run_into(alloc, events, &mut replies);
@@ -50,11 +53,13 @@ impl<S: Alter> Database<S> {
         // If the store can be used, a crash leaves exactly the tables and rows after the events.
         // Only a fault shuts the store. Then after a crash the disk has what it might have had
         // before, or the tables and rows after some first events, if the store was open. Events
-        // that failed may count as served. A store that a fault has shut stays shut, and is not
-        // written again. The limit of steps stays as it is.
+        // that failed may count as served. Once a write was answered, it has the latter, and no
+        // event behind them was answered as written. A store that a fault has shut stays shut, and
+        // is not written again. The limit of steps stays as it is.
         ensures left { IsUsable (state S.Store self.new.store) → (trees : Trees) → (state S.Store self.new.store).may_leave trees → AreHeldOf self.new.state trees }
         ensures usable { IsUsable (state S.Store self.new.store) → IsUsable (state S.Store self.old.store) }
         ensures crash { Survives (state S.Store self.old.store) (state S.Store self.new.store) (λ trees. IsTrue (state S.Store self.old.store).is_open × AreAfterSome self.old.state events.now (drop (length replies.old.items) replies.new.items) trees) }
+        ensures durable { Lasts (state S.Store self.old.store) (state S.Store self.new.store) (TellNoWrite (drop (length replies.old.items) replies.new.items)) (AreAfterAnswered self.old.state events.now (drop (length replies.old.items) replies.new.items)) }
     {
         let mut held = HeldBack::new();
         let are_shared = are_shared(events);
@@ -97,6 +102,7 @@ impl<S: Alter> Database<S> {
         ensures served { HasCleanDisk (state S.Store self.new.store) → IsServed self.old.state event.now result self.new.state }
         ensures usable { IsUsable (state S.Store self.new.store) → IsUsable (state S.Store self.old.store) }
         ensures crash { Survives (state S.Store self.old.store) (state S.Store self.new.store) (λ trees. IsTrue (state S.Store self.old.store).is_open × AreAfterEvent self.old.state event.now trees) }
+        ensures durable { Lasts (state S.Store self.old.store) (state S.Store self.new.store) (tells_write result ≡ false) (AreAfterEvent self.old.state event.now) }
     {
         match event {
             Event::Statement { session, statement } => self.step(alloc, *session, statement),

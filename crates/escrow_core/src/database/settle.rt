@@ -8,13 +8,14 @@ use sqlite::Alter;
 use std::alloc::Global;
 
 impl<S: Alter> Database<S> {
-    ghost use Rattle.std.specs.Prelude.{IfOk, IfErr, IsTrue, OnOk};
+    ghost use Rattle.std.specs.Prelude.{[], IfOk, IfErr, IsTrue, OnOk};
     ghost use Rattle.sqlite.specs.Held.{state};
     ghost use Rattle.sqlite.specs.State.{HasCleanDisk, Survives};
     ghost use Rattle.escrow_rows.specs.Answers.{IsUsable};
     ghost use Rattle.escrow_core.specs.Ends.{IsGroup, Settles};
-    ghost use Rattle.escrow_machine.specs.Settle.{settled, AreCounts, IsStop};
-    ghost use Rattle.escrow_core.specs.Serves.{AreAfterEnds};
+    ghost use Rattle.escrow_machine.specs.Settle.{settled, committed_by, AreCounts, IsStop};
+    ghost use Rattle.escrow_core.specs.Left.{Lasts};
+    ghost use Rattle.escrow_core.specs.Serves.{AreAfterAtLeast, AreAfterEnds, done_of};
 
     /// Ends the transactions of sessions, in the order of a plan. A session that is named again has
     /// nothing left to end: its first entry decides. COMMITs that follow each other are written
@@ -28,10 +29,12 @@ impl<S: Alter> Database<S> {
         ensures stop { HasCleanDisk (state S.Store self.new.store) → IfErr result (λ stop. IsStop plan.now self.old.state stop self.new.state) }
 
         // After a crash the disk has what it might have had before, or what some first entries of
-        // the plan make, if the store was open. A store that a fault has shut stays shut, and is
+        // the plan make, if the store was open. Once a reservation was committed, it has what at
+        // least the entries that were done make. A store that a fault has shut stays shut, and is
         // not written again. The limit of steps stays as it is.
         ensures usable { IsUsable (state S.Store self.new.store) → IsUsable (state S.Store self.old.store) }
         ensures crash { Survives (state S.Store self.old.store) (state S.Store self.new.store) (λ trees. IsTrue (state S.Store self.old.store).is_open × AreAfterEnds plan.now self.old.state trees) }
+        ensures durable { Lasts (state S.Store self.old.store) (state S.Store self.new.store) (committed_by (done_of plan.now result) self.old.state.reservations ≡ []) (AreAfterAtLeast (length (done_of plan.now result)) plan.now self.old.state) }
     {
         // The contract of `next_id` says that no more reservations are open than can be counted.
         prove!(self.next_id() != Some(0));

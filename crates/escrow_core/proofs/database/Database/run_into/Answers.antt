@@ -3,7 +3,7 @@ use Rattle.std.proofs.lemmas.List.{take_all, take_more}
 use Rattle.sqlite.specs.Held.{state}
 use Rattle.sqlite.specs.State.{HasCleanDisk}
 use Rattle.escrow_core.proofs.Batches.{batch_places}
-use Rattle.escrow_core.proofs.Leaving.{AreServedAll, batch_settles, left_behind, nothing_left}
+use Rattle.escrow_core.proofs.Leaving.{AreServedAll, batch_settles, lasts_behind, left_behind, nothing_left}
 use Rattle.escrow_core.proofs.Serving.{still_clean}
 use Rattle.escrow_core.proofs.database.Database.run_into.Goals as goal
 
@@ -54,5 +54,6 @@ returns g c =
       capacity = c.settle_all.ensures.capacity ∙ at.invariant.capacity;
       left = rw (← c.self.view_is) c.is_at_rest.ensures.left;
       usable = it.usable;
+      durable = lasts_behind (state g.S.Store c.args.self.now.store) (state g.S.Store new.self.store) c.args.self.now.state events c.args.replies.now.items new.replies.items new.self.state it;
       crash = left_behind (state g.S.Store c.args.self.now.store) (state g.S.Store new.self.store) c.args.self.now.state events c.args.replies.now.items new.replies.items new.self.state it;
     }

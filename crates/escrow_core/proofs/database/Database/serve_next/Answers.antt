@@ -26,6 +26,6 @@ returns-in-None-clause-batch g c = λ first s events before batch.
     waits c.settle_all.ensures.usable settled in
     let after =
     serves_more (state g.S.Store first) (state g.S.Store mid.self.store) (state g.S.Store new.self.store) s events before mid.replies.items mid.self.state c.args.event.now c.serve-reply.result new.self.state
-    served c.serve-reply.ensures.usable c.serve-reply.ensures.served c.serve-reply.ensures.crash in
+    served c.serve-reply.ensures.usable c.serve-reply.ensures.served c.serve-reply.ensures.crash c.serve-reply.ensures.durable in
     rw (c.clear.ensures, c.keep-in-None.ensures.items)
     (none_wait (state g.S.Store first) (state g.S.Store new.self.store) s (events ++ c.args.event.now ∷ []) before (mid.replies.items ++ c.serve-reply.result ∷ []) new.self.state after)

@@ -31,6 +31,13 @@ returns-in_default-get-clause-settled g c =
     let as_long = length-drop at.done plan ∙ ap (λ n. n - at.done) c.requires.pairs ∙ sym (length-drop at.done places) in
     let past : length (drop at.done places) ≤ place = none.3 in
     absurd (omega (arith, within, as_long, past)))
+    (λ clean.
+    let stop = rw (take_rest plan at.done) at (c.in-Err.ensures.stop clean) in
+    let within = slice_get_within (drop at.done plan) place (stop.session, end.Commit) stop.entry in
+    let none = rw (take_rest places at.done) at c.in_default-get.ensures.lookup in
+    let as_long = length-drop at.done plan ∙ ap (λ n. n - at.done) c.requires.pairs ∙ sym (length-drop at.done places) in
+    let past : length (drop at.done places) ≤ place = none.3 in
+    absurd (omega (arith, within, as_long, past)))
 
 pub loop-stop-preserved : goal.loop-stop-preserved
 loop-stop-preserved g c =
@@ -54,7 +61,8 @@ loop-stop-preserved g c =
           place c.in-Some.place.now c.in-Err.stop.cause c.settle.new.self.state
           (length-drop at.done plan ∙ ap (λ n. n - at.done) c.requires.pairs ∙ sym (length-drop at.done places))
           found
-          (λ clean. let stop = rw (take_rest plan at.done) at (c.in-Err.ensures.stop clean) in ((stop.session, end.Commit), stop.entry, stop.done ∙ settled_is_the_run at.self.state (take place rest))));
+          (λ clean. let stop = rw (take_rest plan at.done) at (c.in-Err.ensures.stop clean) in ((stop.session, end.Commit), stop.entry, stop.done ∙ settled_is_the_run at.self.state (take place rest)))
+          (rw (take_rest plan at.done) at c.in-Err.ensures.durable));
     }
 
 pub returns-clause-settled : goal.returns-clause-settled
@@ -65,6 +73,7 @@ returns-clause-settled g c =
     left_ends (state g.S.Store c.args.self.now.store) (state g.S.Store at.self.store) (state g.S.Store c.settle.new.self.store) plan places c.args.self.now.state c.args.replies.now.items
     (drop at.done plan) (drop at.done places) at.self.state at.replies.items at.invariant.so_far c.settle.ensures.usable (rw (take_rest plan at.done) at c.settle.ensures.crash) c.settle.new.self.state
     (λ clean. rw (take_rest plan at.done) at (c.in_default.ensures.ok clean) ∙ settled_is_the_run at.self.state (drop at.done plan))
+    (rw (take_rest plan at.done) at c.in_default.ensures.durable)
 
 pub returns-in_default-get-clause-usable : goal.returns-in_default-get-clause-usable
 returns-in_default-get-clause-usable g c still = c.loop-stop.invariant.so_far.usable (c.settle.ensures.usable still)

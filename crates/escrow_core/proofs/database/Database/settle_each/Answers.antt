@@ -1,4 +1,4 @@
-use Rattle.std.proofs.Common.{◌≡◌, ◌≤◌, ℕ, List, length, drop, arith, subst}
+use Rattle.std.proofs.Common.{◌≡◌, ◌≤◌, ◌+◌, ◌∷◌, [], ℕ, List, length, drop, arith, refl, subst}
 use Rattle.std.proofs.lemmas.List.{take_all}
 use Rattle.sqlite.specs.Held.{state}
 use Rattle.escrow_num.specs.declared.session.End.{End}
@@ -6,6 +6,7 @@ use Rattle.escrow_machine.specs.Settle.{after_ends}
 use Rattle.escrow_machine.proofs.Settling.{counts_end, counts_fit, counts_next, ends_next, stops}
 use Rattle.escrow_core.specs.Ends.{left_after}
 use Rattle.escrow_core.proofs.Ending.{ends_survive}
+use Rattle.escrow_core.proofs.Lasting.{entry_fails, entry_lasts, lasts_end, lasts_stop, one_part, part_lasts}
 use Rattle.escrow_core.proofs.Parts.{left_more}
 use Rattle.escrow_core.proofs.Serving.{still_clean}
 use Rattle.escrow_core.proofs.database.Database.settle_each.Goals as goal
@@ -34,6 +35,15 @@ returns-in-Err g c =
       crash =
           ends_survive (state g.S.Store c.args.self.now.store) (state g.S.Store so_far.self.store) (state g.S.Store c.finish.new.self.store) c.args.plan.now so_far.place c.index-plan-place.result
           c.args.self.now.state so_far.self.state c.loop-place-test.true c.index-plan-place.is so_far.invariant.ended so_far.invariant.usable so_far.invariant.crash c.finish.ensures.crash;
+      durable =
+          let plan = c.args.plan.now in
+          let entry = c.index-plan-place.result in
+          let old = state g.S.Store c.args.self.now.store in
+          let mid = state g.S.Store so_far.self.store in
+          let new = state g.S.Store c.finish.new.self.store in
+          lasts_stop old new plan so_far.place c.args.self.now.state (omega (arith, c.loop-place-test.true))
+          (part_lasts old mid new plan so_far.place (entry ∷ []) 0 so_far.place c.args.self.now.state so_far.self.state (one_part plan so_far.place entry c.loop-place-test.true c.index-plan-place.is) (omega arith) (omega arith)
+          so_far.invariant.ended (still_clean _ _ _ c.finish.ensures.crash) so_far.invariant.lasts (entry_fails mid new entry so_far.self.state c.finish.ensures.crash));
     }
 
 pub loop-place-preserved : goal.loop-place-preserved
@@ -54,6 +64,12 @@ loop-place-preserved g c =
       ended = λ clean.
           ends_next plan so_far.place entry s so_far.self.state new c.loop-place-test.true c.index-plan-place.is
           (so_far.invariant.ended (still_clean _ _ _ c.finish.ensures.crash clean)) (c.in-Ok.ensures.done clean);
+      lasts =
+          let old = state g.S.Store c.args.self.now.store in
+          let mid = state g.S.Store so_far.self.store in
+          let at = state g.S.Store c.finish.new.self.store in
+          part_lasts old mid at plan so_far.place (entry ∷ []) 1 (so_far.place + 1) s so_far.self.state (one_part plan so_far.place entry c.loop-place-test.true c.index-plan-place.is) (omega arith) refl
+          so_far.invariant.ended (still_clean _ _ _ c.finish.ensures.crash) so_far.invariant.lasts (entry_lasts mid at entry so_far.self.state new c.in-Ok.ensures.done c.in-Ok.ensures.durable);
       counts = rw c.add.ensures
           (counts_next plan s.reservations so_far.place entry so_far.self.state.reservations new.reservations so_far.settled c.in-Ok.count
           c.loop-place-test.true c.index-plan-place.is c.in-Ok.ensures.count c.in-Ok.ensures.left so_far.invariant.counts);
@@ -75,4 +91,5 @@ returns g c =
       within = tt;
       usable = so_far.invariant.usable;
       crash = so_far.invariant.crash;
+      durable = lasts_end (state g.S.Store c.args.self.now.store) (state g.S.Store so_far.self.store) plan so_far.place s past so_far.invariant.lasts;
     }

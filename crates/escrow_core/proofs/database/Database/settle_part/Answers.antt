@@ -1,11 +1,15 @@
-use Rattle.std.proofs.Common.{◌≡◌, ◌<◌, Some, ap, arith, refl, subst, sym, ◌∙◌}
+use Rattle.std.proofs.Common.{◌≡◌, ◌<◌, Some, ap, arith, inr, le_refl, length, refl, subst, sym, ◌∙◌}
 use Rattle.std.proofs.lemmas.Option.{slice_get-get_or}
 use Rattle.sqlite.specs.Held.{state}
 use Rattle.sqlite.proofs.StateLemmas.{survives_then, survives_weaker}
 use Rattle.escrow_machine.proofs.Settling.{stops}
+use Rattle.escrow_machine.specs.Settle.{after_ends}
+use Rattle.escrow_machine.specs.State.{State}
 use Rattle.escrow_core.specs.Ends.{IsGroup, Settles}
+use Rattle.escrow_core.specs.Serves.{AreAfterAtLeast, AreHeldOf}
 use Rattle.escrow_core.specs.Database.{Database}
-use Rattle.escrow_core.proofs.Parts.{after_all, commits_counts, first_commits, settles_after}
+use Rattle.escrow_core.proofs.Lasting.{lasts_survives, none_first}
+use Rattle.escrow_core.proofs.Parts.{after_all, all_at_least, commits_counts, first_commits, settles_after}
 use Rattle.escrow_core.proofs.database.Database.settle_part.Goals as goal
 use Rattle.escrow_core.proofs.database.Database.settle_part.Goals.{then-part-gt1+in-Err+else-not-store_answers, else-part-gt1}
 
@@ -23,6 +27,8 @@ returns-in-Ok g c =
       within = tt;
       usable = c.commit_all.ensures.usable;
       crash = survives_weaker (state g.S.Store c.args.self.now.store) (state g.S.Store c.commit_all.new.self.store) _ _ (λ clean trees k. (k.0, after_all part s trees k.1)) c.commit_all.ensures.crash;
+      durable = λ clean trees may.
+          inr (all_at_least part s (length part) trees (le_refl (length part)) (subst (λ (t : State). AreHeldOf t trees) (c.in-Ok.ensures.done clean) (c.in-Ok.ensures.durable clean trees may)));
     }
 
 pub returns-then-not-store_answers : goal.returns-then-not-store_answers
@@ -47,6 +53,11 @@ returns-then-not-store_answers g c =
       crash =
           survives_then (state g.S.Store c.args.self.now.store) (state g.S.Store c.commit_all.new.self.store) (state g.S.Store new.store) _ _ _
           (λ clean trees k. (k.0, after_all part s trees k.1)) (λ clean trees none. absurd none) c.commit_all.ensures.crash c.store_answers.ensures.reads.survives;
+      durable =
+          lasts_survives (state g.S.Store c.args.self.now.store) (state g.S.Store new.store) _ _ (AreAfterAtLeast 0 part s) (none_first s.reservations)
+          (λ clean trees k. all_at_least part s 0 trees (omega arith) k)
+          (survives_then (state g.S.Store c.args.self.now.store) (state g.S.Store c.commit_all.new.self.store) (state g.S.Store new.store) _ _ (AreHeldOf (after_ends s part))
+          (λ clean trees k. k.1) (λ clean trees none. absurd none) c.commit_all.ensures.crash c.store_answers.ensures.reads.survives);
     }
 
 pub returns : goal.returns
