@@ -1,5 +1,5 @@
 -- What a database and its transcript keep over calls.
-use Rattle.std.specs.Prelude.{◌≡◌, ℕ, ◌+◌, ◌≤◌, ◌<◌, true, false, Option, Some, None, MatchOption, Result, Ok, Err, IsOk, OnErr, IsTrue, Bool, List, [], ◌++◌, length, Vec, vec_len}
+use Rattle.std.specs.Prelude.{◌≡◌, ℕ, ◌+◌, ◌≤◌, ◌<◌, true, false, Option, Some, None, MatchOption, Result, Ok, Err, IsErrAnd, IsOk, OnErr, IsTrue, Bool, List, [], ◌++◌, length, Vec, vec_len}
 use Rattle.std.proofs.Common.{ap, arith, inl, inr, refl, subst, sym, ◌∙◌}
 use Rattle.std.proofs.lemmas.Bool.{false≢true}
 use Rattle.std.proofs.lemmas.List.{length-append, length_push}
@@ -28,12 +28,14 @@ use Rattle.escrow_transcript.proofs.Legals.{nothing_is_legal, one_more_is_legal}
 use Rattle.escrow_transcript.proofs.Numbers.{numbered_join}
 use Rattle.escrow_transcript.proofs.Steps.{steps_join}
 use Rattle.escrow_history.specs.declared.committed.Committed.{Committed}
+use Rattle.escrow_history.specs.declared.served.Unserved.{Unserved}
+use Rattle.escrow_history.specs.declared.served.Unserved.TheVariants.{Failed}
 use Rattle.escrow_history.specs.Calls.{Appends, Stays, IsFailed}
-use Rattle.escrow_history.specs.Commits.{Commits, commits_of}
+use Rattle.escrow_history.specs.Commits.{Commits, NameTheirs, commits_of}
 use Rattle.escrow_history.specs.Entered.{asked_by, AreEntered}
 use Rattle.escrow_history.specs.Audited.{Audited, IsKept}
 use Rattle.escrow_history.specs.Inside.{audited_of, IsNotKept}
-use Rattle.escrow_history.proofs.Entering.{asked_each, commits_few, entered_each, entered_numbered, entered_steps}
+use Rattle.escrow_history.proofs.Entering.{asked_each, commits_few, entered_each, entered_numbered, entered_outcomes, entered_steps}
 use Rattle.escrow_history.proofs.NeverFull.{never_told}
 
 module _ {S : Type 0} (g : Ghosts S) where
@@ -69,14 +71,16 @@ module _ {S : Type 0} (g : Ghosts S) where
   pub commits_made : {Z : Type 0} (d after : Database S) (base : Base) (entries room more : Vec Entry Z) (sessions : List ℕ) (events : List Event) (answers told : List Reply)
       (outcomes : List (Result Committed Failure)) → events ≡ asked_by sessions → length answers ≡ length events → told ≡ answers
       → (HasCleanDisk (state g after.store) → IsRun d.state events answers after.state) → room.items ≡ entries.items
-      → base.before + vec_len room ≡ base.before + length entries.items → AreEntered (base.before + vec_len room) told outcomes
+      → base.before + vec_len room ≡ base.before + length entries.items → AreEntered (base.before + vec_len room) told outcomes → NameTheirs sessions outcomes
       → more.items ≡ room.items ++ commits_of sessions outcomes → Commits g (audited_of d base entries) sessions outcomes (audited_of after base more)
-  commits_made d after base entries room more sessions events answers told outcomes asked each is run same before entered added =
+  commits_made d after base entries room more sessions events answers told outcomes asked each is run same before entered named added =
       let begins = base.before + length entries.items in
       let read : AreEntered begins answers outcomes = subst (λ (n : ℕ). AreEntered n answers outcomes) before (subst (λ (rs : List Reply). AreEntered (base.before + vec_len room) rs outcomes) is entered) in
       record {
         each = entered_each begins answers outcomes read ∙ each ∙ ap length asked ∙ asked_each sessions;
         steps = λ clean. entered_steps begins d.state after.state sessions answers outcomes read (subst (λ (es : List Event). IsRun d.state es answers after.state) asked (run clean));
+        told = λ clean. entered_outcomes begins d.state after.state sessions answers outcomes read (subst (λ (es : List Event). IsRun d.state es answers after.state) asked (run clean));
+        named = named;
         numbered = entered_numbered begins sessions answers outcomes read;
         base = refl;
         entries = added ∙ ap (λ (es : List Entry). es ++ commits_of sessions outcomes) same;
@@ -111,6 +115,13 @@ module _ (s : State) (session : ℕ) (asked : Statement) (answer : Reply) (new :
       subst (λ (o : Option Failure). MatchOption o (IsStep s session asked answer new) (λ failure. IsTrue (may_fail s session asked failure) × (new ≡ s))) fails event in
       told.1
 
+  -- it is one that the statement may meet
+  failed_may : (f : Failure) → failure_of answer ≡ Some f → StepOrRefusal s session asked answer new → IsTrue (may_fail s session asked f)
+  failed_may f fails event =
+      let told : MatchOption (Some f) (IsStep s session asked answer new) (λ failure. IsTrue (may_fail s session asked failure) × (new ≡ s)) =
+      subst (λ (o : Option Failure). MatchOption o (IsStep s session asked answer new) (λ failure. IsTrue (may_fail s session asked failure) × (new ≡ s))) fails event in
+      told.0
+
   -- no step gives this reply
   never_stays : answer ≡ reply.Refused refusal.TranscriptFull → StepOrRefusal s session asked answer new → new ≡ s
   never_stays full event = absurd (never_told s session asked answer new (served_step (ap failure_of full) event) full)
@@ -118,13 +129,24 @@ module _ (s : State) (session : ℕ) (asked : Statement) (answer : Reply) (new :
   -- a reply that is not kept, for a failure or for memory, leaves the state unchanged
   pub unserved_stays : (f : Failure) → IsNotKept answer f → StepOrRefusal s session asked answer new → new ≡ s
   unserved_stays f (inl (inl fails)) event = failed_stays f fails event
-  unserved_stays f (inl (inr full)) event = never_stays full event
-  unserved_stays f (inr holds) event = shown_stays s session asked answer new event holds
+  unserved_stays f (inl (inr full)) event = never_stays full.0 event
+  unserved_stays f (inr holds) event = shown_stays s session asked answer new event holds.0
+
+  -- only a statement that may fail by the store is refused by it
+  pub refused_by_store : (f : Failure) → IsNotKept answer f → StepOrRefusal s session asked answer new → f ≡ failure.Store → IsTrue (may_fail s session asked failure.Store)
+  refused_by_store f (inl (inl fails)) event is = failed_may (failure.Store) (fails ∙ ap Some is) event
+  refused_by_store f (inl (inr full)) event is = absurd (never_told s session asked answer new (served_step (ap failure_of full.0) event) full.0)
+  refused_by_store f (inr holds) event is = let memory = holds.1 in absurd (cc)
 
 -- a fact holds in particular if there is an error
 pub on_err : {T E P : Type 0} (r : Result T E) → P → OnErr r P
 on_err (Ok x) p = tt
 on_err (Err e) p = p
+
+-- a failure that is handed on is the store's only if it was
+pub failed_by : {T : Type 0} (r : Result T Unserved) (f : Failure) → IsErrAnd r (λ u. u ≡ Failed f) → r ≡ Err (Failed failure.Store) → f ≡ failure.Store
+failed_by (Ok x) f gives same = absurd gives
+failed_by (Err u) f gives same = cc
 
 -- a failure is reported as 51 or 60
 pub failed_is : (f : Failure) → IsFailed (refusal_for f)

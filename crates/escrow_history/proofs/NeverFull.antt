@@ -1,5 +1,5 @@
 -- The machine never replies that a transcript is full.
-use Rattle.std.specs.Prelude.{◌≡◌, ℕ, true, false, IfNone, Option, Some, None, List, [], ◌∷◌}
+use Rattle.std.specs.Prelude.{◌≡◌, ℕ, true, IfNone, Option, Some, None, List, [], ◌∷◌}
 use Rattle.std.proofs.Common.{sym, ◌∙◌, ap}
 use Rattle.std.proofs.lemmas.Bool.{false≢true}
 use Rattle.std.specs.List.{AllByRecursion}

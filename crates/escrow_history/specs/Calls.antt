@@ -10,7 +10,7 @@ use Rattle.escrow_statement.specs.declared.statement.Statement.{Statement}
 use Rattle.escrow_statement.specs.Copies.{holds_memory}
 use Rattle.escrow_machine.specs.declared.reply.Reply.{Reply}
 use Rattle.escrow_machine.specs.declared.reply.Reply.TheVariants as reply
-use Rattle.escrow_machine.specs.Promised.{is_promised}
+use Rattle.escrow_machine.specs.Promised.{is_promised, reads_rows}
 use Rattle.escrow_machine.specs.Reply.{failure_of}
 use Rattle.escrow_machine.specs.State.{State}
 use Rattle.escrow_machine.specs.Step.{IsStep}
@@ -44,6 +44,11 @@ pub record Stays {S : Type 0} (g : Ghosts S) (old new : Audited S) : Type 0 wher
 -- a copy of it takes no memory. These are ROLLBACK, ROLLBACK TO, and COMMIT of a session that holds no reservation.
 abbrev pub NeedsAnEntry : State → ℕ → Statement → Type 0
 NeedsAnEntry s session asked = IsTrue (is_promised s session asked) × (holds_memory asked ≡ false)
+
+-- A statement that the store can't refuse, whatever it does: one that isn't answered from rows, as ROLLBACK, ROLLBACK TO,
+-- SAVEPOINT, and a COMMIT of a session that holds no reservation; or one whose reply needs neither memory nor the store.
+abbrev pub IsApart : State → ℕ → Statement → Type 0
+IsApart s session asked = (reads_rows s session asked ≡ false) ⊎ IsTrue (is_promised s session asked)
 
 -- the refusals that report a failure: 51 and 60
 abbrev pub IsFailed : Refusal → Type 0

@@ -1,6 +1,7 @@
 -- Helps: what the fields of a database with its transcript hold.
 use Rattle.std.specs.Prelude.{◌≡◌, ◌⊎◌, ℕ, ◌-◌, min, true, Some, Vec, vec_len, vec_capacity}
 use Rattle.escrow_num.specs.declared.failure.Failure.{Failure}
+use Rattle.escrow_num.specs.declared.failure.Failure.TheVariants as failure
 use Rattle.escrow_num.specs.declared.refusal.Refusal.TheVariants as refusal
 use Rattle.escrow_machine.specs.declared.reply.Reply.{Reply}
 use Rattle.escrow_machine.specs.declared.reply.Reply.TheVariants as reply
@@ -19,10 +20,10 @@ room_of entries = min (vec_capacity entries) MAX_ENTRIES - vec_len entries
 abbrev pub audited_of : {S Z : Type 0} → Database S → Base → Vec Entry Z → Audited S
 audited_of d base entries = record { store = d.store; state = d.state; base = base; entries = entries.items; room = room_of entries }
 
--- whether a reply is no answer: it reports a failure, or only a transcript gives it
+-- why a reply is no answer: it reports a failure, or only a transcript gives it, which counts as the store's failure
 abbrev pub IsNoAnswer : Reply → Failure → Type 0
-IsNoAnswer answer failure = (failure_of answer ≡ Some failure) ⊎ (answer ≡ reply.Refused refusal.TranscriptFull)
+IsNoAnswer answer f = (failure_of answer ≡ Some f) ⊎ ((answer ≡ reply.Refused refusal.TranscriptFull) × (f ≡ failure.Store))
 
--- why a reply isn't kept: it is no answer, or a copy of it takes memory
+-- why a reply isn't kept: it is no answer, or a copy of it takes memory, which is refused
 abbrev pub IsNotKept : Reply → Failure → Type 0
-IsNotKept answer failure = IsNoAnswer answer failure ⊎ (holds_memory answer ≡ true)
+IsNotKept answer f = IsNoAnswer answer f ⊎ ((holds_memory answer ≡ true) × (f ≡ failure.Memory))

@@ -50,7 +50,7 @@ impl<S: Alter> Model for Audited<S> {
 }
 
 impl<S: Alter> Audited<S> {
-    ghost use Rattle.std.specs.Prelude.{◌≡◌, ◌↔◌, ◌+◌, ◌≤◌, ◌<◌, [], true, false, length, IfOk, IfErr, IsErrOf, IsOk, MatchResult, OnOk, OnErr};
+    ghost use Rattle.std.specs.Prelude.{◌≡◌, ◌↔◌, ◌+◌, ◌≤◌, ◌<◌, [], true, false, length, IfOk, IfErr, IsErrOf, IsOk, IsTrue, MatchResult, OnOk, OnErr};
     ghost use Rattle.sqlite.specs.Held.{state};
     ghost use Rattle.sqlite.specs.State.{HasCleanDisk};
     ghost use Rattle.escrow_machine.specs.State.{has_open};
@@ -58,7 +58,8 @@ impl<S: Alter> Audited<S> {
     ghost use Rattle.escrow_transcript.specs.declared.transcript.TheConstants.Transcript.{MAX_ENTRIES, MAX_NUMBER};
     ghost use Rattle.escrow_transcript.specs.Image.{started};
     ghost use Rattle.escrow_transcript.specs.Legal.{IsLegal};
-    ghost use Rattle.escrow_history.specs.Calls.{Appends, Stays, NeedsAnEntry, IsNoRoom, IsNotBegun, IsNotDrained};
+    ghost use Rattle.escrow_machine.specs.Step.{may_fail};
+    ghost use Rattle.escrow_history.specs.Calls.{Appends, Stays, IsApart, NeedsAnEntry, IsNoRoom, IsNotBegun, IsNotDrained};
     ghost use Rattle.escrow_history.specs.Commits.{Commits};
     ghost use Rattle.escrow_history.specs.Audited.{IsKept};
 
@@ -190,8 +191,9 @@ impl<S: Alter> Audited<S> {
     ///
     /// Fails with [`Unserved::Full`] exactly if the transcript has as many entries as it may have;
     /// this is tested first. Fails with [`Unserved::Failed`] if memory is refused, or by the store.
-    /// After an error nothing has changed. If room was taken ([`Audited::make_room`]), ROLLBACK,
-    /// ROLLBACK TO, and COMMIT of a session that holds no reservation are always served.
+    /// After an error nothing has changed. ROLLBACK, ROLLBACK TO, and COMMIT of a session that
+    /// holds no reservation are never refused by the store. If room was taken
+    /// ([`Audited::make_room`]), they are always served.
     pub fn serve(
         &mut self,
         alloc: Global,
@@ -199,9 +201,14 @@ impl<S: Alter> Audited<S> {
         statement: &Statement,
     ) -> Result<Served, Unserved>
         ensures served { IfOk result (λ r. Appends S.Store self.old session statement.now r.number r.reply self.new) }
+        ensures named { IfOk result (λ r. r.session ≡ session) }
         ensures kept { IfOk result (λ r. r.kept ≡ r.reply) }
         ensures unserved { OnErr result (Stays S.Store self.old self.new) }
         ensures full { IsErrOf result Unserved.Full ↔ (length self.old.entries ≡ MAX_ENTRIES) }
+
+        // The store refuses only what asks it.
+        ensures apart { IsApart self.old.state session statement.now → ¬ (IsErrOf result (Unserved.Failed Failure.Store)) }
+        ensures cause { HasCleanDisk (state S.Store self.new.store) → IsErrOf result (Unserved.Failed Failure.Store) → IsTrue (may_fail self.old.state session statement.now Failure.Store) }
         ensures promised { 0 < self.old.room → NeedsAnEntry self.old.state session statement.now → IsOk result }
         ensures room { MatchResult result (λ _. self.old.room ≤ self.new.room + 1) (λ _. self.old.room ≤ self.new.room) }
         ensures clean { HasCleanDisk (state S.Store self.new.store) → HasCleanDisk (state S.Store self.old.store) }
@@ -228,6 +235,7 @@ impl<S: Alter> Audited<S> {
         keep(&mut self.entries, entry);
         Ok(Served {
             number,
+            session,
             reply: told,
             kept,
         })
@@ -235,8 +243,8 @@ impl<S: Alter> Audited<S> {
 
     /// Serves COMMITs of sessions, one after another, as one write of the store if it can. Each
     /// that is served adds its entry to the transcript. Returns for each session whether its COMMIT
-    /// was served; one that wasn't left the state as it was. Takes room for the entries before it
-    /// asks the database.
+    /// was served. One that wasn't left the state as it was, and its session held a reservation.
+    /// Takes room for the entries before it asks the database.
     ///
     /// # Errors
     ///
@@ -251,6 +259,7 @@ impl<S: Alter> Audited<S> {
         ensures served { IfOk result (λ outcomes. Commits S.Store self.old sessions.now outcomes.items self.new) }
         ensures unserved { OnErr result (Stays S.Store self.old self.new) }
         ensures full { IsErrOf result Unserved.Full ↔ (MAX_ENTRIES < length self.old.entries + length sessions.now) }
+        ensures apart { ¬ (IsErrOf result (Unserved.Failed Failure.Store)) }
         ensures clean { HasCleanDisk (state S.Store self.new.store) → HasCleanDisk (state S.Store self.old.store) }
     {
         if Transcript::MAX_ENTRIES - self.entries.len() < sessions.len() {

@@ -2,7 +2,7 @@ ghost use Rattle.std.specs.Prelude.{◌≡◌, ◌+◌, ◌<◌, ◌≤◌, ◌+
 ghost use Rattle.std.specs.Vec.{vec_len, vec_capacity};
 ghost use Rattle.escrow_machine.specs.Reply.{failure_of};
 ghost use Rattle.escrow_transcript.specs.declared.transcript.TheConstants.Transcript.{MAX_NUMBER};
-ghost use Rattle.escrow_history.specs.Commits.{commit_of, commits_of};
+ghost use Rattle.escrow_history.specs.Commits.{commit_of, commits_of, NameTheirs};
 ghost use Rattle.escrow_history.specs.Entered.{asked_by, commit_asked_by, AreEntered, IsNoCommit};
 
 use crate::audited::keep;
@@ -17,6 +17,8 @@ use std::alloc::{AllocError, Global};
 pub struct Committed {
     /// The number of the entry.
     pub number: u64,
+    /// The session whose transaction it ended.
+    pub session: Session,
     /// How many reservations it applied.
     pub count: u32,
 }
@@ -55,11 +57,12 @@ pub(crate) fn enter_all(
     requires places { (outcomes.old.items ≡ []) × (length sessions.now ≤ vec_capacity outcomes.old) }
     requires numbers { before + vec_len entries.old + length sessions.now ≤ MAX_NUMBER }
     ensures entered { AreEntered (before + vec_len entries.old) replies.now outcomes.new.items }
+    ensures named { NameTheirs sessions.now outcomes.new.items }
     ensures entries { entries.new.items ≡ entries.old.items ++ commits_of sessions.now outcomes.new.items }
     ensures capacity { vec_capacity entries.new ≡ vec_capacity entries.old }
 {
     for (session, reply) in sessions.iter().zip(replies) {
-        let outcome = outcome_of(before + entries.len() as u64 + 1, reply);
+        let outcome = outcome_of(before + entries.len() as u64 + 1, *session, reply);
         if let Ok(committed) = &outcome {
             keep(entries, entry_of(*session, committed));
         }
@@ -67,15 +70,17 @@ pub(crate) fn enter_all(
     }
 }
 
-/// Returns the number and the count of a COMMIT that was served, as its reply says, or why it
+/// Returns a COMMIT of a session that was served, with the count that its reply says, or why it
 /// wasn't served. Only a reply that reports a failure says that it wasn't.
-fn outcome_of(number: u64, answer: &Reply) -> Result<Committed, Failure>
+fn outcome_of(number: u64, session: Session, answer: &Reply) -> Result<Committed, Failure>
     ensures served { IfOk result (λ c. (c.number ≡ number) × (answer.now ≡ Reply.Committed c.count)) }
+    ensures named { IfOk result (λ c. c.session ≡ session) }
     ensures failed { IfErr result (λ f. IsNoCommit answer.now × (f ≡ unwrap_or (failure_of answer.now) Failure.Store)) }
 {
     match answer {
         Reply::Committed { count } => Ok(Committed {
             number,
+            session,
             count: *count,
         }),
         other => Err(other.failure().unwrap_or(Failure::Store)),

@@ -1,5 +1,5 @@
 use escrow_machine::Reply;
-use escrow_num::{Failure, Refusal};
+use escrow_num::{Failure, Refusal, Session};
 use std::alloc::AllocError;
 
 /// A statement that was served, and is an entry of the transcript.
@@ -7,6 +7,8 @@ use std::alloc::AllocError;
 pub struct Served {
     /// The number of the entry.
     pub number: u64,
+    /// The session that asked.
+    pub session: Session,
     /// The reply to the statement, for the client.
     pub reply: Reply,
     /// A copy of the reply, for a receipt.

@@ -228,9 +228,14 @@ fn served(outcome: Result<Committed, Failure>) -> Result<Served, Unserved>
     ensures succeeds { IfOk result (λ r. failure_of r.reply ≡ None) }
     ensures answers { IfOk result (λ r. IsAnswer r.reply) }
 {
-    let Committed { number, count } = outcome?;
+    let Committed {
+        number,
+        session,
+        count,
+    } = outcome?;
     Ok(Served {
         number,
+        session,
         reply: Reply::Committed { count },
         kept: Reply::Committed { count },
     })

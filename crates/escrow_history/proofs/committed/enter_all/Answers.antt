@@ -4,7 +4,7 @@ use Rattle.std.proofs.lemmas.List.{nil_from_length}
 use Rattle.escrow_num.specs.declared.failure.Failure.{Failure}
 use Rattle.escrow_machine.specs.declared.reply.Reply.{Reply}
 use Rattle.escrow_history.specs.declared.committed.Committed.{Committed}
-use Rattle.escrow_history.specs.Commits.{commits_of}
+use Rattle.escrow_history.specs.Commits.{commits_of, NameTheirs}
 use Rattle.escrow_history.specs.Entered.{AreEntered}
 use Rattle.escrow_history.proofs.committed.enter_all.Goals as goal
 
@@ -20,6 +20,13 @@ returns-clause-entered c =
     let replies = at.session-iterator.b.rest.now in
     subst (AreEntered (c.args.before + vec_len c.args.entries.now) c.args.replies.now) (append-nil at.outcomes.items)
     (at.invariant.entered [] (subst (λ (rs : List Reply). AreEntered (c.args.before + vec_len at.entries) rs []) (sym (nil_from_length replies (none_left c).1)) tt))
+
+pub returns-clause-named : goal.returns-clause-named
+returns-clause-named c =
+    let at = c.loop-session in
+    let sessions = at.session-iterator.a.rest.now in
+    subst (NameTheirs c.args.sessions.now) (append-nil at.outcomes.items)
+    (at.invariant.named [] (subst (λ (ss : List ℕ). NameTheirs ss []) (sym (nil_from_length sessions (none_left c).0)) tt))
 
 pub returns-clause-entries : goal.returns-clause-entries
 returns-clause-entries c =

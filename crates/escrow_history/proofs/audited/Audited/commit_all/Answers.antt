@@ -26,7 +26,7 @@ made g c =
     let told : c.deref-2.result.now ≡ served.0 = cc in
     commits_made g.S.Store d c.run_into.new.self c.self.inside.base c.self.inside.entries c.reserve.new.self c.enter_all.new.entries sessions c.deref.result.now served.0
     c.deref-2.result.now c.enter_all.new.outcomes.items asked served.1 told served.3 c.reserve.ensures.items (omega (arith, c.reserve.ensures.len, c.self.inside.entries.ok.0))
-    c.enter_all.ensures.entered c.enter_all.ensures.entries
+    c.enter_all.ensures.entered c.enter_all.ensures.named c.enter_all.ensures.entries
 
 pub invariant_of-self-2 : goal.invariant_of-self-2
 invariant_of-self-2 g c =

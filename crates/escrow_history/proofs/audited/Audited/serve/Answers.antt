@@ -4,8 +4,8 @@ use Rattle.escrow_machine.specs.declared.reply.Reply.{Reply}
 use Rattle.escrow_transcript.specs.declared.entry.Entry.{Entry}
 use Rattle.escrow_transcript.specs.declared.transcript.TheConstants.Transcript.{MAX_ENTRIES}
 use Rattle.escrow_history.specs.Inside.{audited_of}
-use Rattle.escrow_history.proofs.Kept.{appended_keeps, on_err, served_step, stayed_keeps, unserved_stays}
-use Rattle.escrow_history.proofs.Promised.{promised_is_kept}
+use Rattle.escrow_history.proofs.Kept.{appended_keeps, failed_by, on_err, refused_by_store, served_step, stayed_keeps, unserved_stays}
+use Rattle.escrow_history.proofs.Promised.{never_by_store, promised_is_kept}
 use Rattle.escrow_history.proofs.audited.Audited.serve.Goals as goal
 
 pub invariant_of-self-in_err-asked-2 : goal.invariant_of-self-in_err-asked-2
@@ -36,6 +36,23 @@ returns-in_err-asked-2-clause-promised g c =
     rw (← c.self.view_is)
     (λ room needs. absurd (promised_is_kept d.state c.args.session c.args.statement.now c.step-reply.result c.step-reply.new.self.state c.in_err-asked-2.field-0.0 needs.0
     (c.step-reply.ensures.succeeds needs.0).1 c.in_err-asked-2.ensures.fails))
+
+pub returns-in_err-asked-2-clause-apart : goal.returns-in_err-asked-2-clause-apart
+returns-in_err-asked-2-clause-apart g c =
+    let f = c.in_err-asked-2.field-0.0 in
+    let step = c.step-reply.ensures in
+    rw (← c.self.view_is)
+    (λ apart same.
+    never_by_store c.self.inside.database.state c.args.session c.args.statement.now c.step-reply.result c.step-reply.new.self.state f apart (λ promise. (step.succeeds promise).1) step.unread
+    c.in_err-asked-2.ensures.fails (failed_by c.from_residual-in_err-asked-2.result f c.from_residual-in_err-asked-2.ensures.1 same))
+
+pub returns-in_err-asked-2-clause-cause : goal.returns-in_err-asked-2-clause-cause
+returns-in_err-asked-2-clause-cause g c =
+    let f = c.in_err-asked-2.field-0.0 in
+    rw (← c.self.view_is)
+    (λ clean same.
+    refused_by_store c.self.inside.database.state c.args.session c.args.statement.now c.step-reply.result c.step-reply.new.self.state f c.in_err-asked-2.ensures.fails (c.step-reply.ensures.event clean)
+    (failed_by c.from_residual-in_err-asked-2.result f c.from_residual-in_err-asked-2.ensures.1 same))
 
 pub invariant_of-self-2 : goal.invariant_of-self-2
 invariant_of-self-2 g c =
