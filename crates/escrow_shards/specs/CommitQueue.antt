@@ -1,5 +1,5 @@
 -- Helps: the places of COMMITs that wait while another one is served.
-use Rattle.std.specs.Prelude.{ℕ, ◌+◌, ◌-◌, Result, List, [], ◌∷◌, get_or, slice_set}
+use Rattle.std.specs.Prelude.{◌≡◌, ◌⊎◌, ℕ, ◌+◌, ◌-◌, Result, List, [], ◌∷◌, get_or, slice_set}
 use Rattle.escrow_num.specs.declared.failure.Failure.{Failure}
 use Rattle.escrow_history.specs.declared.committed.Committed.{Committed}
 use Rattle.escrow_shards.specs.declared.commit_queue.CommitState.{CommitState}
@@ -14,6 +14,10 @@ at places session = get_or places (session - 1) place.Free
 -- places, with another in that of a session
 abbrev pub with_place : List CommitState → ℕ → CommitState → List CommitState
 with_place places session new = slice_set places (session - 1) new
+
+-- the lead passes on: the call leads whose COMMIT waits in one of the places, or none does; the other places stay
+abbrev pub IsPassedOn : List CommitState → List CommitState → Type 0
+IsPassedOn old new = (new ≡ old) ⊎ ((before : ℕ) × (get_or old before place.Free ≡ place.Asked) × (new ≡ slice_set old before place.Leads))
 
 -- what happened to a COMMIT that left its place
 abbrev pub turn_in : CommitState → Turn

@@ -59,7 +59,7 @@ impl Model for CommitQueue {
 
 impl CommitQueue {
     ghost use Rattle.std.specs.Prelude.{◌≡◌, ◌⊎◌, ◌∷◌, ◌↔◌, IfOk, IsTrue};
-    ghost use Rattle.escrow_shards.specs.CommitQueue.{answered, asking, at, turn_in, with_place};
+    ghost use Rattle.escrow_shards.specs.CommitQueue.{answered, asking, at, turn_in, with_place, IsPassedOn};
 
     /// The number of places: one for each session of a database that threads share.
     pub const COUNT: usize = Session::MAX_SHARED as usize;
@@ -159,7 +159,9 @@ impl CommitQueue {
 
     /// Ends the lead of a call. The next session after its own whose COMMIT waits leads, or none
     /// does.
-    pub(crate) fn pass_on(&mut self, from: Session) {
+    pub(crate) fn pass_on(&mut self, from: Session)
+        ensures { IsPassedOn self.old self.new }
+    {
         self.is_led = false;
         if self.is_empty() {
             return;

@@ -15,15 +15,19 @@ use std::sync::Wait;
 ///
 /// [`Watched`]: crate::Watched
 pub trait UnderLock<S: Alter> {
-    ghost use Rattle.std.specs.Prelude.{◌≡◌, ◌↔◌, ◌+◌, ◌<◌, [], None, length, IfOk, IfErr, IsErrOf, OnErr};
+    ghost use Rattle.std.specs.Prelude.{◌≡◌, ◌↔◌, ◌⊎◌, ℕ, ◌+◌, ◌<◌, ◌≤◌, [], None, true, length, IfOk, IfErr, IsErrOf, OnErr};
     ghost use Rattle.escrow_history.specs.Audited.{Audited};
-    ghost use Rattle.escrow_history.specs.Calls.{Appends, Stays, IsAnswer, IsNotDrained};
+    ghost use Rattle.escrow_history.specs.Calls.{Appends, Stays, IsAnswer, IsApart, IsNotDrained};
     ghost use Rattle.escrow_history.specs.Commits.{Commits};
     ghost use Rattle.escrow_machine.specs.Reply.{failure_of};
-    ghost use Rattle.escrow_transcript.specs.declared.transcript.TheConstants.Transcript.{MAX_ENTRIES};
+    ghost use Rattle.escrow_machine.specs.State.{has_open};
+    ghost use Rattle.escrow_transcript.specs.declared.transcript.TheConstants.Transcript.{MAX_ENTRIES, MAX_NUMBER};
 
     // the database with its transcript
     ghost history: { Self → Audited S };
+
+    // how many parts of its history were handed out
+    ghost parts: { Self → ℕ };
 
     /// Serves one statement of a session, and adds its entry to the transcript. May wait.
     fn serve_locked<R: Wait>(
@@ -34,8 +38,11 @@ pub trait UnderLock<S: Alter> {
         statement: &Statement,
     ) -> Result<Served, Unserved>
         ensures served { IfOk result (λ r. Appends S.Store (history self.old) session statement.now r.number r.reply (history self.new)) }
+        ensures named { IfOk result (λ r. r.session ≡ session) }
         ensures unserved { OnErr result (Stays S.Store (history self.old) (history self.new)) }
         ensures full { IsErrOf result Unserved.Full ↔ (length (history self.old).entries ≡ MAX_ENTRIES) }
+        ensures apart { IsApart (history self.old).state session statement.now → ¬ (IsErrOf result (Unserved.Failed Failure.Store)) }
+        ensures counts { parts self.new ≡ parts self.old }
         ensures kept { IfOk result (λ r. r.kept ≡ r.reply) }
         ensures succeeds { IfOk result (λ r. failure_of r.reply ≡ None) }
         ensures answers { IfOk result (λ r. IsAnswer r.reply) };
@@ -51,19 +58,25 @@ pub trait UnderLock<S: Alter> {
         ensures served { IfOk result (λ outcomes. Commits S.Store (history self.old) sessions.now outcomes.items (history self.new)) }
         ensures unserved { OnErr result (Stays S.Store (history self.old) (history self.new)) }
         ensures full { IsErrOf result Unserved.Full ↔ (MAX_ENTRIES < length (history self.old).entries + length sessions.now) }
+        ensures apart { ¬ (IsErrOf result (Unserved.Failed Failure.Store)) }
+        ensures counts { parts self.new ≡ parts self.old }
         ensures each { IfOk result (λ outcomes. length outcomes.items ≡ length sessions.now) };
 
-    /// Hands out the next part of the history of a database.
+    /// Hands out the next part of the history of a database. Fails as [`Locked::drain`] does.
     fn drain_locked(&mut self, alloc: Global, database: usize) -> Result<Part<S>, Refusal>
         ensures part { IfOk result (λ p. p.database ≡ database) }
+        ensures number { IfOk result (λ p. (p.number ≡ parts self.old + 1) × (parts self.new ≡ p.number)) }
         ensures entries { IfOk result (λ p. (p.base ≡ (history self.old).base) × (p.entries ≡ (history self.old).entries)) }
         ensures begun { IfOk result (λ p. ((history self.new).base ≡ p.end) × ((history self.new).entries ≡ [])) }
-        ensures undrained { OnErr result (Stays S.Store (history self.old) (history self.new)) }
-        ensures only { IfErr result IsNotDrained };
+        ensures undrained { OnErr result (Stays S.Store (history self.old) (history self.new) × (parts self.new ≡ parts self.old)) }
+        ensures only { IfErr result IsNotDrained }
+        ensures last { MAX_NUMBER ≤ parts self.old → IsErrOf result Refusal.TranscriptFull }
+        ensures open { parts self.old < MAX_NUMBER → (IsErrOf result Refusal.TransactionOpen ↔ (has_open (history self.old).state ≡ true)) }
+        ensures full { IsErrOf result Refusal.TranscriptFull → (MAX_NUMBER ≤ parts self.old) ⊎ (MAX_NUMBER < (history self.old).base.before + length (history self.old).entries + MAX_ENTRIES) };
 
     /// Returns the database and its transcript out of their lock.
     fn into_locked(self) -> Locked<S>
-        ensures { result.audited ≡ history self };
+        ensures { (result.audited ≡ history self) × (result.parts ≡ parts self) };
 }
 
 /// A database with its transcript, and the number of parts of its history
@@ -81,7 +94,7 @@ impl<S: Alter> Locked<S> {
     ghost use Rattle.sqlite.specs.State.{HasCleanDisk};
     ghost use Rattle.escrow_machine.specs.State.{has_open};
     ghost use Rattle.escrow_transcript.specs.declared.transcript.TheConstants.Transcript.{MAX_ENTRIES, MAX_NUMBER};
-    ghost use Rattle.escrow_history.specs.Calls.{Appends, Stays, IsNotDrained};
+    ghost use Rattle.escrow_history.specs.Calls.{Appends, Stays, IsApart, IsNotDrained};
     ghost use Rattle.escrow_history.specs.Commits.{Commits};
 
     /// Returns a database with its transcript, before any part was handed out.
@@ -99,9 +112,11 @@ impl<S: Alter> Locked<S> {
         statement: &Statement,
     ) -> Result<Served, Unserved>
         ensures served { IfOk result (λ r. Appends S.Store self.old.audited session statement.now r.number r.reply self.new.audited) }
+        ensures named { IfOk result (λ r. r.session ≡ session) }
         ensures kept { IfOk result (λ r. r.kept ≡ r.reply) }
         ensures unserved { OnErr result (Stays S.Store self.old.audited self.new.audited) }
         ensures full { IsErrOf result Unserved.Full ↔ (length self.old.audited.entries ≡ MAX_ENTRIES) }
+        ensures apart { IsApart self.old.audited.state session statement.now → ¬ (IsErrOf result (Unserved.Failed Failure.Store)) }
         ensures parts { self.new.parts ≡ self.old.parts }
         ensures clean { HasCleanDisk (state S.Store self.new.audited.store) → HasCleanDisk (state S.Store self.old.audited.store) }
     {
@@ -117,6 +132,7 @@ impl<S: Alter> Locked<S> {
         ensures served { IfOk result (λ outcomes. Commits S.Store self.old.audited sessions.now outcomes.items self.new.audited) }
         ensures unserved { OnErr result (Stays S.Store self.old.audited self.new.audited) }
         ensures full { IsErrOf result Unserved.Full ↔ (MAX_ENTRIES < length self.old.audited.entries + length sessions.now) }
+        ensures apart { ¬ (IsErrOf result (Unserved.Failed Failure.Store)) }
         ensures parts { self.new.parts ≡ self.old.parts }
         ensures clean { HasCleanDisk (state S.Store self.new.audited.store) → HasCleanDisk (state S.Store self.old.audited.store) }
     {
@@ -161,6 +177,8 @@ impl<S: Alter> Locked<S> {
 
 impl<S: Alter> UnderLock<S> for Locked<S> {
     ghost history = { λ locked. locked.audited };
+
+    ghost parts = { λ locked. locked.parts };
 
     fn serve_locked<R: Wait>(
         &mut self,

@@ -61,6 +61,8 @@ impl<S: Alter, R: Wait + Drop> Watched<S, R> {
 impl<S: Alter, R: Wait + Drop> UnderLock<S> for Watched<S, R> {
     ghost history = { λ watched. watched.history };
 
+    ghost parts = { λ watched. watched.parts };
+
     /// Serves one statement, and shows the totals with its entry. May wait for a watcher that is
     /// reading.
     fn serve_locked<T: Wait>(
