@@ -2,6 +2,7 @@ mod Asking
 pub mod Closings
 pub mod Crossing
 pub mod Following
+pub mod InPlaces
 pub mod Kept
 pub mod Matching
 pub mod NewPasses
@@ -12,5 +13,6 @@ pub mod Rest
 pub mod Showing
 pub mod Together
 pub mod UnderLocks
+mod Waiting
 pub mod Watching
 pub mod Wholes

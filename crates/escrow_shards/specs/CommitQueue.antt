@@ -1,9 +1,10 @@
 -- Helps: the places of COMMITs that wait while another one is served.
-use Rattle.std.specs.Prelude.{◌≡◌, ◌⊎◌, ℕ, ◌+◌, ◌-◌, Result, List, [], ◌∷◌, get_or, slice_set}
+use Rattle.std.specs.Prelude.{◌≡◌, ◌⊎◌, ℕ, ◌+◌, ◌-◌, ◌≤◌, Result, IfOk, List, [], ◌∷◌, length, get_or, slice_set}
 use Rattle.escrow_num.specs.declared.failure.Failure.{Failure}
 use Rattle.escrow_history.specs.declared.committed.Committed.{Committed}
 use Rattle.escrow_shards.specs.declared.commit_queue.CommitState.{CommitState}
 use Rattle.escrow_shards.specs.declared.commit_queue.CommitState.TheVariants as place
+use Rattle.escrow_shards.specs.declared.commit_queue.TheConstants.CommitQueue.{COUNT}
 use Rattle.escrow_shards.specs.declared.commit_queue.Turn.{Turn}
 use Rattle.escrow_shards.specs.declared.commit_queue.Turn.TheVariants as turn
 
@@ -15,9 +16,24 @@ at places session = get_or places (session - 1) place.Free
 abbrev pub with_place : List CommitState → ℕ → CommitState → List CommitState
 with_place places session new = slice_set places (session - 1) new
 
+-- if a session's place has a COMMIT that was served, this one names the session
+abbrev pub IsPlaceOf : ℕ → CommitState → Type 0
+IsPlaceOf session (place.Answered outcome) = IfOk outcome (λ c. c.session ≡ session)
+IsPlaceOf session _ = Unit {0}
+
+-- WHAT ALWAYS HOLDS. There is a place for each session, and each COMMIT that was served is in that of its session.
+pub record AreInPlaces (places : List CommitState) : Type 0 where
+  pub count : length places ≡ COUNT
+  pub named : (session : ℕ) → 1 ≤ session → IsPlaceOf session (at places session)
+
 -- the lead passes on: the call leads whose COMMIT waits in one of the places, or none does; the other places stay
 abbrev pub IsPassedOn : List CommitState → List CommitState → Type 0
 IsPassedOn old new = (new ≡ old) ⊎ ((before : ℕ) × (get_or old before place.Free ≡ place.Asked) × (new ≡ slice_set old before place.Leads))
+
+-- if the COMMIT of a session was served, it names the session
+abbrev pub IsTurnOf : ℕ → Turn → Type 0
+IsTurnOf session (turn.Answered outcome) = IfOk outcome (λ c. c.session ≡ session)
+IsTurnOf session _ = Unit {0}
 
 -- what happened to a COMMIT that left its place
 abbrev pub turn_in : CommitState → Turn

@@ -46,20 +46,21 @@ pub(crate) enum Turn {
 }
 
 impl Model for CommitQueue {
-    ghost use Rattle.std.specs.Prelude.{◌≡◌, List, length};
+    ghost use Rattle.std.specs.Prelude.{List};
     ghost use Rattle.escrow_shards.specs.declared.commit_queue.CommitState.{CommitState};
-    ghost use Rattle.escrow_shards.specs.declared.commit_queue.TheConstants.CommitQueue.{COUNT};
+    ghost use Rattle.escrow_shards.specs.CommitQueue.{AreInPlaces};
 
     ghost Value = { List CommitState };
 
     ghost view = { λ w. w.places };
 
-    ghost invariant = { λ w. length w.places ≡ COUNT };
+    ghost invariant = { λ w. AreInPlaces w.places };
 }
 
 impl CommitQueue {
     ghost use Rattle.std.specs.Prelude.{◌≡◌, ◌⊎◌, ◌∷◌, ◌↔◌, IfOk, IsTrue};
-    ghost use Rattle.escrow_shards.specs.CommitQueue.{answered, asking, at, turn_in, with_place, IsPassedOn};
+    ghost use Rattle.escrow_history.specs.Commits.{NameTheirs};
+    ghost use Rattle.escrow_shards.specs.CommitQueue.{answered, asking, at, turn_in, with_place, IsPassedOn, IsTurnOf};
 
     /// The number of places: one for each session of a database that threads share.
     pub const COUNT: usize = Session::MAX_SHARED as usize;
@@ -77,6 +78,7 @@ impl CommitQueue {
     pub(crate) fn ask(&mut self, session: Session) -> Turn
         ensures waits { result ≡ Turn.Waits → (at self.old session ≡ CommitState.Free) × (self.new ≡ with_place self.old session CommitState.Asked) }
         ensures same { (result ≡ Turn.Leads) ⊎ (result ≡ Turn.Alone) → self.new ≡ self.old }
+        ensures named { IsTurnOf session result }
     {
         let place = usize::from(session.get()) - 1;
         if !self.is_led {
@@ -102,6 +104,7 @@ impl CommitQueue {
     /// Takes the outcome of a session's COMMIT out of its place.
     pub(crate) fn take(&mut self, session: Session) -> Turn
         ensures turn { result ≡ turn_in (at self.old session) }
+        ensures named { IsTurnOf session result }
         ensures free { self.new ≡ with_place self.old session CommitState.Free }
     {
         let place = usize::from(session.get()) - 1;
@@ -147,6 +150,7 @@ impl CommitQueue {
 
     /// Leaves the outcomes of sessions' COMMITs in their places.
     pub(crate) fn answer(&mut self, sessions: &[Session], outcomes: &[Result<Committed, Failure>])
+        requires { NameTheirs sessions.now outcomes.now }
         ensures { self.new ≡ answered sessions.now outcomes.now self.old }
     {
         for (session, outcome) in sessions.iter().zip(outcomes) {

@@ -1,4 +1,4 @@
-ghost use Rattle.std.specs.Prelude.{◌≡◌, None, IfOk};
+ghost use Rattle.std.specs.Prelude.{◌≡◌, None, IfOk, IsOkAnd};
 ghost use Rattle.escrow_machine.specs.Reply.{failure_of};
 ghost use Rattle.escrow_history.specs.Calls.{IsAnswer};
 
@@ -50,8 +50,9 @@ impl<S: Alter, L> Model for Shard<S, L> {
 }
 
 impl<S: Alter, L: UnderLock<S>> Shard<S, L> {
-    ghost use Rattle.std.specs.Prelude.{◌≡◌, ◌≤◌, None, IfOk, IfErr, IfSome, vec_len};
+    ghost use Rattle.std.specs.Prelude.{◌≡◌, ◌≤◌, ◌∷◌, List, ℕ, None, IfOk, IfErr, IfSome, vec_len};
     ghost use Rattle.escrow_machine.specs.Reply.{failure_of};
+    ghost use Rattle.escrow_shards.specs.CommitQueue.{IsTurnOf};
     ghost use Rattle.escrow_history.specs.Calls.{IsAnswer, IsNotDrained};
 
     /// Puts a database under its lock.
@@ -74,6 +75,7 @@ impl<S: Alter, L: UnderLock<S>> Shard<S, L> {
         gate: &G,
         call: &Call<'_>,
     ) -> Result<Served, Unserved>
+        ensures named { IfOk result (λ r. r.session ≡ call.now.session) }
         ensures kept { IfOk result (λ r. r.kept ≡ r.reply) }
         ensures succeeds { IfOk result (λ r. failure_of r.reply ≡ None) }
         ensures answers { IfOk result (λ r. IsAnswer r.reply) }
@@ -111,6 +113,7 @@ impl<S: Alter, L: UnderLock<S>> Shard<S, L> {
     /// Serves the COMMIT of a session. If another call is serving one, this call waits, and that
     /// call or the next serves the COMMIT together with its own. May wait.
     fn commit<R: Wait>(&self, rt: &R, alloc: Global, session: Session) -> Result<Served, Unserved>
+        ensures named { IfOk result (λ r. r.session ≡ session) }
         ensures kept { IfOk result (λ r. r.kept ≡ r.reply) }
         ensures succeeds { IfOk result (λ r. failure_of r.reply ≡ None) }
         ensures answers { IfOk result (λ r. IsAnswer r.reply) }
@@ -123,7 +126,9 @@ impl<S: Alter, L: UnderLock<S>> Shard<S, L> {
     }
 
     /// Enters the COMMIT of a session, and waits until this call leads or the COMMIT was served.
-    fn turn<R: Wait>(&self, rt: &R, session: Session) -> Turn {
+    fn turn<R: Wait>(&self, rt: &R, session: Session) -> Turn
+        ensures { IsTurnOf session result }
+    {
         let mut queue = self.queue.lock(rt);
         let turn = queue.ask(session);
         if !matches!(turn, Turn::Waits) {
@@ -138,6 +143,7 @@ impl<S: Alter, L: UnderLock<S>> Shard<S, L> {
     /// Serves the COMMIT of a session, together with those that wait. Then makes another call lead,
     /// if one waits.
     fn lead<R: Wait>(&self, rt: &R, alloc: Global, session: Session) -> Result<Served, Unserved>
+        ensures named { IfOk result (λ r. r.session ≡ session) }
         ensures kept { IfOk result (λ r. r.kept ≡ r.reply) }
         ensures succeeds { IfOk result (λ r. failure_of r.reply ≡ None) }
         ensures answers { IfOk result (λ r. IsAnswer r.reply) }
@@ -157,6 +163,7 @@ impl<S: Alter, L: UnderLock<S>> Shard<S, L> {
         alloc: Global,
         session: Session,
     ) -> Result<Served, Unserved>
+        ensures named { IfOk result (λ r. r.session ≡ session) }
         ensures kept { IfOk result (λ r. r.kept ≡ r.reply) }
         ensures succeeds { IfOk result (λ r. failure_of r.reply ≡ None) }
         ensures answers { IfOk result (λ r. IsAnswer r.reply) }
@@ -173,6 +180,7 @@ impl<S: Alter, L: UnderLock<S>> Shard<S, L> {
         locked: &mut L,
         session: Session,
     ) -> Result<Served, Unserved>
+        ensures named { IfOk result (λ r. r.session ≡ session) }
         ensures kept { IfOk result (λ r. r.kept ≡ r.reply) }
         ensures succeeds { IfOk result (λ r. failure_of r.reply ≡ None) }
         ensures answers { IfOk result (λ r. IsAnswer r.reply) }
@@ -193,7 +201,9 @@ impl<S: Alter, L: UnderLock<S>> Shard<S, L> {
         alloc: Global,
         locked: &mut L,
         session: Session,
-    ) -> Option<Result<Committed, Failure>> {
+    ) -> Option<Result<Committed, Failure>>
+        ensures { IfSome result (λ outcome. IfOk outcome (λ c. c.session ≡ session)) }
+    {
         let sessions = self.those_with(rt, alloc, session)?;
         let Ok(outcomes) = locked.commit_locked(rt, alloc, &sessions) else {
             return None;
@@ -208,7 +218,8 @@ impl<S: Alter, L: UnderLock<S>> Shard<S, L> {
     /// Returns a session, and then those whose COMMITs wait. Returns `None` if none waits or memory
     /// is refused.
     fn those_with<R: Wait>(&self, rt: &R, alloc: Global, session: Session) -> Option<Vec<Session>>
-        ensures { IfSome result (λ sessions. 2 ≤ vec_len sessions) }
+        ensures some { IfSome result (λ sessions. 2 ≤ vec_len sessions) }
+        ensures first { IfSome result (λ sessions. (rest : List ℕ) × (sessions.items ≡ session ∷ rest)) }
     {
         let queue = self.queue.lock(rt);
         if queue.is_empty() {
@@ -224,6 +235,7 @@ impl<S: Alter, L: UnderLock<S>> Shard<S, L> {
 
 /// Returns the answer to a COMMIT, by its outcome.
 fn served(outcome: Result<Committed, Failure>) -> Result<Served, Unserved>
+    ensures named { IfOk result (λ r. IsOkAnd outcome (λ c. r.session ≡ c.session)) }
     ensures kept { IfOk result (λ r. r.kept ≡ r.reply) }
     ensures succeeds { IfOk result (λ r. failure_of r.reply ≡ None) }
     ensures answers { IfOk result (λ r. IsAnswer r.reply) }
