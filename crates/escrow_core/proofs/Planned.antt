@@ -1,8 +1,9 @@
 -- UPDATE: what its plan, or the lack of one, says about its transition.
-use Rattle.std.specs.Prelude.{◌≡◌, ◌⊎◌, ℕ, ℤ, Option, Some, None, Result, Ok, Err, IfErr, IsErrOf, IsOk, IsSomeAnd, List, length}
+use Rattle.std.specs.Prelude.{◌≡◌, ◌⊎◌, ◌&&◌, ℕ, ℤ, Bool, true, false, Option, option_map, unwrap_or, Some, None, Result, Ok, Err, IfErr, IfOk, IsErrOf, IsOk, IsTrue, IsSomeAnd, List, length}
 use Rattle.std.specs.Result.{result_ok}
 use Rattle.std.proofs.Common.{inl, inr, refl, sym, ap, subst, ◌∙◌}
-use Rattle.std.proofs.lemmas.Option.{option_and_then_some}
+use Rattle.std.proofs.lemmas.Bool.{false≢true}
+use Rattle.std.proofs.lemmas.Option.{option_and_then_some, same_Some}
 use Rattle.escrow_num.specs.declared.refusal.Refusal.{Refusal}
 use Rattle.escrow_num.specs.declared.refusal.Refusal.TheVariants as refusal
 use Rattle.escrow_num.specs.declared.value.Value.{Value}
@@ -14,10 +15,11 @@ use Rattle.escrow_schema.specs.declared.plan.Plan.TheVariants as plan
 use Rattle.escrow_schema.specs.declared.table.TableDef.{TableDef}
 use Rattle.escrow_schema.specs.Catalog.{table_named}
 use Rattle.escrow_schema.specs.Column.{reservables}
-use Rattle.escrow_schema.specs.Plan.{planned}
+use Rattle.escrow_schema.specs.Plan.{is_in_place, planned}
 use Rattle.escrow_num.specs.declared.failure.Failure.TheVariants as failure
-use Rattle.escrow_machine.specs.Asked.{plan_of}
+use Rattle.escrow_machine.specs.Asked.{plan_of, reserves_beside}
 use Rattle.escrow_machine.specs.Accepted.{IsAccepted, IsRefusal, PassesEarly}
+use Rattle.escrow_machine.specs.Promised.{is_judged_first}
 use Rattle.escrow_machine.specs.State.{State}
 use Rattle.escrow_machine.specs.Step.{refusals}
 use Rattle.escrow_machine.specs.Transition.{transition_of, update_refusals}
@@ -34,6 +36,30 @@ pub planned_in : {C : Type 0} (s : State) (text : UpdateText) (asked : Plan) →
 planned_in s text asked is then =
     option_and_then_some (λ (table : TableDef). result_ok (planned table text)) (table_named s.catalog text.table) asked is
     (λ table named found. then table named (ok_there (planned table text) asked found))
+
+-- a plan that takes no memory is what planning returns
+pub plans_in_place : (s : State) (text : UpdateText) (table : TableDef) (result : Result Plan Refusal) → table_named s.catalog text.table ≡ Some table
+    → IfOk (planned table text) (λ p. IsTrue (is_in_place p) → result ≡ Ok p) → (asked : Plan) → plan_of s text ≡ Some asked → IsTrue (is_in_place asked) → result ≡ Ok asked
+plans_in_place s text table result named returned asked is free =
+    planned_in s text asked is (λ other found at.
+    let same : other ≡ table = same_Some other table (sym found ∙ named) in
+    let here : planned table text ≡ Ok asked = ap (λ (t : TableDef). planned t text) (sym same) ∙ at in
+    subst (λ (p : Result Plan Refusal). IfOk p (λ q. IsTrue (is_in_place q) → result ≡ Ok q)) here returned free)
+
+-- an UPDATE that is judged first has a plan that takes no memory, and its row is reserved
+pub record IsJudged (s : State) (text : UpdateText) : Type 0 where
+  pub beside : reserves_beside s text ≡ true
+  pub asked : Plan
+  pub plan : plan_of s text ≡ Some asked
+  pub free : IsTrue (is_in_place asked)
+
+pub judged : (s : State) (text : UpdateText) → IsTrue (is_judged_first s (statement.Update text)) → IsJudged s text
+judged s text first = at (reserves_beside s text) (plan_of s text) refl refl first
+  where
+    at : (b : Bool) (o : Option Plan) → reserves_beside s text ≡ b → plan_of s text ≡ o → IsTrue (b && unwrap_or (option_map is_in_place o) false) → IsJudged s text
+    at false o beside plan h = absurd (false≢true h)
+    at true None beside plan h = absurd (false≢true h)
+    at true (Some asked) beside plan h = record { beside = beside; asked = asked; plan = plan; free = h }
 
 -- a plan has one change for each RESERVABLE column
 pub whole_plan : (s : State) (text : UpdateText) (key : Value) (changes : List (Option ℤ)) → plan_of s text ≡ Some (plan.Reserve key changes)

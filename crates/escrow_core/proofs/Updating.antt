@@ -45,6 +45,7 @@ use Rattle.escrow_journal.specs.Reservations.{own}
 use Rattle.escrow_journal.specs.Open.{grant_refusal}
 use Rattle.escrow_journal.specs.Open as txn
 use Rattle.escrow_schema.specs.Rows.{HasTable, replaced, row_named, with_plain, with_values}
+use Rattle.escrow_machine.specs.declared.reply.Reply.{Reply}
 use Rattle.escrow_machine.specs.declared.reply.Reply.TheVariants as reply
 use Rattle.escrow_machine.specs.Asked.{plan_of, row_name, reservation_from, reserves_beside}
 use Rattle.escrow_machine.specs.Accepted.{IsAccepted, IsRefusal, PassesEarly}
@@ -56,7 +57,7 @@ use Rattle.escrow_machine.specs.Transition.{transition_of, update_refusals, upda
 use Rattle.escrow_machine.specs.Valid.{IsOrderly, IsValid}
 use Rattle.escrow_machine.proofs.Lengths.{find_map}
 use Rattle.escrow_machine.proofs.Shapes.{HasOrder, covered, is_table_found}
-use Rattle.escrow_machine.proofs.TransitionUpdate.{reserved_valid, replaced_valid}
+use Rattle.escrow_machine.proofs.TransitionUpdate.{reserved_valid, replaced_valid, update_transition}
 use Rattle.escrow_machine.proofs.ValidPlain.{same_test, values_both}
 use Rattle.escrow_machine.proofs.ValidUpdate.{granted_orderly}
 use Rattle.escrow_reserved.specs.Placed.{amounts_named, AreOfTables, HaveAmounts, IsOfTable}
@@ -235,6 +236,12 @@ reason_is s session name table amounts changes named is_table many has =
     rw (row.found, named) refl ∙ ap₂ (λ (zs : List ℤ) (n : RowName). first_refusal (full (length (on_row name s.reservations)) ∷ reason ∷ violation zs n ∷ [])) row.has row.named
     ∙ ap₂ (λ (n : ℕ) (o : Option Violation). first_refusal (full n ∷ reason ∷ option_map refusal.Check o ∷ [])) (sym (on_row_counts name s.reservations)) same
 
+-- a reply that is a refusal is the first one, if the reply of the transition is none
+refused_first : (s : State) (o : Option Refusal) (done : Reply) (new : State) (r : Refusal) → ((q : Refusal) → ¬ (done ≡ reply.Refused q))
+    → (unwrap_or {T = Reply × State} (option_map (λ (q : Refusal). (reply.Refused q, s)) o) (done, new)).0 ≡ reply.Refused r → o ≡ Some r
+refused_first s None done new r answers refused = absurd (answers r refused)
+refused_first s (Some q) done new r answers refused = cc
+
 -- the plan reserves these changes of a row, in the table that the text names
 pub record IsPlanned (s : State) (text : UpdateText) (name : RowName) (changes : List (Option ℤ)) : Type 0 where
   pub table : name.table ≡ text.table
@@ -286,6 +293,13 @@ module _ (s : State) (session : ℕ) (text : UpdateText) (name : RowName) (chang
       | inr memory ↦ subst (λ (q : Refusal). IsRefusal s session (statement.Update text) q) (sym memory) (fails_so failure.Memory refl)
     ]
 
+    -- if the step refuses it, it is for that reason
+    pub place_tells : (r : Refusal) → (step s session (statement.Update text)).0 ≡ reply.Refused r → reason_against session place name changes (open_in s) ≡ Some r
+    place_tells r refused =
+        sym by_place ∙ sym (left_to_plan s session text (plan.Reserve name.key changes) planned.plan)
+        ∙ refused_first s (first_refusal (refusals (transition_of s session (statement.Update text)))) (transition_of s session (statement.Update text)).reply
+        (transition_of s session (statement.Update text)).next r (update_transition s session text).answers refused
+
     -- it is granted if there is no such reason
     pub place_accepts : reason_against session place name changes (open_in s) ≡ None → IsAccepted s session (statement.Update text)
     place_accepts none = plan_accepted s session text (plan.Reserve name.key changes) planned.plan (by_place ∙ none)
@@ -324,6 +338,12 @@ module _ {S : Type 0} (g : Ghosts S) (session : ℕ) (text : UpdateText) (name :
         (λ clean. refused_serves d.state session (statement.Update text) r
         (place_refuses d.state session text name changes planned place keeps.kept.orderly of_its_table (keeps.amounts clean name place at) r why))
         (λ _. refl)
+
+    -- if the machine refuses it, that is the reason by the place
+    pub beside_tells : HasCleanDisk (state g d.store) → (r : Refusal) → (step d.state session (statement.Update text)).0 ≡ reply.Refused r
+        → reason_against session place name changes (open_in d.state) ≡ Some r
+    beside_tells clean r refused =
+        place_tells d.state session text name changes planned place keeps.kept.orderly of_its_table (keeps.amounts clean name place at) r refused
 
     pub beside_granted : reason_against session place name changes (open_in d.state) ≡ None
         → Serves g session (statement.Update text) d (reply.Reserved d.state.next_id) (record { store = d.store; state = with_open d.state (txn.open_after_grant session name changes (open_in d.state)) })

@@ -3,7 +3,7 @@ use Rattle.std.specs.Prelude.{◌≡◌, ℕ, Bool, true, Option, Some, None, Re
 use Rattle.std.specs.Result.{result_err}
 use Rattle.escrow_schema.specs.Catalog.{table_named}
 use Rattle.sqlite.specs.Held.{state}
-use Rattle.sqlite.specs.State.{Survives}
+use Rattle.sqlite.specs.State.{HasCleanDisk, Survives}
 use Rattle.sqlite_trees.specs.declared.store.Store.{Ghosts}
 use Rattle.escrow_rows.specs.Answers.{IsUsable}
 use Rattle.escrow_core.specs.Database.{Database}
@@ -22,6 +22,7 @@ use Rattle.escrow_machine.specs.declared.reply.Reply.TheVariants as reply
 use Rattle.escrow_machine.specs.Asked.{key_refusal_of}
 use Rattle.escrow_machine.specs.Settle.{after_end}
 use Rattle.escrow_machine.specs.State.{State}
+use Rattle.escrow_machine.specs.Step.{step}
 use Rattle.escrow_machine.specs.Transition.{transition_of}
 
 -- A call read the store: the state stays as it is, and a store that a fault has shut stays shut.
@@ -47,6 +48,11 @@ answer_of (Err refusal) = reply.Refused refusal
 -- a statement of a session is served, and the result of a call is its answer
 abbrev pub Answers : {S : Type 0} → Ghosts S → ℕ → Statement → Database S → Result Reply Refusal → Database S → Type 0
 Answers g session asked old result new = Serves g session asked old (answer_of result) new
+
+-- if the disk has returned what was written, and the machine refuses a statement, the result of a call is that refusal
+abbrev pub TellsRefusal : {S : Type 0} → Ghosts S → ℕ → Statement → Database S → Result Reply Refusal → Database S → Type 0
+TellsRefusal g session asked old result new =
+    HasCleanDisk (state g new.store) → (r : Refusal) → (step old.state session asked).0 ≡ reply.Refused r → result ≡ Err r
 
 -- a call fails exactly if a statement is refused early, with its first early refusal
 abbrev pub IsEarly : {T : Type 0} → State → ℕ → Statement → Result T Refusal → Type 0

@@ -80,13 +80,13 @@ impl<S: Alter> Database<S> {
     ghost use Rattle.escrow_num.specs.declared.row.Row.{Row};
     ghost use Rattle.escrow_rows.specs.Answers.{IsUsable};
     ghost use Rattle.escrow_num.specs.declared.failure.Failure.TheVariants.{Store};
-    ghost use Rattle.escrow_machine.specs.Promised.{asks_store, is_promised, reads_rows};
+    ghost use Rattle.escrow_machine.specs.Promised.{asks_store, is_judged_first, is_promised, reads_rows};
     ghost use Rattle.escrow_machine.specs.Reply.{failure_of, is_refused, tells_write};
     ghost use Rattle.escrow_core.specs.Database.{IsKept};
     ghost use Rattle.escrow_core.specs.Serves.{AreAfter, AreHeldOf};
-    ghost use Rattle.escrow_core.specs.Serving.{Answers};
+    ghost use Rattle.escrow_core.specs.Serving.{Answers, TellsRefusal};
     ghost use Rattle.escrow_machine.specs.State.{has_open, is_open, opened};
-    ghost use Rattle.escrow_machine.specs.Step.{IsStep, StepOrRefusal};
+    ghost use Rattle.escrow_machine.specs.Step.{step, IsStep, StepOrRefusal};
     ghost use Rattle.escrow_machine.specs.Valid.{IsValid};
     ghost use Rattle.escrow_schema.specs.Stored.{catalog_of};
     ghost use Rattle.escrow_recover.specs.Opened.{IsOpened, Stores};
@@ -177,12 +177,17 @@ impl<S: Alter> Database<S> {
     ///
     /// A statement that needs neither memory nor the store never fails. One that doesn't ask the
     /// store leaves it as it is, and is never refused by it. An UPDATE of RESERVABLE columns of a
-    /// row that has an open reservation is one of these.
+    /// row that has an open reservation is one of these. If the row's key is a number, its table
+    /// has at most 4 RESERVABLE columns, and the disk has returned what was written, a refusal of
+    /// the machine comes before want of memory.
     pub fn step(&mut self, alloc: Global, session: Session, statement: &Statement) -> Reply
         ensures event { HasCleanDisk (state S.Store self.new.store) → StepOrRefusal self.old.state session statement.now result self.new.state }
         ensures succeeds { IsTrue (is_promised self.old.state session statement.now) → (self.new.store ≡ self.old.store) × IsStep self.old.state session statement.now result self.new.state }
         ensures apart { asks_store self.old.state session statement.now ≡ false → (self.new.store ≡ self.old.store) × ¬ (failure_of result ≡ Some Store) }
         ensures unread { reads_rows self.old.state session statement.now ≡ false → StepOrRefusal self.old.state session statement.now result self.new.state }
+
+        ensures against { HasCleanDisk (state S.Store self.new.store) → IsTrue (is_judged_first self.old.state statement.now)
+            → (r : Refusal) → (step self.old.state session statement.now).0 ≡ Reply.Refused r → result ≡ Reply.Refused r }
 
         // A refusal changes nothing, whatever the store is like.
         ensures refused { IsTrue (is_refused result) → self.new.state ≡ self.old.state }
@@ -203,7 +208,8 @@ impl<S: Alter> Database<S> {
 
     /// Serves one statement of a session, by its kind. Returns the reply or the refusal.
     fn serve_statement(&mut self, alloc: Global, session: Session, statement: &Statement) -> Answer
-        ensures { Answers S.Store session statement.now self.old result self.new }
+        ensures answers { Answers S.Store session statement.now self.old result self.new }
+        ensures against { IsTrue (is_judged_first self.old.state statement.now) → TellsRefusal S.Store session statement.now self.old result self.new }
     {
         match statement {
             Statement::Create(text) => self.create(alloc, session, text),

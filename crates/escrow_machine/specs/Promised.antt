@@ -1,11 +1,13 @@
 -- Believed: which statements are served whatever memory there is and whatever the store does.
-use Rattle.std.specs.Prelude.{ℕ, Bool, true, false, ◌&&◌, ◌||◌, not}
+use Rattle.std.specs.Prelude.{ℕ, Bool, true, false, ◌&&◌, ◌||◌, not, option_map, unwrap_or}
 use Rattle.escrow_num.specs.declared.failure.Failure.TheVariants as failure
 use Rattle.escrow_num.specs.declared.refusal.Refusal.TheVariants as refusal
 use Rattle.escrow_statement.specs.declared.statement.Statement.{Statement}
 use Rattle.escrow_statement.specs.declared.statement.Statement.TheVariants as statement
+use Rattle.escrow_schema.specs.Plan.{is_in_place}
 use Rattle.escrow_machine.specs.declared.reply.Reply.{Reply}
 use Rattle.escrow_machine.specs.declared.reply.Reply.TheVariants as reply
+use Rattle.escrow_machine.specs.Asked.{plan_of, reserves_beside}
 use Rattle.escrow_machine.specs.State.{State}
 use Rattle.escrow_machine.specs.Step.{step, fails_for}
 
@@ -39,3 +41,9 @@ is_plain_refusal asked _ = false
 -- needs neither
 abbrev pub is_promised : State → ℕ → Statement → Bool
 is_promised s session asked = needs_nothing s session asked || is_plain_refusal asked (step s session asked).0
+
+-- whether a statement is an UPDATE that is judged before it takes memory: its plan takes none, and reserves changes of a
+-- row that has an open reservation, of any session
+abbrev pub is_judged_first : State → Statement → Bool
+is_judged_first s (statement.Update text) = reserves_beside s text && unwrap_or (option_map is_in_place (plan_of s text)) false
+is_judged_first s asked = false

@@ -1,6 +1,6 @@
 -- The plan of an UPDATE, or the reason why it has none.
 use Rattle.std.proofs.Common.{◌≡◌, ◌⊎◌, suc, Bool, true, false, cond, not, Option, Some, None, option_map, option_and_then, Result, Ok, Err, List, [], ◌∷◌, length, sym, subst, ap, ap₂, ◌∙◌, refl, inl, inr}
-use Rattle.std.specs.Prelude.{ℤ, IfOk, IfSome, IsSome, IsTrue, is_some}
+use Rattle.std.specs.Prelude.{ℤ, IfOk, IfSome, IsSomeAnd, IsTrue, is_some, nat_le}
 use Rattle.std.proofs.lemmas.Bool.{false≢true}
 use Rattle.std.specs.List.{AllZip}
 use Rattle.std.specs.Option.{ok_or}
@@ -8,7 +8,9 @@ use Rattle.std.specs.Result.{IfErr, IsErrAnd, IsErrOf, IsOk, result_err}
 use Rattle.std.proofs.lemmas.Option.{none-some, same_Some, option_and_then_some}
 use Rattle.escrow_num.specs.declared.refusal.Refusal.{Refusal}
 use Rattle.escrow_num.specs.declared.refusal.Refusal.TheVariants as refusal
+use Rattle.escrow_num.specs.declared.changes.TheConstants.Changes.{IN_PLACE}
 use Rattle.escrow_num.specs.declared.value.Value.{Value}
+use Rattle.escrow_num.specs.declared.value.Value.TheVariants as value
 use Rattle.escrow_statement.specs.declared.statement.Assign.{Assign}
 use Rattle.escrow_statement.specs.declared.statement.Literal.{Literal}
 use Rattle.escrow_statement.specs.declared.statement.UpdateText.{UpdateText}
@@ -18,12 +20,12 @@ use Rattle.escrow_schema.specs.declared.column.ColumnType.{ColumnType}
 use Rattle.escrow_schema.specs.declared.plan.Plan.{Plan}
 use Rattle.escrow_schema.specs.declared.plan.Plan.TheVariants.{Reserve, Plain}
 use Rattle.escrow_schema.specs.declared.table.TableDef.{TableDef}
-use Rattle.escrow_schema.specs.Assigned.{IsAnswer, IsChangesFault, values_assigned}
-use Rattle.escrow_schema.specs.Column.{fits, reservables, scale_of, value_at, value_in, truncated_value}
+use Rattle.escrow_schema.specs.Assigned.{IsAnswer, IsChangesFault, TakesMemory, values_assigned}
+use Rattle.escrow_schema.specs.Column.{fits, is_number, reservables, scale_of, value_at, value_in, truncated_value}
 use Rattle.escrow_schema.specs.Definition.{key_scale}
 use Rattle.escrow_schema.specs.Fit.{plains}
 use Rattle.escrow_schema.specs.Laws.{KeysOfPlans, KeysOfWheres, PlainPlansFit, PlansOfWholeRow, RefusalsOfKeys, RefusalsOfPlans}
-use Rattle.escrow_schema.specs.Plan.{are_changes, are_replacements, assigned_to, change_at, change_in, changes_for, changes_of, for_key, is_key, key_in, key_of, key_named, literal_in, new_value, new_values, new_values_of, planned}
+use Rattle.escrow_schema.specs.Plan.{are_changes, are_replacements, assigned_to, change_at, change_in, changes_for, changes_of, for_key, is_key, key_in, key_of, key_named, literal_in, new_value, new_values, new_values_of, is_in_place, planned}
 use Rattle.escrow_schema.proofs.KeyValues.{key_exact, value_in_at, value_in_fits, where_key}
 use Rattle.escrow_schema.proofs.ListLemmas.{mapped_some}
 
@@ -191,7 +193,7 @@ answer_plan planned (Err e) is = tt
 pub answer_refused : (planned answer : Result Plan Refusal) → IsAnswer planned answer → IfErr planned (λ e. answer ≡ Err e)
 answer_refused (Ok plan) answer is = tt
 answer_refused (Err q) (Ok plan) is = absurd (cc)
-answer_refused (Err q) (Err e) is = elim is [ inl same ↦ sym same | inr memory ↦ absurd (false≢true memory.1) ]
+answer_refused (Err q) (Err e) is = elim is [ inl same ↦ sym same | inr memory ↦ absurd memory.1 ]
 
 pub answer_only : (planned answer : Result Plan Refusal) → IsAnswer planned answer → IfErr answer (λ e. (planned ≡ Err e) ⊎ (e ≡ refusal.Memory))
 answer_only planned (Ok plan) is = tt
@@ -200,10 +202,20 @@ answer_only planned (Err e) is = elim is [ inl same ↦ inl same | inr memory �
 pub answer_memory : (table : TableDef) (text : UpdateText) (answer : Result Plan Refusal) → IsAnswer (planned table text) answer → IsErrOf answer refusal.Memory
     → IsOk (planned table text)
 answer_memory table text (Ok plan) is memory = absurd (cc)
-answer_memory table text (Err e) is memory = elim is [ inl same ↦ absurd (never_memory table text (same ∙ memory)) | inr other ↦ other.1 ]
+answer_memory table text (Err e) is memory =
+    elim is [ inl same ↦ absurd (never_memory table text (same ∙ memory)) | inr other ↦ is_planned (planned table text) other.1 ]
+  where
+    is_planned : (p : Result Plan Refusal) → TakesMemory p → IsOk p
+    is_planned (Ok plan) takes = refl
+    is_planned (Err e) takes = absurd takes
 
--- if there is a plan, lack of memory is a valid reason for refusal
-pub memory_exit : (planned answer : Result Plan Refusal) → IsErrAnd answer (λ e. e ≡ refusal.Memory) → IsOk planned → IsAnswer planned answer
+pub answer_in_place : (planned answer : Result Plan Refusal) → IsAnswer planned answer → IfOk planned (λ plan. IsTrue (is_in_place plan) → answer ≡ Ok plan)
+answer_in_place (Err q) answer is = tt
+answer_in_place (Ok plan) (Ok other) is = λ free. sym is
+answer_in_place (Ok plan) (Err e) is = λ free. elim is [ inl same ↦ absurd (cc) | inr memory ↦ absurd (false≢true (sym memory.1 ∙ free)) ]
+
+-- if there is a plan that takes memory, lack of memory is a valid reason for refusal
+pub memory_exit : (planned answer : Result Plan Refusal) → IsErrAnd answer (λ e. e ≡ refusal.Memory) → TakesMemory planned → IsAnswer planned answer
 memory_exit planned (Ok plan) is can = absurd is
 memory_exit planned (Err e) is can = inr (is, can)
 
@@ -229,10 +241,15 @@ values_unkeyed table text why a b e =
     inl (rw (a, b) (key_first_of_values why (key_named table text.row) (changes_of table.columns text.assigns) (new_values table text.assigns) e))
 
 -- the answer if WHERE names a key and the changes cannot be made
+many_take_memory : (key : Value) (changes : List (Option ℤ)) → nat_le (length changes) IN_PLACE ≡ false → is_in_place (Reserve key changes) ≡ false
+many_take_memory (value.Number z) changes many = many
+many_take_memory (value.Text t) changes many = refl
+
 changes_faulty : (b : Bool) (why : Refusal) (key : Value) (changes : Option (List (Option ℤ))) (values : Option (List (Option Value)))
-    → ((why ≡ refusal.BadValue) × (changes ≡ None)) ⊎ ((why ≡ refusal.Memory) × IsSome changes) → IsAnswer (plan_by true b (Ok key) changes values) (Err why)
-changes_faulty b why key None values fault = elim fault [ inl bad ↦ inl (ap Err (sym bad.0)) | inr memory ↦ absurd (false≢true memory.1) ]
-changes_faulty b why key (Some cs) values fault = elim fault [ inl bad ↦ absurd (cc) | inr memory ↦ inr (memory.0, refl) ]
+    → ((why ≡ refusal.BadValue) × (changes ≡ None)) ⊎ ((why ≡ refusal.Memory) × IsSomeAnd changes (λ cs. nat_le (length cs) IN_PLACE ≡ false))
+    → IsAnswer (plan_by true b (Ok key) changes values) (Err why)
+changes_faulty b why key None values fault = elim fault [ inl bad ↦ inl (ap Err (sym bad.0)) | inr memory ↦ absurd memory.1 ]
+changes_faulty b why key (Some cs) values fault = elim fault [ inl bad ↦ absurd (cc) | inr memory ↦ inr (memory.0, many_take_memory key cs memory.1) ]
 
 pub changes_unmade : (table : TableDef) (text : UpdateText) (why : Refusal) → are_changes table.columns text.assigns ≡ true → None ≡ result_err (key_named table text.row)
     → IsChangesFault table.columns text.assigns why → IsAnswer (planned table text) (Err why)
@@ -249,10 +266,11 @@ changes_planned table text key changes a named same made =
     rw (a, known.1, made) (ap (λ (v : Value). Ok (Reserve v changes)) (named_key table text.row known.0 known.1 ∙ sym same))
 
 pub changes_want_memory : (table : TableDef) (text : UpdateText) (changes : List (Option ℤ)) → are_changes table.columns text.assigns ≡ true
-    → None ≡ result_err (key_named table text.row) → changes_of table.columns text.assigns ≡ Some changes → IsOk (planned table text)
-changes_want_memory table text changes a named made =
+    → None ≡ result_err (key_named table text.row) → changes_of table.columns text.assigns ≡ Some changes
+    → is_number (truncated_value (key_scale table) text.row.literal) ≡ false → TakesMemory (planned table text)
+changes_want_memory table text changes a named made key_is_text =
     let known = not_refused (key_named table text.row) named in
-    rw (a, known.1, made) refl
+    rw (a, known.1, made) (rw (named_key table text.row known.0 known.1, key_is_text) refl)
 
 -- the answers if some new value does not fit, and if all do
 pub values_bad : (table : TableDef) (text : UpdateText) → are_changes table.columns text.assigns ≡ false → are_replacements table text.assigns ≡ true
@@ -266,12 +284,12 @@ values_bad table text a b named unfit =
     badly key (Some vs) e = absurd (false≢true (sym e))
 
 pub values_want_memory : (table : TableDef) (text : UpdateText) → are_changes table.columns text.assigns ≡ false → are_replacements table text.assigns ≡ true
-    → None ≡ result_err (key_named table text.row) → is_some (new_values table text.assigns) ≡ true → IsOk (planned table text)
+    → None ≡ result_err (key_named table text.row) → is_some (new_values table text.assigns) ≡ true → TakesMemory (planned table text)
 values_want_memory table text a b named fit =
     let known = not_refused (key_named table text.row) named in
     rw (a, b, known.1) (well known.0 (new_values table text.assigns) fit)
   where
-    well : (key : Value) (made : Option (List (Option Value))) → is_some made ≡ true → IsOk (ok_or (option_map (λ vs. Plain key vs) made) refusal.BadValue)
+    well : (key : Value) (made : Option (List (Option Value))) → is_some made ≡ true → TakesMemory (ok_or (option_map (λ vs. Plain key vs) made) refusal.BadValue)
     well key None e = absurd (false≢true e)
     well key (Some vs) e = refl
 

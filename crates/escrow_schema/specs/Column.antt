@@ -73,6 +73,11 @@ abbrev pub truncated_value : ℕ → Literal → Value
 truncated_value scale (literal.Number z) = value.Number (int_div z (pos (unit_at scale)))
 truncated_value scale (literal.Text t) = value.Text t
 
+-- whether a value is a number, which takes no memory
+abbrev pub is_number : Value → Bool
+is_number (value.Number z) = true
+is_number (value.Text t) = false
+
 -- COLUMNS
 
 -- the RESERVABLE columns, in order

@@ -1,8 +1,9 @@
 -- Believed: what an UPDATE asks of a row, or why it can't be planned.
-use Rattle.std.specs.Prelude.{ℕ, ℤ, Bool, true, false, ◌&&◌, not, if◌then◌else◌, Option, Some, None, option_map, option_and_then, unwrap_or, Result, Ok, Err, List, [], ◌∷◌, map, find, bytes_eq}
+use Rattle.std.specs.Prelude.{ℕ, ℤ, Bool, true, false, ◌&&◌, not, if◌then◌else◌, Option, Some, None, option_map, option_and_then, unwrap_or, Result, Ok, Err, List, [], ◌∷◌, length, map, find, nat_le, bytes_eq}
 use Rattle.std.specs.Option.{ok_or}
 use Rattle.std.specs.List.{list_any, list_all}
 use Rattle.escrow_num.specs.Decimal.{units_at}
+use Rattle.escrow_num.specs.declared.changes.TheConstants.Changes.{IN_PLACE}
 use Rattle.escrow_num.specs.declared.value.Value.{Value}
 use Rattle.escrow_num.specs.declared.refusal.Refusal.{Refusal}
 use Rattle.escrow_num.specs.declared.refusal.Refusal.TheVariants as refusal
@@ -17,7 +18,7 @@ use Rattle.escrow_schema.specs.declared.column.ColumnType.{ColumnType}
 use Rattle.escrow_schema.specs.declared.plan.Plan.{Plan}
 use Rattle.escrow_schema.specs.declared.plan.Plan.TheVariants.{Reserve, Plain}
 use Rattle.escrow_schema.specs.declared.table.TableDef.{TableDef}
-use Rattle.escrow_schema.specs.Column.{value_in, scale_of, reservables}
+use Rattle.escrow_schema.specs.Column.{is_number, value_in, scale_of, reservables}
 use Rattle.escrow_schema.specs.Definition.{are_distinct, key_column}
 use Rattle.escrow_schema.specs.Fit.{plains}
 
@@ -115,6 +116,12 @@ new_values table assigns = new_values_of (plains table.columns 0 table.key) assi
 abbrev pub key_of : Plan → Value
 key_of (Reserve key changes) = key
 key_of (Plain key values) = key
+
+-- whether a plan takes no memory: it reserves changes of a row whose key is a number, in a table that has at most 4
+-- RESERVABLE columns
+abbrev pub is_in_place : Plan → Bool
+is_in_place (Reserve key changes) = is_number key && nat_le (length changes) IN_PLACE
+is_in_place (Plain key values) = false
 
 -- a plan for the key that a WHERE names
 abbrev pub for_key : (Value → Result Plan Refusal) → Result Value Refusal → Result Plan Refusal

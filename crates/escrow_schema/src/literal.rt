@@ -1,6 +1,6 @@
 //! Literals as values.
-ghost use Rattle.std.specs.Prelude.{◌≡◌, ◌↔◌, IfOk, IsSome, IsTrue, Some};
-ghost use Rattle.escrow_schema.specs.Column.{value_at, truncated_value};
+ghost use Rattle.std.specs.Prelude.{◌≡◌, ◌↔◌, false, IfErr, IfOk, IsSome, IsTrue, Some};
+ghost use Rattle.escrow_schema.specs.Column.{is_number, value_at, truncated_value};
 
 use escrow_num::{Scale, Value};
 use escrow_statement::Literal;
@@ -36,7 +36,8 @@ pub fn value_at(alloc: Global, scale: Scale, literal: &Literal) -> Result<Option
 /// column is so at the column's scale, so nothing is cut off. Only a text takes memory.
 pub fn truncated_value(alloc: Global, scale: Scale, literal: &Literal) -> Result<Value, AllocError>
     requires { IsSome (value_at scale literal.now) }
-    ensures { IfOk result (λ v. v ≡ truncated_value scale literal.now) }
+    ensures value { IfOk result (λ v. v ≡ truncated_value scale literal.now) }
+    ensures text { IfErr result (λ _. is_number (truncated_value scale literal.now) ≡ false) }
 {
     match literal {
         Literal::Number(number) => match number.at_scale(scale.get()) {

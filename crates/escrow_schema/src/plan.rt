@@ -1,8 +1,8 @@
 //! What an UPDATE asks of a row: changes of RESERVABLE columns, or new values of plain ones.
-ghost use Rattle.std.specs.Prelude.{◌≡◌, ◌⊎◌, Ok, Err, IfOk, IfErr, IsErrOf, IsOk, false, true};
+ghost use Rattle.std.specs.Prelude.{◌≡◌, ◌⊎◌, Ok, Err, IfOk, IfErr, IsErrOf, IsOk, IsTrue, false, true};
 ghost use Rattle.escrow_schema.specs.Assigned.{IsAnswer};
 ghost use Rattle.escrow_schema.specs.Definition.{IsTable};
-ghost use Rattle.escrow_schema.specs.Plan.{are_changes, are_replacements, planned};
+ghost use Rattle.escrow_schema.specs.Plan.{are_changes, are_replacements, is_in_place, planned};
 
 mod assigned;
 mod changes;
@@ -41,13 +41,15 @@ pub enum Plan {
 /// Returns what an UPDATE asks of a row. If it can't be planned, the first reason that applies is
 /// returned: bad assignments; a WHERE of another column than the key; or a bad value. A bad value
 /// is a literal that its column's type doesn't hold, or a change that isn't a whole number of its
-/// column's units, or isn't an amount of them. Takes memory only if there is a plan.
+/// column's units, or isn't an amount of them. Takes memory only if there is a plan. One that
+/// changes RESERVABLE columns takes none if the key is a number and there are at most 4 of these.
 pub fn plan_update(alloc: Global, table: &TableDef, text: &UpdateText) -> Result<Plan, Refusal>
     requires { IsTable table.now }
     ensures plan { IfOk result (λ plan. planned table.now text.now ≡ Ok plan) }
     ensures refused { IfErr (planned table.now text.now) (λ e. result ≡ Err e) }
     ensures only { IfErr result (λ e. (planned table.now text.now ≡ Err e) ⊎ (e ≡ Refusal.Memory)) }
     ensures memory { IsErrOf result Refusal.Memory → IsOk (planned table.now text.now) }
+    ensures in_place { IfOk (planned table.now text.now) (λ plan. IsTrue (is_in_place plan) → result ≡ Ok plan) }
 {
     let assigns = text.assigns.as_slice();
     if are_changes(table.columns.as_slice(), assigns) {

@@ -7,16 +7,19 @@ use sqlite::Alter;
 use std::alloc::Global;
 
 impl<S: Alter> Database<S> {
-    ghost use Rattle.std.specs.Prelude.{◌≡◌, ℕ, false, Some, IfOk, IfErr};
-    ghost use Rattle.escrow_machine.specs.Asked.{plan_of};
+    ghost use Rattle.std.specs.Prelude.{◌≡◌, ℕ, false, true, Some, IfOk, IfErr, IsOk, IsTrue};
+    ghost use Rattle.escrow_machine.specs.Asked.{plan_of, reserves_beside};
+    ghost use Rattle.escrow_machine.specs.Promised.{is_judged_first};
+    ghost use Rattle.escrow_schema.specs.Plan.{is_in_place};
     ghost use Rattle.escrow_schema.specs.Catalog.{place_named};
-    ghost use Rattle.escrow_core.specs.Serving.{Answers};
+    ghost use Rattle.escrow_core.specs.Serving.{Answers, TellsRefusal};
     ghost use Rattle.escrow_machine.specs.Accepted.{IsRefusal};
     ghost use Rattle.escrow_machine.specs.State.{is_reserved};
 
     /// UPDATE: reserves changes of RESERVABLE columns, or replaces plain values, by its plan.
     pub(crate) fn update(&mut self, alloc: Global, session: Session, text: &UpdateText) -> Answer
-        ensures { Answers S.Store session (Statement.Update text.now) self.old result self.new }
+        ensures answers { Answers S.Store session (Statement.Update text.now) self.old result self.new }
+        ensures against { IsTrue (is_judged_first self.old.state (Statement.Update text.now)) → TellsRefusal S.Store session (Statement.Update text.now) self.old result self.new }
     {
         let (place, plan) = self.plan(alloc, text)?;
         match plan {
@@ -33,6 +36,7 @@ impl<S: Alter> Database<S> {
         ensures place { IfOk result (λ planned. place_named self.now.state.catalog text.now.table ≡ Some planned.0) }
         ensures plan { IfOk result (λ planned. plan_of self.now.state text.now ≡ Some planned.1) }
         ensures refused { IfErr result (λ refusal. (session : ℕ) → IsRefusal self.now.state session (Statement.Update text.now) refusal) }
+        ensures in_place { (asked : Plan) → plan_of self.now.state text.now ≡ Some asked → IsTrue (is_in_place asked) → IsOk result }
     {
         let Some(place) = self.tables.place(text.table) else {
             return Err(Refusal::NoSuchTable);
@@ -45,7 +49,7 @@ impl<S: Alter> Database<S> {
 
     /// Reserves changes of the row of a key, if it exists. The committed row stays as it is. If the
     /// row has an open reservation, the store isn't asked, because the row's place keeps the
-    /// amounts.
+    /// amounts. Then a reason against the reservation comes before want of memory.
     fn reserve(
         &mut self,
         alloc: Global,
@@ -57,7 +61,8 @@ impl<S: Alter> Database<S> {
     ) -> Answer
         requires place { place_named self.old.state.catalog text.now.table ≡ Some place }
         requires plan { plan_of self.old.state text.now ≡ Some (Plan.Reserve key changes) }
-        ensures { Answers S.Store session (Statement.Update text.now) self.old result self.new }
+        ensures answers { Answers S.Store session (Statement.Update text.now) self.old result self.new }
+        ensures against { reserves_beside self.old.state text.now ≡ true → TellsRefusal S.Store session (Statement.Update text.now) self.old result self.new }
     {
         let name = RowName {
             table: text.table,

@@ -1,5 +1,5 @@
 //! Changes of RESERVABLE columns.
-ghost use Rattle.std.specs.Prelude.{◌≡◌, ◌&&◌, IfErr, IfOk, Some, bytes_eq, is_some};
+ghost use Rattle.std.specs.Prelude.{◌≡◌, ◌&&◌, IfErr, IfOk, IfSome, Some, bytes_eq, false, is_some, length, nat_le};
 ghost use Rattle.std.specs.List.{list_any, list_all};
 ghost use Rattle.std.specs.Option.{option_and_then};
 ghost use Rattle.escrow_schema.specs.Assigned.{IsChangesFault};
@@ -54,7 +54,8 @@ fn is_itself(column: Name, value: &Assigned) -> bool
 
 /// Returns the change of each RESERVABLE column, in units of its scale and in column order, or
 /// `None` if the column isn't assigned. Fails with a bad value if a change isn't a whole number of
-/// units, or if these are no amount. Fails for memory only if every change is good.
+/// units, or if these are no amount. Fails for memory only if every change is good, and there are
+/// more than 4.
 pub(crate) fn whole_changes(
     alloc: Global,
     columns: &[Column],
@@ -72,13 +73,14 @@ pub(crate) fn whole_changes(
 }
 
 /// Returns the change of each RESERVABLE column, or `None` if one isn't a whole number of its
-/// column's units, or these are no amount.
+/// column's units, or these are no amount. Up to 4 changes take no memory.
 fn changes_of(
     alloc: Global,
     columns: &[Column],
     assigns: &[Assign],
 ) -> Result<Option<Changes>, AllocError>
-    ensures { IfOk result (λ changes. changes ≡ changes_of columns.now assigns.now) }
+    ensures changes { IfOk result (λ changes. changes ≡ changes_of columns.now assigns.now) }
+    ensures many { IfErr result (λ _. IfSome (changes_of columns.now assigns.now) (λ changes. nat_le (length changes) Changes.IN_PLACE ≡ false)) }
 {
     let mut changes = Changes::new(alloc);
     for column in columns {

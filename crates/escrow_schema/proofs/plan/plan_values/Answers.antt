@@ -38,4 +38,4 @@ returns c =
     let values : c.from_vec-values.result ≡ values_assigned (plains c.args.table.now.columns 0 c.args.table.now.key) c.args.text.now.assigns =
     c.from_vec-values.ensures ∙ (rw (c.typed_columns-columns.ensures.value, c.as_slice-assigns.ensures) at c.in_ok-new_values.ensures) in
     values_planned c.args.table.now c.args.text.now _ _ c.requires.values c.requires.replace named fit
-    (c.in_ok-key.ensures ∙ ap (λ (scale : ℕ). truncated_value scale c.args.text.now.row.literal) c.key_scale.ensures) values
+    (c.in_ok-key.ensures.value ∙ ap (λ (scale : ℕ). truncated_value scale c.args.text.now.row.literal) c.key_scale.ensures) values

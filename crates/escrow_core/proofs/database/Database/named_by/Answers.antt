@@ -16,4 +16,4 @@ returns g c =
     let s = (database_of c.self.inside.tables c.self.inside.reserved.txns).state in
     let table = c.table.result.now in
     let named : table_named s.catalog c.args.table ≡ Some table = c.table.ensures.named c.args.table (rw (← c.self.view_is) at c.requires.place) in
-    rw (← c.self.view_is, c.in_ok-key.ensures, c.key_scale-scale.ensures) (row_of_key s c.args.table table c.args.row.now named)
+    rw (← c.self.view_is, c.in_ok-key.ensures.value, c.key_scale-scale.ensures) (row_of_key s c.args.table table c.args.row.now named)
