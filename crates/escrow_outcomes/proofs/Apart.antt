@@ -1,5 +1,5 @@
 -- The lines of one database write what they would write without the others.
-use Rattle.std.specs.Prelude.{◌≡◌, ◌≤◌, ◌<◌, ◌==◌, ℕ, zero, suc, Bool, true, false, cond, IsSomeAnd, Option, Some, None, List, [], ◌∷◌, ◌++◌, length, map, filter, slice_get, slice_set}
+use Rattle.std.specs.Prelude.{◌≡◌, ◌≤◌, ◌<◌, ◌==◌, ℕ, zero, suc, Bool, true, false, cond, IsSomeAnd, Option, Some, None, List, [], ◌∷◌, ◌++◌, length, map, slice_get, slice_set}
 use Rattle.std.specs.List.{AllByRecursion}
 use Rattle.std.proofs.Common.{inl, inr, refl, sym, ap, ap₂, subst, ◌∙◌}
 use Rattle.std.proofs.lemmas.Bool.{eqb-true, eq-eqb}
@@ -10,7 +10,7 @@ use Rattle.escrow_script.specs.declared.limits.TheConstants.{MAX_DATABASES}
 use Rattle.escrow_script.proofs.ReadingLemmas.{has_one_reading}
 use Rattle.escrow_serve.specs.Output.{Sitting, begun, Restarts, PrintsText, ServesLine, ServesLines}
 use Rattle.escrow_serve.proofs.Elements.{get_set_same, get_set_other, set_same}
-use Rattle.escrow_outcomes.specs.Apart.{Served, bytes_of, output_of, AreServed, ServesEach, is_of, lines_at}
+use Rattle.escrow_outcomes.specs.Apart.{Served, bytes_of, output_of, AreServed, is_of, lines_at}
 use Rattle.escrow_outcomes.specs.Failed.{ShowsFailure}
 use Rattle.escrow_outcomes.specs.Laws.{CutsAreOutputs, DatabasesStandAlone, OthersMakeNoDifference}
 use Rattle.escrow_outcomes.proofs.Once.{text_once, restart_once}

@@ -1,5 +1,5 @@
 -- A store can hold the values of a valid state, if the texts are in UTF-8.
-use Rattle.std.specs.Prelude.{◌≡◌, ℕ, ℤ, Bool, cond, ◌==◌, ◌+◌, IsSomeAnd, Option, Some, None, List, [], ◌∷◌, ◌++◌, map, take, drop}
+use Rattle.std.specs.Prelude.{◌≡◌, ℕ, ℤ, cond, ◌==◌, ◌+◌, IsSomeAnd, Option, Some, None, List, [], ◌∷◌, ◌++◌, map, take, drop}
 use Rattle.std.specs.List.{AllByRecursion}
 use Rattle.std.proofs.Common.{refl}
 use Rattle.std.proofs.lemmas.Bool.{cond_both}

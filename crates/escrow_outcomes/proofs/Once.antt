@@ -1,5 +1,5 @@
 -- What lines write is determined, unless something fails.
-use Rattle.std.specs.Prelude.{◌≡◌, ◌⊎◌, ◌≤◌, ℕ, IsSomeAnd, IsTrue, MatchOption, Option, Some, None, List, [], ◌∷◌, ◌++◌, length, map, slice_get, slice_set, codes}
+use Rattle.std.specs.Prelude.{◌≡◌, ◌≤◌, ℕ, IsSomeAnd, IsTrue, MatchOption, Option, Some, None, List, [], ◌∷◌, ◌++◌, length, map, slice_get, slice_set, codes}
 use Rattle.std.proofs.Common.{inl, inr, refl, sym, ap, ap₂, subst, ◌∙◌}
 use Rattle.std.proofs.lemmas.List.{length-map, length-set}
 use Rattle.escrow_num.specs.declared.failure.Failure.{Failure}
@@ -21,15 +21,15 @@ use Rattle.escrow_machine.specs.Step as machine
 use Rattle.escrow_machine.specs.Step.{step, may_fail, IsStep, StepOrRefusal}
 use Rattle.escrow_reply.specs.Text.{reply_lines, prefix_of, database_prefix, rendered, rendered_whole}
 use Rattle.escrow_stats.specs.Tally.{tally_of}
-use Rattle.escrow_stats.specs.Text.{totals_lines, rendered_totals}
-use Rattle.escrow_script.specs.Line.{Reading, nothing, join, restart, statement, no_line, database_name, Reads}
-use Rattle.escrow_script.specs.Written.{fault_refusal, no_line_text}
+use Rattle.escrow_stats.specs.Text.{totals_lines}
+use Rattle.escrow_script.specs.Line.{Reading, nothing, join, restart, statement, no_line, database_name}
+use Rattle.escrow_script.specs.Written.{fault_refusal}
 use Rattle.escrow_script.specs.declared.limits.TheConstants.{MAX_DATABASES}
 use Rattle.escrow_script.proofs.ReadingLemmas.{has_one_reading}
-use Rattle.escrow_serve.specs.Output.{Sitting, begun, replies_to, answered_after, IsServed, IsRefused, Answers, Restarts, PrintsAnswer, PrintsTotals, PrintsText, ServesLine, ServesBytes, ServesLines, WritesLines}
+use Rattle.escrow_serve.specs.Output.{Sitting, begun, replies_to, answered_after, Answers, Restarts, PrintsAnswer, PrintsText, ServesLine, ServesBytes, ServesLines}
 use Rattle.escrow_outcomes.specs.Failed.{AreWholeLines, ShowsFailure}
 use Rattle.escrow_outcomes.specs.Laws.{OutputIsAFunction}
-use Rattle.escrow_outcomes.proofs.Lines.{whole_append, with_prefix_whole, shows_in_front, shows_behind, session_succeeds, restart_succeeds}
+use Rattle.escrow_outcomes.proofs.Lines.{with_prefix_whole, shows_in_front, shows_behind, session_succeeds, restart_succeeds}
 
 -- ONE STATEMENT
 

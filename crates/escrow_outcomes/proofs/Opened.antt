@@ -1,5 +1,4 @@
 -- What a crash leaves of a database is a store.
-use Rattle.std.specs.Prelude.{List}
 use Rattle.std.proofs.Common.{sym}
 use Rattle.sqlite_trees.specs.declared.store.Store.{Ghosts}
 use Rattle.escrow_machine.proofs.Safe.{committed_rows_meet_checks}

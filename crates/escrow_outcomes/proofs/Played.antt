@@ -1,34 +1,26 @@
 -- What lines give to databases is a run of the machine for each.
-use Rattle.std.specs.Prelude.{◌≡◌, ◌⊎◌, ◌≤◌, ◌<◌, ◌==◌, ℕ, ℤ, ◌+ℤ◌, Bool, true, false, cond, IsSomeAnd, Option, Some, None, List, [], ◌∷◌, ◌++◌, length, map, filter, slice_get, slice_set}
+use Rattle.std.specs.Prelude.{◌≡◌, ◌<◌, ◌==◌, ℕ, Bool, true, false, cond, IsSomeAnd, Option, Some, None, List, [], ◌∷◌, ◌++◌, length, map, slice_get, slice_set}
 use Rattle.std.specs.List.{AllByRecursion}
-use Rattle.std.proofs.Common.{inl, inr, refl, sym, ap, ap₂, subst, ◌∙◌}
-use Rattle.std.proofs.lemmas.Bool.{cases_eq, eq-eqb, ne_eqb, eqb-true}
-use Rattle.std.proofs.lemmas.List.{length-map, map-append}
-use Rattle.std.proofs.lemmas.List.Elements.{filter-append}
+use Rattle.std.proofs.Common.{inl, inr, refl, sym, ap, subst, ◌∙◌}
+use Rattle.std.proofs.lemmas.Bool.{cases_eq, eq-eqb, ne_eqb}
+use Rattle.std.proofs.lemmas.List.{length-map}
 use Rattle.std.proofs.lemmas.Option.{slice_get_within}
-use Rattle.escrow_num.specs.declared.value.RowName.{RowName}
 use Rattle.escrow_num.specs.Session.{IsSession}
-use Rattle.escrow_statement.specs.declared.statement.Statement.{Statement}
-use Rattle.escrow_statement.specs.declared.statement.Request.TheVariants as request
-use Rattle.escrow_sql.specs.Parser.{Asks, IsFaultIn}
 use Rattle.escrow_machine.specs.declared.event.Event.{Event}
 use Rattle.escrow_machine.specs.declared.event.Event.TheVariants as event
 use Rattle.escrow_machine.specs.declared.reply.Reply.{Reply}
-use Rattle.escrow_machine.specs.declared.reply.Reply.TheVariants as reply
 use Rattle.escrow_machine.specs.Event.{HasSession}
 use Rattle.escrow_machine.specs.State.{State}
 use Rattle.escrow_machine.specs.Step.{IsServed, IsRun}
-use Rattle.escrow_machine.specs.Valid.{IsValid}
-use Rattle.escrow_reply.specs.Text.{rendered, rendered_whole}
+use Rattle.escrow_reply.specs.Text.{rendered}
 use Rattle.escrow_stats.specs.Tally.{tally_of}
 use Rattle.escrow_script.specs.Line.{Reading, nothing, join, restart, statement, no_line, database_name, Reads}
-use Rattle.escrow_script.specs.Written.{fault_refusal}
-use Rattle.escrow_serve.specs.Output.{Sitting, begun, replies_to, Answers, Restarts, PrintsText, ServesLine, ServesBytes, ServesLines, WritesLines}
+use Rattle.escrow_serve.specs.Output.{Sitting, begun, replies_to, Answers, Restarts, PrintsText, ServesLine, ServesLines}
+use Rattle.escrow_serve.proofs.LineRanLemmas.{answers_then, events_then}
 use Rattle.escrow_serve.proofs.Elements.{get_set_same, get_set_other, get_image, get_within}
-use Rattle.escrow_accounts.specs.Book.{book, total, balance}
 use Rattle.escrow_accounts.proofs.Reached.{units_are_accounted_for}
-use Rattle.escrow_outcomes.specs.Asked.{Given, GivesText, GivesLine, GivesLines, given_at, events_at, answers_at}
-use Rattle.escrow_outcomes.specs.Laws.{ArePlayed, ScriptsAreAccountedFor}
+use Rattle.escrow_serve.specs.Asked.{Given, GivesLine, GivesLines, given_at, events_at, answers_at}
+use Rattle.escrow_outcomes.specs.Laws.{ScriptsAreAccountedFor}
 use Rattle.escrow_outcomes.proofs.Once.{line_written}
 
 -- RUNS
@@ -90,17 +82,6 @@ leads_one sittings g sitting after new found served set = λ place before later 
       subst (λ (gs : List Given). IsRun before.state (map (λ (x : Given). x.happened) gs) (map (λ (x : Given). x.answer) gs) later.state) (sym (at_other place g apart)) run
 ]
 
-given_append : (place : ℕ) (xs ys : List Given) → given_at place (xs ++ ys) ≡ given_at place xs ++ given_at place ys
-given_append place xs ys = filter-append (λ (g : Given). g.place == place) xs ys
-
-events_append : (place : ℕ) (xs ys : List Given) → events_at place (xs ++ ys) ≡ events_at place xs ++ events_at place ys
-events_append place xs ys =
-    ap (λ (gs : List Given). map (λ (x : Given). x.happened) gs) (given_append place xs ys) ∙ map-append (λ (x : Given). x.happened) (given_at place xs) (given_at place ys)
-
-answers_append : (place : ℕ) (xs ys : List Given) → answers_at place (xs ++ ys) ≡ answers_at place xs ++ answers_at place ys
-answers_append place xs ys =
-    ap (λ (gs : List Given). map (λ (x : Given). x.answer) gs) (given_append place xs ys) ∙ map-append (λ (x : Given). x.answer) (given_at place xs) (given_at place ys)
-
 leads_then : (sittings mid new : List Sitting) (first rest : List Given) → length mid ≡ length sittings → Leads sittings first mid → Leads mid rest new
     → Leads sittings (first ++ rest) new
 leads_then sittings mid new first rest many leads later = λ place before after found there.
@@ -108,8 +89,8 @@ leads_then sittings mid new first rest many leads later = λ place before after 
     let between = get_within mid place within in
     let run = run_then before.state between.0.state after.state (events_at place first) (events_at place rest) (answers_at place first) (answers_at place rest)
     (leads place before between.0 found between.1) (later place between.0 after between.1 there) in
-    subst (λ (es : List Event). IsRun before.state es (answers_at place (first ++ rest)) after.state) (sym (events_append place first rest))
-    (subst (λ (rs : List Reply). IsRun before.state (events_at place first ++ events_at place rest) rs after.state) (sym (answers_append place first rest)) run)
+    subst (λ (es : List Event). IsRun before.state es (answers_at place (first ++ rest)) after.state) (sym (events_then place first rest))
+    (subst (λ (rs : List Reply). IsRun before.state (events_at place first ++ events_at place rest) rs after.state) (sym (answers_then place first rest)) run)
 
 all_append : {A : Type 0} (P : A → Type 0) (xs ys : List A) → AllByRecursion P xs → AllByRecursion P ys → AllByRecursion P (xs ++ ys)
 all_append P [] ys first rest = rest
@@ -117,7 +98,7 @@ all_append P (x ∷ xs) ys first rest = (first.0, all_append P xs ys first.1 res
 
 sessions_then : (first rest : List Given) → OfSessions first → OfSessions rest → OfSessions (first ++ rest)
 sessions_then first rest one two = λ place.
-    subst (AllByRecursion HasSession) (sym (events_append place first rest)) (all_append HasSession (events_at place first) (events_at place rest) (one place) (two place))
+    subst (AllByRecursion HasSession) (sym (events_then place first rest)) (all_append HasSession (events_at place first) (events_at place rest) (one place) (two place))
 
 sessions_one : (g : Given) → HasSession g.happened → OfSessions (g ∷ [])
 sessions_one g has = λ place. at (g.place == place)

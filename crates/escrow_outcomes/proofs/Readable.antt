@@ -1,11 +1,10 @@
 -- Texts of rows stay in UTF-8.
-use Rattle.std.specs.Prelude.{◌≡◌, ◌⊎◌, ℕ, ℤ, Bool, true, false, cond, not, ◌==◌, ◌||◌, ◌&&◌, Option, Some, None, IfSome, option_map, option_and_then, unwrap_or, Result, Ok, Err, List, [], ◌∷◌, ◌+◌, length, map, filter, find, slice_get, bytes_eq}
+use Rattle.std.specs.Prelude.{◌≡◌, ℕ, ℤ, Bool, true, false, cond, not, ◌==◌, ◌||◌, ◌&&◌, Option, Some, None, IfSome, option_map, option_and_then, unwrap_or, Result, Ok, Err, List, [], ◌∷◌, ◌+◌, length, find, slice_get, bytes_eq}
 use Rattle.std.specs.List.{AllByRecursion}
 use Rattle.std.specs.Option.{ok_or}
 use Rattle.std.specs.Ordering.{is_lt}
 use Rattle.std.specs.Result.{result_ok}
-use Rattle.std.specs.Str.{IsUtf8}
-use Rattle.std.proofs.Common.{inl, inr, refl, sym, ap, subst, ◌∙◌}
+use Rattle.std.proofs.Common.{refl, sym, subst}
 use Rattle.std.proofs.lemmas.Bool.{cond_both}
 use Rattle.sqlite_trees.proofs.ListLemmas.{all-slice_get}
 use Rattle.escrow_num.specs.declared.reservation.Reservation.{Reservation}
@@ -33,19 +32,19 @@ use Rattle.escrow_schema.specs.declared.plan.Plan.{Plan}
 use Rattle.escrow_schema.specs.declared.plan.Plan.TheVariants as plan
 use Rattle.escrow_schema.specs.declared.table.TableDef.{TableDef}
 use Rattle.escrow_schema.specs.Catalog.{table_named}
-use Rattle.escrow_schema.specs.Column.{fits, scale_of, value_at, value_in}
+use Rattle.escrow_schema.specs.Column.{fits, scale_of, value_in}
 use Rattle.escrow_schema.specs.Definition.{are_distinct}
 use Rattle.escrow_schema.specs.Fit.{values_in, plain_of, row_with, fitted, literal_beside, literals_beside, in_column_order, inserted_row, plains}
 use Rattle.escrow_schema.specs.Plan.{are_changes, are_replacements, assigned_to, literal_in, changes_of, new_value, new_values_of, new_values, for_key, key_named, planned}
-use Rattle.escrow_schema.specs.Rows.{with_row, replaced, with_values, with_plain, row_after, applied}
+use Rattle.escrow_schema.specs.Rows.{with_row, replaced, with_values, with_plain, applied}
 use Rattle.escrow_journal.specs.Reservations.{own}
 use Rattle.escrow_machine.specs.declared.event.Event.{Event}
 use Rattle.escrow_machine.specs.declared.event.Event.TheVariants as event
 use Rattle.escrow_machine.specs.declared.reply.Reply.{Reply}
 use Rattle.escrow_machine.specs.Asked.{new_row, named_by, plan_of, row_name}
 use Rattle.escrow_machine.specs.Reply.{is_refused}
-use Rattle.escrow_machine.specs.State.{State, opened}
-use Rattle.escrow_machine.specs.Step.{IsServed, IsRun}
+use Rattle.escrow_machine.specs.State.{State}
+use Rattle.escrow_machine.specs.Step.{IsServed}
 use Rattle.escrow_machine.specs.Transition.{transition_of, after_update}
 use Rattle.escrow_accounts.proofs.Served.{served_has, event_is, event_stays}
 use Rattle.escrow_outcomes.specs.Laws.{TextsStayReadable}

@@ -1,5 +1,5 @@
 -- A restart that is done, and one that fails.
-use Rattle.std.specs.Prelude.{◌≡◌, ◌⊎◌, ◌≤◌, ◌<◌, ◌+◌, ℕ, Bool, true, false, cond, ◌==◌, List, [], ◌∷◌, ◌++◌, length, codes, decimal, slice_index_or}
+use Rattle.std.specs.Prelude.{◌≡◌, ◌≤◌, ◌+◌, ℕ, ◌==◌, List, [], ◌∷◌, ◌++◌, length, codes, decimal, slice_index_or}
 use Rattle.std.specs.Fmt.{digits}
 use Rattle.std.proofs.Common.{inl, inr, refl, sym, ap, ◌∙◌, arith, rules}
 use Rattle.std.proofs.lemmas.Bool.{cond_both}
@@ -9,12 +9,11 @@ use Rattle.escrow_num.specs.declared.failure.Failure.{Failure}
 use Rattle.escrow_num.specs.declared.failure.Failure.TheVariants as failure
 use Rattle.escrow_num.specs.declared.refusal.Refusal.TheVariants as refusal
 use Rattle.escrow_num.specs.Refusal.{refusal_for}
-use Rattle.escrow_machine.specs.declared.reply.Reply.{Reply}
 use Rattle.escrow_machine.specs.declared.reply.Reply.TheVariants as reply
-use Rattle.escrow_machine.specs.State.{State, opened}
+use Rattle.escrow_machine.specs.State.{opened}
 use Rattle.escrow_reply.specs.Text.{reply_text, prefix_of, database_prefix, rendered, rendered_whole}
 use Rattle.escrow_script.specs.Line.{database_name, restart, Reads}
-use Rattle.escrow_outcomes.specs.Failed.{AreWholeLines, IsFailedReply, ShowsFailure}
+use Rattle.escrow_outcomes.specs.Failed.{IsFailedReply, ShowsFailure}
 use Rattle.escrow_outcomes.specs.Laws.{RestartsShow}
 
 -- LENGTHS

@@ -1,5 +1,5 @@
 -- Believed: the statements of the laws in src/laws.rt.
-use Rattle.std.specs.Prelude.{◌≡◌, ◌≤◌, ℕ, ℤ, ◌+ℤ◌, Bool, Some, List, [], ◌∷◌, length, slice_get, slice_set, codes}
+use Rattle.std.specs.Prelude.{◌≡◌, ◌≤◌, ℕ, ◌+ℤ◌, Bool, Some, List, [], ◌∷◌, length, slice_get, slice_set, codes}
 use Rattle.std.specs.List.{AllByRecursion}
 use Rattle.sqlite.specs.Effect.{Database as Sql}
 use Rattle.sqlite.specs.Held.{state}
@@ -26,7 +26,7 @@ use Rattle.escrow_script.specs.declared.limits.TheConstants.{MAX_DATABASES}
 use Rattle.escrow_serve.specs.Left.{LeavesItsRows}
 use Rattle.escrow_serve.specs.Output.{WritesLines}
 use Rattle.escrow_outcomes.specs.Apart.{Served, bytes_of, output_of, ServesEach, lines_at}
-use Rattle.escrow_outcomes.specs.Asked.{Given, GivesLines, events_at, answers_at}
+use Rattle.escrow_serve.specs.Asked.{Given, GivesLines, events_at, answers_at}
 use Rattle.escrow_outcomes.specs.Failed.{ShowsFailure}
 use Rattle.escrow_outcomes.specs.Texts.{HasReadableTexts, IsReadableEvent}
 

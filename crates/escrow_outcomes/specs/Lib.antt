@@ -1,5 +1,4 @@
 pub mod Apart
-pub mod Asked
 pub mod Failed
 pub mod Laws
 pub mod Texts

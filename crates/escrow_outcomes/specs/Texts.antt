@@ -1,5 +1,4 @@
 -- Believed: texts in UTF-8, in rows and in statements.
-use Rattle.std.specs.Prelude.{ℕ, List}
 use Rattle.std.specs.List.{AllByRecursion}
 use Rattle.std.specs.Str.{IsUtf8}
 use Rattle.escrow_num.specs.declared.row.Row.{Row}

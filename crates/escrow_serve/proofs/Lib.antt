@@ -1,8 +1,12 @@
 pub mod Elements
 pub mod GatherLemmas
+pub mod GaveLemmas
 pub mod GiveLemmas
+pub mod LineRanLemmas
 pub mod LinesLemmas
+pub mod RanLemmas
 pub mod RunLemmas
+pub mod ScriptRanLemmas
 pub mod ServeLemmas
 pub mod ShownLemmas
 pub mod TotalsLemmas

@@ -18,6 +18,7 @@ use Rattle.escrow_machine.specs.State.{State}
 use Rattle.escrow_machine.specs.Step.{StepOrRefusal, IsRun}
 use Rattle.escrow_serve.specs.Output.{state_in, states_of, HaveCleanDisks}
 use Rattle.escrow_serve.specs.Batch.{Item, behind, event_at, events_at, AreAsked, HasRun, HaveRun, Runs}
+use Rattle.escrow_serve.specs.Ran.{Ran}
 use Rattle.escrow_serve.specs.declared.part.Part.{Part}
 use Rattle.escrow_serve.specs.declared.task.Task.{Task}
 use Rattle.escrow_serve.specs.declared.task.Task.TheVariants as task
@@ -35,10 +36,10 @@ pub asked_nothing : (parts : List Part) (items : List Item) (bytes : List ℕ) (
 asked_nothing parts items bytes asked none are = λ place part found.
     are place part found ∙ sym (events_behind place items bytes asked ∙ ap (λ (es : List Event). events_at place items ++ es) (none place) ∙ append-nil (events_at place items))
 
-own_event : (place session : ℕ) (asked : Statement) → event_at place (task.Statement place session asked) ≡ event.Statement session asked ∷ []
+pub own_event : (place session : ℕ) (asked : Statement) → event_at place (task.Statement place session asked) ≡ event.Statement session asked ∷ []
 own_event place session asked = rw (eq-eqb place place refl) refl
 
-other_event : (place other session : ℕ) (asked : Statement) → other ≢ place → event_at other (task.Statement place session asked) ≡ []
+pub other_event : (place other session : ℕ) (asked : Statement) → other ≢ place → event_at other (task.Statement place session asked) ≡ []
 other_event place other session asked apart = rw (ne_eqb place other (λ same. apart (sym same))) refl
 
 -- the part that was set has these events, and the others keep theirs
@@ -75,10 +76,9 @@ asked_none parts all = λ place part found. all-slice_get (λ (p : Part). p.even
 
 -- a part was run, and its answers are kept, the last one first
 pub part_ran : {S : Type 0} (g : Ghosts S) (old new : Database S) (part : Part) (left : List Event) (answers kept : List Reply) → left ≡ [] → kept ≡ reverse answers
-    → (HasCleanDisk (state g new.store) → IsRun old.state part.events.items answers new.state)
-    → (left ≡ []) × (HasCleanDisk (state g new.store) → IsRun old.state part.events.items (reverse kept) new.state)
-part_ran g old new part left answers kept none is run =
-    (none, λ clean. subst (λ (rs : List Reply). IsRun old.state part.events.items rs new.state) (sym (ap reverse is ∙ reverse-reverse answers)) (run clean))
+    → Ran g old part.events.items answers new → (left ≡ []) × Ran g old part.events.items (reverse kept) new
+part_ran g old new part left answers kept none is ran =
+    (none, subst (λ (rs : List Reply). Ran g old part.events.items rs new) (sym (ap reverse is ∙ reverse-reverse answers)) ran)
 
 -- the parts before a place were run, and the later ones were not
 pub record RunUpTo {S : Type 0} (g : Ghosts S) (olds news : List (Database S)) (parts afters : List Part) (count : ℕ) : Type 0 where
@@ -145,7 +145,7 @@ runs_all {S} g olds news parts afters items count parted same asked ran clean = 
       let old = get_image state_in olds place before f1 in
       let new = get_image state_in news place after f2 in
       let was = get_within parts place (omega (arith, slice_get_within afters place part f3, same)) in
-      let run = (ran place old.0 new.0 was.0 part old.1 new.1 was.1 f3).1 (all-slice_get (λ (d : Database S). HasCleanDisk (state g d.store)) news place new.0 new.1 clean) in
+      let run = (ran place old.0 new.0 was.0 part old.1 new.1 was.1 f3).1.run (all-slice_get (λ (d : Database S). HasCleanDisk (state g d.store)) news place new.0 new.1 clean) in
       subst (λ (s : State). IsRun s (events_at place items) (reverse part.answers.items) after) old.2
       (subst (λ (s : State). IsRun old.0.state (events_at place items) (reverse part.answers.items) s) new.2
       (subst (λ (es : List Event). IsRun old.0.state es (reverse part.answers.items) new.0.state) (asked place was.0 was.1) run));

@@ -44,7 +44,7 @@ no_failure (reply.Refused r) holds = absurd (false≢true holds)
 no_failure _ holds = refl
 
 -- a step that shows something may instead be refused for lack of memory
-step_refused : (s : State) (session : ℕ) (asked : Statement) (answer : Reply) (new : State) → StepOrRefusal s session asked answer new → holds_memory answer ≡ true
+pub step_refused : (s : State) (session : ℕ) (asked : Statement) (answer : Reply) (new : State) → StepOrRefusal s session asked answer new → holds_memory answer ≡ true
     → StepOrRefusal s session asked (reply.Refused refusal.Memory) new
 step_refused s session asked answer new event holds =
     let told : MatchOption None (IsStep s session asked answer new) (λ f. IsTrue (may_fail s session asked f) × (new ≡ s)) =
@@ -67,3 +67,8 @@ given_answers s session text answer given new answers (inr refused) =
 -- any text may be refused for lack of memory
 pub refused_answers : (s : State) (session : ℕ) (text : List ℕ) (new : State) → new ≡ s → Answers s session text (reply.Refused refusal.Memory) new
 refused_answers s session text new same = inr (parse_fault.Memory, tt, refl, same)
+
+-- a refusal is given as it is
+pub shown_refusal : (r : Refusal) (given : Reply) → (given ≡ reply.Refused r) ⊎ ((holds_memory (reply.Refused r) ≡ true) × (given ≡ reply.Refused refusal.Memory)) → given ≡ reply.Refused r
+shown_refusal r given (inl same) = same
+shown_refusal r given (inr refused) = absurd (false≢true refused.0)

@@ -1,17 +1,20 @@
 -- Helps: lines that wait to be served together.
 use Rattle.std.specs.Prelude.{◌≡◌, ◌≤◌, ◌<◌, ℕ, ◌+◌, ◌*◌, ◌==◌, if◌then◌else◌, true, Option, Some, None, List, [], ◌∷◌, ◌++◌, length, map, reverse, slice_get}
 use Rattle.std.specs.List.{AllByRecursion}
-use Rattle.sqlite.specs.Held.{state}
-use Rattle.sqlite.specs.State.{HasCleanDisk}
 use Rattle.sqlite_trees.specs.declared.store.Store.{Ghosts}
 use Rattle.escrow_core.specs.Database.{Database}
 use Rattle.escrow_machine.specs.declared.event.Event.{Event}
 use Rattle.escrow_machine.specs.declared.event.Event.TheVariants as event
 use Rattle.escrow_machine.specs.State.{State}
 use Rattle.escrow_machine.specs.Step.{IsRun}
+use Rattle.escrow_machine.specs.declared.reply.Reply.{Reply}
 use Rattle.escrow_reply.specs.declared.short.TheConstants.{MAX_SHORT}
 use Rattle.escrow_script.specs.Script.{TakesLine, left}
 use Rattle.escrow_script.specs.declared.limits.TheConstants.{MAX_LINE}
+use Rattle.escrow_serve.specs.Asked as asked
+use Rattle.escrow_serve.specs.Asked.{Given, GivesLines, answers_at}
+use Rattle.escrow_serve.specs.Ran.{Ran}
+use Rattle.escrow_serve.specs.Shown.{AreShown}
 use Rattle.escrow_serve.specs.Task.{IsTask}
 use Rattle.escrow_serve.specs.declared.task.Task.{Task}
 use Rattle.escrow_serve.specs.declared.task.Task.TheVariants as task
@@ -75,8 +78,7 @@ IsWithin databases _ = Unit {0}
 -- a part was run: its database served its events, and none is left
 abbrev pub HasRun : {S : Type 0} → Ghosts S → Database S → Part → Database S → Part → Type 0
 HasRun g old part new after =
-    (after.events.items ≡ [])
-    × (HasCleanDisk (state g new.store) → IsRun old.state part.events.items (reverse after.answers.items) new.state)
+    (after.events.items ≡ []) × Ran g old part.events.items (reverse after.answers.items) new
 
 -- each part was run
 abbrev pub HaveRun : {S : Type 0} → Ghosts S → List (Database S) → List Part → List (Database S) → List Part → Type 0
@@ -90,6 +92,19 @@ pub record Runs (states new : List State) (items : List Item) (parts : List Part
   pub parted : length parts ≡ length states
   pub each : (place : ℕ) (before after : State) (part : Part) → slice_get states place ≡ Some before → slice_get new place ≡ Some after
       → slice_get parts place ≡ Some part → IsRun before (events_at place items) (reverse part.answers.items) after
+
+-- each part has as many replies as lines ask for
+abbrev pub AreReady : List Part → List Item → Type 0
+AreReady parts items = (place : ℕ) (part : Part) → slice_get parts place ≡ Some part → length part.answers.items ≡ length (events_at place items)
+
+-- lines were given the next replies of parts
+pub record Gave (sessions : ℕ) (databases : ℕ) (items : List Item) (out : List ℕ) (parts lefts : List Part) : Type 0 where
+  pub count : length lefts ≡ length parts
+  pub given : List Given
+  pub gives : GivesLines databases sessions (map (λ item. item.bytes) items) given out
+  pub asked : (place : ℕ) → asked.events_at place given ≡ events_at place items
+  pub told : (place : ℕ) (part left : Part) → slice_get parts place ≡ Some part → slice_get lefts place ≡ Some left
+      → (replies : List Reply) × (reverse part.answers.items ≡ replies ++ reverse left.answers.items) × AreShown replies (answers_at place given)
 
 -- lines were taken, one after another; of each, no more bytes are kept than of any line
 abbrev pub TakesLines : List (List ℕ) → Option (List ℕ) → Option (List ℕ) → Type 0

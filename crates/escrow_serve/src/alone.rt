@@ -1,13 +1,15 @@
-ghost use Rattle.std.specs.Prelude.{◌≡◌, ◌≤◌, ◌+◌, ◌⊎◌, ◌++◌, List, ℕ, true, false, length, vec_len, vec_capacity, OnOk, OnErr};
+ghost use Rattle.std.specs.Prelude.{◌≡◌, ◌≤◌, ◌+◌, ◌⊎◌, ◌++◌, ◌∷◌, [], List, ℕ, true, false, length, vec_len, vec_capacity, OnOk, OnErr};
 ghost use Rattle.sqlite.specs.Held.{state};
 ghost use Rattle.sqlite.specs.State.{HasCleanDisk};
 ghost use Rattle.escrow_sql.specs.Parser.{Asks};
-ghost use Rattle.escrow_machine.specs.Reply.{holds_memory};
 ghost use Rattle.escrow_machine.specs.State.{State};
 ghost use Rattle.escrow_machine.specs.Step.{IsServed};
 ghost use Rattle.escrow_reply.specs.Text.{rendered};
 ghost use Rattle.escrow_stats.specs.Text.{rendered_totals};
+ghost use Rattle.escrow_machine.specs.Reply.{holds_memory};
 ghost use Rattle.escrow_serve.specs.Output.{states_of, HaveCleanDisks};
+ghost use Rattle.escrow_serve.specs.Ran.{LineRan, Ran};
+ghost use Rattle.escrow_serve.specs.Shown.{IsShown};
 ghost use Rattle.escrow_serve.specs.Task.{IsTask};
 ghost use Rattle.escrow_serve.specs.Totals.{AreLeft, LineServed, TextServed};
 
@@ -40,6 +42,8 @@ pub(crate) fn serve_task<S: Alter>(
     requires room { vec_len replies.old + MAX_SHORT ≤ vec_capacity replies.old }
     ensures served { (out : List ℕ) × (replies.new.items ≡ replies.old.items ++ out) × (HaveCleanDisks S.Store databases.new.items → (sessions : ℕ) (bytes : List ℕ)
         → IsTask sessions (vec_len databases.old) bytes task → LineServed sessions (states_of databases.old.items) totals.old.items bytes out (states_of databases.new.items) totals.new.items) }
+    ensures ran { (out : List ℕ) × (replies.new.items ≡ replies.old.items ++ out) × ((sessions : ℕ) (bytes : List ℕ)
+        → IsTask sessions (vec_len databases.old) bytes task → LineRan S.Store sessions databases.old.items bytes out databases.new.items) }
     ensures len { vec_len databases.new ≡ vec_len databases.old }
     ensures each { vec_len totals.new ≡ vec_len totals.old }
     ensures clean { HaveCleanDisks S.Store databases.new.items → HaveCleanDisks S.Store databases.old.items }
@@ -90,6 +94,7 @@ fn restart<S: Alter>(alloc: Global, database: &mut Database<S>, totals: &mut Tot
     ensures totals { AreLeft result totals.old totals.new }
     ensures short { holds_memory result ≡ false }
     ensures clean { HasCleanDisk (state S.Store database.new.store) → HasCleanDisk (state S.Store database.old.store) }
+    ensures ran { Ran S.Store database.old (Event.Restart ∷ []) (result ∷ []) database.new }
 {
     let outcome = database.restart(alloc);
     if outcome.is_ok() {
@@ -113,6 +118,8 @@ fn serve_statement<S: Alter>(
     ensures served { (out : List ℕ) × (replies.new.items ≡ replies.old.items ++ out) × (HasCleanDisk (state S.Store database.new.store) → (text : List ℕ)
         → Asks text (Request.Statement statement.now) → TextServed name.now database.old.state totals.old session text out database.new.state totals.new) }
     ensures clean { HasCleanDisk (state S.Store database.new.store) → HasCleanDisk (state S.Store database.old.store) }
+    ensures ran { (answer : Reply) × (replies.new.items ≡ replies.old.items ++ rendered name.now session answer)
+        × Ran S.Store database.old (Event.Statement session statement.now ∷ []) (answer ∷ []) database.new }
 {
     let reply = database.step(alloc, session, statement);
     let given = give(alloc, name, session, reply, replies);
@@ -132,6 +139,8 @@ fn show_totals(
     requires room { vec_len replies.old + MAX_SHORT ≤ vec_capacity replies.old }
     ensures served { (out : List ℕ) × (replies.new.items ≡ replies.old.items ++ out) × ((kept : State) (text : List ℕ)
         → Asks text Request.Statistics → TextServed name.now kept totals.old session text out kept totals.new) }
+    ensures shown { ((tally : Tally) × (replies.new.items ≡ replies.old.items ++ rendered_totals name.now session tally))
+        ⊎ (replies.new.items ≡ replies.old.items ++ rendered name.now session (Reply.Refused Refusal.Memory)) }
 {
     match gather_totals(alloc, name, session, totals.of(session), replies) {
         Ok(()) => {}
@@ -149,7 +158,7 @@ fn give(alloc: Global, name: &str, session: Session, reply: Reply, replies: &mut
     requires front { length name.now ≤ MAX_FRONT }
     requires room { vec_len replies.old + MAX_SHORT ≤ vec_capacity replies.old }
     ensures gathered { replies.new.items ≡ replies.old.items ++ rendered name.now session result }
-    ensures given { (result ≡ reply) ⊎ ((holds_memory reply ≡ true) × (result ≡ Reply.Refused Refusal.Memory)) }
+    ensures given { IsShown reply result }
 {
     if is_short(&reply) {
         push_short(replies, name, session, &reply);

@@ -1,6 +1,7 @@
 ghost use Rattle.std.specs.Prelude.{◌≡◌, ◌≤◌, ◌+◌, ◌*◌, ◌++◌, [], List, ℕ, map, vec_len, vec_capacity, IfOk, IfErr, IfNone, IfSome, MatchOption};
 ghost use Rattle.escrow_serve.specs.Batch.{behind, waiting_of, AreAsked, Gathers, HaveRun, Item, MayWait};
 ghost use Rattle.escrow_serve.specs.Output.{states_of, HaveCleanDisks};
+ghost use Rattle.escrow_serve.specs.Ran.{LinesRan};
 ghost use Rattle.escrow_serve.specs.Task.{IsTask};
 ghost use Rattle.escrow_serve.specs.Totals.{LinesServed};
 
@@ -125,6 +126,9 @@ impl Batch {
         ensures served { (out : List ℕ) × (replies.new.items ≡ replies.old.items ++ out) × ((sessions : ℕ) (items : List Item)
             → Gathers sessions (vec_len databases.old) self.old.waiting.items self.old.parts.items items → HaveCleanDisks S.Store databases.new.items
             → LinesServed sessions (states_of databases.old.items) totals.old.items (map (λ item. item.bytes) items) out (states_of databases.new.items) totals.new.items) }
+        ensures ran { (out : List ℕ) × (replies.new.items ≡ replies.old.items ++ out) × ((sessions : ℕ) (items : List Item)
+            → Gathers sessions (vec_len databases.old) self.old.waiting.items self.old.parts.items items
+            → LinesRan S.Store sessions databases.old.items (map (λ item. item.bytes) items) out databases.new.items) }
         ensures empty { (sessions : ℕ) → Gathers sessions (vec_len databases.new) self.new.waiting.items self.new.parts.items [] }
         ensures grown { vec_len replies.new ≤ vec_len replies.old + MAX_SHORT * vec_len self.old.waiting }
         ensures capacity { vec_capacity replies.old ≤ vec_capacity replies.new }

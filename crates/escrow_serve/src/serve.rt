@@ -8,6 +8,7 @@ ghost use Rattle.escrow_num.specs.declared.session.TheConstants.Session.{MAX_SHA
 ghost use Rattle.escrow_serve.specs.Batch.{Gathers, GathersLines, HasRoom, TakesLines};
 ghost use Rattle.escrow_serve.specs.Left.{LeavesItsRows};
 ghost use Rattle.escrow_serve.specs.Output.{states_of, HaveCleanDisks, ServesAll, ServesWhole, StopsWithin};
+ghost use Rattle.escrow_serve.specs.Ran.{LeftBy, LineRan, LinesRan, ScriptRan};
 ghost use Rattle.escrow_serve.specs.Totals.{LineServed, LinesServed};
 
 use crate::alone::serve_task;
@@ -64,6 +65,11 @@ pub fn serve_script<S: Alter, R: Read, W: Write>(
     // However the call ends, a crash leaves exactly the tables and rows of the states after it, in
     // each store that can be used.
     ensures on_disk { AllByRecursion (LeavesItsRows S.Store) databases.new.items }
+
+    // However the call ends, each database by itself served what its lines gave it, if its own disk
+    // returned what was written. After a crash no write that was answered is missing, also if a
+    // fault has shut the store.
+    ensures ran { IfSome (R.remaining reader.old) (λ script. ScriptRan S.Store MAX_SHARED script databases.old.items databases.new.items (W.contents writer.old) (W.contents writer.new) (LeftBy result)) }
 {
     let served = serve_from(
         alloc,
@@ -107,6 +113,11 @@ pub fn serve_lines<S: Alter, R: Read, W: Write>(
     // However the call ends, a crash leaves exactly the tables and rows of the states after it, in
     // each store that can be used.
     ensures on_disk { AllByRecursion (LeavesItsRows S.Store) databases.new.items }
+
+    // However the call ends, each database by itself served what its lines gave it, if its own disk
+    // returned what was written. After a crash no write that was answered is missing, also if a
+    // fault has shut the store.
+    ensures ran { IfSome (R.remaining reader.old) (λ script. ScriptRan S.Store sessions script databases.old.items databases.new.items (W.contents writer.old) (W.contents writer.new) (LeftBy result)) }
 {
     let served = serve_from(alloc, Limit::Stream, sessions, databases, reader, writer);
     see_left(databases.as_slice());
@@ -129,6 +140,7 @@ fn serve_from<S: Alter, R: Read, W: Write>(
     ensures fault { HaveCleanDisks S.Store databases.new.items → IfErr result (λ fault. IfSome (R.remaining reader.old) (λ script.
         StopsWithin sessions fault script (states_of databases.old.items) (states_of databases.new.items) (W.contents writer.old) (W.contents writer.new))) }
     ensures clean { HaveCleanDisks S.Store databases.new.items → HaveCleanDisks S.Store databases.old.items }
+    ensures ran { IfSome (R.remaining reader.old) (λ script. ScriptRan S.Store sessions script databases.old.items databases.new.items (W.contents writer.old) (W.contents writer.new) (LeftBy result)) }
 {
     let mut script = Script::up_to(alloc, limit)?;
     let mut totals = Totals::of_databases(alloc, databases.len())?;
@@ -217,6 +229,11 @@ fn serve_in_hand<S: Alter>(
         × (length lines + length script.new.unread ≤ length script.old.unread)
         × (replies.new.items ≡ replies.old.items ++ out) × (HaveCleanDisks S.Store databases.new.items →
         LinesServed sessions (states_of databases.old.items) totals.old.items (script.old.line.items ∷ lines) out (states_of databases.new.items) totals.new.items) }
+    ensures ran { (lines : List (List ℕ)) × (out : List ℕ)
+        × ((rem : Option (List ℕ)) → TakesLines lines (left script.old.unread rem) (left script.new.unread rem))
+        × (length lines + length script.new.unread ≤ length script.old.unread)
+        × (replies.new.items ≡ replies.old.items ++ out)
+        × LinesRan S.Store sessions databases.old.items (script.old.line.items ∷ lines) out databases.new.items }
     ensures short { length script.old.line.items ≤ MAX_LINE + 1 }
     ensures empty { Gathers sessions (vec_len databases.new) batch.new.waiting.items batch.new.parts.items [] }
     ensures bytes { script.new.bytes_left ≡ script.old.bytes_left }
@@ -251,6 +268,7 @@ fn serve_line<S: Alter>(
     requires room { vec_len replies.old + MAX_SHORT ≤ vec_capacity replies.old }
     ensures served { (out : List ℕ) × (replies.new.items ≡ replies.old.items ++ out) × (HaveCleanDisks S.Store databases.new.items →
         LineServed sessions (states_of databases.old.items) totals.old.items line.now out (states_of databases.new.items) totals.new.items) }
+    ensures ran { (out : List ℕ) × (replies.new.items ≡ replies.old.items ++ out) × LineRan S.Store sessions databases.old.items line.now out databases.new.items }
     ensures len { vec_len databases.new ≡ vec_len databases.old }
     ensures each { vec_len totals.new ≡ vec_len totals.old }
     ensures clean { HaveCleanDisks S.Store databases.new.items → HaveCleanDisks S.Store databases.old.items }

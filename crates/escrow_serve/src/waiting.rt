@@ -1,8 +1,10 @@
-ghost use Rattle.std.specs.Prelude.{◌≡◌, ◌≤◌, ◌+◌, ◌*◌, ◌++◌, ◌∷◌, List, ℕ, length, map, vec_len, vec_capacity};
+ghost use Rattle.std.specs.Prelude.{◌≡◌, ◌≤◌, ◌+◌, ◌*◌, ◌++◌, ◌∷◌, [], List, ℕ, length, map, vec_len, vec_capacity};
 ghost use Rattle.std.specs.List.{AllByRecursion};
 ghost use Rattle.escrow_machine.specs.State.{State};
-ghost use Rattle.escrow_serve.specs.Batch.{waiting_of, AreAsked, IsItem, IsWithin, Item, Runs};
+ghost use Rattle.escrow_reply.specs.Text.{rendered};
+ghost use Rattle.escrow_serve.specs.Batch.{waiting_of, AreAsked, AreReady, Gave, IsItem, IsWithin, Item, Runs};
 ghost use Rattle.escrow_serve.specs.Output.{Answers};
+ghost use Rattle.escrow_serve.specs.Shown.{IsShown};
 ghost use Rattle.escrow_serve.specs.Totals.{LineServed, LinesServed, TextServed};
 
 use crate::part::Part;
@@ -47,6 +49,8 @@ pub(crate) fn give_all(
         × ((sessions : ℕ) (states new : List State) (items : List Item) → waiting.now ≡ map (λ item. waiting_of item.task) items
         → AllByRecursion (IsItem sessions (vec_len parts.old)) items → Runs states new items parts.old.items
         → LinesServed sessions states totals.old.items (map (λ item. item.bytes) items) out new totals.new.items) }
+    ensures gave { (out : List ℕ) × (replies.new.items ≡ replies.old.items ++ out) × ((sessions : ℕ) (items : List Item) → waiting.now ≡ map (λ item. waiting_of item.task) items
+        → AllByRecursion (IsItem sessions (vec_len parts.old)) items → AreReady parts.old.items items → Gave sessions (vec_len parts.old) items out parts.old.items parts.new.items × AreReady parts.new.items []) }
     ensures len { vec_len replies.new ≤ vec_len replies.old + MAX_SHORT * length waiting.now }
     ensures capacity { vec_capacity replies.old ≤ vec_capacity replies.new }
     ensures each { vec_len totals.new ≡ vec_len totals.old }
@@ -68,6 +72,9 @@ fn give(waiting: Waiting, parts: &mut Vec<Part>, totals: &mut Vec<Totals>, repli
         × ((sessions : ℕ) (states new : List State) (item : Item) (items : List Item) → waiting ≡ waiting_of item.task → IsItem sessions (vec_len parts.old) item
         → Runs states new (item ∷ items) parts.old.items
         → (mid : List State) × LineServed sessions states totals.old.items item.bytes out mid totals.new.items × Runs mid new items parts.new.items) }
+    ensures gave { (out : List ℕ) × (replies.new.items ≡ replies.old.items ++ out) × ((sessions : ℕ) (item : Item) (items : List Item) → waiting ≡ waiting_of item.task
+        → IsItem sessions (vec_len parts.old) item → AreReady parts.old.items (item ∷ items)
+        → Gave sessions (vec_len parts.old) (item ∷ []) out parts.old.items parts.new.items × AreReady parts.new.items items) }
     ensures len { vec_len replies.new ≤ vec_len replies.old + MAX_SHORT }
     ensures capacity { vec_capacity replies.old ≤ vec_capacity replies.new }
     ensures each { vec_len totals.new ≡ vec_len totals.old }
@@ -119,6 +126,7 @@ pub(crate) fn give_short(
     requires room { vec_len replies.old + MAX_SHORT ≤ vec_capacity replies.old }
     ensures given { (out : List ℕ) × (replies.new.items ≡ replies.old.items ++ out) × ((old new : State) (text : List ℕ) →
         Answers old session text reply.now new → TextServed name.now old totals.old session text out new totals.new) }
+    ensures shown { (answer : Reply) × (replies.new.items ≡ replies.old.items ++ rendered name.now session answer) × IsShown reply.now answer }
     ensures len { vec_len replies.new ≤ vec_len replies.old + MAX_SHORT }
     ensures capacity { vec_capacity replies.old ≤ vec_capacity replies.new }
 {

@@ -1,11 +1,11 @@
-use Rattle.std.proofs.Common.{◌≡◌, ◌≤◌, ◌<◌, ℕ, List, [], length, arith, rules, refl, subst, ◌∙◌, sym, vec_len}
+use Rattle.std.proofs.Common.{◌≡◌, ◌≤◌, ◌<◌, ◌∷◌, ℕ, List, [], length, arith, rules, refl, subst, ◌∙◌, sym, ap, ap₂, inl, inr, vec_len}
 use Rattle.std.proofs.lemmas.List.{append-nil, length-map}
 use Rattle.std.proofs.lemmas.Option.{slice_get_read}
 use Rattle.sqlite.specs.Held.{state}
 use Rattle.sqlite.specs.State.{HasCleanDisk}
-use Rattle.escrow_reply.specs.Text.{rendered_whole}
+use Rattle.escrow_reply.specs.Text.{rendered, rendered_whole}
 use Rattle.escrow_reply.specs.declared.short.TheConstants.{MAX_FRONT}
-use Rattle.escrow_script.specs.Line.{Reads, database_name, no_line, statement}
+use Rattle.escrow_script.specs.Line.{Reads, database_name, no_line, restart, statement}
 use Rattle.escrow_script.specs.declared.limits.TheConstants.{MAX_DATABASES}
 use Rattle.escrow_script.specs.Written.{no_line_text}
 use Rattle.escrow_script.proofs.LineLemmas.{names_one, restarts_one}
@@ -17,6 +17,15 @@ use Rattle.escrow_serve.proofs.Elements.{all_after, all_back}
 use Rattle.escrow_serve.proofs.GiveLemmas.{refused_line}
 use Rattle.escrow_serve.proofs.ServeLemmas.{name_short, nothing_served, restarts_place, serves_place}
 use Rattle.escrow_serve.proofs.TotalsLemmas.{line_of_none, line_unchanged}
+use Rattle.escrow_num.specs.declared.refusal.Refusal.{Refusal}
+use Rattle.escrow_num.specs.declared.refusal.Refusal.TheVariants as refusal
+use Rattle.escrow_sql.specs.declared.fault.ParseFault.TheVariants as parse_fault
+use Rattle.escrow_machine.specs.declared.event.Event.TheVariants as event
+use Rattle.escrow_machine.specs.declared.reply.Reply.{Reply}
+use Rattle.escrow_machine.specs.declared.reply.Reply.TheVariants as reply
+use Rattle.escrow_stats.specs.Text.{rendered_totals}
+use Rattle.escrow_serve.proofs.LineRanLemmas.{each_none, each_one, nothing_ran}
+use Rattle.escrow_serve.proofs.ShownLemmas.{shown_refusal}
 use Rattle.escrow_serve.proofs.alone.serve_task.Goals as goal
 
 -- a task among this many databases
@@ -162,3 +171,119 @@ returns-in-Statistics-clause-served g c =
           (slice_get_read totals.items (vec_len databases) place c.index_mut-in-Statistics.result.now (sym (sym totals.ok.0 ∙ c.requires.each)) within c.index_mut-in-Statistics.ensures.value)
           c.database_name-name-in-Statistics.ensures (λ kept. served.2 kept reads.0 reads.2),
     )
+
+-- WHAT THE DATABASES DID
+
+pub returns-in-Nothing-clause-ran : goal.returns-in-Nothing-clause-ran
+returns-in-Nothing-clause-ran g c =
+    let databases = c.args.databases.now in (
+      [],
+      sym (append-nil c.args.replies.now.items),
+      λ sessions bytes is. nothing_ran g.S.Store sessions databases.items bytes (among sessions (vec_len databases) (length databases.items) bytes c.args.task task.Nothing databases.ok.0 c.in-Nothing.is is),
+    )
+
+pub returns-in-NoLine-clause-ran : goal.returns-in-NoLine-clause-ran
+returns-in-NoLine-clause-ran g c =
+    let databases = c.args.databases.now in (
+      no_line_text,
+      c.push_short_line.ensures.text,
+      λ sessions bytes is. (
+        no_line,
+        among sessions (vec_len databases) (length databases.items) bytes c.args.task task.NoLine databases.ok.0 c.in-NoLine.is is,
+        [],
+        (refl, refl),
+        each_none g.S.Store databases.items,
+      ),
+    )
+
+pub returns-in-Restart-clause-ran : goal.returns-in-Restart-clause-ran
+returns-in-Restart-clause-ran g c =
+    let databases = c.args.databases.now in
+    let place = c.in-Restart.database in
+    let answer = c.restart-reply.result in
+    let old = c.index_mut.result.now in (
+      rendered_whole c.database_name.result.now answer,
+      c.push_short_whole.ensures,
+      λ sessions bytes is.
+          let reads = among sessions (vec_len databases) (length databases.items) bytes c.args.task (task.Restart place) databases.ok.0 c.in-Restart.is is in
+          let within = restarts_one (length databases.items) sessions bytes place reads in
+          let found = slice_get_read databases.items (length databases.items) place old refl within c.index_mut.ensures.value in (
+            restart place,
+            reads,
+            record { place = place; happened = event.Restart; answer = answer } ∷ [],
+            (answer, refl, ap (λ (name : List ℕ). rendered_whole name answer) c.database_name.ensures),
+            each_one g.S.Store databases.items place event.Restart answer old c.restart-reply.new.database found c.restart-reply.ensures.ran,
+          ),
+    )
+
+pub returns-in-Refuse-clause-ran : goal.returns-in-Refuse-clause-ran
+returns-in-Refuse-clause-ran g c =
+    let databases = c.args.databases.now in
+    let at = c.in-Refuse in
+    let shown = c.give_short.ensures.shown in
+    let name = c.database_name-name.result.now in (
+      rendered name at.session shown.0,
+      shown.1,
+      λ sessions bytes is.
+          let asked = among sessions (vec_len databases) (length databases.items) bytes c.args.task (task.Refuse at.database at.session at.refusal) databases.ok.0 at.is is in
+          let given : shown.0 ≡ reply.Refused at.refusal = shown_refusal at.refusal shown.0 shown.2 in (
+            statement at.database at.session asked.0,
+            asked.2,
+            [],
+            inr (inl (asked.1, asked.3, refl, ap₂ (λ (n : List ℕ) (r : Reply). rendered n at.session r) c.database_name-name.ensures (given ∙ ap (λ (r : Refusal). reply.Refused r) asked.4))),
+            each_none g.S.Store databases.items,
+          ),
+    )
+
+pub returns-in-Statement-clause-ran : goal.returns-in-Statement-clause-ran
+returns-in-Statement-clause-ran g c =
+    let databases = c.args.databases.now in
+    let at = c.in-Statement in
+    let ran = c.serve_statement.ensures.ran in
+    let name = c.database_name-name-in-Statement.result.now in
+    let old = c.index_mut-in-Statement.result.now in (
+      rendered name at.session ran.0,
+      ran.1,
+      λ sessions bytes is.
+          let reads = among sessions (vec_len databases) (length databases.items) bytes c.args.task (task.Statement at.database at.session at.statement) databases.ok.0 at.is is in
+          let within = names_one (length databases.items) sessions bytes at.database at.session reads.0 reads.1 in
+          let found = slice_get_read databases.items (length databases.items) at.database old refl within c.index_mut-in-Statement.ensures.value in (
+            statement at.database at.session reads.0,
+            reads.1,
+            record { place = at.database; happened = event.Statement at.session at.statement; answer = ran.0 } ∷ [],
+            inl (at.statement, ran.0, reads.2, refl, ap (λ (n : List ℕ). rendered n at.session ran.0) c.database_name-name-in-Statement.ensures),
+            each_one g.S.Store databases.items at.database (event.Statement at.session at.statement) ran.0 old c.serve_statement.new.database found ran.2,
+          ),
+    )
+
+pub returns-in-Statistics-clause-ran : goal.returns-in-Statistics-clause-ran
+returns-in-Statistics-clause-ran g c =
+    let databases = c.args.databases.now in
+    let at = c.in-Statistics in
+    let name = c.database_name-name-in-Statistics in
+    let reads = λ (sessions : ℕ) (bytes : List ℕ) (is : IsTask sessions (vec_len databases) bytes c.args.task).
+    among sessions (vec_len databases) (length databases.items) bytes c.args.task (task.Statistics at.database at.session) databases.ok.0 at.is is in
+    elim c.show_totals.ensures.shown [
+      | inl totals ↦ (
+        rendered_totals name.result.now at.session totals.0,
+        totals.1,
+        λ sessions bytes is. let asked = reads sessions bytes is in (
+          statement at.database at.session asked.0,
+          asked.1,
+          [],
+          inr (inr (totals.0, asked.2, refl, ap (λ (n : List ℕ). rendered_totals n at.session totals.0) name.ensures)),
+          each_none g.S.Store databases.items,
+        ),
+      )
+      | inr refused ↦ (
+        rendered name.result.now at.session (reply.Refused refusal.Memory),
+        refused,
+        λ sessions bytes is. let asked = reads sessions bytes is in (
+          statement at.database at.session asked.0,
+          asked.1,
+          [],
+          inr (inl (parse_fault.Memory, tt, refl, ap (λ (n : List ℕ). rendered n at.session (reply.Refused refusal.Memory)) name.ensures)),
+          each_none g.S.Store databases.items,
+        ),
+      )
+    ]

@@ -1,4 +1,4 @@
-use Rattle.std.proofs.Common.{ℕ, List, ◌++◌, refl, ap, ◌∙◌}
+use Rattle.std.proofs.Common.{ℕ, List, ◌++◌, inl, inr, refl, ap, ◌∙◌}
 use Rattle.escrow_machine.specs.declared.reply.Reply.TheVariants as reply
 use Rattle.escrow_num.specs.declared.refusal.Refusal.TheVariants as refusal
 use Rattle.escrow_reply.specs.Text.{rendered}
@@ -14,6 +14,7 @@ returns-in-Ok c = record {
     c.in-Ok.ensures.ok,
     λ kept text asks. text_totals c.args.name.now kept kept c.args.totals.now c.args.session text c.of.result asks refl c.of.ensures,
   );
+  shown = inl (c.of.result, c.in-Ok.ensures.ok);
 }
 
 pub returns-in-Err : goal.returns-in-Err
@@ -26,4 +27,5 @@ returns-in-Err c =
         c.push_short.ensures.text ∙ ap (λ (gathered : List ℕ). gathered ++ rendered name c.args.session refused) c.in-Err.ensures.err,
         λ kept text asks. text_answered name kept kept c.args.totals.now c.count.new.self c.args.session text refused (refused_answers kept c.args.session text kept refl) c.count.ensures,
       );
+      shown = inr (c.push_short.ensures.text ∙ ap (λ (gathered : List ℕ). gathered ++ rendered name c.args.session refused) c.in-Err.ensures.err);
     }

@@ -1,4 +1,5 @@
-use Rattle.std.proofs.Common.{◌≡◌, ◌≤◌, ℕ, ◌+◌, ◌-◌, ◌^◌, Option, List, [], true, length, vec_len, arith, rules, ap, subst, refl, sym, ◌∙◌}
+use Rattle.std.specs.Prelude.{Ok}
+use Rattle.std.proofs.Common.{◌≡◌, ◌≤◌, ℕ, ◌+◌, ◌-◌, ◌^◌, Option, List, [], true, length, vec_len, arith, rules, subst, refl, sym, ◌∙◌}
 use Rattle.std.proofs.lemmas.Bool.{true≢false}
 use Rattle.escrow_script.specs.declared.fault.ServeFault.TheVariants as fault
 use Rattle.escrow_serve.specs.Output.{states_of}
@@ -7,6 +8,7 @@ use Rattle.escrow_serve.specs.Batch.{Gathers}
 use Rattle.escrow_script.proofs.OutcomeLemmas.{at_fault}
 use Rattle.escrow_script.proofs.TakenLemmas.{ended, read_without}
 use Rattle.escrow_script.proofs.WrittenLemmas.{leaves_some, nothing_waits}
+use Rattle.escrow_serve.proofs.ScriptRanLemmas.{Played, played_begun, played_turn, played_written, ran_to_end, ran_to_no_line, ran_to_write}
 use Rattle.escrow_serve.proofs.ServeLemmas.{Stands, Stood, most_bytes_fit, stands_begun, stands_written, stopped_at_start, stopped_writing, finished, still_ended, turn_of, turn_served}
 use Rattle.escrow_script.proofs.ScriptLemmas.{spends_more, spends_none}
 use Rattle.escrow_serve.proofs.serve.serve_from.Given.{Over}
@@ -37,6 +39,25 @@ served g c =
     c.loop-replies.replies.items c.take_line.new.replies.items out.1 c.serve_in_hand.new.replies.items
     (c.loop-replies.script.bytes_left + length c.loop-replies.script.unread) (script.bytes_left + length script.unread)
     turn next.unwritten next.gathered out.4 c.loop-replies.invariant.stands
+
+-- so does each database by itself
+played : (g : Over) (c : After-serve_in_hand g)
+    → Played c.args.sessions g.S.Store c.args.databases.now.items c.serve_in_hand.new.databases.items (g.R.Read.remaining c.args.reader.now)
+    (left c.serve_in_hand.new.script.unread (g.R.Read.remaining c.take_line.new.reader)) (g.W.Write.contents c.args.writer.now) (g.W.Write.contents c.take_line.new.writer)
+    c.serve_in_hand.new.replies.items
+played g c =
+    let next = c.in_ok-take_line.ensures in
+    let served = c.serve_in_hand.ensures in
+    let out = served.ran in
+    let taken = c.take_line.new.script in
+    let script = c.serve_in_hand.new.script in
+    let remaining = g.R.Read.remaining c.take_line.new.reader in
+    let count : length c.serve_in_hand.new.databases.items ≡ length c.loop-replies.databases.items = omega (arith, served.len, c.serve_in_hand.new.databases.ok.0, c.loop-replies.databases.ok.0) in
+    played_turn c.args.sessions g.S.Store c.in_ok-take_line.field-0 taken.line.items out.1 out.0 c.args.databases.now.items c.loop-replies.databases.items c.serve_in_hand.new.databases.items
+    (g.R.Read.remaining c.args.reader.now) (left c.loop-replies.script.unread (g.R.Read.remaining c.loop-replies.reader)) (left taken.unread remaining) (left script.unread remaining)
+    (g.W.Write.contents c.args.writer.now) (g.W.Write.contents c.loop-replies.writer) (g.W.Write.contents c.take_line.new.writer)
+    c.loop-replies.replies.items c.take_line.new.replies.items c.serve_in_hand.new.replies.items
+    c.if-branch.true served.short next.taken (out.2 remaining) out.5 count next.unwritten next.gathered out.4 c.loop-replies.invariant.played
 
 -- behind the script's end nothing is left after it
 over : (g : Over) (c : After-serve_in_hand g) → c.serve_in_hand.new.script.has_ended ≡ true
@@ -82,6 +103,7 @@ loop-replies-init g c =
       empty = subst (λ (n : ℕ). Gathers c.args.sessions n c.in_ok-batch.batch.waiting.items c.in_ok-batch.batch.parts.items []) c.len-2.ensures (c.in_ok-batch.ensures c.args.sessions);
       stands = stands_begun c.args.sessions g.S.Store c.args.databases.now.items c.in_ok-totals.totals.items (g.R.Read.remaining c.args.reader.now) (g.W.Write.contents c.args.writer.now) c.in_ok-script.script.unread c.new-replies.result.items
           c.in_ok-script.script.bytes_left (omega (arith, count, totals.ok.0, c.in_ok-totals.ensures.len, c.args.databases.now.ok.0)) c.in_ok-totals.ensures.none made.0 c.new-replies.ensures.items within;
+      played = played_begun c.args.sessions g.S.Store c.args.databases.now.items bytes (g.W.Write.contents c.args.writer.now) c.in_ok-script.script.unread c.new-replies.result.items made.0 c.new-replies.ensures.items;
       waits = λ _. c.new-replies.ensures.items;
       ended = λ over. absurd (true≢false (sym over ∙ made.2));
       spent = subst (λ (n : ℕ). Spends bytes bytes (most_bytes c.args.limit) n) (sym made.1) (spends_none bytes (most_bytes c.args.limit));
@@ -119,6 +141,9 @@ loop-replies-preserved-in-loop-replies g c =
       stands = stands_written c.args.sessions g.S.Store c.args.databases.now.items c.serve_in_hand.new.databases.items c.serve_in_hand.new.totals.items (g.R.Read.remaining c.args.reader.now) _
           (g.W.Write.contents c.args.writer.now) (g.W.Write.contents c.take_line.new.writer) (g.W.Write.contents c.write_gathered.new.writer) c.serve_in_hand.new.replies.items c.write_gathered.new.replies.items
           (script.bytes_left + length script.unread) (served g (goal.at.loop-replies-preserved-in-loop-replies g c).After-serve_in_hand) wrote.ok wrote.none;
+      played = played_written c.args.sessions g.S.Store c.args.databases.now.items c.serve_in_hand.new.databases.items (g.R.Read.remaining c.args.reader.now) _
+          (g.W.Write.contents c.args.writer.now) (g.W.Write.contents c.take_line.new.writer) (g.W.Write.contents c.write_gathered.new.writer) c.serve_in_hand.new.replies.items c.write_gathered.new.replies.items
+          (played g (goal.at.loop-replies-preserved-in-loop-replies g c).After-serve_in_hand) wrote.ok wrote.none;
       waits = λ _. wrote.none;
       empty = turn.empty;
       ended = over g (goal.at.loop-replies-preserved-in-loop-replies g c).After-serve_in_hand;
@@ -133,6 +158,7 @@ loop-replies-preserved g c =
       count = turn.len ∙ c.loop-replies.invariant.count;
       each = turn.each ∙ c.loop-replies.invariant.each ∙ sym turn.len;
       stands = served g (goal.at.loop-replies-preserved g c).After-serve_in_hand;
+      played = played g (goal.at.loop-replies-preserved g c).After-serve_in_hand;
       waits = λ none. absurd (read_without c.has_line.result (has_line script.reads_left script.unread) c.has_line.ensures c.if-not-has_line.false none);
       empty = turn.empty;
       ended = over g (goal.at.loop-replies-preserved g c).After-serve_in_hand;
@@ -160,3 +186,39 @@ returns-clause-end g c =
     let next = c.in_ok-take_line.ensures in
     ended _ _ _ c.in_ok-take_line.field-0 c.loop-replies.script.unread c.take_line.new.script.line.items c.take_line.new.script.unread (most_bytes c.args.limit) c.loop-replies.script.bytes_left
     c.if-branch.false c.loop-replies.invariant.spent next.taken
+
+pub returns-in_err-script-clause-ran : goal.returns-in_err-script-clause-ran
+returns-in_err-script-clause-ran g c =
+    ran_to_no_line c.args.sessions g.S.Store c.args.databases.now.items (g.R.Read.remaining c.args.reader.now) (g.W.Write.contents c.args.writer.now) c.from_residual.result fault.Memory c.from_residual.ensures.1 refl
+
+pub returns-in_err-totals-clause-ran : goal.returns-in_err-totals-clause-ran
+returns-in_err-totals-clause-ran g c =
+    ran_to_no_line c.args.sessions g.S.Store c.args.databases.now.items (g.R.Read.remaining c.args.reader.now) (g.W.Write.contents c.args.writer.now) c.from_residual-in_err-totals.result fault.Memory c.from_residual-in_err-totals.ensures.1 refl
+
+pub returns-in_err-batch-clause-ran : goal.returns-in_err-batch-clause-ran
+returns-in_err-batch-clause-ran g c =
+    ran_to_no_line c.args.sessions g.S.Store c.args.databases.now.items (g.R.Read.remaining c.args.reader.now) (g.W.Write.contents c.args.writer.now) c.from_residual-in_err-batch.result fault.Memory c.from_residual-in_err-batch.ensures.1 refl
+
+pub returns-in_err-take_line-clause-ran : goal.returns-in_err-take_line-clause-ran
+returns-in_err-take_line-clause-ran g c =
+    let wrote = c.in_err-take_line.ensures.fault in
+    ran_to_write c.args.sessions g.S.Store c.args.databases.now.items c.loop-replies.databases.items (g.R.Read.remaining c.args.reader.now) _
+    (g.W.Write.contents c.args.writer.now) (g.W.Write.contents c.loop-replies.writer) (g.W.Write.contents c.take_line.new.writer) c.loop-replies.replies.items wrote.0
+    c.from_residual-in_err-take_line.result c.in_err-take_line.field-0.0 c.from_residual-in_err-take_line.ensures.1 wrote.2 c.loop-replies.invariant.played wrote.1
+
+pub returns-in_err-write_gathered-clause-ran : goal.returns-in_err-write_gathered-clause-ran
+returns-in_err-write_gathered-clause-ran g c =
+    let wrote = c.in_err-write_gathered.ensures in
+    ran_to_write c.args.sessions g.S.Store c.args.databases.now.items c.serve_in_hand.new.databases.items (g.R.Read.remaining c.args.reader.now) _
+    (g.W.Write.contents c.args.writer.now) (g.W.Write.contents c.take_line.new.writer) (g.W.Write.contents c.write_gathered.new.writer) c.serve_in_hand.new.replies.items wrote.err.0
+    c.from_residual-in_err-write_gathered.result c.in_err-write_gathered.field-0.0 c.from_residual-in_err-write_gathered.ensures.1
+    (leaves_some c.in_err-write_gathered.field-0.0 c.serve_in_hand.new.replies.items wrote.err.0 wrote.kind wrote.err.1) (played g (goal.at.returns-in_err-write_gathered-clause-ran g c).After-serve_in_hand) wrote.err.2
+
+pub returns-clause-ran : goal.returns-clause-ran
+returns-clause-ran g c =
+    let next = c.in_ok-take_line.ensures in
+    let none = nothing_waits c.in_ok-take_line.field-0 (has_line c.loop-replies.script.reads_left c.loop-replies.script.unread) c.loop-replies.replies.items c.if-branch.false next.in_hand c.loop-replies.invariant.waits in
+    ran_to_end c.args.sessions g.S.Store c.args.databases.now.items c.loop-replies.databases.items (g.R.Read.remaining c.args.reader.now)
+    (left c.loop-replies.script.unread (g.R.Read.remaining c.loop-replies.reader)) (left c.take_line.new.script.unread (g.R.Read.remaining c.take_line.new.reader))
+    (g.W.Write.contents c.args.writer.now) (g.W.Write.contents c.loop-replies.writer) (g.W.Write.contents c.take_line.new.writer)
+    c.in_ok-take_line.field-0 c.take_line.new.script.line.items c.loop-replies.replies.items (Ok tt) refl c.if-branch.false next.taken none next.unwritten c.loop-replies.invariant.played

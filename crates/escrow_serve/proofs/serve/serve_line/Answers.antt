@@ -9,3 +9,8 @@ pub returns-clause-served : goal.returns-clause-served
 returns-clause-served g c =
     let one = c.serve_task.ensures.served in
     (one.0, one.1, λ used. one.2 used c.args.sessions c.args.line.now (subst (λ (n : ℕ). IsTask c.args.sessions n c.args.line.now c.read_task-task.result) c.len.ensures c.read_task-task.ensures))
+
+pub returns-clause-ran : goal.returns-clause-ran
+returns-clause-ran g c =
+    let one = c.serve_task.ensures.ran in
+    (one.0, one.1, one.2 c.args.sessions c.args.line.now (subst (λ (n : ℕ). IsTask c.args.sessions n c.args.line.now c.read_task-task.result) c.len.ensures c.read_task-task.ensures))

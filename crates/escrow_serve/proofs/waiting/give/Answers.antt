@@ -1,5 +1,7 @@
-use Rattle.std.proofs.Common.{◌≤◌, ◌<◌, ℕ, List, [], arith, sym, ap, subst, ◌∙◌, length, vec_len}
-use Rattle.std.specs.Prelude.{slice_set}
+use Rattle.std.proofs.Common.{◌≡◌, ◌≤◌, ◌<◌, ℕ, List, [], arith, sym, ap, subst, ◌∙◌, length, vec_len}
+use Rattle.std.specs.Prelude.{slice_get, slice_set, Some}
+use Rattle.escrow_reply.specs.Text.{rendered}
+use Rattle.escrow_serve.proofs.GaveLemmas.{Gaves, gave_asked, gave_no_line, gave_none, gave_nothing, gave_refused}
 use Rattle.std.proofs.lemmas.List.{append-nil}
 use Rattle.std.proofs.lemmas.Option.{slice_get_read}
 use Rattle.escrow_reply.specs.declared.short.TheConstants.{MAX_FRONT}
@@ -97,3 +99,67 @@ returns-in-None-clause-given c =
 
 pub returns-in-None-clause-asked : goal.returns-in-None-clause-asked
 returns-in-None-clause-asked c = asked (goal.at.returns-in-None-clause-asked c).After-next
+
+-- WHAT WAS GIVEN
+
+pub returns-in-Nothing-clause-gave : goal.returns-in-Nothing-clause-gave
+returns-in-Nothing-clause-gave c =
+    let parts = c.args.parts.now in (
+      [],
+      sym (append-nil c.args.replies.now.items),
+      λ sessions. subst (λ (w : Waiting). Gaves sessions (vec_len parts) w [] parts.items parts.items) (sym c.in-Nothing.is) (gave_nothing sessions (vec_len parts) parts.items),
+    )
+
+pub returns-in-NoLine-clause-gave : goal.returns-in-NoLine-clause-gave
+returns-in-NoLine-clause-gave c =
+    let parts = c.args.parts.now in (
+      no_line_text,
+      c.push_short_line.ensures.text,
+      λ sessions. subst (λ (w : Waiting). Gaves sessions (vec_len parts) w no_line_text parts.items parts.items) (sym c.in-NoLine.is) (gave_no_line sessions (vec_len parts) parts.items),
+    )
+
+pub returns-in-Refused-clause-gave : goal.returns-in-Refused-clause-gave
+returns-in-Refused-clause-gave c =
+    let parts = c.args.parts.now in
+    let at = c.in-Refused in
+    let shown = c.give_short.ensures.shown in
+    let name = c.database_name.result.now in
+    let out = rendered name at.session shown.0 in (
+      out,
+      shown.1,
+      λ sessions. subst (λ (w : Waiting). Gaves sessions (vec_len parts) w out parts.items parts.items) (sym at.is)
+          (gave_refused sessions (vec_len parts) parts.items at.database at.session at.refusal name shown.0 c.database_name.ensures shown.2),
+    )
+
+-- the part of the database is there
+found : (c : After-next) → slice_get c.args.parts.now.items c.in-Asked.database ≡ Some c.index_mut-in-Asked.result.now
+found c =
+    let parts = c.args.parts.now in
+    let within : c.in-Asked.database < vec_len parts = subst (λ (w : Waiting). IsWithin (vec_len parts) w) c.in-Asked.is c.requires.within in
+    slice_get_read parts.items (vec_len parts) c.in-Asked.database c.index_mut-in-Asked.result.now parts.ok.0 within c.index_mut-in-Asked.ensures.value
+
+pub returns-in-Some-clause-gave : goal.returns-in-Some-clause-gave
+returns-in-Some-clause-gave c =
+    let parts = c.args.parts.now in
+    let at = c.in-Asked in
+    let shown = c.give_short-in-Some.ensures.shown in
+    let name = c.database_name-in-Some.result.now in
+    let left = c.next.new.self in
+    let out = rendered name at.session shown.0 in (
+      out,
+      shown.1,
+      λ sessions. subst (λ (w : Waiting). Gaves sessions (vec_len parts) w out parts.items (slice_set parts.items at.database left)) (sym at.is)
+          (gave_asked sessions (vec_len parts) parts.items at.database at.session name c.index_mut-in-Asked.result.now left c.in-Some.reply shown.0 (found (goal.at.returns-in-Some-clause-gave c).After-next)
+          c.in-Some.ensures.some c.database_name-in-Some.ensures shown.2),
+    )
+
+pub returns-in-None-clause-gave : goal.returns-in-None-clause-gave
+returns-in-None-clause-gave c =
+    let parts = c.args.parts.now in
+    let at = c.in-Asked in
+    let lefts = slice_set parts.items at.database c.next.new.self in (
+      [],
+      sym (append-nil c.args.replies.now.items),
+      λ sessions. subst (λ (w : Waiting). Gaves sessions (vec_len parts) w [] parts.items lefts) (sym at.is)
+          (gave_none sessions (vec_len parts) parts.items lefts at.database at.session [] c.index_mut-in-Asked.result.now (found (goal.at.returns-in-None-clause-gave c).After-next) c.in-None.ensures.none),
+    )

@@ -3,7 +3,8 @@ use Rattle.std.specs.Prelude.{vec_capacity}
 use Rattle.std.specs.List.{AllByRecursion}
 use Rattle.escrow_machine.specs.State.{State}
 use Rattle.escrow_reply.specs.declared.short.TheConstants.{MAX_SHORT}
-use Rattle.escrow_serve.specs.Batch.{waiting_of, AreAsked, IsItem, Item, Runs}
+use Rattle.escrow_serve.specs.Batch.{waiting_of, AreAsked, AreReady, IsItem, Item, Runs}
+use Rattle.escrow_serve.proofs.GaveLemmas.{GaveSome}
 use Rattle.escrow_serve.proofs.GiveLemmas.{Given}
 use Rattle.escrow_serve.proofs.waiting.give_all.Given as goal
 
@@ -18,4 +19,7 @@ invariant-loop-waits l = record {
   given : (out : List ℕ) × (l.replies.items ≡ l.fn.replies.items ++ out) × ((sessions : ℕ) (states new : List State) (items : List Item) → l.waiting ≡ map (λ item. waiting_of item.task) items
       → AllByRecursion (IsItem sessions (vec_len l.fn.parts)) items → Runs states new items l.fn.parts.items
       → Given sessions (vec_len l.fn.parts) states new l.fn.totals.items l.totals.items items (drop l.waits-index l.waiting) l.parts.items out);
+  gave : (out : List ℕ) × (l.replies.items ≡ l.fn.replies.items ++ out) × ((sessions : ℕ) (items : List Item) → l.waiting ≡ map (λ item. waiting_of item.task) items
+      → AllByRecursion (IsItem sessions (vec_len l.fn.parts)) items → AreReady l.fn.parts.items items
+      → GaveSome sessions (vec_len l.fn.parts) items (drop l.waits-index l.waiting) l.fn.parts.items l.parts.items out);
 }
