@@ -41,12 +41,14 @@ pub record Stays {S : Type 0} (g : Ghosts S) (old new : Audited S) : Type 0 wher
   pub unchanged : HasCleanDisk (state g new.store) → new.state ≡ old.state
 
 -- A statement needs nothing but an entry: it is served however little memory there is and whatever the store does, and
--- a copy of it takes no memory. These are ROLLBACK, ROLLBACK TO, and COMMIT of a session that holds no reservation.
+-- a copy of it takes no memory. These are ROLLBACK, ROLLBACK TO, and COMMIT of a session that holds no reservation; and
+-- any statement without lists and texts whose refusal needs neither memory nor the store, as 21 to DROP TABLE.
 abbrev pub NeedsAnEntry : State → ℕ → Statement → Type 0
 NeedsAnEntry s session asked = IsTrue (is_promised s session asked) × (holds_memory asked ≡ false)
 
--- A statement that the store can't refuse, whatever it does: one that isn't answered from rows, as ROLLBACK, ROLLBACK TO,
--- SAVEPOINT, and a COMMIT of a session that holds no reservation; or one whose reply needs neither memory nor the store.
+-- A statement that the store can't refuse, whatever it does: one that isn't answered from rows, which are ROLLBACK,
+-- ROLLBACK TO, SAVEPOINT, SHOW TABLE, SHOW JOURNAL, and a COMMIT of a session that holds no reservation; or one whose
+-- refusal needs neither memory nor the store.
 abbrev pub IsApart : State → ℕ → Statement → Type 0
 IsApart s session asked = (reads_rows s session asked ≡ false) ⊎ IsTrue (is_promised s session asked)
 

@@ -60,7 +60,7 @@ impl<S: Alter> Audited<S> {
     ghost use Rattle.escrow_transcript.specs.Legal.{IsLegal};
     ghost use Rattle.escrow_machine.specs.Step.{may_fail};
     ghost use Rattle.escrow_history.specs.Calls.{Appends, Stays, IsApart, NeedsAnEntry, IsNoRoom, IsNotBegun, IsNotDrained};
-    ghost use Rattle.escrow_history.specs.Commits.{Commits};
+    ghost use Rattle.escrow_history.specs.Commits.{commits_of, Commits};
     ghost use Rattle.escrow_history.specs.Audited.{IsKept};
 
     /// Makes a transcript for a database. It begins at what the database holds, and at the first
@@ -150,7 +150,7 @@ impl<S: Alter> Audited<S> {
     }
 
     /// Returns for how many more entries room was taken: 0 to 65,536. This many statements are
-    /// served if they need nothing but room for an entry: ROLLBACK, ROLLBACK TO, and COMMIT of a
+    /// served if they need nothing but room for an entry, as ROLLBACK, ROLLBACK TO, and COMMIT of a
     /// session that holds no reservation. Others may fail, since they need more.
     pub fn room(&self) -> u32
         ensures { result ≡ self.now.room }
@@ -244,7 +244,8 @@ impl<S: Alter> Audited<S> {
     /// Serves COMMITs of sessions, one after another, as one write of the store if it can. Each
     /// that is served adds its entry to the transcript. Returns for each session whether its COMMIT
     /// was served. One that wasn't left the state as it was, and its session held a reservation.
-    /// Takes room for the entries before it asks the database.
+    /// Takes room for the entries before it asks the database. Each new entry uses at most one place
+    /// of the room.
     ///
     /// # Errors
     ///
@@ -260,6 +261,7 @@ impl<S: Alter> Audited<S> {
         ensures unserved { OnErr result (Stays S.Store self.old self.new) }
         ensures full { IsErrOf result Unserved.Full ↔ (MAX_ENTRIES < length self.old.entries + length sessions.now) }
         ensures apart { ¬ (IsErrOf result (Unserved.Failed Failure.Store)) }
+        ensures room { MatchResult result (λ outcomes. self.old.room ≤ self.new.room + length (commits_of sessions.now outcomes.items)) (λ _. self.old.room ≤ self.new.room) }
         ensures clean { HasCleanDisk (state S.Store self.new.store) → HasCleanDisk (state S.Store self.old.store) }
     {
         if Transcript::MAX_ENTRIES - self.entries.len() < sessions.len() {

@@ -1,9 +1,12 @@
 -- The sessions whose COMMITs wait, place by place.
-use Rattle.std.proofs.Common.{◌≡◌, ℕ, ◌+◌, ◌<◌, List, [], ◌∷◌, ◌++◌, length, get_or, drop, refl, sym, ap, ◌∙◌, append_assoc}
-use Rattle.std.proofs.lemmas.List.{drop_more}
+use Rattle.std.specs.Prelude.{sum_by}
+use Rattle.std.proofs.Common.{◌≡◌, ℕ, ◌+◌, ◌<◌, ◌≤◌, min, Option, Some, None, IfNone, IfSome, Vec, vec_len, Global, List, [], ◌∷◌, ◌++◌, length, get_or, drop, inl, inr, refl, sym, ap, ◌∙◌, append_assoc, arith}
+use Rattle.std.proofs.lemmas.Bool.{cases_lt}
+use Rattle.std.proofs.lemmas.List.{drop_more, get_or_past}
+use Rattle.std.proofs.lemmas.List.Sums.{sum_by-cons}
 use Rattle.escrow_shards.specs.declared.commit_queue.CommitState.{CommitState}
 use Rattle.escrow_shards.specs.declared.commit_queue.CommitState.TheVariants as state
-use Rattle.escrow_shards.specs.CommitQueue.{asking}
+use Rattle.escrow_shards.specs.CommitQueue.{asking, waits_in, NoneWaits, NoneWaitsIn}
 
 waits_first : (before : ℕ) (here : CommitState) (places : List CommitState) → here ≡ state.Asked → asking before (here ∷ places) ≡ (before + 1) ∷ asking (before + 1) places
 waits_first before here places asked = ap (λ (s : CommitState). asking before (s ∷ places)) asked
@@ -34,3 +37,52 @@ next_does_not_wait places before taken now all below is not all_is =
     ∙ ap (λ (ks : List ℕ). taken ++ ks)
     (sym (ap (asking before) (drop_more places before state.Free below) ∙ waits_later before (get_or places before state.Free) (drop (before + 1) places) not))
     ∙ all_is
+
+-- none waits in the later places, nor in the earlier ones
+pub none_in_either : {S : Type 0} (next : Option S) (places : List CommitState) (own most end : ℕ) → length places ≤ most → end ≡ min own most → NoneWaitsIn own most places → IfNone next (NoneWaitsIn 0 end places)
+    → IfNone next (NoneWaits places)
+none_in_either (Some s) places own most end count least later earlier = tt
+none_in_either None places own most end count least later earlier = λ before asked.
+    elim (cases_lt before most) [
+      | inr past ↦ let free = get_or_past places before state.Free (omega (arith, count, past)) in absurd (cc)
+      | inl within ↦ elim (cases_lt before own) [
+        | inl below ↦ earlier before (omega arith) (omega (arith, least, below, within)) asked
+        | inr from ↦ later before (omega (arith, from)) within asked
+      ]
+    ]
+
+-- no more COMMITs wait than there are places
+waits_once : (here : CommitState) → waits_in here ≤ 1
+waits_once state.Free = omega arith
+waits_once state.Asked = omega arith
+waits_once state.Leads = omega arith
+waits_once (state.Answered outcome) = omega arith
+
+pub few_wait : (places : List CommitState) → sum_by waits_in places ≤ length places
+few_wait [] = omega arith
+few_wait (here ∷ places) =
+    let more = sum_by-cons waits_in here places in
+    let one = waits_once here in
+    let rest = few_wait places in
+    omega (arith, more, one, rest)
+
+-- those that wait are as many as are counted
+pub asking_counts : (before : ℕ) (places : List CommitState) → length (asking before places) ≡ sum_by waits_in places
+asking_counts before [] = refl
+asking_counts before (state.Free ∷ places) =
+    let more = sum_by-cons waits_in state.Free places in let rest = asking_counts (before + 1) places in omega (arith, more, rest)
+asking_counts before (state.Asked ∷ places) =
+    let more = sum_by-cons waits_in state.Asked places in let rest = asking_counts (before + 1) places in omega (arith, more, rest)
+asking_counts before (state.Leads ∷ places) =
+    let more = sum_by-cons waits_in state.Leads places in let rest = asking_counts (before + 1) places in omega (arith, more, rest)
+asking_counts before (state.Answered outcome ∷ places) =
+    let more = sum_by-cons waits_in (state.Answered outcome) places in let rest = asking_counts (before + 1) places in omega (arith, more, rest)
+
+-- one comes first, and at least one waits
+pub two_or_more : (sessions : Option (Vec ℕ Global)) (first : ℕ) (places : List CommitState) (waiting : ℕ) → 1 ≤ waiting → waiting ≡ sum_by waits_in places
+    → IfSome sessions (λ v. v.items ≡ first ∷ asking 0 places) → IfSome sessions (λ v. 2 ≤ vec_len v)
+two_or_more None first places waiting some counted all = tt
+two_or_more (Some v) first places waiting some counted all =
+    let counts = asking_counts 0 places in
+    let long = ap length all in
+    omega (arith, v.ok.0, long, counts, some, counted)

@@ -1,5 +1,5 @@
 -- Helps: the places of COMMITs that wait while another one is served.
-use Rattle.std.specs.Prelude.{◌≡◌, ◌⊎◌, ℕ, ◌+◌, ◌-◌, ◌≤◌, Result, IfOk, List, [], ◌∷◌, length, get_or, slice_set}
+use Rattle.std.specs.Prelude.{◌≡◌, ◌⊎◌, ℕ, ◌+◌, ◌-◌, ◌<◌, ◌≤◌, Result, IfOk, List, [], ◌∷◌, length, get_or, slice_set, sum_by}
 use Rattle.escrow_num.specs.declared.failure.Failure.{Failure}
 use Rattle.escrow_history.specs.declared.committed.Committed.{Committed}
 use Rattle.escrow_shards.specs.declared.commit_queue.CommitState.{CommitState}
@@ -16,19 +16,36 @@ at places session = get_or places (session - 1) place.Free
 abbrev pub with_place : List CommitState → ℕ → CommitState → List CommitState
 with_place places session new = slice_set places (session - 1) new
 
--- if a session's place has a COMMIT that was served, this one names the session
+-- a COMMIT that was served, in the place of a session, names this session
 abbrev pub IsPlaceOf : ℕ → CommitState → Type 0
 IsPlaceOf session (place.Answered outcome) = IfOk outcome (λ c. c.session ≡ session)
 IsPlaceOf session _ = Unit {0}
 
--- WHAT ALWAYS HOLDS. There is a place for each session, and each COMMIT that was served is in that of its session.
-pub record AreInPlaces (places : List CommitState) : Type 0 where
+-- one if a COMMIT waits in a place
+abbrev pub waits_in : CommitState → ℕ
+waits_in place.Free = 0
+waits_in place.Asked = 1
+waits_in place.Leads = 0
+waits_in (place.Answered outcome) = 0
+
+-- WHAT ALWAYS HOLDS. There is a place for each session, and each COMMIT that was served is in that of its session. Those
+-- that wait are counted.
+pub record AreInPlaces (places : List CommitState) (waiting : ℕ) : Type 0 where
   pub count : length places ≡ COUNT
+  pub counted : waiting ≡ sum_by waits_in places
   pub named : (session : ℕ) → 1 ≤ session → IsPlaceOf session (at places session)
 
--- the lead passes on: the call leads whose COMMIT waits in one of the places, or none does; the other places stay
+-- no COMMIT waits in these places: from one on, and before another one
+abbrev pub NoneWaitsIn : ℕ → ℕ → List CommitState → Type 0
+NoneWaitsIn from end places = (before : ℕ) → from ≤ before → before < end → ¬ (get_or places before place.Free ≡ place.Asked)
+
+-- no COMMIT waits
+abbrev pub NoneWaits : List CommitState → Type 0
+NoneWaits places = (before : ℕ) → ¬ (get_or places before place.Free ≡ place.Asked)
+
+-- the lead passes on: if COMMITs wait, the call of one of them leads, else none does; the other places stay
 abbrev pub IsPassedOn : List CommitState → List CommitState → Type 0
-IsPassedOn old new = (new ≡ old) ⊎ ((before : ℕ) × (get_or old before place.Free ≡ place.Asked) × (new ≡ slice_set old before place.Leads))
+IsPassedOn old new = ((new ≡ old) × NoneWaits old) ⊎ ((before : ℕ) × (get_or old before place.Free ≡ place.Asked) × (new ≡ slice_set old before place.Leads))
 
 -- if the COMMIT of a session was served, it names the session
 abbrev pub IsTurnOf : ℕ → Turn → Type 0

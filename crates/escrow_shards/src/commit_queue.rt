@@ -12,7 +12,7 @@ use std::marker::Model;
 #[derive(Drop)]
 pub(crate) struct CommitQueue {
     places: [CommitState; CommitQueue::COUNT],
-    // How many calls are in a place. If there are none, a COMMIT need not look into the places.
+    // How many COMMITs wait. If none does, a COMMIT need not look into the places.
     count: usize,
     is_led: bool,
 }
@@ -54,13 +54,14 @@ impl Model for CommitQueue {
 
     ghost view = { λ w. w.places };
 
-    ghost invariant = { λ w. AreInPlaces w.places };
+    ghost invariant = { λ w. AreInPlaces w.places w.count };
 }
 
 impl CommitQueue {
-    ghost use Rattle.std.specs.Prelude.{◌≡◌, ◌⊎◌, ◌∷◌, ◌↔◌, IfOk, IsTrue};
+    ghost use Rattle.std.specs.Prelude.{◌≡◌, ◌⊎◌, ◌∷◌, ◌↔◌, ◌≤◌, IfNone, IfOk, IfSome, IsTrue, vec_len};
+    ghost use Rattle.escrow_num.specs.declared.session.TheConstants.Session.{MAX_SHARED};
     ghost use Rattle.escrow_history.specs.Commits.{NameTheirs};
-    ghost use Rattle.escrow_shards.specs.CommitQueue.{answered, asking, at, turn_in, with_place, IsPassedOn, IsTurnOf};
+    ghost use Rattle.escrow_shards.specs.CommitQueue.{answered, asking, at, turn_in, with_place, IsPassedOn, IsPlaceOf, IsTurnOf, NoneWaits, NoneWaitsIn};
 
     /// The number of places: one for each session of a database that threads share.
     pub const COUNT: usize = Session::MAX_SHARED as usize;
@@ -76,9 +77,9 @@ impl CommitQueue {
 
     /// Enters the COMMIT of a session: its call leads if none does, or else waits.
     pub(crate) fn ask(&mut self, session: Session) -> Turn
+        ensures turn { (result ≡ Turn.Leads) ⊎ (result ≡ Turn.Waits) ⊎ (result ≡ Turn.Alone) }
         ensures waits { result ≡ Turn.Waits → (at self.old session ≡ CommitState.Free) × (self.new ≡ with_place self.old session CommitState.Asked) }
         ensures same { (result ≡ Turn.Leads) ⊎ (result ≡ Turn.Alone) → self.new ≡ self.old }
-        ensures named { IsTurnOf session result }
     {
         let place = usize::from(session.get()) - 1;
         if !self.is_led {
@@ -88,8 +89,7 @@ impl CommitQueue {
         if place >= Self::COUNT || !matches!(self.places[place], CommitState::Free) {
             return Turn::Alone;
         }
-        self.places[place] = CommitState::Asked;
-        self.count = self.count.saturating_add(1);
+        self.put(session, CommitState::Asked);
         Turn::Waits
     }
 
@@ -107,32 +107,27 @@ impl CommitQueue {
         ensures named { IsTurnOf session result }
         ensures free { self.new ≡ with_place self.old session CommitState.Free }
     {
-        let place = usize::from(session.get()) - 1;
-        let left = self.count.saturating_sub(1);
-        if place >= Self::COUNT {
-            return Turn::Alone;
-        }
-        let found = self.places[place];
-        self.places[place] = CommitState::Free;
-        self.count = left;
-        match found {
+        match self.put(session, CommitState::Free) {
             CommitState::Answered(outcome) => Turn::Answered(outcome),
             CommitState::Leads => Turn::Leads,
             CommitState::Free | CommitState::Asked => Turn::Alone,
         }
     }
 
-    /// Returns whether no call is in a place.
-    pub(crate) fn is_empty(&self) -> bool {
-        self.count == 0
+    /// Returns a session, and then those whose COMMITs wait. Returns `None` if none waits or memory
+    /// is refused.
+    pub(crate) fn those_with(&self, alloc: Global, first: Session) -> Option<Vec<Session>>
+        ensures some { IfSome result (λ sessions. 2 ≤ vec_len sessions) }
+        ensures sessions { IfSome result (λ sessions. sessions.items ≡ first ∷ asking 0 self.now) }
+    {
+        if self.count == 0 {
+            return None;
+        }
+        self.with_those(alloc, first).ok()
     }
 
     /// Returns a session, and then those whose COMMITs wait. Fails only if memory is refused.
-    pub(crate) fn with_those(
-        &self,
-        alloc: Global,
-        first: Session,
-    ) -> Result<Vec<Session>, AllocError>
+    fn with_those(&self, alloc: Global, first: Session) -> Result<Vec<Session>, AllocError>
         ensures { IfOk result (λ sessions. sessions.items ≡ first ∷ asking 0 self.now) }
     {
         let mut sessions = Vec::with_capacity(alloc, self.count.saturating_add(1))?;
@@ -154,10 +149,7 @@ impl CommitQueue {
         ensures { self.new ≡ answered sessions.now outcomes.now self.old }
     {
         for (session, outcome) in sessions.iter().zip(outcomes) {
-            let place = usize::from(session.get()) - 1;
-            if place < Self::COUNT {
-                self.places[place] = CommitState::Answered(*outcome);
-            }
+            self.put(*session, CommitState::Answered(*outcome));
         }
     }
 
@@ -166,17 +158,66 @@ impl CommitQueue {
     pub(crate) fn pass_on(&mut self, from: Session)
         ensures { IsPassedOn self.old self.new }
     {
-        self.is_led = false;
-        if self.is_empty() {
-            return;
+        let next = self.next_after(from);
+        self.is_led = next.is_some();
+        if let Some(session) = next {
+            self.put(session, CommitState::Leads);
         }
-        for step in 0..Self::COUNT {
-            let place = (usize::from(from.get()) + step) % Self::COUNT;
-            if let CommitState::Asked = self.places[place] {
-                self.places[place] = CommitState::Leads;
-                self.is_led = true;
-                return;
+    }
+
+    /// Returns the next session after a session whose COMMIT waits. After the last one comes the
+    /// first one.
+    fn next_after(&self, session: Session) -> Option<Session>
+        ensures waits { IfSome result (λ next. at self.now next ≡ CommitState.Asked) }
+        ensures none { IfNone result (NoneWaits self.now) }
+    {
+        if self.count == 0 {
+            return None;
+        }
+        match self.first_waiting(session.get(), Session::MAX_SHARED) {
+            Some(next) => Some(next),
+            None => self.first_waiting(0, session.get().min(Session::MAX_SHARED)),
+        }
+    }
+
+    /// Returns the first session whose COMMIT waits, of those that come after the number `before`,
+    /// up to the number `last`.
+    fn first_waiting(&self, before: u16, last: u16) -> Option<Session>
+        requires shared { last ≤ MAX_SHARED }
+        ensures waits { IfSome result (λ next. at self.now next ≡ CommitState.Asked) }
+        ensures none { IfNone result (NoneWaitsIn before last self.now) }
+    {
+        for before in before..last {
+            let Some(session) = Session::new(before + 1) else {
+                unreachable!();
+            };
+            if self.waits(session) {
+                return Some(session);
             }
         }
+        None
+    }
+
+    /// Puts another state into the place of a session. Returns the one that was there. If the
+    /// session has no place, nothing changes, and the state returned is `Free`.
+    fn put(&mut self, session: Session, new: CommitState) -> CommitState
+        requires named { IsPlaceOf session new }
+        ensures found { result ≡ at self.old session }
+        ensures named { IsPlaceOf session result }
+        ensures put { self.new ≡ with_place self.old session new }
+    {
+        let place = usize::from(session.get()) - 1;
+        let Some(found) = self.places.get(place) else {
+            return CommitState::Free;
+        };
+        let found = *found;
+        self.places[place] = new;
+        if let CommitState::Asked = &found {
+            self.count -= 1;
+        }
+        if let CommitState::Asked = &new {
+            self.count += 1;
+        }
+        found
     }
 }

@@ -1,4 +1,4 @@
-ghost use Rattle.std.specs.Prelude.{◌≡◌, None, IfOk, IsOkAnd};
+ghost use Rattle.std.specs.Prelude.{◌≡◌, None, Err, IfOk, IfErr, IsOkAnd};
 ghost use Rattle.escrow_machine.specs.Reply.{failure_of};
 ghost use Rattle.escrow_history.specs.Calls.{IsAnswer};
 
@@ -50,7 +50,7 @@ impl<S: Alter, L> Model for Shard<S, L> {
 }
 
 impl<S: Alter, L: UnderLock<S>> Shard<S, L> {
-    ghost use Rattle.std.specs.Prelude.{◌≡◌, ◌≤◌, ◌∷◌, List, ℕ, None, IfOk, IfErr, IfSome, vec_len};
+    ghost use Rattle.std.specs.Prelude.{◌≡◌, None, IfOk, IfErr, IfSome};
     ghost use Rattle.escrow_machine.specs.Reply.{failure_of};
     ghost use Rattle.escrow_shards.specs.CommitQueue.{IsTurnOf};
     ghost use Rattle.escrow_history.specs.Calls.{IsAnswer, IsNotDrained};
@@ -204,7 +204,7 @@ impl<S: Alter, L: UnderLock<S>> Shard<S, L> {
     ) -> Option<Result<Committed, Failure>>
         ensures { IfSome result (λ outcome. IfOk outcome (λ c. c.session ≡ session)) }
     {
-        let sessions = self.those_with(rt, alloc, session)?;
+        let sessions = self.queue.lock(rt).those_with(alloc, session)?;
         let Ok(outcomes) = locked.commit_locked(rt, alloc, &sessions) else {
             return None;
         };
@@ -214,27 +214,12 @@ impl<S: Alter, L: UnderLock<S>> Shard<S, L> {
         self.queue.lock(rt).answer(&sessions[1..], others);
         Some(*own)
     }
-
-    /// Returns a session, and then those whose COMMITs wait. Returns `None` if none waits or memory
-    /// is refused.
-    fn those_with<R: Wait>(&self, rt: &R, alloc: Global, session: Session) -> Option<Vec<Session>>
-        ensures some { IfSome result (λ sessions. 2 ≤ vec_len sessions) }
-        ensures first { IfSome result (λ sessions. (rest : List ℕ) × (sessions.items ≡ session ∷ rest)) }
-    {
-        let queue = self.queue.lock(rt);
-        if queue.is_empty() {
-            return None;
-        }
-        let sessions = queue.with_those(alloc, session).ok()?;
-        if sessions.len() < 2 {
-            return None;
-        }
-        Some(sessions)
-    }
 }
 
 /// Returns the answer to a COMMIT, by its outcome.
 fn served(outcome: Result<Committed, Failure>) -> Result<Served, Unserved>
+    ensures served { IfOk outcome (λ c. IsOkAnd result (λ r. (r.number ≡ c.number) × (r.reply ≡ Reply.Committed c.count))) }
+    ensures failed { IfErr outcome (λ f. result ≡ Err (Unserved.Failed f)) }
     ensures named { IfOk result (λ r. IsOkAnd outcome (λ c. r.session ≡ c.session)) }
     ensures kept { IfOk result (λ r. r.kept ≡ r.reply) }
     ensures succeeds { IfOk result (λ r. failure_of r.reply ≡ None) }

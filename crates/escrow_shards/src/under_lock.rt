@@ -15,12 +15,15 @@ use std::sync::Wait;
 ///
 /// [`Watched`]: crate::Watched
 pub trait UnderLock<S: Alter> {
-    ghost use Rattle.std.specs.Prelude.{◌≡◌, ◌↔◌, ◌⊎◌, ℕ, ◌+◌, ◌<◌, ◌≤◌, [], None, true, length, IfOk, IfErr, IsErrOf, OnErr};
+    ghost use Rattle.std.specs.Prelude.{◌≡◌, ◌↔◌, ◌⊎◌, ℕ, ◌+◌, ◌<◌, ◌≤◌, [], None, true, length, IfOk, IfErr, IsErrOf, IsOk, IsTrue, MatchResult, OnErr};
+    ghost use Rattle.sqlite.specs.Held.{state};
+    ghost use Rattle.sqlite.specs.State.{HasCleanDisk};
     ghost use Rattle.escrow_history.specs.Audited.{Audited};
-    ghost use Rattle.escrow_history.specs.Calls.{Appends, Stays, IsAnswer, IsApart, IsNotDrained};
-    ghost use Rattle.escrow_history.specs.Commits.{Commits};
+    ghost use Rattle.escrow_history.specs.Calls.{Appends, Stays, IsAnswer, IsApart, NeedsAnEntry, IsNotDrained};
+    ghost use Rattle.escrow_history.specs.Commits.{commits_of, Commits};
     ghost use Rattle.escrow_machine.specs.Reply.{failure_of};
     ghost use Rattle.escrow_machine.specs.State.{has_open};
+    ghost use Rattle.escrow_machine.specs.Step.{may_fail};
     ghost use Rattle.escrow_transcript.specs.declared.transcript.TheConstants.Transcript.{MAX_ENTRIES, MAX_NUMBER};
 
     // the database with its transcript
@@ -42,6 +45,9 @@ pub trait UnderLock<S: Alter> {
         ensures unserved { OnErr result (Stays S.Store (history self.old) (history self.new)) }
         ensures full { IsErrOf result Unserved.Full ↔ (length (history self.old).entries ≡ MAX_ENTRIES) }
         ensures apart { IsApart (history self.old).state session statement.now → ¬ (IsErrOf result (Unserved.Failed Failure.Store)) }
+        ensures cause { HasCleanDisk (state S.Store (history self.new).store) → IsErrOf result (Unserved.Failed Failure.Store) → IsTrue (may_fail (history self.old).state session statement.now Failure.Store) }
+        ensures promised { 0 < (history self.old).room → NeedsAnEntry (history self.old).state session statement.now → IsOk result }
+        ensures room { MatchResult result (λ _. (history self.old).room ≤ (history self.new).room + 1) (λ _. (history self.old).room ≤ (history self.new).room) }
         ensures counts { parts self.new ≡ parts self.old }
         ensures kept { IfOk result (λ r. r.kept ≡ r.reply) }
         ensures succeeds { IfOk result (λ r. failure_of r.reply ≡ None) }
@@ -59,6 +65,7 @@ pub trait UnderLock<S: Alter> {
         ensures unserved { OnErr result (Stays S.Store (history self.old) (history self.new)) }
         ensures full { IsErrOf result Unserved.Full ↔ (MAX_ENTRIES < length (history self.old).entries + length sessions.now) }
         ensures apart { ¬ (IsErrOf result (Unserved.Failed Failure.Store)) }
+        ensures room { MatchResult result (λ outcomes. (history self.old).room ≤ (history self.new).room + length (commits_of sessions.now outcomes.items)) (λ _. (history self.old).room ≤ (history self.new).room) }
         ensures counts { parts self.new ≡ parts self.old }
         ensures each { IfOk result (λ outcomes. length outcomes.items ≡ length sessions.now) };
 
@@ -89,13 +96,14 @@ pub struct Locked<S: Alter> {
 }
 
 impl<S: Alter> Locked<S> {
-    ghost use Rattle.std.specs.Prelude.{◌≡◌, ◌↔◌, ◌⊎◌, ◌+◌, ◌<◌, ◌≤◌, [], length, true, IfOk, IfErr, IsErrOf, OnErr};
+    ghost use Rattle.std.specs.Prelude.{◌≡◌, ◌↔◌, ◌⊎◌, ◌+◌, ◌<◌, ◌≤◌, [], length, true, IfOk, IfErr, IsErrOf, IsOk, IsTrue, MatchResult, OnErr};
     ghost use Rattle.sqlite.specs.Held.{state};
     ghost use Rattle.sqlite.specs.State.{HasCleanDisk};
     ghost use Rattle.escrow_machine.specs.State.{has_open};
+    ghost use Rattle.escrow_machine.specs.Step.{may_fail};
     ghost use Rattle.escrow_transcript.specs.declared.transcript.TheConstants.Transcript.{MAX_ENTRIES, MAX_NUMBER};
-    ghost use Rattle.escrow_history.specs.Calls.{Appends, Stays, IsApart, IsNotDrained};
-    ghost use Rattle.escrow_history.specs.Commits.{Commits};
+    ghost use Rattle.escrow_history.specs.Calls.{Appends, Stays, IsApart, NeedsAnEntry, IsNotDrained};
+    ghost use Rattle.escrow_history.specs.Commits.{commits_of, Commits};
 
     /// Returns a database with its transcript, before any part was handed out.
     pub(crate) fn new(audited: Audited<S>) -> Self
@@ -117,6 +125,9 @@ impl<S: Alter> Locked<S> {
         ensures unserved { OnErr result (Stays S.Store self.old.audited self.new.audited) }
         ensures full { IsErrOf result Unserved.Full ↔ (length self.old.audited.entries ≡ MAX_ENTRIES) }
         ensures apart { IsApart self.old.audited.state session statement.now → ¬ (IsErrOf result (Unserved.Failed Failure.Store)) }
+        ensures cause { HasCleanDisk (state S.Store self.new.audited.store) → IsErrOf result (Unserved.Failed Failure.Store) → IsTrue (may_fail self.old.audited.state session statement.now Failure.Store) }
+        ensures promised { 0 < self.old.audited.room → NeedsAnEntry self.old.audited.state session statement.now → IsOk result }
+        ensures room { MatchResult result (λ _. self.old.audited.room ≤ self.new.audited.room + 1) (λ _. self.old.audited.room ≤ self.new.audited.room) }
         ensures parts { self.new.parts ≡ self.old.parts }
         ensures clean { HasCleanDisk (state S.Store self.new.audited.store) → HasCleanDisk (state S.Store self.old.audited.store) }
     {
@@ -133,6 +144,7 @@ impl<S: Alter> Locked<S> {
         ensures unserved { OnErr result (Stays S.Store self.old.audited self.new.audited) }
         ensures full { IsErrOf result Unserved.Full ↔ (MAX_ENTRIES < length self.old.audited.entries + length sessions.now) }
         ensures apart { ¬ (IsErrOf result (Unserved.Failed Failure.Store)) }
+        ensures room { MatchResult result (λ outcomes. self.old.audited.room ≤ self.new.audited.room + length (commits_of sessions.now outcomes.items)) (λ _. self.old.audited.room ≤ self.new.audited.room) }
         ensures parts { self.new.parts ≡ self.old.parts }
         ensures clean { HasCleanDisk (state S.Store self.new.audited.store) → HasCleanDisk (state S.Store self.old.audited.store) }
     {

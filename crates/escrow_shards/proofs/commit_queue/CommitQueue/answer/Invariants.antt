@@ -1,11 +1,10 @@
 use Rattle.std.proofs.Common.{◌≡◌}
 use Rattle.escrow_history.specs.Commits.{NameTheirs}
-use Rattle.escrow_shards.specs.CommitQueue.{answered, AreInPlaces}
+use Rattle.escrow_shards.specs.CommitQueue.{answered}
 use Rattle.escrow_shards.proofs.commit_queue.CommitQueue.answer.Given as goal
 
 abbrev pub invariant-loop-session : goal.invariant-loop-session
 invariant-loop-session l = record {
-  places : AreInPlaces l.self-inside.places;
   named : NameTheirs l.session-iterator.a.rest.now l.session-iterator.b.rest.now;
-  left : answered l.session-iterator.a.rest.now l.session-iterator.b.rest.now l.self-inside.places ≡ answered l.sessions l.outcomes l.initial.self-inside.places;
+  left : answered l.session-iterator.a.rest.now l.session-iterator.b.rest.now l.self ≡ answered l.sessions l.outcomes l.initial.self;
 }
