@@ -99,10 +99,6 @@ values_ask rows =
 abbrev pub asked_by : List Text → Option Args
 asked_by words = if is_empty (faults_of words) then values_ask (matches_of app words) else None
 
--- the path of the files, if the words ask for stores in files
-abbrev pub asked_path : List Text → Option Text
-asked_path words = option_and_then (λ args. args.path) (asked_by words)
-
 -- THE EXIT STATUS
 
 -- the fault of refused memory, which has no text

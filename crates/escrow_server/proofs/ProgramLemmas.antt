@@ -1,6 +1,6 @@
 -- What is written before the program ends.
 use Rattle.std.proofs.Common.{◌≡◌, ◌≢◌, ◌⊎◌, ℕ, ◌+◌, ◌<◌, List, [], ◌∷◌, ◌++◌, length, map, take, Option, Some, None, true, false, if◌then◌else◌, arith, refl, sym, ap, ap₂, subst, ◌∙◌, inl, inr}
-use Rattle.std.specs.Prelude.{Result, Ok, Err, OnOk, OnErr, IfErr, IfSome, is_ok, option_and_then}
+use Rattle.std.specs.Prelude.{Result, Ok, Err, OnOk, OnErr, IfErr, IfSome, is_ok}
 use Rattle.std.specs.Io.KnownBytes.{Appends, IsAtEnd, Keeps}
 use Rattle.std.proofs.Math.Seq.{take-append-add}
 use Rattle.std.proofs.lemmas.Grind.{flat_map-append}
@@ -11,19 +11,16 @@ use Rattle.std.proofs.lemmas.Option.{IfSome_then}
 use Rattle.escrow_num.specs.declared.session.TheConstants.Session.{MAX_SHARED}
 use Rattle.escrow_machine.specs.State.{State}
 use Rattle.escrow_args.specs.declared.args.ArgFault.{ArgFault}
-use Rattle.escrow_args.specs.declared.args.Args.{Args}
 use Rattle.escrow_args.specs.declared.args.Mode.{Mode}
 use Rattle.escrow_args.specs.declared.args.Mode.TheVariants as mode
 use Rattle.escrow_server.specs.declared.fault.RunFault.{RunFault}
 use Rattle.escrow_server.specs.declared.fault.RunFault.TheVariants as run_fault
-use Rattle.escrow_script.specs.declared.fault.ServeFault.TheVariants as fault
 use Rattle.escrow_args.specs.Args.{no_memory}
 use Rattle.escrow_server.specs.Free.{RunsFree}
 use Rattle.escrow_serve.specs.Output.{ServesAll, ServesWhole, StopsWithin}
 use Rattle.escrow_files.specs.Files.{file_of}
 use Rattle.escrow_server.specs.Program.{empty_states, migrated_line, run_status, AreLinesOf, EndsFree, EndsInMemory, EndsInTurn, EndsOverFiles, IsQuiet, SaysReason, SaysWhy, Stops, TellsOfMigrated, TellsOfStoresAlone, WritesPrefix, WritesNothing}
 use Rattle.escrow_script.proofs.WrittenLemmas.{appends_more, appends_none}
-use Rattle.escrow_serve.proofs.ServeLemmas.{stopped_unserved}
 
 -- all of the bytes were written, or fewer of them
 abbrev pub Writes : {X Z : Type 0} → Option (List ℕ) → Option (List ℕ) → List ℕ → Result X Z → Type 0
@@ -68,12 +65,6 @@ says_why path old new says = (old, tells_none path old, says)
 pub is_quiet : (path old new : Option (List ℕ)) → TellsOfStoresAlone old new → IsQuiet path old new
 is_quiet path old new tells = (old, tells_none path old, tells)
 
--- if the words were read, the path is that of their arguments
-pub path_asked : (asked : Option Args) (args : Args) → ((other : Args) → asked ≡ Some other → args ≡ other) → (asked ≡ None → ⊥)
-    → args.path ≡ option_and_then (λ (a : Args). a.path) asked
-path_asked None args same there = absurd (there refl)
-path_asked (Some other) args same there = ap (λ (a : Args). a.path) (same other refl)
-
 lines_more : (path lines more : List ℕ) (place : ℕ) → AreLinesOf path lines → more ≡ migrated_line (file_of path place) → AreLinesOf path (lines ++ more)
 lines_more path lines more place are is =
     let one : more ≡ flat_map migrated_line (map (file_of path) (place ∷ [])) = is ∙ sym (append-nil (migrated_line (file_of path place))) in
@@ -86,17 +77,7 @@ pub lines_pushed : {X Z : Type 0} (pushed : Result X Z) (path old new more : Lis
 lines_pushed (Ok x) path old new more place are is same = subst (AreLinesOf path) (sym same) (lines_more path old more place are is)
 lines_pushed (Err z) path old new more place are is same = tt
 
--- NO LINE SERVED
-
--- nothing was served if there was no memory to read the words
-pub ends_unserved : (asked : Mode) (sessions count status : ℕ) (script rest old_bytes new_bytes : Option (List ℕ)) → status ≡ 1 → Appends old_bytes new_bytes []
-    → IfSome script (λ bytes. EndsInMemory asked sessions count status bytes rest old_bytes new_bytes)
-ends_unserved asked sessions count status None rest old_bytes new_bytes failed wrote = tt
-ends_unserved mode.Free sessions count status (Some bytes) rest old_bytes new_bytes failed wrote = inr (inl failed)
-ends_unserved mode.Run sessions count status (Some bytes) rest old_bytes new_bytes failed wrote =
-    inr (inl (failed, fault.Memory, empty_states count, stopped_unserved MAX_SHARED fault.Memory (empty_states count) bytes old_bytes new_bytes refl wrote))
-ends_unserved mode.Serve sessions count status (Some bytes) rest old_bytes new_bytes failed wrote =
-    inr (inl (failed, fault.Memory, empty_states count, stopped_unserved sessions fault.Memory (empty_states count) bytes old_bytes new_bytes refl wrote))
+-- WORDS THAT ASK FOR NO SCRIPT
 
 -- the exit status if the words are refused
 pub status_refused : (status expected : ℕ) (fault : ArgFault) → (status ≡ 1) ⊎ (status ≡ fault.status) → (fault ≡ no_memory) ⊎ (fault.status ≡ expected)
@@ -181,8 +162,3 @@ pub ends_over_files : {X : Type 0} (served : Result X RunFault) (status : ℕ) (
     → IfSome script (λ s. EndsOverFiles status s rest old_bytes new_bytes)
 ends_over_files (Ok x) status script rest old_bytes new_bytes ok err end unopened = IfSome_then script end (λ s at_end. inl (ok, at_end))
 ends_over_files (Err why) status script rest old_bytes new_bytes ok err end unopened = at_file_stop why status script rest old_bytes new_bytes err unopened
-
--- nothing was served if there was no memory to read the words
-pub file_unserved : (status : ℕ) (script rest old_bytes new_bytes : Option (List ℕ)) → status ≡ 1 → IfSome script (λ s. EndsOverFiles status s rest old_bytes new_bytes)
-file_unserved status None rest old_bytes new_bytes failed = tt
-file_unserved status (Some script) rest old_bytes new_bytes failed = inr (inl failed)

@@ -1,5 +1,5 @@
 -- Believed: how the program ends.
-use Rattle.std.specs.Prelude.{◌≡◌, ◌⊎◌, ℕ, Option, Some, None, List, [], ◌++◌, length, map, take, slice_get, replicate, codes}
+use Rattle.std.specs.Prelude.{◌≡◌, ◌⊎◌, ℕ, Option, Some, None, Result, Ok, Err, List, [], ◌++◌, length, map, take, slice_get, replicate, codes}
 use Rattle.std.specs.declared.io.ErrorKind.{ErrorKind}
 use Rattle.std.specs.declared.io.ErrorKind.TheVariants as error
 use Rattle.std.specs.List.{flat_map}
@@ -16,6 +16,7 @@ use Rattle.escrow_files.specs.Files.{file_of}
 use Rattle.escrow_server.specs.declared.fault.RunFault.{RunFault}
 use Rattle.escrow_server.specs.declared.fault.RunFault.TheVariants as run_fault
 use Rattle.escrow_script.specs.declared.fault.ServeFault.{ServeFault}
+use Rattle.escrow_script.specs.Written.{Leaves}
 use Rattle.escrow_server.specs.Free.{RunsFree}
 use Rattle.escrow_serve.specs.Output.{ServesAll, ServesWhole, StopsWithin}
 
@@ -104,6 +105,12 @@ abbrev pub Stops : ℕ → RunFault → (List State → Type 0) → List State �
 Stops sessions (run_fault.Unopened database place cause) starts new script rest old_bytes new_bytes = Keeps (Some script) rest × WritesNothing old_bytes new_bytes
 Stops sessions (run_fault.Unserved fault) starts new script rest old_bytes new_bytes = (old : List State) × starts old × StopsWithin sessions fault script old new old_bytes new_bytes
 Stops sessions (run_fault.Unjoined fault) starts new script rest old_bytes new_bytes = ⊥
+
+-- what is left of lines and of their output, if all stores were opened: nothing, or what a fault leaves
+abbrev pub LeftBy : Result (Unit {0}) RunFault → List (List ℕ) → List ℕ → Type 0
+LeftBy (Ok done) unserved unwritten = (unserved ≡ []) × (unwritten ≡ [])
+LeftBy (Err (run_fault.Unserved fault)) unserved unwritten = Leaves fault unwritten
+LeftBy (Err _) unserved unwritten = ⊥
 
 -- Line by line, with so many sessions, in `count` databases that were empty: all of the script was served, with status
 -- 0; or serving ended at a fault, with status 1; or a store couldn't be opened, with status 3, and nothing was read or

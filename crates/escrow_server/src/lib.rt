@@ -1,10 +1,12 @@
 //! The program: its arguments, the files of its stores, and how it serves a script.
 //!
-//! Its main contract is that of [`run_program`]: it serves the script as the words of the command
-//! line ask, and returns the exit status. It serves one line after another, by [`serve_lines`] or
-//! [`serve_script`], or the sessions of a phase at the same time, by [`serve_free`].
+//! Its main contracts are those of [`run_in_turn`] and [`run_at_once`]: they serve the script as the
+//! words of the command line ask, and return the exit status. The first serves one line after
+//! another, by [`serve_lines`] or [`serve_script`], and waits for no thread. The second serves the
+//! sessions of a phase at the same time, by [`serve_free`].
 //!
-//! Begin with [`run_program`]. Then read [`Screen`], which shows the progress of a script.
+//! Begin with [`read_line`], which reads these words, and [`run_in_turn`]. Then read [`Screen`],
+//! which shows the progress of a script.
 #![tactic(auto)]
 
 mod databases;
@@ -12,6 +14,7 @@ mod drawing;
 mod fault;
 mod free;
 mod monitor;
+mod opened;
 mod program;
 mod screen;
 
@@ -25,5 +28,5 @@ pub use escrow_script::{
 };
 pub use escrow_serve::{serve_lines, serve_script};
 pub use monitor::Monitor;
-pub use program::run_program;
+pub use program::{read_line, run_at_once, run_in_turn};
 pub use screen::{NO_SCREEN, NoScreen, Screen, Terminal};

@@ -1,26 +1,24 @@
-ghost use Rattle.std.specs.Prelude.{◌≡◌, ◌≢◌, ◌⊎◌, ◌≤◌, ◌<◌, ◌++◌, ℕ, List, Option, Some, None, map, codes, [], string_bytes, vec_len, IfErr, IfOk, IfSome, IsSome, OnOk};
-ghost use Rattle.std.specs.Io.KnownBytes.{Appends, IsAtEnd, Keeps};
+ghost use Rattle.std.specs.Prelude.{◌≡◌, ◌≢◌, ◌⊎◌, ◌≤◌, ◌<◌, ◌++◌, [], List, Some, None, map, codes, string_bytes, vec_len, IfErr, IfOk, IfSome, IsErrAnd, IsSome, MatchResult, OnOk};
+ghost use Rattle.std.specs.Io.KnownBytes.{Appends};
 ghost use Rattle.std.specs.Process.{exit_status};
-ghost use Rattle.escrow_num.specs.declared.session.TheConstants.Session.{MAX_SHARED};
-ghost use Rattle.escrow_machine.specs.State.{State};
 ghost use Rattle.escrow_args.specs.declared.args.Args.{Args};
-ghost use Rattle.escrow_server.specs.Free.{HoldCleanDisks, RunsFree};
-ghost use Rattle.escrow_args.specs.Args.{asked_by, asked_path, refused_status};
-ghost use Rattle.escrow_serve.specs.Output.{states_of, HaveCleanDisks, ServesAll, ServesWhole};
-ghost use Rattle.escrow_server.specs.Opened.{IsOpened};
+ghost use Rattle.escrow_args.specs.Args.{asked_by, refused_status};
+ghost use Rattle.escrow_cells.specs.Tables.{no_schema};
 ghost use Rattle.escrow_files.specs.Files.{file_of};
-ghost use Rattle.escrow_server.specs.Program.{migrated_line, run_status, unread_status, AreLinesOf, EndsInMemory, EndsOverFiles, IsQuiet, SaysReason, SaysWhy, Stops, TellsOfMigrated, TellsOfStoresAlone, WritesPrefix, WritesNothing};
+ghost use Rattle.escrow_memory.specs.Store.{over_blocks};
+ghost use Rattle.escrow_serve.specs.Output.{states_of, HaveCleanDisks};
+ghost use Rattle.escrow_server.specs.Program.{migrated_line, run_status, unread_status, AreFound, AreLinesOf, EndsInMemory, EndsOverFiles, IsQuiet, SaysReason, SaysWhy, TellsOfMigrated, TellsOfStoresAlone, WritesPrefix, WritesNothing};
 
 use crate::databases::{Unclosed, close_databases, open_databases};
 use crate::fault::RunFault;
-use crate::free::serve_phases;
+use crate::opened::{serve_at_once, serve_in_turn};
 use crate::screen::Screen;
 use escrow_args::{ArgFault, Args, Mode, read_args};
 use escrow_core::Database;
 use escrow_files::{CloseFault, InFiles, InMemory, Site, file_of};
+use escrow_memory::BlockStore;
 use escrow_script::{MAX_DATABASES, database_name, write_whole};
-use escrow_serve::{serve_lines, serve_script};
-use sqlite::Alter;
+use sqlite::{File, FileStore};
 use std::alloc::{AllocError, Global};
 use std::convert::AsStr;
 use std::env::Env;
@@ -30,54 +28,37 @@ use std::sync::Wait;
 use std::thread::Threads;
 use std::{env, io};
 
-/// Runs the program. Reads the words of its command line from `line`. Opens the databases that they
-/// ask for, in memory or in files. Serves what comes from `input`, and writes the replies to
-/// `output`. It serves lines until they end, a script line by line, or the sessions of a phase at
-/// the same time. Files come from `rt`, and the threads of workers from `threads`. Help goes to
-/// `output` too. If the program ends early, the reason goes to `errors`.
-///
-/// At the end, also if that is early, the stores in files are closed. If one can't be closed, a
-/// line on `errors` says so, and the status is the same. If sessions at the same time aren't served
-/// to the end, the logs of the stores stay beside them. May wait.
-///
-/// While sessions are served at the same time, a screen, if there is one, shows their progress.
-/// `threads` starts its thread. Nothing that it shows goes to `errors`: the clauses speak of that
-/// stream only.
+/// Reads the words of the command line from `line`. Returns what they ask for, or, if that is only
+/// help or they are wrong, the exit status. Help goes to `output`; what is wrong goes to `errors`.
+/// Takes memory from `alloc`.
 ///
 /// Exit status:
 ///
-/// - 0 if everything was served and written, and for help;
-/// - 1 if the input can't be read, a reply or the help can't be written, memory is refused, a phase
-///   has statements of more than 64 sessions, or the histories don't fit the replies;
-/// - 2 for wrong arguments, among them one that isn't UTF-8;
-/// - 3 if the store of a database can't be opened; then nothing was read.
-pub fn run_program<
-    T: Threads + Wait + Sync,
-    E: Env,
-    R: Read,
-    W: Write,
-    F: Write,
-    X: Screen + Send + Drop + 'static,
->(
-    rt: &HostRuntime,
-    threads: &T,
+/// - 0 for help;
+/// - 1 if memory is refused, the help can't be written, or the words can't be read;
+/// - 2 for wrong arguments, among them one that isn't UTF-8.
+pub fn read_line<E: Env, W: Write, F: Write>(
+    alloc: Global,
     line: &E,
-    input: &mut R,
     output: &mut W,
     errors: &mut F,
-    screen: Option<X>,
-) -> ExitCode
-    // With status 0, nothing is written to `errors` but lines about the stores of a path: those
-    // that were migrated, and those that can't be closed. With any other status, a line says why,
-    // as far as the writer takes it.
-    ensures quiet { exit_status result ≡ 0 → (path : Option (List ℕ)) × IsQuiet path (F.contents errors.old) (F.contents errors.new) }
-    ensures said { exit_status result ≢ 0 → (path : Option (List ℕ)) × SaysWhy path (F.contents errors.old) (F.contents errors.new) }
+) -> Result<Args, ExitCode>
+    ensures databases { IfOk result (λ args. (1 ≤ args.databases) × (args.databases ≤ MAX_DATABASES)) }
+    ensures same { OnOk result ((W.contents output.new ≡ W.contents output.old) × (F.contents errors.new ≡ F.contents errors.old)) }
+
+    // With status 0, nothing is written to `errors`. With any other status, a line says why, as far
+    // as the writer takes it.
+    ensures quiet { IfErr result (λ code. exit_status code ≡ 0 → WritesNothing (F.contents errors.old) (F.contents errors.new)) }
+    ensures said { IfErr result (λ code. exit_status code ≢ 0 → SaysReason (F.contents errors.old) (F.contents errors.new)) }
 {
-    let status = match words(rt.alloc(), line) {
-        Ok(words) => run_words(rt, threads, words.as_slice(), input, output, errors, screen),
-        Err(error) => without_words(errors, error.kind()),
+    let found = match words(alloc, line) {
+        Ok(found) => found,
+        Err(error) => return Err(ExitCode::from(without_words(errors, error.kind()))),
     };
-    ExitCode::from(status)
+    match read_words(alloc, found.as_slice(), output, errors) {
+        Ok(args) => Ok(args),
+        Err(status) => Err(ExitCode::from(status)),
+    }
 }
 
 /// Returns the words of the command line.
@@ -86,11 +67,10 @@ fn words<E: Env>(alloc: Global, line: &E) -> io::Result<Vec<String>> {
 }
 
 /// Says why the words can't be read, and returns the exit status.
-#[tactic(auto, using(crate::proofs::ProgramLemmas::says_why))]
 fn without_words<F: Write>(errors: &mut F, error: ErrorKind) -> u8
     ensures status { result ≡ unread_status error }
     ensures failed { 1 ≤ result }
-    ensures said { SaysWhy None (F.contents errors.old) (F.contents errors.new) }
+    ensures said { SaysReason (F.contents errors.old) (F.contents errors.new) }
 {
     match error {
         ErrorKind::InvalidData => {
@@ -104,11 +84,86 @@ fn without_words<F: Write>(errors: &mut F, error: ErrorKind) -> u8
     }
 }
 
-/// Runs the program with the words of its command line, its name first, and returns the exit
-/// status.
-fn run_words<
+/// Returns what the words of the command line, its name first, ask for. If that is no script to
+/// serve, prints help or says what is wrong, and returns the exit status.
+fn read_words<S: AsStr, W: Write, F: Write>(
+    alloc: Global,
+    words: &[S],
+    output: &mut W,
+    errors: &mut F,
+) -> Result<Args, u8>
+    // Words that ask for a script to be served fail only if memory is refused. Other words end with
+    // the status of what is wrong with them, or with 1 if memory is refused or help can't be
+    // written. Nothing but help is written.
+    ensures asked { (args : Args) → asked_by (map S.text words.now) ≡ Some args → MatchResult result (λ read. read ≡ args) (λ status. status ≡ 1) }
+    ensures refused { asked_by (map S.text words.now) ≡ None → IsErrAnd result (λ status. (status ≡ 1) ⊎ (status ≡ refused_status (map S.text words.now))) }
+    ensures databases { IfOk result (λ args. (1 ≤ args.databases) × (args.databases ≤ MAX_DATABASES)) }
+    ensures same { OnOk result ((W.contents output.new ≡ W.contents output.old) × (F.contents errors.new ≡ F.contents errors.old)) }
+    ensures unasked { (args : Args) → asked_by (map S.text words.now) ≡ Some args → WritesNothing (W.contents output.old) (W.contents output.new) }
+    ensures unserved { asked_by (map S.text words.now) ≡ None → refused_status (map S.text words.now) ≢ 0 → WritesNothing (W.contents output.old) (W.contents output.new) }
+    ensures silent { IfErr result (λ status. status ≡ 0 → WritesNothing (F.contents errors.old) (F.contents errors.new)) }
+    ensures said { IfErr result (λ status. status ≢ 0 → SaysReason (F.contents errors.old) (F.contents errors.new)) }
+{
+    match read_args(alloc, words) {
+        Ok(args) => Ok(args),
+        Err(fault) => Err(refuse(alloc, output, errors, &fault)),
+    }
+}
+
+/// Serves a script line by line, in the databases that the arguments ask for: the modes `run` and
+/// `serve`. Opens the databases, in memory or in files. Serves what comes from `input`, and writes
+/// the replies to `output`. If that ends early, the reason goes to `errors`. It waits for no thread.
+///
+/// At the end, also if that is early, the stores in files are closed. If one can't be closed, a
+/// line on `errors` says so, and the status is the same.
+///
+/// Exit status:
+///
+/// - 0 if everything was served and written;
+/// - 1 if the input can't be read, a reply can't be written, or memory is refused;
+/// - 3 if the store of a database can't be opened; then nothing was read.
+pub fn run_in_turn<R: Read, W: Write, F: Write>(
+    rt: &HostRuntime,
+    args: &Args,
+    input: &mut R,
+    output: &mut W,
+    errors: &mut F,
+) -> ExitCode
+    requires mode { args.now.mode ≢ Mode.Free }
+    requires least { 1 ≤ args.now.databases }
+    requires most { args.now.databases ≤ MAX_DATABASES }
+    // The script is served in as many databases as the arguments ask for, in their mode: in memory,
+    // or in files.
+    ensures memory { args.now.path ≡ None → IfSome (R.remaining input.old) (λ script.
+        EndsInMemory args.now.mode args.now.sessions args.now.databases (exit_status result) script (R.remaining input.new) (W.contents output.old) (W.contents output.new)) }
+    ensures files { IfSome (R.remaining input.old) (λ script.
+        EndsOverFiles (exit_status result) script (R.remaining input.new) (W.contents output.old) (W.contents output.new)) }
+
+    // With status 0, nothing is written to `errors` but lines about the stores of a path: those
+    // that were migrated, and those that can't be closed. With any other status, a line says why,
+    // as far as the writer takes it.
+    ensures silent { args.now.path ≡ None → exit_status result ≡ 0 → WritesNothing (F.contents errors.old) (F.contents errors.new) }
+    ensures quiet { exit_status result ≡ 0 → IsQuiet args.now.path (F.contents errors.old) (F.contents errors.new) }
+    ensures said { exit_status result ≢ 0 → SaysWhy args.now.path (F.contents errors.old) (F.contents errors.new) }
+{
+    let status = match &args.path {
+        None => in_turn_in_memory(rt.alloc(), args, input, output, errors),
+        Some(path) => in_turn_over_files(rt, path.as_str(), args, input, output, errors),
+    };
+    ExitCode::from(status)
+}
+
+/// Serves a script as [`run_in_turn`] does, but the sessions of each phase at the same time: the
+/// mode `free`. Its workers run in threads of `threads`. May wait.
+///
+/// If the script isn't served to its end, the logs of stores in files stay beside them. While
+/// sessions are served at the same time, a screen, if there is one, shows their progress. `threads`
+/// starts its thread. Nothing that it shows goes to `errors`: the clauses speak of that stream only.
+///
+/// The exit status is also 1 if a phase has statements of more than 64 sessions, or the histories
+/// don't fit the replies.
+pub fn run_at_once<
     T: Threads + Wait + Sync,
-    S: AsStr,
     R: Read,
     W: Write,
     F: Write,
@@ -116,38 +171,127 @@ fn run_words<
 >(
     rt: &HostRuntime,
     threads: &T,
-    words: &[S],
+    args: &Args,
+    input: &mut R,
+    output: &mut W,
+    errors: &mut F,
+    screen: Option<X>,
+) -> ExitCode
+    requires mode { args.now.mode ≡ Mode.Free }
+    requires least { 1 ≤ args.now.databases }
+    requires most { args.now.databases ≤ MAX_DATABASES }
+    ensures memory { args.now.path ≡ None → IfSome (R.remaining input.old) (λ script.
+        EndsInMemory args.now.mode args.now.sessions args.now.databases (exit_status result) script (R.remaining input.new) (W.contents output.old) (W.contents output.new)) }
+    ensures files { IfSome (R.remaining input.old) (λ script.
+        EndsOverFiles (exit_status result) script (R.remaining input.new) (W.contents output.old) (W.contents output.new)) }
+    ensures silent { args.now.path ≡ None → exit_status result ≡ 0 → WritesNothing (F.contents errors.old) (F.contents errors.new) }
+    ensures quiet { exit_status result ≡ 0 → IsQuiet args.now.path (F.contents errors.old) (F.contents errors.new) }
+    ensures said { exit_status result ≢ 0 → SaysWhy args.now.path (F.contents errors.old) (F.contents errors.new) }
+{
+    let status = match &args.path {
+        None => at_once_in_memory(rt.alloc(), threads, args, input, output, errors, screen),
+        Some(path) => {
+            let path = path.as_str();
+            at_once_over_files(rt, threads, path, args, input, output, errors, screen)
+        }
+    };
+    ExitCode::from(status)
+}
+
+/// Serves the script line by line in databases in memory, and returns the exit status.
+fn in_turn_in_memory<R: Read, W: Write, F: Write>(
+    alloc: Global,
+    args: &Args,
+    input: &mut R,
+    output: &mut W,
+    errors: &mut F,
+) -> u8
+    requires mode { args.now.mode ≢ Mode.Free }
+    requires least { 1 ≤ args.now.databases }
+    requires most { args.now.databases ≤ MAX_DATABASES }
+    ensures memory { IfSome (R.remaining input.old) (λ script.
+        EndsInMemory args.now.mode args.now.sessions args.now.databases result script (R.remaining input.new) (W.contents output.old) (W.contents output.new)) }
+    ensures files { IfSome (R.remaining input.old) (λ script.
+        EndsOverFiles result script (R.remaining input.new) (W.contents output.old) (W.contents output.new)) }
+    ensures silent { result ≡ 0 → WritesNothing (F.contents errors.old) (F.contents errors.new) }
+    ensures said { result ≢ 0 → SaysReason (F.contents errors.old) (F.contents errors.new) }
+{
+    let mut databases = Vec::new(alloc);
+    let opened = open_in_memory(alloc, args.databases, &mut databases);
+    let served = serve_in_turn(alloc, opened, args, &mut databases, input, output);
+    status_in_memory(alloc, errors, served)
+}
+
+/// Serves the script line by line in databases over the files of a path, and returns the exit
+/// status.
+fn in_turn_over_files<R: Read, W: Write, F: Write>(
+    rt: &HostRuntime,
+    path: &str,
+    args: &Args,
+    input: &mut R,
+    output: &mut W,
+    errors: &mut F,
+) -> u8
+    requires mode { args.now.mode ≢ Mode.Free }
+    requires least { 1 ≤ args.now.databases }
+    requires most { args.now.databases ≤ MAX_DATABASES }
+    ensures files { IfSome (R.remaining input.old) (λ script.
+        EndsOverFiles result script (R.remaining input.new) (W.contents output.old) (W.contents output.new)) }
+    ensures quiet { result ≡ 0 → IsQuiet (Some path.now) (F.contents errors.old) (F.contents errors.new) }
+    ensures said { result ≢ 0 → SaysWhy (Some path.now) (F.contents errors.old) (F.contents errors.new) }
+{
+    let alloc = rt.alloc();
+    let mut databases = Vec::new(alloc);
+    let mut sites = Vec::new(alloc);
+    let opened = open_over_files(rt, path, args.databases, &mut databases, &mut sites, errors);
+    let served = serve_in_turn(alloc, opened, args, &mut databases, input, output);
+    close_over_files(rt, path, served, databases, sites.as_slice(), errors)
+}
+
+/// Serves the script in databases in memory, the sessions of a phase at the same time. Returns the
+/// exit status. May wait.
+fn at_once_in_memory<
+    T: Threads + Wait + Sync,
+    R: Read,
+    W: Write,
+    F: Write,
+    X: Screen + Send + Drop + 'static,
+>(
+    alloc: Global,
+    threads: &T,
+    args: &Args,
     input: &mut R,
     output: &mut W,
     errors: &mut F,
     screen: Option<X>,
 ) -> u8
-    // If the words ask for a script to be served, it is served in as many databases as they ask
-    // for, and in their mode: in memory, or in files.
-    ensures asked { (args : Args) → asked_by (map S.text words.now) ≡ Some args → args.path ≡ None → IfSome (R.remaining input.old) (λ script.
-        EndsInMemory args.mode args.sessions args.databases result script (R.remaining input.new) (W.contents output.old) (W.contents output.new)) }
-    ensures stored { (args : Args) → asked_by (map S.text words.now) ≡ Some args → IsSome args.path → IfSome (R.remaining input.old) (λ script.
+    requires mode { args.now.mode ≡ Mode.Free }
+    requires least { 1 ≤ args.now.databases }
+    requires most { args.now.databases ≤ MAX_DATABASES }
+    ensures memory { IfSome (R.remaining input.old) (λ script.
+        EndsInMemory args.now.mode args.now.sessions args.now.databases result script (R.remaining input.new) (W.contents output.old) (W.contents output.new)) }
+    ensures files { IfSome (R.remaining input.old) (λ script.
         EndsOverFiles result script (R.remaining input.new) (W.contents output.old) (W.contents output.new)) }
-
-    // Other words end with the status of what is wrong with them, or with 1 if memory is refused or
-    // help can't be written. Nothing is read, and nothing but help is written.
-    ensures refused { asked_by (map S.text words.now) ≡ None → (result ≡ 1) ⊎ (result ≡ refused_status (map S.text words.now)) }
-    ensures unread { asked_by (map S.text words.now) ≡ None → Keeps (R.remaining input.old) (R.remaining input.new) }
-    ensures unserved { asked_by (map S.text words.now) ≡ None → refused_status (map S.text words.now) ≢ 0 → WritesNothing (W.contents output.old) (W.contents output.new) }
-
-    ensures silent { (args : Args) → asked_by (map S.text words.now) ≡ Some args → args.path ≡ None → result ≡ 0
-        → WritesNothing (F.contents errors.old) (F.contents errors.new) }
-    ensures quiet { result ≡ 0 → IsQuiet (asked_path (map S.text words.now)) (F.contents errors.old) (F.contents errors.new) }
-    ensures said { result ≢ 0 → SaysWhy (asked_path (map S.text words.now)) (F.contents errors.old) (F.contents errors.new) }
+    ensures silent { result ≡ 0 → WritesNothing (F.contents errors.old) (F.contents errors.new) }
+    ensures said { result ≢ 0 → SaysReason (F.contents errors.old) (F.contents errors.new) }
 {
-    match read_args(rt.alloc(), words) {
-        Ok(args) => run_args(rt, threads, &args, input, output, errors, screen),
-        Err(fault) => refuse(rt.alloc(), output, errors, &fault),
-    }
+    let mut databases = Vec::new(alloc);
+    let opened = open_in_memory(alloc, args.databases, &mut databases);
+    let served = serve_at_once(
+        threads,
+        alloc,
+        opened,
+        &mut databases,
+        input,
+        output,
+        screen,
+    );
+    status_in_memory(alloc, errors, served)
 }
 
-/// Serves the script in the databases that the arguments ask for, and returns the exit status.
-fn run_args<
+/// Serves the script in databases over the files of a path, the sessions of a phase at the same
+/// time. Returns the exit status. May wait.
+fn at_once_over_files<
     T: Threads + Wait + Sync,
     R: Read,
     W: Write,
@@ -156,6 +300,7 @@ fn run_args<
 >(
     rt: &HostRuntime,
     threads: &T,
+    path: &str,
     args: &Args,
     input: &mut R,
     output: &mut W,
@@ -164,115 +309,86 @@ fn run_args<
 ) -> u8
     requires least { 1 ≤ args.now.databases }
     requires most { args.now.databases ≤ MAX_DATABASES }
-    ensures memory { args.now.path ≡ None → IfSome (R.remaining input.old) (λ script.
-        EndsInMemory args.now.mode args.now.sessions args.now.databases result script (R.remaining input.new) (W.contents output.old) (W.contents output.new)) }
     ensures files { IfSome (R.remaining input.old) (λ script.
         EndsOverFiles result script (R.remaining input.new) (W.contents output.old) (W.contents output.new)) }
-    ensures silent { args.now.path ≡ None → result ≡ 0 → WritesNothing (F.contents errors.old) (F.contents errors.new) }
-    ensures quiet { result ≡ 0 → IsQuiet args.now.path (F.contents errors.old) (F.contents errors.new) }
-    ensures said { result ≢ 0 → SaysWhy args.now.path (F.contents errors.old) (F.contents errors.new) }
+    ensures quiet { result ≡ 0 → IsQuiet (Some path.now) (F.contents errors.old) (F.contents errors.new) }
+    ensures said { result ≢ 0 → SaysWhy (Some path.now) (F.contents errors.old) (F.contents errors.new) }
 {
     let alloc = rt.alloc();
+    let mut databases = Vec::new(alloc);
     let mut sites = Vec::new(alloc);
-    match &args.path {
-        None => {
-            let mut databases = Vec::new(alloc);
-            let opened = open_databases(
-                alloc,
-                &InMemory,
-                args.databases,
-                &mut databases,
-                &mut sites,
-            );
-            let served = serve_opened(
-                threads,
-                alloc,
-                opened,
-                args,
-                &mut databases,
-                input,
-                output,
-                screen,
-            );
-            status_in_memory(alloc, errors, served)
-        }
-        Some(path) => {
-            let path = path.as_str();
-            let mut databases = Vec::new(alloc);
-            let opened = open_databases(
-                alloc,
-                &InFiles { rt, path },
-                args.databases,
-                &mut databases,
-                &mut sites,
-            );
-            tell_migrated(alloc, errors, path, sites.as_slice());
-            let served = serve_opened(
-                threads,
-                alloc,
-                opened,
-                args,
-                &mut databases,
-                input,
-                output,
-                screen,
-            );
-            let unclosed = close_databases(rt, databases, sites.as_slice());
-            status_over_files(alloc, errors, path, served, &unclosed)
-        }
-    }
+    let opened = open_over_files(rt, path, args.databases, &mut databases, &mut sites, errors);
+    let served = serve_at_once(
+        threads,
+        alloc,
+        opened,
+        &mut databases,
+        input,
+        output,
+        screen,
+    );
+    close_over_files(rt, path, served, databases, sites.as_slice(), errors)
 }
 
-/// Serves the script in databases, if all of their stores were opened. May wait.
-fn serve_opened<
-    S: Alter + Drop + Send + 'static,
-    T: Threads + Wait + Sync,
-    R: Read,
-    W: Write,
-    X: Screen + Send + Drop + 'static,
->(
-    rt: &T,
+/// Opens this many databases in memory.
+fn open_in_memory(
     alloc: Global,
-    opened: Result<(), RunFault>,
-    args: &Args,
-    databases: &mut Vec<Database<S>>,
-    input: &mut R,
-    output: &mut W,
-    screen: Option<X>,
+    count: u8,
+    databases: &mut Vec<Database<BlockStore>>,
 ) -> Result<(), RunFault>
-    requires least { OnOk opened (1 ≤ vec_len databases.old) }
-    requires most { OnOk opened (vec_len databases.old ≤ MAX_DATABASES) }
-    requires kind { IfErr opened (λ fault. run_status fault ≡ 3) }
-    // Line by line: if each disk returned what was written, the script was served from the states
-    // of the databases.
-    ensures served { args.now.mode ≡ Mode.Run → HaveCleanDisks S.Store databases.new.items → OnOk result (IfSome (R.remaining input.old) (λ script. (old : List State)
-        × IsOpened S.Store opened databases.old.items old × ServesWhole MAX_SHARED script old (states_of databases.new.items) (W.contents output.old) (W.contents output.new))) }
-    ensures stopped { args.now.mode ≡ Mode.Run → HaveCleanDisks S.Store databases.new.items → IfErr result (λ fault. IfSome (R.remaining input.old) (λ script.
-        Stops MAX_SHARED fault (IsOpened S.Store opened databases.old.items) (states_of databases.new.items) script (R.remaining input.new) (W.contents output.old) (W.contents output.new))) }
-
-    // The same, for lines that are served until they end, of as many sessions as are asked for.
-    ensures lines { args.now.mode ≡ Mode.Serve → HaveCleanDisks S.Store databases.new.items → OnOk result (IfSome (R.remaining input.old) (λ script. (old : List State)
-        × IsOpened S.Store opened databases.old.items old × ServesAll args.now.sessions script old (states_of databases.new.items) (W.contents output.old) (W.contents output.new))) }
-    ensures cut { args.now.mode ≡ Mode.Serve → HaveCleanDisks S.Store databases.new.items → IfErr result (λ fault. IfSome (R.remaining input.old) (λ script.
-        Stops args.now.sessions fault (IsOpened S.Store opened databases.old.items) (states_of databases.new.items) script (R.remaining input.new) (W.contents output.old) (W.contents output.new))) }
-
-    // Sessions at the same time: the script was served like this if disks always return what was
-    // written.
-    ensures free { args.now.mode ≡ Mode.Free → HoldCleanDisks S.Store → OnOk result (IfSome (R.remaining input.old) (λ script. (old : List State)
-        × IsOpened S.Store opened databases.old.items old × RunsFree script old (W.contents output.old) (W.contents output.new))) }
-
-    // Whatever the stores do, all of the script was read; or, if a store can't be opened, nothing
-    // was.
-    ensures end { OnOk result (IfSome (R.remaining input.old) (λ script. IsAtEnd (R.remaining input.new))) }
-    ensures unopened { IfErr result (λ fault. run_status fault ≡ 3 → Keeps (R.remaining input.old) (R.remaining input.new) × WritesNothing (W.contents output.old) (W.contents output.new)) }
+    requires some { 1 ≤ count }
+    requires few { count ≤ MAX_DATABASES }
+    requires none { databases.old.items ≡ [] }
+    ensures found { HaveCleanDisks over_blocks databases.new.items → OnOk result (AreFound (λ _ db. db.schema ≡ no_schema) count (states_of databases.new.items)) }
+    ensures least { OnOk result (1 ≤ vec_len databases.new) }
+    ensures most { OnOk result (vec_len databases.new ≤ MAX_DATABASES) }
+    ensures kind { IfErr result (λ fault. run_status fault ≡ 3) }
 {
-    opened?;
-    match args.mode {
-        Mode::Run => serve_script(alloc, databases, input, output)?,
-        Mode::Free => serve_phases(rt, alloc, databases, input, output, screen)?,
-        Mode::Serve => serve_lines(alloc, args.sessions, databases, input, output)?,
-    }
-    Ok(())
+    let mut sites = Vec::new(alloc);
+    open_databases(alloc, &InMemory, count, databases, &mut sites)
+}
+
+/// Opens this many databases over the files of a path, and notes where their files are. Says which
+/// stores were migrated.
+fn open_over_files<F: Write>(
+    rt: &HostRuntime,
+    path: &str,
+    count: u8,
+    databases: &mut Vec<Database<FileStore<File>>>,
+    sites: &mut Vec<Option<Site>>,
+    errors: &mut F,
+) -> Result<(), RunFault>
+    requires some { 1 ≤ count }
+    requires few { count ≤ MAX_DATABASES }
+    requires none { databases.old.items ≡ [] }
+    ensures told { TellsOfMigrated (Some path.now) (F.contents errors.old) (F.contents errors.new) }
+    ensures least { OnOk result (1 ≤ vec_len databases.new) }
+    ensures most { OnOk result (vec_len databases.new ≤ MAX_DATABASES) }
+    ensures kind { IfErr result (λ fault. run_status fault ≡ 3) }
+{
+    let alloc = rt.alloc();
+    let opened = open_databases(alloc, &InFiles { rt, path }, count, databases, sites);
+    tell_migrated(alloc, errors, path, sites.as_slice());
+    opened
+}
+
+/// Closes the databases over the files of a path, in which a script was served. Returns the exit
+/// status. If not everything was served, says why, and which stores can't be closed.
+fn close_over_files<F: Write>(
+    rt: &HostRuntime,
+    path: &str,
+    served: Result<(), RunFault>,
+    databases: Vec<Database<FileStore<File>>>,
+    sites: &[Option<Site>],
+    errors: &mut F,
+) -> u8
+    ensures ok { OnOk served (result ≡ 0) }
+    ensures err { IfErr served (λ fault. result ≡ run_status fault) }
+    ensures quiet { result ≡ 0 → TellsOfStoresAlone (F.contents errors.old) (F.contents errors.new) }
+    ensures said { result ≢ 0 → SaysReason (F.contents errors.old) (F.contents errors.new) }
+{
+    let unclosed = close_databases(rt, databases, sites);
+    status_over_files(rt.alloc(), errors, path, served, &unclosed)
 }
 
 /// Says which stores had the previous format, if any, and have the known one now.

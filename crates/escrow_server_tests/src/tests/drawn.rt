@@ -1,6 +1,6 @@
 //! What is sent to a terminal while the sessions of a phase run at the same time.
-use super::program::CommandLine;
-use escrow_server::{Terminal, run_program};
+use super::program::run_line;
+use escrow_server::Terminal;
 use std::alloc::Global;
 use std::io::{self, Write};
 use std::process::{Abort, ExitCode};
@@ -122,10 +122,10 @@ fn serve<R: Wait + Clock + Copy + Drop + Send + 'static, T: Abort + Threads + Wa
     };
     let mut input = script.as_bytes();
     let mut errors = Vec::new(rt.alloc());
-    let code = run_program(
+    let code = run_line(
         rt,
         to,
-        &CommandLine(line),
+        line,
         &mut input,
         &mut output,
         &mut errors,

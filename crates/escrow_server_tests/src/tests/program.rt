@@ -1,15 +1,16 @@
 //! Runs of the program.
 use super::streams::{Sink, Source};
-use escrow_server::{NO_SCREEN, run_program};
+use escrow_server::{Mode, NO_SCREEN, Screen, read_line, run_at_once, run_in_turn};
 use std::cell::Cell;
 use std::env::{Env, FillError};
+use std::io::{Read, Write};
 use std::process::{Abort, ExitCode};
 use std::sync::Wait;
 use std::thread::Threads;
 
 /// A command line: the words after the program's name, with `|` between them.
 #[derive(Drop)]
-pub(super) struct CommandLine<'a>(pub(super) &'a [u8]);
+struct CommandLine<'a>(&'a [u8]);
 
 impl Env for CommandLine<'_> {
     fn arg(&self, i: usize, buf: &mut [u8]) -> Result<usize, FillError> {
@@ -33,6 +34,32 @@ impl Env for CommandLine<'_> {
 
     fn var_at(&self, _i: usize, _buf: &mut [u8]) -> Result<usize, FillError> {
         Err(FillError::NotPresent)
+    }
+}
+
+/// Runs the program as its `main` does. May wait.
+pub(super) fn run_line<
+    T: Threads + Wait + Sync,
+    R: Read,
+    W: Write,
+    F: Write,
+    X: Screen + Send + Drop + 'static,
+>(
+    rt: &HostRuntime,
+    to: &T,
+    line: &[u8],
+    input: &mut R,
+    output: &mut W,
+    errors: &mut F,
+    screen: Option<X>,
+) -> ExitCode {
+    let args = match read_line(rt.alloc(), &CommandLine(line), output, errors) {
+        Ok(args) => args,
+        Err(code) => return code,
+    };
+    match args.mode {
+        Mode::Run | Mode::Serve => run_in_turn(rt, &args, input, output, errors),
+        Mode::Free => run_at_once(rt, to, &args, input, output, errors, screen),
     }
 }
 
@@ -91,10 +118,10 @@ pub(super) fn check<T: Abort + Threads + Wait + Sync>(
         written: &written,
     };
     let mut said = Vec::new(rt.alloc());
-    let code = run_program(
+    let code = run_line(
         rt,
         to,
-        &CommandLine(run.line),
+        run.line,
         &mut input,
         &mut output,
         &mut said,
