@@ -55,8 +55,9 @@ def draws_what_fits(program: Program, folder: str) -> None:
         compare(f"what was sent with {variables}", "", sent(program, "free", 2, ASKED, folder, variables))
 
 
-# Statements of each of three databases in each of two phases, and the rows of a table that a third phase reads again and again, which takes seconds.
-SERVED, ROWS, READS = 12_000, 4_000, 200
+# Statements of each of three databases in each of two phases, and the rows of a table that a fourth phase reads again and again. That takes several of
+# the half seconds between two drawings, also on a fast machine.
+SERVED, ROWS, READS = 12_000, 4_000, 1_500
 
 
 def draws_all_that_was_served(program: Program, folder: str) -> None:
