@@ -66,7 +66,7 @@ use Rattle.escrow_core.specs.Altering.{Adds, AddedJudge, CanJudge, adds, alter_r
 use Rattle.escrow_core.specs.declared.database.added.AddedChecks.{AddedChecks}
 use Rattle.escrow_reserved.specs.Read.{IsKnown, IsRead, ReadRow, ReadRows, row_read}
 use Rattle.escrow_reserved.specs.Placed.{amounts_named, AreOfTables, HaveAmounts, IsOfTable}
-use Rattle.escrow_core.specs.Inside.{database_of, Holds, Keeps}
+use Rattle.escrow_core.specs.Inside.{database_of, Holds}
 use Rattle.escrow_reserved.specs.Reserved.{Reserved, ArePlaced}
 use Rattle.escrow_core.specs.Database.{Database}
 use Rattle.escrow_core.specs.Serves.{Serves}

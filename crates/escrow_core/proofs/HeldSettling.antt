@@ -2,9 +2,9 @@
 use Rattle.std.specs.Prelude.{◌≡◌, ℕ, zero, suc, ◌+◌, ◌-◌, ◌<◌, ◌≤◌, IsSome, IsTrue, Option, Some, None, List, [], ◌∷◌, ◌++◌, length, take, drop, replicate, slice_get, slice_set}
 use Rattle.std.specs.List.{AllByRecursion}
 use Rattle.std.proofs.Common.{inl, inr, refl, sym, ap, subst, arith, le_refl, min, ◌∙◌}
-use Rattle.std.proofs.lemmas.List.{append_assoc, drop_all, drop-drop, length-append, length-drop, length-replicate, length-take-le, take-append-le, take_all, take_min}
+use Rattle.std.proofs.lemmas.List.{append_assoc, drop-drop, length-append, length-drop, length-replicate, length-take, length-take-le, replicate-append-replicate, take-append-le, take_all, take_min}
 use Rattle.std.proofs.lemmas.Option.{slice_get_within}
-use Rattle.std.proofs.Math.Seq.{drop-append_seam, take-append_seam}
+use Rattle.std.proofs.Math.Seq.{drop-append-add, take-append-add, take-append_seam}
 use Rattle.sqlite.specs.State.{State as Store, HasCleanDisk, Survives}
 use Rattle.sqlite.proofs.StateLemmas.{survives_then}
 use Rattle.sqlite_trees.specs.Tree.{Trees}
@@ -27,7 +27,7 @@ use Rattle.escrow_core.specs.Left.{Lasts}
 use Rattle.escrow_core.specs.Serves.{AreAfterAtLeast, AreAfterEnds, AreHeldOf}
 use Rattle.escrow_core.proofs.HeldOutcomes.{all_ended, ended_past}
 use Rattle.escrow_core.proofs.HeldReplies.{none_refused, refused_past}
-use Rattle.escrow_core.proofs.Lasting.{all_drop, drop_both, end_left, none_by}
+use Rattle.escrow_core.proofs.Lasting.{drop_both, end_left, none_by}
 use Rattle.escrow_core.proofs.Parts.{commits_of, some_take}
 use Rattle.escrow_core.proofs.Serving.{still_clean, survives_itself}
 
@@ -163,38 +163,45 @@ nothing_done (entry ∷ plan) s (suc n) it few none =
     absurd (omega (arith, zero_done, first.1))
 
 -- the outcomes behind those that were done
-failed_behind : (place k : ℕ) (cause : Failure) → place ≤ k → HaveFailed (drop k (stopped_at place cause))
-failed_behind zero k cause few = all_drop IsSome k (Some cause ∷ []) (refl, tt)
-failed_behind (suc place) zero cause few = absurd (omega (arith, few))
-failed_behind (suc place) (suc k) cause few = failed_behind place k cause (omega (arith, few))
+failed_behind : (place : ℕ) (cause : Failure) → HaveFailed (drop place (stopped_at place cause))
+failed_behind zero cause = (refl, tt)
+failed_behind (suc place) cause = failed_behind place cause
 
-failed_none : (n k : ℕ) → n ≤ k → HaveFailed (drop k (replicate n None))
-failed_none n k few =
-    let none : List (Option Failure) = replicate n None in
-    let gone : drop k none ≡ [] = drop_all k none (omega (arith, few, length-replicate {A = Option Failure} n None)) in
-    subst HaveFailed (sym gone) tt
+done_before : (place : ℕ) (cause : Failure) → take place (stopped_at place cause) ≡ replicate place None
+done_before zero cause = refl
+done_before (suc place) cause = ap (λ (os : List (Option Failure)). None ∷ os) (done_before place cause)
+
+failed_none : (n : ℕ) → HaveFailed (drop n (replicate n None))
+failed_none zero = tt
+failed_none (suc n) = failed_none n
 
 -- what a crash leaves after at least some first entries of the remaining part
 rest_done : (sure : Type 0) (plan : List (ℕ × End)) (places : List ℕ) (before : State) (replies : List Reply) (rest : List (ℕ × End)) (left : List ℕ) (mid : State) (told : List Reply) (more : List (Option Failure))
-    (least : ℕ) (trees : Trees) (so_far : SettlesSoFar sure plan places before replies rest left mid told) → sure → least ≤ length rest → ((k : ℕ) → least ≤ k → HaveFailed (drop k more))
+    (least : ℕ) (trees : Trees) (so_far : SettlesSoFar sure plan places before replies rest left mid told) → sure → least ≤ length rest → take least more ≡ replicate least None → HaveFailed (drop least more)
     → AreAfterAtLeast least rest mid trees → AreAfterDone plan (so_far.outcomes ++ more) before trees
-rest_done sure plan places before replies rest left mid told more least trees so_far surely few failed ends =
+rest_done sure plan places before replies rest left mid told more least trees so_far surely few done failed ends =
     let outcomes = so_far.outcomes in
     let k = min ends.0 (length rest) in
-    let same : settled (take ends.0 rest) mid ≡ ended plan (take (length outcomes) (outcomes ++ more) ++ replicate k None) before =
+    let past : least ≤ k = omega (arith, ends.1, few) in
+    let many : least ≤ length more = omega (arith, length-take least more, ap length done, length-replicate {A = Option Failure} least None) in
+    let parts : replicate k None ≡ replicate least None ++ replicate (k - least) None =
+    ap (λ (n : ℕ). replicate {A = Option Failure} n None) (omega (arith, past)) ∙ sym (replicate-append-replicate least (k - least) None) in
+    let front : take (length outcomes + least) (outcomes ++ more) ≡ outcomes ++ replicate least None = take-append-add outcomes more least ∙ ap (λ os. outcomes ++ os) done in
+    let counts : outcomes ++ replicate k None ≡ take (length outcomes + least) (outcomes ++ more) ++ replicate (k - least) None =
+    ap (λ os. outcomes ++ os) parts ∙ sym (append_assoc outcomes (replicate least None) (replicate (k - least) None)) ∙ ap (λ os. os ++ replicate (k - least) None) (sym front) in
+    let same : settled (take ends.0 rest) mid ≡ ended plan (take (length outcomes + least) (outcomes ++ more) ++ replicate (k - least) None) before =
     settled_is_the_run mid (take ends.0 rest) ∙ ap (after_ends mid) (sym (take_min ends.0 rest)) ∙ sym (done_first rest k mid) ∙ sym (so_far.is_now surely (replicate k None))
-    ∙ ap (λ os. ended plan (os ++ replicate k None) before) (sym (take-append_seam outcomes more)) in
-    let behind : drop k more ≡ drop (length outcomes + k) (outcomes ++ more) =
-    ap (drop k) (sym (drop-append_seam outcomes more)) ∙ drop-drop k (length outcomes) (outcomes ++ more) in
+    ∙ ap (λ os. ended plan os before) counts in
+    let behind : drop least more ≡ drop (length outcomes + least) (outcomes ++ more) = sym (drop-append-add outcomes more least) in
     record {
       some = (
-        length outcomes,
-        k,
-        omega (arith, length-append outcomes more),
-        omega (arith, so_far.as_many),
+        length outcomes + least,
+        k - least,
+        omega (arith, length-append outcomes more, many),
+        omega (arith, so_far.as_many, past),
         subst (λ (t : State). AreHeldOf t trees) same ends.2,
       );
-      none_missing = subst HaveFailed behind (failed k (omega (arith, ends.1, few)));
+      none_missing = subst HaveFailed behind failed;
     }
 
 -- the same after more COMMITs failed
@@ -202,7 +209,7 @@ done_more : (plan : List (ℕ × End)) (outcomes more : List (Option Failure)) (
 unfolding still_left
 done_more plan outcomes more s trees failed it = record {
   some = still_left plan outcomes more s trees it.some;
-  none_missing = drop_both IsSome (it.some.0 + it.some.1) outcomes more it.none_missing failed;
+  none_missing = drop_both IsSome it.some.0 outcomes more it.none_missing failed;
 }
 
 -- what is settled so far, and what a crash leaves of it
@@ -237,20 +244,20 @@ module _ (first now new : Store) (plan : List (ℕ × End)) (places : List ℕ) 
       it.leaves survives
 
   -- what was done is not missing
-  lasts_more : (more : List (Option Failure)) (least : ℕ) → least ≤ length rest → ((k : ℕ) → least ≤ k → HaveFailed (drop k more)) → (least ≡ 0 → HaveFailed more)
+  lasts_more : (more : List (Option Failure)) (least : ℕ) → least ≤ length rest → take least more ≡ replicate least None → HaveFailed (drop least more) → (least ≡ 0 → HaveFailed more)
       → Lasts now new (committed_by (take least rest) mid.reservations ≡ []) (AreAfterAtLeast (length (take least rest)) rest mid)
       → AreHolding plan before → Lasts first new (HaveFailed (it.so_far.outcomes ++ more)) (AreAfterDone plan (it.so_far.outcomes ++ more) before)
-  lasts_more more least few behind none made holds clean trees may =
+  lasts_more more least few done behind none made holds clean trees may =
       let was = still_clean now new _ survives clean in
       let outcomes = it.so_far.outcomes in
       elim (made clean trees may) [
         | inr ends ↦
-            inr (rest_done (HasCleanDisk now) plan places before replies rest left mid told more least trees it.so_far was few behind (ends.0, omega (arith, ends.1, length-take-le least rest few), ends.2))
+            inr (rest_done (HasCleanDisk now) plan places before replies rest left mid told more least trees it.so_far was few done behind (ends.0, omega (arith, ends.1, length-take-le least rest few), ends.2))
         | inl kept ↦
             let failed : HaveFailed more = none (nothing_done rest mid least (it.holding holds was) few kept.0) in
             elim (it.durable holds was trees kept.1) [
               | inl nothing ↦ inl (append_all IsSome outcomes more nothing.0 failed, nothing.1)
-              | inr done ↦ inr (done_more plan outcomes more before trees failed done)
+              | inr made_before ↦ inr (done_more plan outcomes more before trees failed made_before)
             ]
       ]
 
@@ -269,7 +276,7 @@ module _ (first now new : Store) (plan : List (ℕ × End)) (places : List ℕ) 
         subst (AreHolding (drop (place + 1) rest)) (sym (stopped clean).2)
         (subst (λ (xs : List (ℕ × End)). AreHolding xs (after_ends mid (take place rest))) (drop-drop 1 place rest) behind);
     durable =
-        lasts_more (stopped_at place cause) place (omega (arith, slice_get_within left place at found, as_long)) (λ k. failed_behind place k cause)
+        lasts_more (stopped_at place cause) place (omega (arith, slice_get_within left place at found, as_long)) (done_before place cause) (failed_behind place cause)
         (λ first. subst (λ (n : ℕ). HaveFailed (stopped_at n cause)) (sym first) (refl, tt)) made;
   }
 
@@ -280,7 +287,7 @@ module _ (first now new : Store) (plan : List (ℕ × End)) (places : List ℕ) 
     settled = settling_ends (HasCleanDisk now) (HasCleanDisk new) plan places before replies rest left mid told latest it.so_far (still_clean now new _ survives) all;
     left = leaves_more (replicate (length rest) None);
     durable =
-        lasts_more (replicate (length rest) None) (length rest) (le_refl (length rest)) (failed_none (length rest))
+        lasts_more (replicate (length rest) None) (length rest) (le_refl (length rest)) (take_all (length rest) (replicate (length rest) None) (omega (arith, length-replicate {A = Option Failure} (length rest) None))) (failed_none (length rest))
         (λ none. subst (λ (n : ℕ). HaveFailed (replicate n None)) (sym none) tt)
         (subst (λ (xs : List (ℕ × End)). Lasts now new (committed_by xs mid.reservations ≡ []) (AreAfterAtLeast (length xs) rest mid)) (sym (take_all (length rest) rest (le_refl (length rest)))) made);
   }

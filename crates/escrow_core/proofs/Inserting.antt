@@ -1,5 +1,5 @@
 -- INSERT: what its row says about its transition.
-use Rattle.std.specs.Prelude.{◌≡◌, ◌<◌, Bool, ℕ, ℤ, true, false, find, nat_le, is_some, if◌then◌else◌, option_map, option_and_then, unwrap_or, Option, Some, None, List, [], ◌∷◌, length, bytes_eq}
+use Rattle.std.specs.Prelude.{◌≡◌, ◌<◌, Bool, ℕ, ℤ, true, find, nat_le, is_some, if◌then◌else◌, option_map, option_and_then, unwrap_or, Option, Some, None, List, [], ◌∷◌, length, bytes_eq}
 use Rattle.std.proofs.Common.{inl, inr, refl, sym, ap, subst, ◌∙◌}
 use Rattle.std.proofs.lemmas.Option.{option_and_then_some}
 use Rattle.sqlite.specs.Held.{state}

@@ -18,7 +18,6 @@ use Rattle.escrow_statement.specs.declared.statement.Statement.{Statement}
 use Rattle.escrow_statement.specs.declared.statement.Statement.TheVariants as statement
 use Rattle.escrow_journal.specs.Reservations.{own, others}
 use Rattle.escrow_schema.specs.Rows.{applied}
-use Rattle.escrow_machine.specs.declared.event.Event.TheVariants as event
 use Rattle.escrow_machine.specs.declared.reply.Reply.{Reply}
 use Rattle.escrow_machine.specs.declared.reply.Reply.TheVariants as reply
 use Rattle.escrow_machine.specs.Reply.{failure_of, restart_reply, tells_write}

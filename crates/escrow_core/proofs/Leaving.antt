@@ -2,8 +2,8 @@
 use Rattle.std.specs.Prelude.{◌≡◌, ℕ, zero, suc, ◌+◌, ◌≤◌, ◌<◌, ◌==◌, Bool, true, false, if◌then◌else◌, ◌⊎◌, MatchBool, MatchOption, IsSome, IsTrue, Option, Some, None, is_none, List, [], ◌∷◌, ◌++◌, length, take, drop, replicate}
 use Rattle.std.specs.List.{AllByRecursion}
 use Rattle.std.proofs.Common.{inl, inr, refl, sym, ap, ap₂, subst, eq-eqb, arith, ◌∙◌}
-use Rattle.std.proofs.lemmas.Bool.{cases_lt, false_from_ne_true, eqb-true}
-use Rattle.std.proofs.lemmas.List.{append-nil, append_assoc, length-append, length-map, length-replicate, length-take-le, drop_all, drop_at, drop-append-le, map-append}
+use Rattle.std.proofs.lemmas.Bool.{cases_Bool, cases_lt, false_from_ne_true, eqb-true, false≢true}
+use Rattle.std.proofs.lemmas.List.{append-nil, append_assoc, length-append, length-map, length-replicate, length-take-le, drop_at, drop-append-le, map-append}
 use Rattle.std.proofs.Math.Seq.{drop-append_seam, take-append_seam}
 use Rattle.sqlite.specs.State.{State as Store, HasCleanDisk, Survives}
 use Rattle.sqlite.proofs.StateLemmas.{survives_then}
@@ -15,13 +15,14 @@ use Rattle.escrow_num.specs.declared.session.End.TheVariants as end
 use Rattle.escrow_machine.specs.declared.event.Event.{Event}
 use Rattle.escrow_machine.specs.declared.event.Event.TheVariants as event
 use Rattle.escrow_machine.specs.declared.reply.Reply.{Reply}
+use Rattle.escrow_machine.specs.declared.reply.Reply.TheVariants as reply
 use Rattle.escrow_statement.specs.declared.statement.Statement.{Statement}
 use Rattle.escrow_journal.specs.Reservations.{own}
 use Rattle.escrow_machine.specs.Held.{IsHeldBack, IsServedBeside, IsHeldRun, Outcome, Waiting, answer_by, answers_by, ended_by, events_of}
 use Rattle.escrow_machine.specs.Reply.{failure_of, tells_write}
 use Rattle.escrow_machine.specs.Settle.{after_end}
 use Rattle.escrow_machine.specs.State.{State}
-use Rattle.escrow_machine.specs.Step.{step, may_fail, IsRun, IsServed, IsStep}
+use Rattle.escrow_machine.specs.Step.{step, may_fail, IsRun, IsServed, IsStep, StepOrRefusal}
 use Rattle.escrow_machine.proofs.Choices.{all_append, append_all}
 use Rattle.escrow_machine.proofs.LawsHeld.{run_more}
 use Rattle.escrow_machine.proofs.LawsSteps.{machine_never_fails}
@@ -33,7 +34,7 @@ use Rattle.escrow_core.proofs.Batches.{batch_ends, batch_joins, nothing_served, 
 use Rattle.escrow_core.proofs.HeldOutcomes.{found_again, others_found, outcome_in, outcomes_by}
 use Rattle.escrow_core.proofs.HeldReplies.{answer_if, as_many_answers, as_many_events, ended_is_after}
 use Rattle.escrow_core.proofs.Holding.{plan_holds}
-use Rattle.escrow_core.proofs.Lasting.{drop_both, lasts_survives, lasts_then}
+use Rattle.escrow_core.proofs.Lasting.{lasts_survives, lasts_then}
 use Rattle.escrow_core.proofs.Quiet.{AreKept, held_before, held_kept, kept_then, quiet_beside, quiet_served}
 use Rattle.escrow_core.proofs.Served.{stepped}
 use Rattle.escrow_core.proofs.Serving.{still_clean, survives_itself}
@@ -98,18 +99,25 @@ answered_more : (s : State) (events more : List Event) (given told : List Reply)
 unfolding after_some_more
 answered_more s events more given told trees quiet it = record {
   some = after_some_more s events more given told trees it.some;
-  none_missing = drop_both (λ (answer : Reply). tells_write answer ≡ false) (length it.some.first) given told it.none_missing quiet;
+  sure = it.sure;
+  unsure = it.unsure ++ told;
+  is_given = ap (λ (xs : List Reply). xs ++ told) it.is_given ∙ append_assoc it.sure it.unsure told;
+  as_given = it.as_given;
+  none_missing = append_all (λ (answer : Reply). tells_write answer ≡ false) it.unsure told it.none_missing quiet;
 }
 
 -- after all events, none is missing
-none_behind : (n : ℕ) (answers : List Reply) → length answers ≤ n → TellNoWrite (drop n answers)
-none_behind n answers past = subst TellNoWrite (sym (drop_all n answers past)) tt
-
-answered_all : (s : State) (events : List Event) (answers : List Reply) (now latest : State) (trees : Trees) → length answers ≡ length events → IsRun s events answers now → AreKept now latest
-    → AreHeldOf latest trees → AreAfterAnswered s events answers trees
+answered_all : (s : State) (events : List Event) (answers : List Reply) (now latest : State) (trees : Trees) → IsRun s events answers now → AreKept now latest → AreHeldOf latest trees
+    → AreAfterAnswered s events answers trees
 unfolding after_some_all
-answered_all s events answers now latest trees as_many ran kept held =
-    record { some = after_some_all s events answers now latest trees ran kept held; none_missing = none_behind (length events) answers (omega (arith, as_many)) }
+answered_all s events answers now latest trees ran kept held = record {
+  some = after_some_all s events answers now latest trees ran kept held;
+  sure = answers;
+  unsure = [];
+  is_given = sym (append-nil answers);
+  as_given = ([], sym (append-nil answers));
+  none_missing = tt;
+}
 
 -- COMMITS OF WHICH ONLY THE FIRST ONES COUNT
 
@@ -379,6 +387,61 @@ batch_left sure later s events before replies held latest new written trees batc
       held = held_before it.now (ended_by by ws latest) trees it.kept (subst (λ (t : State). AreHeldOf t trees) (sym after) left.4);
     }
 
+-- the waiting statements up to the n-th COMMIT
+record IsSplit (ws : List Waiting) (n : ℕ) : Type 0 where
+  first : List Waiting
+  rest : List Waiting
+  is : ws ≡ rest ++ first
+  many : length (plan_of first) ≡ n
+
+split_if : (b : Bool) (session n : ℕ) (plan : List (ℕ × End)) → n < length (if b then plan ++ (session, end.Commit) ∷ [] else plan) → n ≤ length plan
+split_if true session n plan below = omega (arith, below, length-append plan ((session, end.Commit) ∷ []))
+split_if false session n plan below = omega (arith, below)
+
+split : (ws : List Waiting) (n : ℕ) → n ≤ length (plan_of ws) → IsSplit ws n
+split [] n few = record { first = []; rest = []; is = refl; many = omega (arith, few) }
+split (w ∷ earlier) n few = elim (cases_lt n (length (plan_of (w ∷ earlier)))) [
+  | inr past ↦ record { first = w ∷ earlier; rest = []; is = refl; many = omega (arith, few, past) }
+  | inl below ↦
+      let it = split earlier n (split_if w.is_held w.session n (plan_of earlier) below) in
+      record { first = it.first; rest = w ∷ it.rest; is = ap (λ (xs : List Waiting). w ∷ xs) it.is; many = it.many }
+]
+
+-- the outcomes of the first entries count as they are
+same_later : (entry : ℕ × End) (outcome : Option Failure) (by became : Outcome) (plan : List (ℕ × End)) → AllByRecursion (λ later. ¬ (later.0 ≡ entry.0)) plan
+    → (k : ℕ) → AllByRecursion (λ later. by later.0 ≡ became later.0) (take k plan)
+    → AllByRecursion (λ later. (if entry.0 == later.0 then outcome else by later.0) ≡ (if entry.0 == later.0 then outcome else became later.0)) (take k plan)
+same_later entry outcome by became plan apart zero all = tt
+same_later entry outcome by became [] apart (suc k) all = tt
+same_later entry outcome by became (later ∷ plan) apart (suc k) all =
+    let other : (entry.0 == later.0) ≡ false = false_from_ne_true (entry.0 == later.0) (λ t. apart.0 (sym (eqb-true entry.0 later.0 t))) in
+    (rw other all.0, same_later entry outcome by became plan apart.1 k all.1)
+
+same_first : (n : ℕ) (plan : List (ℕ × End)) (outcomes more : List (Option Failure)) → AreApart plan → n ≤ length outcomes → n ≤ length plan
+    → AllByRecursion (λ entry. outcome_else plan (take n outcomes ++ more) entry.0 ≡ outcome_in plan outcomes entry.0) (take n plan)
+same_first zero plan outcomes more apart few within = tt
+same_first (suc n) [] outcomes more apart few within = tt
+same_first (suc n) (entry ∷ plan) [] more apart few within = absurd (omega (arith, few))
+same_first (suc n) (entry ∷ plan) (outcome ∷ outcomes) more apart few within =
+    let same : (entry.0 == entry.0) ≡ true = eq-eqb entry.0 entry.0 refl in (
+      rw same refl,
+      same_later entry outcome (outcome_else plan (take n outcomes ++ more)) (outcome_in plan outcomes) plan apart.0 n (same_first n plan outcomes more apart.1 (omega (arith, few)) (omega (arith, within))),
+    )
+
+same_if : (b : Bool) (session : ℕ) (answer : Reply) (by became : Outcome) (plan : List (ℕ × End))
+    → AllByRecursion (λ entry. by entry.0 ≡ became entry.0) (if b then plan ++ (session, end.Commit) ∷ [] else plan)
+    → AllByRecursion (λ entry. by entry.0 ≡ became entry.0) plan × (answer_if (if b then by session else None) answer ≡ answer_if (if b then became session else None) answer)
+same_if true session answer by became plan all =
+    let parts = all_append (λ (entry : ℕ × End). by entry.0 ≡ became entry.0) plan ((session, end.Commit) ∷ []) all in
+    (parts.0, ap (λ (o : Option Failure). answer_if o answer) parts.1.0)
+same_if false session answer by became plan all = (all, refl)
+
+same_answers : (by became : Outcome) (ws : List Waiting) → AllByRecursion (λ entry. by entry.0 ≡ became entry.0) (plan_of ws) → answers_by by ws ≡ answers_by became ws
+same_answers by became [] all = refl
+same_answers by became (w ∷ earlier) all =
+    let parts = same_if w.is_held w.session w.answer by became (plan_of earlier) all in
+    ap₂ (λ (xs : List Reply) (x : Reply). xs ++ x ∷ []) (same_answers by became earlier parts.0) parts.1
+
 -- no write behind them was answered
 batch_answered : (sure later : Type 0) (s : State) (events : List Event) (before replies : List Reply) (held : HeldBack) (latest new : State) (written : List Reply) (trees : Trees)
     (batch : IsBatch sure s events before replies held latest) (settled : AreSettled later held.plan held.places latest replies new written) → sure
@@ -392,26 +455,38 @@ batch_answered sure later s events before replies held latest new written trees 
     let outcomes = settled.outcomes in
     let answers = batch.first.answers in
     let became : Outcome = outcome_in plan outcomes in
+    let by : Outcome = outcome_else plan (take left.0 outcomes ++ replicate left.1 None) in
     let it = batch_cut sure later s events before replies held latest new written trees batch settled surely left in
-    let plan_is : plan ≡ plan_of it.first ++ plan_of it.rest = ap (λ (h : HeldBack). h.plan) batch.is_held ∙ ap plan_of it.is ∙ plan_append it.rest it.first in
-    let parted : outcomes ≡ outcomes_by became (plan_of it.first) ++ outcomes_by became (plan_of it.rest) =
-    sym (found_again plan outcomes batch.apart settled.as_many) ∙ ap (outcomes_by became) plan_is ∙ map-append (λ (entry : ℕ × End). became entry.0) (plan_of it.first) (plan_of it.rest) in
-    let count : length (outcomes_by became (plan_of it.first)) ≡ left.0 + left.1 =
-    length-map (plan_of it.first) (λ (entry : ℕ × End). became entry.0) ∙ it.many ∙ so_many outcomes left.0 left.1 left.2 in
-    let behind : drop (left.0 + left.1) outcomes ≡ outcomes_by became (plan_of it.rest) =
-    ap (drop (left.0 + left.1)) parted ∙ drop_at (outcomes_by became (plan_of it.first)) (outcomes_by became (plan_of it.rest)) (left.0 + left.1) count in
-    let quiet : TellNoWrite (answers_by became it.rest) =
-    quiet_rest became batch.mid it.rest it.first latest (subst (λ (xs : List Waiting). IsHeldRun batch.mid xs latest) it.is (batch.waits surely)) (subst HaveFailed behind done.none_missing) in
-    let front = answers ++ answers_by became it.first in
-    let told : answers ++ answers_by became ws ≡ front ++ answers_by became it.rest =
-    ap (λ xs. answers ++ xs) (ap (answers_by became) it.is ∙ answers_append became it.rest it.first) ∙ sym (append_assoc answers (answers_by became it.first) (answers_by became it.rest)) in
-    let long : length front ≡ length (batch.served ++ events_of it.first) =
-    length-append answers (answers_by became it.first) ∙ ap₂ (λ a b. a + b) batch.first.as_many (as_many_answers became it.first ∙ sym (as_many_events it.first))
-    ∙ sym (length-append batch.served (events_of it.first)) in
+    let many : length (plan_of it.first) ≡ left.0 + left.1 = it.many ∙ so_many outcomes left.0 left.1 left.2 in
+    let part = split it.first left.0 (omega (arith, many)) in
+    let whole : ws ≡ (it.rest ++ part.rest) ++ part.first = it.is ∙ ap (λ (xs : List Waiting). it.rest ++ xs) part.is ∙ sym (append_assoc it.rest part.rest part.first) in
+    let plan_is : plan ≡ plan_of part.first ++ plan_of (it.rest ++ part.rest) = ap (λ (h : HeldBack). h.plan) batch.is_held ∙ ap plan_of whole ∙ plan_append (it.rest ++ part.rest) part.first in
+    let parted : outcomes ≡ outcomes_by became (plan_of part.first) ++ outcomes_by became (plan_of (it.rest ++ part.rest)) =
+    sym (found_again plan outcomes batch.apart settled.as_many) ∙ ap (outcomes_by became) plan_is
+    ∙ map-append (λ (entry : ℕ × End). became entry.0) (plan_of part.first) (plan_of (it.rest ++ part.rest)) in
+    let count : length (outcomes_by became (plan_of part.first)) ≡ left.0 = length-map (plan_of part.first) (λ (entry : ℕ × End). became entry.0) ∙ part.many in
+    let behind : drop left.0 outcomes ≡ outcomes_by became (plan_of (it.rest ++ part.rest)) =
+    ap (drop left.0) parted ∙ drop_at (outcomes_by became (plan_of part.first)) (outcomes_by became (plan_of (it.rest ++ part.rest))) left.0 count in
+    let front : take left.0 plan ≡ plan_of part.first =
+    ap₂ (λ (n : ℕ) (p : List (ℕ × End)). take n p) (sym part.many) plan_is ∙ take-append_seam (plan_of part.first) (plan_of (it.rest ++ part.rest)) in
+    let same : answers_by by part.first ≡ answers_by became part.first =
+    same_answers by became part.first (subst (AllByRecursion (λ (entry : ℕ × End). by entry.0 ≡ became entry.0)) front
+    (same_first left.0 plan outcomes (replicate left.1 None) batch.apart left.2 (omega (arith, left.3)))) in
     record {
       some = batch_left sure later s events before replies held latest new written trees batch settled surely left;
+      sure = answers ++ answers_by became part.first;
+      unsure = answers_by became (it.rest ++ part.rest);
+      is_given =
+          ap (λ (xs : List Reply). answers ++ xs) (ap (answers_by became) whole ∙ answers_append became (it.rest ++ part.rest) part.first)
+          ∙ sym (append_assoc answers (answers_by became part.first) (answers_by became (it.rest ++ part.rest)));
+      as_given = (
+        answers_by by part.rest,
+        ap (λ (xs : List Reply). answers ++ xs) (ap (answers_by by) part.is ∙ answers_append by part.rest part.first ∙ ap (λ (xs : List Reply). xs ++ answers_by by part.rest) same)
+            ∙ sym (append_assoc answers (answers_by became part.first) (answers_by by part.rest)),
+      );
       none_missing =
-          subst TellNoWrite (sym (ap (drop (length (batch.served ++ events_of it.first))) told ∙ drop_at front (answers_by became it.rest) (length (batch.served ++ events_of it.first)) long)) quiet;
+          quiet_rest became batch.mid (it.rest ++ part.rest) part.first latest (subst (λ (xs : List Waiting). IsHeldRun batch.mid xs latest) whole (batch.waits surely))
+          (subst HaveFailed behind done.none_missing);
     }
 
 -- if each COMMIT failed, no write was answered
@@ -500,16 +575,41 @@ event_left s events answers mid (event.Statement session asked) answer new trees
 }
 event_left s events answers mid event.Restart answer new trees ran served held = absurd held
 
-event_answered : (s : State) (events : List Event) (answers : List Reply) (mid : State) (happened : Event) (answer : Reply) (new : State) (trees : Trees) → length answers ≡ length events → IsRun s events answers mid
+written_fails : (answer : Reply) → tells_write answer ≡ true → ¬ (IsSome (failure_of answer))
+written_fails (reply.Refused r) written failed = absurd (false≢true written)
+written_fails _ written failed = absurd (false≢true failed)
+
+-- a reply that says that the store was written is the one that counts
+written_counts : (s : State) (session : ℕ) (asked : Statement) (answer : Reply) (new : State) → tells_write answer ≡ true → StepOrRefusal s session asked answer new → (step s session asked).0 ≡ answer
+written_counts s session asked answer new written event = elim (counts_as s session asked answer new (failure_of answer) refl event) [
+  | inl same ↦ same
+  | inr failed ↦ absurd (written_fails answer written failed)
+]
+
+event_answered : (s : State) (events : List Event) (answers : List Reply) (mid : State) (happened : Event) (answer : Reply) (new : State) (trees : Trees) → IsRun s events answers mid
     → IsServed mid happened answer new → AreAfterEvent mid happened trees → AreAfterAnswered s (events ++ happened ∷ []) (answers ++ answer ∷ []) trees
 unfolding event_left
-event_answered s events answers mid (event.Statement session asked) answer new trees as_many ran served held =
-    let happened = event.Statement session asked in
-    record {
-      some = event_left s events answers mid happened answer new trees ran served held;
-      none_missing = none_behind (length (events ++ happened ∷ [])) (answers ++ answer ∷ []) (omega (arith, as_many, length-append events (happened ∷ []), length-append answers (answer ∷ [])));
-    }
-event_answered s events answers mid event.Restart answer new trees as_many ran served held = absurd held
+event_answered s events answers mid (event.Statement session asked) answer new trees ran served held =
+    let some = event_left s events answers mid (event.Statement session asked) answer new trees ran served held in
+    elim (cases_Bool (tells_write answer)) [
+      | inl written ↦ record {
+        some = some;
+        sure = answers ++ answer ∷ [];
+        unsure = [];
+        is_given = sym (append-nil (answers ++ answer ∷ []));
+        as_given = ([], ap (λ (r : Reply). answers ++ r ∷ []) (written_counts mid session asked answer new written served) ∙ sym (append-nil (answers ++ answer ∷ [])));
+        none_missing = tt;
+      }
+      | inr quiet ↦ record {
+        some = some;
+        sure = answers;
+        unsure = answer ∷ [];
+        is_given = refl;
+        as_given = ((step mid session asked).0 ∷ [], refl);
+        none_missing = (quiet, tt);
+      }
+    ]
+event_answered s events answers mid event.Restart answer new trees ran served held = absurd held
 
 pub serves_more : (first mid new : Store) (s : State) (events : List Event) (before replies : List Reply) (latest : State) (happened : Event) (answer : Reply) (after : State)
     → AreServedAll first mid s events before replies latest → (IsUsable new → IsUsable mid) → (HasCleanDisk new → IsServed latest happened answer after)
@@ -533,7 +633,7 @@ serves_more first mid new s events before replies latest happened answer after i
       (λ quiet one. append_all (λ (a : Reply). tells_write a ≡ false) it.served.answers (answer ∷ []) quiet (one, tt))
       (λ _ trees one made. answered_more s events (happened ∷ []) it.served.answers (answer ∷ []) trees (one, tt) made)
       (λ clean trees made.
-      event_answered s events it.served.answers latest happened answer after trees it.served.as_many (it.served.ran (still_clean mid new _ survives clean)) (event clean) made)
+      event_answered s events it.served.answers latest happened answer after trees (it.served.ran (still_clean mid new _ survives clean)) (event clean) made)
       it.durable lasts;
 }
 
@@ -568,7 +668,7 @@ module _ (first now new : Store) (s : State) (events : List Event) (before repli
       lasts_then first now new (TellNoWrite it.batch.first.answers) (Unit {0}) (TellNoWrite it.batch.first.answers) _ (AreHeldOf latest) (AreAfterAnswered s it.batch.served it.batch.first.answers) surely
       (λ quiet _. quiet) (λ _ trees _ made. made)
       (λ clean trees held.
-      answered_all s it.batch.served it.batch.first.answers it.batch.mid latest trees it.batch.first.as_many (it.batch.first.ran (surely clean))
+      answered_all s it.batch.served it.batch.first.answers it.batch.mid latest trees (it.batch.first.ran (surely clean))
       (held_kept it.batch.mid it.batch.waiting latest (it.batch.waits (surely clean))) held)
       it.durable (lasts_survives now new (Unit {0}) _ (AreHeldOf latest) tt (λ _ trees k. k.1) survives)
 

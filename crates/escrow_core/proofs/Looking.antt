@@ -1,12 +1,11 @@
 -- What is known about a row that was read and is kept.
 use Rattle.std.specs.Prelude.{◌≡◌, ℤ, true, Option, Some, None, List, is_some, option_copied, option_map}
 use Rattle.std.specs.Borrow.{Bor}
-use Rattle.std.proofs.Common.{refl, sym, ap, subst, ◌∙◌}
+use Rattle.std.proofs.Common.{refl, sym}
 use Rattle.std.proofs.lemmas.Bool.{false≢true}
 use Rattle.escrow_num.specs.declared.row.Row.{Row}
 use Rattle.escrow_num.specs.declared.value.RowName.{RowName}
 use Rattle.escrow_schema.specs.Rows.{row_named}
-use Rattle.escrow_reserved.specs.Placed.{amounts_named}
 use Rattle.escrow_reserved.specs.Read.{AreRead, ReadRows, read_at}
 use Rattle.escrow_reserved.proofs.Reading.{read_kept}
 

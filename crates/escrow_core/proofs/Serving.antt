@@ -1,5 +1,5 @@
 -- The parts of a call that serves a statement.
-use Rattle.std.specs.Prelude.{◌≡◌, ◌⊎◌, ℕ, ℤ, List, [], ◌∷◌, length, MatchOption, Bool, true, false, Option, Some, None, IsSomeAnd, Result, Ok, Err, option_map, unwrap_or, is_none, is_some, IsTrue}
+use Rattle.std.specs.Prelude.{◌≡◌, ◌⊎◌, ℕ, ℤ, List, length, MatchOption, Bool, true, false, Option, Some, None, IsSomeAnd, Result, Ok, Err, option_map, unwrap_or, is_none, is_some, IsTrue}
 use Rattle.std.specs.Result.{IsErrAnd}
 use Rattle.std.proofs.Common.{inl, inr, refl, sym, ap, ap₂, subst, le_refl, arith, ◌∙◌}
 use Rattle.std.proofs.lemmas.Bool.{and_parts, false≢true}

@@ -95,10 +95,10 @@ AreAfterOutcomes plan outcomes s trees =
 abbrev pub HaveFailed : List (Option Failure) → Type 0
 HaveFailed outcomes = AllByRecursion IsSome outcomes
 
--- the same, and no COMMIT behind the first entries was done
+-- the same, and no COMMIT was done behind those whose outcomes count as they are
 pub record AreAfterDone (plan : List (ℕ × End)) (outcomes : List (Option Failure)) (s : State) (trees : Trees) : Type 0 where
   pub some : AreAfterOutcomes plan outcomes s trees
-  pub none_missing : HaveFailed (drop (some.0 + some.1) outcomes)
+  pub none_missing : HaveFailed (drop some.0 outcomes)
 
 -- no two entries of a plan are of one session
 abbrev pub AreApart : List (ℕ × End) → Type 0

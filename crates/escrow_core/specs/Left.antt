@@ -1,5 +1,5 @@
 -- Believed: what a crash leaves of a list of events.
-use Rattle.std.specs.Prelude.{◌≡◌, ◌⊎◌, false, IsSome, List, [], ◌∷◌, ◌++◌, drop, length}
+use Rattle.std.specs.Prelude.{◌≡◌, ◌⊎◌, false, IsSome, List, [], ◌∷◌, ◌++◌}
 use Rattle.std.specs.List.{AllByRecursion}
 use Rattle.sqlite.specs.State.{State as Store, HasCleanDisk}
 use Rattle.sqlite_trees.specs.Tree.{Trees}
@@ -33,10 +33,15 @@ pub record AreAfterSome (s : State) (events : List Event) (given : List Reply) (
 abbrev pub TellNoWrite : List Reply → Type 0
 TellNoWrite replies = AllByRecursion (λ answer. tells_write answer ≡ false) replies
 
--- NO ANSWERED WRITE IS MISSING: the same, and no reply behind the first events says that the store was written
+-- NO ANSWERED WRITE IS MISSING: the same, and the given replies are those that count, up to the last one that says that the
+-- store was written
 pub record AreAfterAnswered (s : State) (events : List Event) (given : List Reply) (trees : Trees) : Type 0 where
   pub some : AreAfterSome s events given trees
-  pub none_missing : TellNoWrite (drop (length some.first) given)
+  pub sure : List Reply
+  pub unsure : List Reply
+  pub is_given : given ≡ sure ++ unsure
+  pub as_given : (behind : List Reply) × (some.counted ≡ sure ++ behind)
+  pub none_missing : TellNoWrite unsure
 
 -- what a crash leaves after a call, if the disk has returned what was written: what it might have left before, if the
 -- call has written nothing; or what the call makes

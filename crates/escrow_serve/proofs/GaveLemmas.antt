@@ -29,7 +29,7 @@ use Rattle.escrow_serve.specs.declared.waiting.Waiting.{Waiting}
 use Rattle.escrow_serve.specs.declared.waiting.Waiting.TheVariants as waiting
 use Rattle.escrow_serve.proofs.Elements.{get_set_same, get_set_other, get_within}
 use Rattle.escrow_serve.proofs.LineRanLemmas.{answers_then, events_then, gives_then, own_given, other_given, same_item}
-use Rattle.escrow_serve.proofs.RanLemmas.{ran_shown}
+use Rattle.escrow_serve.proofs.RanLemmas.{ran_shown, shown_both}
 use Rattle.escrow_serve.proofs.RunLemmas.{own_event, other_event}
 use Rattle.escrow_serve.proofs.ShownLemmas.{shown_refusal}
 
@@ -215,11 +215,6 @@ events_both : (place : ℕ) (items more : List Item) → events_at place (items 
 events_both place [] more = refl
 events_both place (item ∷ items) more =
     ap (λ (es : List Event). event_at place item.task ++ es) (events_both place items more) ∙ sym (append_assoc (event_at place item.task) (events_at place items) (events_at place more))
-
-shown_both : (answers others given more : List Reply) → AreShown answers given → AreShown others more → AreShown (answers ++ others) (given ++ more)
-shown_both [] others given more none are = subst (λ (rs : List Reply). AreShown others (rs ++ more)) (sym none) are
-shown_both (a ∷ answers) others [] more shown are = absurd shown
-shown_both (a ∷ answers) others (g ∷ given) more shown are = (shown.0, shown_both answers others given more shown.1 are)
 
 -- lines, and then one more
 gave_then : (sessions databases : ℕ) (done : List Item) (item : Item) (out first : List ℕ) (parts mids lefts : List Part) → Gave sessions databases done out parts mids

@@ -1,8 +1,7 @@
 -- What a database did, from one call to the next.
-use Rattle.std.specs.Prelude.{◌≡◌, ◌⊎◌, ℕ, zero, suc, ◌+◌, false, IsSome, IsTrue, Option, Some, None, MatchOption, Result, List, [], ◌∷◌, ◌++◌, drop, length}
+use Rattle.std.specs.Prelude.{◌≡◌, ◌⊎◌, ℕ, suc, false, true, IsSome, IsTrue, Option, Some, None, MatchOption, Result, List, [], ◌∷◌, ◌++◌, length}
 use Rattle.std.proofs.Common.{inl, inr, refl, sym, ap, subst, arith, ◌∙◌, append_assoc}
-use Rattle.std.proofs.Math.Seq.{drop-append-add}
-use Rattle.std.proofs.lemmas.Bool.{false≢true}
+use Rattle.std.proofs.lemmas.Bool.{cases_Bool, false≢true}
 use Rattle.std.proofs.lemmas.List.{length-append}
 use Rattle.sqlite.specs.Held.{state}
 use Rattle.sqlite.specs.State.{HasCleanDisk, Survives}
@@ -27,7 +26,7 @@ use Rattle.escrow_core.specs.Database.{Database}
 use Rattle.escrow_core.specs.Left.{AreAfterAnswered, AreAfterSome, AreCounted, Lasts, TellNoWrite}
 use Rattle.escrow_core.specs.Serves.{AreAfter, AreHeldOf}
 use Rattle.escrow_core.proofs.Batches.{runs_on}
-use Rattle.escrow_core.proofs.Lasting.{drop_both, lasts_survives, lasts_then, restart_quiet, step_lasts}
+use Rattle.escrow_core.proofs.Lasting.{lasts_survives, lasts_then, restart_quiet, step_lasts}
 use Rattle.escrow_core.proofs.Leaving.{after_some_more, counted_behind, counted_more}
 use Rattle.escrow_core.proofs.Served.{stepped}
 use Rattle.escrow_core.proofs.Serving.{still_clean, survives_itself}
@@ -43,21 +42,51 @@ counts_as : (s : State) (session : ℕ) (asked : Statement) (answer : Reply) (ne
 counts_as s session asked answer new None is event = inl (sym (ap (λ (p : Reply × State). p.0) event.is_step))
 counts_as s session asked answer new (Some f) is event = inr (rw is refl)
 
+written_fails : (answer : Reply) → tells_write answer ≡ true → ¬ (IsSome (failure_of answer))
+written_fails (reply.Refused r) written failed = absurd (false≢true written)
+written_fails _ written failed = absurd (false≢true failed)
+
+-- a reply that says that the store was written is the one that counts
+written_counts : (s : State) (session : ℕ) (asked : Statement) (answer : Reply) (new : State) → tells_write answer ≡ true → StepOrRefusal s session asked answer new → (step s session asked).0 ≡ answer
+written_counts s session asked answer new written event = elim (counts_as s session asked answer new (failure_of answer) refl event) [
+  | inl same ↦ same
+  | inr failed ↦ absurd (written_fails answer written failed)
+]
+
+event_some : (s : State) (session : ℕ) (asked : Statement) (answer : Reply) (new : State) (trees : Trees) → StepOrRefusal s session asked answer new → AreAfter s session asked trees
+    → AreAfterSome s (event.Statement session asked ∷ []) (answer ∷ []) trees
+event_some s session asked answer new trees served held = record {
+  first = event.Statement session asked ∷ [];
+  rest = [];
+  is_events = refl;
+  counted = (step s session asked).0 ∷ [];
+  are_counted = (counts_as s session asked answer new (failure_of answer) refl served, tt);
+  now = (step s session asked).1;
+  ran = ((step s session asked).1, stepped s session asked (step s session asked).0 (step s session asked).1 (machine_never_fails s session asked) refl, refl);
+  held = held;
+}
+
 event_answered : (s : State) (happened : Event) (answer : Reply) (new : State) (trees : Trees) → IsServed s happened answer new → AreAfterEvent s happened trees
     → AreAfterAnswered s (happened ∷ []) (answer ∷ []) trees
-event_answered s (event.Statement session asked) answer new trees served held = record {
-  some = record {
-    first = event.Statement session asked ∷ [];
-    rest = [];
-    is_events = refl;
-    counted = (step s session asked).0 ∷ [];
-    are_counted = (counts_as s session asked answer new (failure_of answer) refl served, tt);
-    now = (step s session asked).1;
-    ran = ((step s session asked).1, stepped s session asked (step s session asked).0 (step s session asked).1 (machine_never_fails s session asked) refl, refl);
-    held = held;
-  };
-  none_missing = tt;
-}
+unfolding event_some
+event_answered s (event.Statement session asked) answer new trees served held = elim (cases_Bool (tells_write answer)) [
+  | inl written ↦ record {
+    some = event_some s session asked answer new trees served held;
+    sure = answer ∷ [];
+    unsure = [];
+    is_given = refl;
+    as_given = ([], ap (λ (r : Reply). r ∷ []) (written_counts s session asked answer new written served));
+    none_missing = tt;
+  }
+  | inr quiet ↦ record {
+    some = event_some s session asked answer new trees served held;
+    sure = [];
+    unsure = answer ∷ [];
+    is_given = refl;
+    as_given = ((step s session asked).0 ∷ [], refl);
+    none_missing = (quiet, tt);
+  }
+]
 event_answered s event.Restart answer new trees served held = absurd held
 
 module _ {S : Type 0} (g : Ghosts S) where
@@ -112,7 +141,11 @@ answered_more s events more given told trees quiet it = record {
     ran = it.some.ran;
     held = it.some.held;
   };
-  none_missing = drop_both (λ (answer : Reply). tells_write answer ≡ false) (length it.some.first) given told it.none_missing quiet;
+  sure = it.sure;
+  unsure = it.unsure ++ told;
+  is_given = ap (λ (rs : List Reply). rs ++ told) it.is_given ∙ append_assoc it.sure it.unsure told;
+  as_given = it.as_given;
+  none_missing = append_all (λ (answer : Reply). tells_write answer ≡ false) it.unsure told it.none_missing quiet;
 }
 
 some_behind : (s mid : State) (events more : List Event) (answers others : List Reply) (trees : Trees) → IsRun s events answers mid → AreAfterSome mid more others trees
@@ -128,16 +161,17 @@ some_behind s mid events more answers others trees ran it = record {
   held = it.held;
 }
 
-answered_behind : (s mid : State) (events more : List Event) (answers others : List Reply) (trees : Trees) → length answers ≡ length events → IsRun s events answers mid
-    → AreAfterAnswered mid more others trees → AreAfterAnswered s (events ++ more) (answers ++ others) trees
+answered_behind : (s mid : State) (events more : List Event) (answers others : List Reply) (trees : Trees) → IsRun s events answers mid → AreAfterAnswered mid more others trees
+    → AreAfterAnswered s (events ++ more) (answers ++ others) trees
 unfolding some_behind
-answered_behind s mid events more answers others trees as_many ran it =
-    let some = it.some in
-    let count : length (events ++ some.first) ≡ length answers + length some.first = omega (arith, as_many, length-append events some.first) in
-    record {
-      some = some_behind s mid events more answers others trees ran some;
-      none_missing = subst TellNoWrite (sym (ap (λ (n : ℕ). drop n (answers ++ others)) count ∙ drop-append-add answers others (length some.first))) it.none_missing;
-    }
+answered_behind s mid events more answers others trees ran it = record {
+  some = some_behind s mid events more answers others trees ran it.some;
+  sure = answers ++ it.sure;
+  unsure = it.unsure;
+  is_given = ap (λ (rs : List Reply). answers ++ rs) it.is_given ∙ sym (append_assoc answers it.sure it.unsure);
+  as_given = (it.as_given.0, ap (λ (rs : List Reply). answers ++ rs) it.as_given.1 ∙ sym (append_assoc answers it.sure it.as_given.0));
+  none_missing = it.none_missing;
+}
 
 pub ran_then : {S : Type 0} (g : Ghosts S) (old mid new : Database S) (events more : List Event) (answers others : List Reply) → Ran g old events answers mid → Ran g mid more others new
     → Ran g old (events ++ more) (answers ++ others) new
@@ -150,7 +184,7 @@ ran_then g old mid new events more answers others one two =
           lasts_then (state g old.store) (state g mid.store) (state g new.store) (TellNoWrite answers) (TellNoWrite others) (TellNoWrite (answers ++ others)) _ _
           (AreAfterAnswered old.state (events ++ more) (answers ++ others)) was (append_all (λ (answer : Reply). tells_write answer ≡ false) answers others)
           (λ _ trees quiet made. answered_more old.state events more answers others trees quiet made)
-          (λ used trees made. answered_behind old.state mid.state events more answers others trees one.as_many (one.run (was used)) made) one.lasts two.lasts;
+          (λ used trees made. answered_behind old.state mid.state events more answers others trees (one.run (was used)) made) one.lasts two.lasts;
       usable = λ still. one.usable (two.usable still);
       survives =
           survives_then (state g old.store) (state g mid.store) (state g new.store) _ _ _
@@ -179,12 +213,6 @@ shown_back : (answers given : List Reply) → AreShown answers given → TellNoW
 shown_back [] given none quiet = tt
 shown_back (a ∷ answers) [] are quiet = absurd are
 shown_back (a ∷ answers) (g ∷ given) are quiet = (sym (shown_quiet a g are.0) ∙ quiet.0, shown_back answers given are.1 quiet.1)
-
-dropped_shown : (n : ℕ) (answers given : List Reply) → AreShown answers given → TellNoWrite (drop n answers) → TellNoWrite (drop n given)
-dropped_shown zero answers given are quiet = quiet_shown answers given are quiet
-dropped_shown (suc n) [] given none quiet = subst (λ (gs : List Reply). TellNoWrite (drop (suc n) gs)) (sym none) tt
-dropped_shown (suc n) (a ∷ answers) [] are quiet = absurd are
-dropped_shown (suc n) (a ∷ answers) (g ∷ given) are quiet = dropped_shown n answers given are.1 quiet
 
 counts_shown : (one answer given : Reply) → IsShown answer given → (one ≡ answer) ⊎ IsSome (failure_of answer) → (one ≡ given) ⊎ IsSome (failure_of given)
 counts_shown one answer given (inl same) counts = subst (λ (r : Reply). (one ≡ r) ⊎ IsSome (failure_of r)) (sym same) counts
@@ -227,12 +255,52 @@ some_shown s events answers given trees are it = record {
   held = it.held;
 }
 
+all_shown : (answers : List Reply) → AreShown answers answers
+all_shown [] = refl
+all_shown (a ∷ answers) = (inl refl, all_shown answers)
+
+pub shown_both : (answers others given more : List Reply) → AreShown answers given → AreShown others more → AreShown (answers ++ others) (given ++ more)
+shown_both [] others given more none are = subst (λ (rs : List Reply). AreShown others (rs ++ more)) (sym none) are
+shown_both (a ∷ answers) others [] more shown are = absurd shown
+shown_both (a ∷ answers) others (g ∷ given) more shown are = (shown.0, shown_both answers others given more shown.1 are)
+
+-- what is given for the first replies, and for the others
+shown_split : (sure unsure given : List Reply) → AreShown (sure ++ unsure) given → (first : List Reply) × (rest : List Reply) × (given ≡ first ++ rest) × AreShown sure first × AreShown unsure rest
+shown_split [] unsure given are = ([], given, refl, refl, are)
+shown_split (a ∷ sure) unsure [] are = absurd are
+shown_split (a ∷ sure) unsure (g ∷ given) are =
+    let parts = shown_split sure unsure given are.1 in
+    (g ∷ parts.0, parts.1, ap (λ (rs : List Reply). g ∷ rs) parts.2, (are.0, parts.3), parts.4)
+
+counted_split : (sure counted given : List Reply) → AreCounted (sure ++ counted) (sure ++ given) → AreCounted counted given
+counted_split [] counted given are = are
+counted_split (a ∷ sure) counted given are = counted_split sure counted given are.1
+
 answered_shown : (s : State) (events : List Event) (answers given : List Reply) (trees : Trees) → AreShown answers given → AreAfterAnswered s events answers trees → AreAfterAnswered s events given trees
-unfolding some_shown
-answered_shown s events answers given trees are it = record {
-  some = some_shown s events answers given trees are it.some;
-  none_missing = dropped_shown (length it.some.first) answers given are it.none_missing;
-}
+answered_shown s events answers given trees are it =
+    let some = it.some in
+    let behind = it.as_given.0 in
+    let parts = shown_split it.sure it.unsure given (subst (λ (rs : List Reply). AreShown rs given) it.is_given are) in
+    let counts : AreCounted behind it.unsure =
+    counted_split it.sure behind it.unsure (subst (λ (rs : List Reply). AreCounted rs (it.sure ++ it.unsure)) it.as_given.1 (subst (AreCounted some.counted) it.is_given some.are_counted)) in
+    record {
+      some = record {
+        first = some.first;
+        rest = some.rest;
+        is_events = some.is_events;
+        counted = parts.0 ++ behind;
+        are_counted = subst (AreCounted (parts.0 ++ behind)) (sym parts.2) (counted_behind parts.0 behind parts.1 (counted_shown behind it.unsure parts.1 parts.4 counts));
+        now = some.now;
+        ran = run_shown s some.first some.counted (parts.0 ++ behind) some.now
+            (subst (λ (rs : List Reply). AreShown rs (parts.0 ++ behind)) (sym it.as_given.1) (shown_both it.sure behind parts.0 behind parts.3 (all_shown behind))) some.ran;
+        held = some.held;
+      };
+      sure = parts.0;
+      unsure = parts.1;
+      is_given = parts.2;
+      as_given = (behind, refl);
+      none_missing = quiet_shown it.unsure parts.1 parts.4 it.none_missing;
+    }
 
 pub ran_shown : {S : Type 0} (g : Ghosts S) (old new : Database S) (events : List Event) (answers given : List Reply) → AreShown answers given → Ran g old events answers new → Ran g old events given new
 ran_shown g old new events answers given are ran = record {

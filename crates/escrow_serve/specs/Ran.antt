@@ -17,9 +17,9 @@ use Rattle.escrow_serve.specs.Asked.{Given, GivesLine, GivesLines, events_at, an
 
 -- A DATABASE BY ITSELF: it served events, and these are the replies, one to each. If its own disk has returned what was
 -- written, events and replies are a run of the machine. And a crash leaves the tables and rows after some first of the
--- events, where what failed may count as served, and none behind them was answered as written; or, if no event was answered
--- as written, what it might have left before. That holds also if a fault has shut the store. Only a fault shuts it, a store
--- that is shut is not written, and the limit of its steps stays
+-- events: up to the last one that was answered as written with the replies that were given, and behind it what failed may
+-- count as served. Or, if none was answered as written, it leaves what it might have left before. That holds also if a fault
+-- has shut the store. Only a fault shuts it, a store that is shut is not written, and the limit of its steps stays
 pub record Ran {S : Type 0} (g : Ghosts S) (old : Database S) (events : List Event) (answers : List Reply) (new : Database S) : Type 0 where
   pub as_many : length answers ≡ length events
   pub run : HasCleanDisk (state g new.store) → IsRun old.state events answers new.state

@@ -1,7 +1,5 @@
-use Rattle.std.specs.Prelude.{IfSome, IsSomeAnd, option_copied, length}
-use Rattle.std.proofs.Common.{◌≡◌, ◌∙◌, Some, ap, sym, subst}
-use Rattle.escrow_schema.specs.Catalog.{table_named}
-use Rattle.escrow_schema.specs.Column.{reservables}
+use Rattle.std.specs.Prelude.{option_copied}
+use Rattle.std.proofs.Common.{◌∙◌, ap, sym}
 use Rattle.escrow_reserved.proofs.Reading.{known_kept, read_kept}
 use Rattle.escrow_core.proofs.Altering.{read_holds}
 use Rattle.escrow_core.proofs.Serving.{remembered_holds}

@@ -1,4 +1,4 @@
-use Rattle.std.proofs.Common.{◌≡◌, ◌∙◌, sym}
+use Rattle.std.proofs.Common.{◌∙◌, sym}
 use Rattle.escrow_core.proofs.Looking.{kept_stands}
 use Rattle.escrow_core.proofs.database.Database.is_remembered.Goals as goal
 
