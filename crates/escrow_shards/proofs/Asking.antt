@@ -1,26 +1,17 @@
 -- Outcomes left in their places, and the reply to a COMMIT that was served.
-use Rattle.std.proofs.Common.{◌≡◌, ◌⊎◌, ◌≤◌, ◌-◌, ℕ, List, [], ◌∷◌, length, inl, inr, refl, sym, ap, ◌∙◌}
+use Rattle.std.proofs.Common.{◌≡◌, ◌⊎◌, ℕ, List, [], ◌∷◌, length, inl, inr, refl, sym, ap, ◌∙◌}
 use Rattle.std.specs.Prelude.{Result}
-use Rattle.std.proofs.lemmas.List.{get_or_past, nil_from_length, set_past}
+use Rattle.std.proofs.lemmas.List.{nil_from_length}
 use Rattle.escrow_num.specs.declared.failure.Failure.{Failure}
 use Rattle.escrow_machine.specs.declared.reply.Reply.TheVariants as reply
 use Rattle.escrow_history.specs.Calls.{IsAnswer}
 use Rattle.escrow_history.specs.declared.committed.Committed.{Committed}
 use Rattle.escrow_shards.specs.declared.commit_queue.CommitState.{CommitState}
-use Rattle.escrow_shards.specs.declared.commit_queue.CommitState.TheVariants as state
-use Rattle.escrow_shards.specs.declared.commit_queue.Turn.TheVariants as turn
-use Rattle.escrow_shards.specs.CommitQueue.{answered, at, turn_in, with_place}
+use Rattle.escrow_shards.specs.CommitQueue.{answered}
 
 no_outcome_left : (sessions : List ℕ) (outcomes : List (Result Committed Failure)) (places : List CommitState) → outcomes ≡ [] → answered sessions outcomes places ≡ places
 no_outcome_left [] outcomes places none = refl
 no_outcome_left (k ∷ sessions) outcomes places none = ap (λ (os : List (Result Committed Failure)). answered (k ∷ sessions) os places) none
-
--- a session without a place
-pub past_turn : (places : List CommitState) (session : ℕ) → length places ≤ session - 1 → turn.Alone ≡ turn_in (at places session)
-past_turn places session past = sym (ap turn_in (get_or_past places (session - 1) state.Free past))
-
-pub past_place : (places : List CommitState) (session : ℕ) (new : CommitState) → length places ≤ session - 1 → places ≡ with_place places session new
-past_place places session new past = sym (set_past places (session - 1) new past)
 
 -- all outcomes were left
 pub no_more_answers : (sessions : List ℕ) (outcomes : List (Result Committed Failure)) (places all : List CommitState) → (length sessions ≡ 0) ⊎ (length outcomes ≡ 0)
