@@ -32,11 +32,13 @@ pub data Move : Type 0 where
 
 -- THE MOVES OF AN EVENT that isn't refused. All other statements move nothing
 abbrev pub moves_of : State → Event → List Move
-moves_of s (event.Statement session (statement.Insert text)) = unwrap_or (option_map (λ row. put row ∷ []) (new_row s text)) []
+moves_of s (event.Statement session (statement.Insert text)) =
+    unwrap_or (option_map (λ row. put row ∷ []) (new_row s text)) []
 moves_of s (event.Statement session (statement.Delete text)) =
     map taken (filter (λ row. same_row row.name (named_by s.catalog text.table text.row)) s.rows)
 moves_of s (event.Statement session (statement.Drop name)) = map taken (rows_of s.rows name)
-moves_of s (event.Statement session (statement.Update text)) = unwrap_or (option_map (λ r. granted r ∷ []) (reservation_of s session text)) []
+moves_of s (event.Statement session (statement.Update text)) =
+    unwrap_or (option_map (λ r. granted r ∷ []) (reservation_of s session text)) []
 moves_of s (event.Statement session statement.Commit) = map committed (own session s.reservations)
 moves_of s (event.Statement session statement.Rollback) = map released (own session s.reservations)
 moves_of s (event.Statement session (statement.RollbackTo name)) =
@@ -54,10 +56,11 @@ abbrev pub book : State → List Event → List Reply → List Move
 book s [] answers = []
 book s (happened ∷ events) [] = []
 book s (happened ∷ events) (answer ∷ answers) =
-    if is_refused answer then book s events answers else moves_of s happened ++ book (after_event s happened) events answers
+    if is_refused answer then book s events answers
+    else moves_of s happened ++ book (after_event s happened) events answers
 
--- SUMS. `chosen` says which rows count, as those of one table, or a single row. A column is given by its place among the
--- RESERVABLE columns, from 0
+-- SUMS. `chosen` says which rows count, as those of one table, or a single row. A column is given by its place among
+-- the RESERVABLE columns, from 0
 
 -- the amount of a row in a column
 abbrev pub amount_at : ℕ → Row → ℤ

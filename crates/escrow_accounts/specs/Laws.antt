@@ -26,18 +26,24 @@ pub record IsGoodRun (s : State) (events : List Event) (answers : List Reply) (n
 
 -- EVERY UNIT: in each column, the amounts at the end are those at the start and the balance of the book
 abbrev pub UnitsAreAccountedFor : Type 0
-UnitsAreAccountedFor = (s : State) (events : List Event) (answers : List Reply) (new : State) → IsGoodRun s events answers new
-    → (chosen : RowName → Bool) (column : ℕ) → total chosen column new.rows ≡ total chosen column s.rows +ℤ balance chosen column (book s events answers)
+UnitsAreAccountedFor =
+    (s : State) (events : List Event) (answers : List Reply) (new : State) → IsGoodRun s events answers new
+    → (chosen : RowName → Bool) (column : ℕ)
+    → total chosen column new.rows ≡ total chosen column s.rows +ℤ balance chosen column (book s events answers)
 
 -- if the sum holds without a move of the book, that move adds nothing
 abbrev pub NoMoveIsLeftOut : Type 0
-NoMoveIsLeftOut = (s : State) (events : List Event) (answers : List Reply) (new : State) → IsGoodRun s events answers new
-    → (chosen : RowName → Bool) (column : ℕ) (front rest : List Move) (m : Move) → book s events answers ≡ front ++ m ∷ rest
-    → total chosen column new.rows ≡ total chosen column s.rows +ℤ balance chosen column (front ++ rest) → worth chosen column m ≡ pos 0
+NoMoveIsLeftOut =
+    (s : State) (events : List Event) (answers : List Reply) (new : State) → IsGoodRun s events answers new
+    → (chosen : RowName → Bool) (column : ℕ) (front rest : List Move) (m : Move)
+    → book s events answers ≡ front ++ m ∷ rest
+    → total chosen column new.rows ≡ total chosen column s.rows +ℤ balance chosen column (front ++ rest)
+    → worth chosen column m ≡ pos 0
 
 -- EVERY RESERVATION: of each kind, as many were open or are granted as are committed, released, or open at the end
 abbrev pub ReservationsEndOnce : Type 0
-ReservationsEndOnce = (s : State) (events : List Event) (answers : List Reply) (new : State) → IsGoodRun s events answers new
+ReservationsEndOnce =
+    (s : State) (events : List Event) (answers : List Reply) (new : State) → IsGoodRun s events answers new
     → (kind : Reservation → Bool) → let moves = book s events answers in
     number kind s.reservations + number kind (granted_in moves)
     ≡ number kind (committed_in moves) + number kind (released_in moves) + number kind new.reservations
@@ -48,9 +54,11 @@ has_id id r = r.id == id
 
 -- without a restart, at most one reservation of an id is committed, released, or open at the end
 abbrev pub ChangesAreAppliedOnce : Type 0
-ChangesAreAppliedOnce = (s : State) (events : List Event) (answers : List Reply) (new : State) → IsGoodRun s events answers new
+ChangesAreAppliedOnce =
+    (s : State) (events : List Event) (answers : List Reply) (new : State) → IsGoodRun s events answers new
     → AllByRecursion IsNoRestart events → (id : ℕ) → let moves = book s events answers in
-    number (has_id id) (committed_in moves) + number (has_id id) (released_in moves) + number (has_id id) new.reservations ≤ 1
+    number (has_id id) (committed_in moves) + number (has_id id) (released_in moves) + number
+    (has_id id) new.reservations ≤ 1
 
 -- THE REPLIES
 
@@ -72,7 +80,9 @@ pub record AreTold (answers : List Reply) (moves : List Move) : Type 0 where
   pub commits : commits_in answers ≡ length (committed_in moves)
 
 abbrev pub RepliesTellTheBook : Type 0
-RepliesTellTheBook = (s : State) (events : List Event) (answers : List Reply) (new : State) → IsRun s events answers new → AreTold answers (book s events answers)
+RepliesTellTheBook =
+    (s : State) (events : List Event) (answers : List Reply) (new : State) → IsRun s events answers new
+    → AreTold answers (book s events answers)
 
 -- TRANSCRIPTS
 
@@ -90,20 +100,25 @@ pub record AreGoodSteps (s : State) (entries : List Entry) (end : State) : Type 
 -- in each column, the amounts at the end are those at the beginning and the balance of the book. Each reservation that
 -- was open or is granted is committed or released, or is open at the end, once
 pub record IsAccountedFor (s : State) (entries : List Entry) (end : State) : Type 0 where
-  pub units : (chosen : RowName → Bool) (column : ℕ) → total chosen column end.rows ≡ total chosen column s.rows +ℤ balance chosen column (book_of s entries)
+  pub units : (chosen : RowName → Bool) (column : ℕ)
+      → total chosen column end.rows ≡ total chosen column s.rows +ℤ balance chosen column (book_of s entries)
   pub reservations : (kind : Reservation → Bool) → let moves = book_of s entries in
       number kind s.reservations + number kind (granted_in moves)
       ≡ number kind (committed_in moves) + number kind (released_in moves) + number kind end.reservations
   pub once : (id : ℕ) → let moves = book_of s entries in
-      number (has_id id) (committed_in moves) + number (has_id id) (released_in moves) + number (has_id id) end.reservations ≤ 1
+      number (has_id id) (committed_in moves) + number (has_id id) (released_in moves) + number
+      (has_id id) end.reservations ≤ 1
 
 abbrev pub TranscriptsAreAccountedFor : Type 0
-TranscriptsAreAccountedFor = (s : State) (entries : List Entry) (end : State) → AreGoodSteps s entries end → IsAccountedFor s entries end
+TranscriptsAreAccountedFor =
+    (s : State) (entries : List Entry) (end : State) → AreGoodSteps s entries end → IsAccountedFor s entries end
 
--- A RUN with a move of each kind: a row comes with 5, a reservation of 3 is committed, one of 1 is rolled back, and the row
--- goes with 8
+-- A RUN with a move of each kind: a row comes with 5, a reservation of 3 is committed, one of 1 is rolled back, and the
+-- row goes with 8
 abbrev pub EachMoveComes : Type 0
-EachMoveComes = (events : List Event) × (answers : List Reply) × (new : State) × AllByRecursion HasSession events × IsRun empty events answers new
+EachMoveComes =
+    (events : List Event) × (answers : List Reply) × (new : State) × AllByRecursion HasSession events
+    × IsRun empty events answers new
     × (book empty events answers
     ≡ put (row_of (pos 5)) ∷ granted (reservation 1 (pos 3)) ∷ committed (reservation 1 (pos 3))
     ∷ granted (reservation 2 (pos 1)) ∷ released (reservation 2 (pos 1)) ∷ taken (row_of (pos 8)) ∷ [])

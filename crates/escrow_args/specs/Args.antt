@@ -72,7 +72,9 @@ databases_of (Some value) = allowed (byte_or_zero value)
 abbrev pub number_or_zero : Text → ℕ
 number_or_zero text =
     let digits = without_leading_plus text in
-    if nat_lt 0 (length digits) && list_all (λ d. nat_lt (digit_value d) 10) digits && nat_lt (digits_value 10 digits) (2 ^ 16) then digits_value 10 digits else 0
+    if nat_lt 0 (length digits) && list_all
+    (λ d. nat_lt (digit_value d) 10) digits && nat_lt (digits_value 10 digits) (2 ^ 16) then digits_value 10 digits
+    else 0
 
 -- a number of sessions, from 1 on
 abbrev pub some_sessions : ℕ → Option ℕ

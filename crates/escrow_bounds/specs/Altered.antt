@@ -32,8 +32,10 @@ pub record IsOver (checks : List Check) (reservations : List (List ℤ)) (old ne
 
 -- an addition has a place for each row of a table that has one, over these checks, which counts the held reservations
 -- of the row; and it has no others
-pub record ArePrepared (table : List ℕ) (checks : List Check) (held : List Reservation) (places addition : Bounds) : Type 0 where
-  pub own : (row : RowName) → bytes_eq row.table table ≡ true → Goes (IsOver checks (of_row row held)) (place_at places row) (place_at addition row)
+pub record ArePrepared (table : List ℕ) (checks : List Check) (held : List Reservation)
+    (places addition : Bounds) : Type 0 where
+  pub own : (row : RowName) → bytes_eq row.table table ≡ true
+      → Goes (IsOver checks (of_row row held)) (place_at places row) (place_at addition row)
   pub others : (row : RowName) → bytes_eq row.table table ≡ false → place_at addition row ≡ None
 
 -- how an addition changes a place that exists: it replaces the place if it has one for the row

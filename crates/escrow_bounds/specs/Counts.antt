@@ -11,12 +11,14 @@ use Rattle.escrow_bounds.specs.Moved.{amounts_after}
 
 -- the spread of each form is that of these reservations, each a list of changes
 abbrev pub HaveSums : List Tracked → List (List ℤ) → Type 0
-HaveSums forms reservations = AllByRecursion (λ (form : Tracked). IsSpread form.check.coeffs reservations form.spread) forms
+HaveSums forms reservations =
+    AllByRecursion (λ (form : Tracked). IsSpread form.check.coeffs reservations form.spread) forms
 
 -- a place counts these reservations: its number and its spreads are theirs. Their order doesn't matter: a reservation
 -- is added and removed at any place among them (TakesIn, GivesBack)
 abbrev pub Counts : Place → List (List ℤ) → Type 0
-Counts place reservations = (place.count ≡ length reservations) × HaveSums place.checks reservations × HaveSums place.columns reservations
+Counts place reservations =
+    (place.count ≡ length reservations) × HaveSums place.checks reservations × HaveSums place.columns reservations
 
 -- whether there is a place that counts a reservation
 abbrev pub is_counting : Option Place → Bool

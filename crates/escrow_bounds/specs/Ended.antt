@@ -18,4 +18,5 @@ pub record HasEnded (end : End) (ended : List (List ℤ)) (old new : Place) : Ty
 -- ended in it
 abbrev pub AreEnded : End → List Reservation → Bounds → Bounds → Type 0
 AreEnded end ended old new =
-    (row : RowName) (place : Place) → place_at new row ≡ Some place → (before : Place) × (place_at old row ≡ Some before) × HasEnded end (of_row row ended) before place
+    (row : RowName) (place : Place) → place_at new row ≡ Some place → (before : Place)
+    × (place_at old row ≡ Some before) × HasEnded end (of_row row ended) before place

@@ -10,7 +10,13 @@ use Rattle.escrow_bounds.specs.Place.{Place, checks_of}
 
 -- what the fields keep
 abbrev pub place_of : Inside → Place
-place_of place = record { amounts = place.amounts.items; count = place.count; checks = place.checks.items; columns = place.columns.items }
+place_of place =
+    record {
+      amounts = place.amounts.items;
+      count = place.count;
+      checks = place.checks.items;
+      columns = place.columns.items;
+    }
 
 -- a valid place: there is an amount for each coefficient, a form for each column, and it counts some reservations
 pub record IsPlace (place : Place) : Type 0 where

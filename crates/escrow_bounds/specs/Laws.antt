@@ -20,7 +20,8 @@ use Rattle.escrow_bounds.specs.Bounds.{Bounds, place_at, OthersStay, Becomes}
 -- the grant rule over all open reservations gives the same as over those of the row
 abbrev pub SameGrantRule : Type 0
 SameGrantRule =
-    (checks : List Check) (amounts changes : List ℤ) (row : RowName) (held : List Reservation) → AllByRecursion (λ (check : Check). IsCovered check.coeffs amounts) checks
+    (checks : List Check) (amounts changes : List ℤ) (row : RowName) (held : List Reservation)
+    → AllByRecursion (λ (check : Check). IsCovered check.coeffs amounts) checks
     → broken checks amounts changes (map (changes_at row) held) ≡ broken checks amounts changes (of_row row held)
 
 -- the extremes of a form do too
@@ -39,7 +40,8 @@ NothingCounts = CountsAll [] []
 -- `reserve` doesn't change what is counted: a new place counts nothing, and its row has nothing open
 abbrev pub ReserveCounts : Type 0
 ReserveCounts =
-    (old new : Bounds) (row : RowName) (amounts : List ℤ) (checks : List Check) (held : List Reservation) → CountsAll old held
+    (old new : Bounds) (row : RowName) (amounts : List ℤ) (checks : List Check) (held : List Reservation)
+    → CountsAll old held
     → (IsSome (place_at old row) → new ≡ old)
     → (place_at old row ≡ None → (place : Place) × (place_at new row ≡ Some place) × IsNew amounts checks place)
     → OthersStay row old new → CountsAll new held
@@ -47,14 +49,16 @@ ReserveCounts =
 -- `add` counts one more, at any place among the others
 abbrev pub AddCounts : Type 0
 AddCounts =
-    (old new : Bounds) (r : Reservation) (before after : List Reservation) → CountsAll old (before ++ after) → IsSome (place_at old r.row)
+    (old new : Bounds) (r : Reservation) (before after : List Reservation) → CountsAll old (before ++ after)
+    → IsSome (place_at old r.row)
     → Becomes (TakesIn (deltas r.changes)) (place_at old r.row) (place_at new r.row)
     → OthersStay r.row old new → CountsAll new (before ++ r ∷ after)
 
 -- `remove` counts one less, in any order of ends
 abbrev pub RemoveCounts : Type 0
 RemoveCounts =
-    (end : End) (old new : Bounds) (r : Reservation) (before after : List Reservation) → CountsAll old (before ++ r ∷ after)
+    (end : End) (old new : Bounds) (r : Reservation) (before after : List Reservation)
+    → CountsAll old (before ++ r ∷ after)
     → Becomes (GivesBack end (deltas r.changes)) (place_at old r.row) (place_at new r.row)
     → OthersStay r.row old new → CountsAll new (before ++ after)
 
@@ -72,7 +76,8 @@ ReleaseCounts =
 -- checks
 abbrev pub AdoptCounts : Type 0
 AdoptCounts =
-    (table : List ℕ) (checks : List Check) (held : List Reservation) (old addition new : Bounds) → CountsAll old held → AllCount old
+    (table : List ℕ) (checks : List Check) (held : List Reservation) (old addition new : Bounds) → CountsAll old held
+    → AllCount old
     → ArePrepared table checks held old addition → Adopts addition old new
     → CountsAll new held × AllCount new × TableGoes table (λ row. IsOver checks (of_row row held)) old new
 

@@ -25,16 +25,19 @@ HasRoom counting.Out others = Unit {0}
 -- a place has room for the changes, or counts them
 abbrev pub CanRecount : Counting → List ℤ → Place → Type 0
 CanRecount counting.In changes place = place.count < MAX_OPEN
-CanRecount counting.Out changes place = (before : List (List ℤ)) × (after : List (List ℤ)) × Counts place (before ++ changes ∷ after)
+CanRecount counting.Out changes place =
+    (before : List (List ℤ)) × (after : List (List ℤ)) × Counts place (before ++ changes ∷ after)
 
 -- forms of the same checks, whose sums change from those before to those after
 abbrev pub AreRecounted : Counting → List ℤ → List Tracked → List Tracked → Type 0
 AreRecounted kind changes old new =
     (checks_of new ≡ checks_of old)
-    × ((before after : List (List ℤ)) → HaveSums old (counted_before kind before changes after) → HaveSums new (counted_after kind before changes after))
+    × ((before after : List (List ℤ)) → HaveSums old (counted_before kind before changes after)
+    → HaveSums new (counted_after kind before changes after))
 
 -- a place whose count changes from those before to those after
 pub record IsRecounted (kind : Counting) (changes : List ℤ) (old new : Place) : Type 0 where
   pub amounts : new.amounts ≡ old.amounts
   pub checks : checks_of new.checks ≡ checks_of old.checks
-  pub counts : (before after : List (List ℤ)) → Counts old (counted_before kind before changes after) → Counts new (counted_after kind before changes after)
+  pub counts : (before after : List (List ℤ)) → Counts old (counted_before kind before changes after)
+      → Counts new (counted_after kind before changes after)

@@ -103,7 +103,8 @@ impl Bounds {
         requires few { length amounts.now ≤ MAX_LEN }
         requires new { place_at self.old row.now ≡ None }
         ensures at { IfOk result (λ index. IsAt self.new row.now index) }
-        ensures made { OnOk result ((place : Place) × (place_at self.new row.now ≡ Some place) × IsNew amounts.now checks.now place) }
+        ensures made { OnOk result ((place : Place) × (place_at self.new row.now ≡ Some place)
+            × IsNew amounts.now checks.now place) }
         ensures others { OthersStay row.now self.old self.new }
         ensures err { OnErr result (self.new ≡ self.old) }
     {
@@ -135,8 +136,10 @@ impl Bounds {
 
     /// Drops the place at an index, if it counts nothing.
     pub fn release_at(&mut self, index: usize)
-        ensures empty { (row : RowName) → IsAt self.old row index → is_counting (place_at self.old row) ≡ false → place_at self.new row ≡ None }
-        ensures counting { (row : RowName) → IsAt self.old row index → is_counting (place_at self.old row) ≡ true → self.new ≡ self.old }
+        ensures empty { (row : RowName) → IsAt self.old row index → is_counting (place_at self.old row) ≡ false
+            → place_at self.new row ≡ None }
+        ensures counting { (row : RowName) → IsAt self.old row index → is_counting (place_at self.old row) ≡ true
+            → self.new ≡ self.old }
         ensures others { (row : RowName) → IsAt self.old row index → OthersStay row self.old self.new }
     {
         if !self.is_counting_at(index) {
@@ -202,8 +205,10 @@ impl Bounds {
         requires placed { IsSome (place_at self.now row.now) }
         requires check { (place : Place) → place_at self.now row.now ≡ Some place → check < length place.checks }
         ensures { (place : Place) (form : Tracked) (reservations : List (List ℤ))
-            → place_at self.now row.now ≡ Some place → slice_get place.checks check ≡ Some form → Counts place reservations
-            → (result.0 ≡ least form.check.coeffs place.amounts reservations) × (result.1 ≡ greatest form.check.coeffs place.amounts reservations) }
+            → place_at self.now row.now ≡ Some place → slice_get place.checks check ≡ Some form
+            → Counts place reservations
+            → (result.0 ≡ least form.check.coeffs place.amounts reservations)
+            × (result.1 ≡ greatest form.check.coeffs place.amounts reservations) }
     {
         self.place(row).worst(check)
     }
@@ -227,7 +232,8 @@ impl Bounds {
     /// high side.
     pub fn verdict(&self, row: &RowName, changes: &[Amount]) -> Verdict
         requires { IsSome (place_at self.now row.now) }
-        ensures { (place : Place) (reservations : List (List ℤ)) → place_at self.now row.now ≡ Some place → Counts place reservations
+        ensures { (place : Place) (reservations : List (List ℤ)) → place_at self.now row.now ≡ Some place
+            → Counts place reservations
             → result ≡ verdict_of (broken (checks_of place.checks) place.amounts changes.now reservations) }
     {
         Verdict::of(self.place(row).verdict(changes))
@@ -239,7 +245,8 @@ impl Bounds {
     /// granted.
     pub fn verdict_at(&self, index: usize, changes: &[Amount]) -> Option<Violation>
         requires { (row : RowName) × IsAt self.now row index }
-        ensures { (row : RowName) (place : Place) (reservations : List (List ℤ)) → IsAt self.now row index → place_at self.now row ≡ Some place → Counts place reservations
+        ensures { (row : RowName) (place : Place) (reservations : List (List ℤ)) → IsAt self.now row index
+            → place_at self.now row ≡ Some place → Counts place reservations
             → result ≡ broken (checks_of place.checks) place.amounts changes.now reservations }
     {
         let (_, place) = self.places.get_index(index).unwrap();
@@ -250,7 +257,8 @@ impl Bounds {
     /// [`Spread::MAX_OPEN`].
     pub fn is_full_at(&self, index: usize) -> bool
         requires { (row : RowName) × IsAt self.now row index }
-        ensures { (row : RowName) (place : Place) → IsAt self.now row index → place_at self.now row ≡ Some place → result ≡ nat_le MAX_OPEN place.count }
+        ensures { (row : RowName) (place : Place) → IsAt self.now row index → place_at self.now row ≡ Some place
+            → result ≡ nat_le MAX_OPEN place.count }
     {
         let (_, place) = self.places.get_index(index).unwrap();
         place.count() >= Spread::MAX_OPEN
@@ -272,8 +280,10 @@ impl Bounds {
     /// than 16,384.
     pub fn add_at(&mut self, index: usize, changes: &[Amount])
         requires placed { (row : RowName) × IsAt self.old row index }
-        requires room { (row : RowName) (place : Place) → IsAt self.old row index → place_at self.old row ≡ Some place → place.count < MAX_OPEN }
-        ensures takes { (row : RowName) → IsAt self.old row index → Becomes (TakesIn changes.now) (place_at self.old row) (place_at self.new row) }
+        requires room { (row : RowName) (place : Place) → IsAt self.old row index → place_at self.old row ≡ Some place
+            → place.count < MAX_OPEN }
+        ensures takes { (row : RowName) → IsAt self.old row index
+            → Becomes (TakesIn changes.now) (place_at self.old row) (place_at self.new row) }
         ensures others { (row : RowName) → IsAt self.old row index → OthersStay row self.old self.new }
     {
         let (_, place) = self.places.pair_mut(index);
@@ -299,9 +309,11 @@ impl Bounds {
     /// would be no amount, that amount stays as it is.
     pub fn remove_at(&mut self, index: usize, changes: &[Amount], end: End)
         requires { (row : RowName) × (place : Place) × (before after : List (List ℤ))
-            × IsAt self.old row index × (place_at self.old row ≡ Some place) × Counts place (before ++ changes.now ∷ after) }
+            × IsAt self.old row index × (place_at self.old row ≡ Some place)
+            × Counts place (before ++ changes.now ∷ after) }
         ensures at { (row : RowName) → IsAt self.old row index → IsAt self.new row index }
-        ensures gives { (row : RowName) → IsAt self.old row index → Becomes (GivesBack end changes.now) (place_at self.old row) (place_at self.new row) }
+        ensures gives { (row : RowName) → IsAt self.old row index
+            → Becomes (GivesBack end changes.now) (place_at self.old row) (place_at self.new row) }
         ensures others { (row : RowName) → IsAt self.old row index → OthersStay row self.old self.new }
     {
         let (_, place) = self.places.pair_mut(index);
@@ -313,7 +325,8 @@ impl Bounds {
     pub fn remove_all(&mut self, reservations: &[Reservation], end: End)
         requires counted { (rest : List Reservation) × CountsAll self.old (reservations.now ++ rest) }
         requires short { AllByRecursion (λ r. length r.changes ≤ MAX_LEN) reservations.now }
-        ensures counts { (rest : List Reservation) → CountsAll self.old (reservations.now ++ rest) → CountsAll self.new rest }
+        ensures counts { (rest : List Reservation) → CountsAll self.old (reservations.now ++ rest)
+            → CountsAll self.new rest }
         ensures ends { AreEnded end reservations.now self.old self.new }
         ensures counting { AllCount self.old → AllCount self.new }
     {

@@ -103,8 +103,10 @@ impl Place {
     /// Returns the least and the greatest value of the form of the check at an index.
     pub(crate) fn worst(&self, check: usize) -> (Wide, Wide)
         requires { check < length self.now.checks }
-        ensures { (form : Tracked) (reservations : List (List ℤ)) → slice_get self.now.checks check ≡ Some form → Counts self.now reservations
-            → (result.0 ≡ least form.check.coeffs self.now.amounts reservations) × (result.1 ≡ greatest form.check.coeffs self.now.amounts reservations) }
+        ensures { (form : Tracked) (reservations : List (List ℤ)) → slice_get self.now.checks check ≡ Some form
+            → Counts self.now reservations
+            → (result.0 ≡ least form.check.coeffs self.now.amounts reservations)
+            × (result.1 ≡ greatest form.check.coeffs self.now.amounts reservations) }
     {
         let form = &self.checks[check];
         form.check.extremes(&self.amounts, &form.spread)

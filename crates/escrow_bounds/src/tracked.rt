@@ -27,7 +27,8 @@ impl Counting {
         requires { (before : List (List ℤ)) × (changes : List ℤ) × (after : List (List ℤ))
             × (count ≡ length (counted_before self before changes after)) × HasRoom self (before ++ after) }
         ensures { (before : List (List ℤ)) (changes : List ℤ) (after : List (List ℤ))
-            → count ≡ length (counted_before self before changes after) → result ≡ length (counted_after self before changes after) }
+            → count ≡ length (counted_before self before changes after)
+            → result ≡ length (counted_after self before changes after) }
     {
         match self {
             Counting::In => count + 1,
@@ -39,7 +40,8 @@ impl Counting {
     pub(crate) fn spread(self, spread: Spread, contribution: Wide) -> Spread
         requires within { IsContribution contribution }
         requires counted { (coeffs : List ℤ) × (before : List (List ℤ)) × (changes : List ℤ) × (after : List (List ℤ))
-            × IsSpread coeffs (counted_before self before changes after) spread × (contribution ≡ form coeffs changes) × HasRoom self (before ++ after) }
+            × IsSpread coeffs (counted_before self before changes after) spread × (contribution ≡ form coeffs changes)
+            × HasRoom self (before ++ after) }
         ensures { (coeffs : List ℤ) (before : List (List ℤ)) (changes : List ℤ) (after : List (List ℤ))
             → IsSpread coeffs (counted_before self before changes after) spread → contribution ≡ form coeffs changes
             → IsSpread coeffs (counted_after self before changes after) result }
@@ -64,9 +66,11 @@ impl Tracked {
     /// Counts one more reservation, or removes one from the count.
     fn recount(&mut self, changes: &Sparse<'_>, counting: Counting)
         requires { (before : List (List ℤ)) × (after : List (List ℤ))
-            × IsSpread self.old.check.coeffs (counted_before counting before changes.now after) self.old.spread × HasRoom counting (before ++ after) }
+            × IsSpread self.old.check.coeffs (counted_before counting before changes.now after) self.old.spread
+            × HasRoom counting (before ++ after) }
         ensures check { self.new.check ≡ self.old.check }
-        ensures counted { (before after : List (List ℤ)) → IsSpread self.old.check.coeffs (counted_before counting before changes.now after) self.old.spread
+        ensures counted { (before after : List (List ℤ))
+            → IsSpread self.old.check.coeffs (counted_before counting before changes.now after) self.old.spread
             → IsSpread self.old.check.coeffs (counted_after counting before changes.now after) self.new.spread }
     {
         let contribution = self.check.form_of(changes);
@@ -91,7 +95,8 @@ pub(crate) fn push_check(forms: &mut Vec<Tracked>, check: Check) -> Result<(), A
 
 /// Counts one more reservation in each form, or removes one from the count.
 pub(crate) fn recount(forms: &mut [Tracked], changes: &Sparse<'_>, counting: Counting)
-    requires { (before : List (List ℤ)) × (after : List (List ℤ)) × HaveSums forms.old (counted_before counting before changes.now after) × HasRoom counting (before ++ after) }
+    requires { (before : List (List ℤ)) × (after : List (List ℤ))
+        × HaveSums forms.old (counted_before counting before changes.now after) × HasRoom counting (before ++ after) }
     ensures { AreRecounted counting changes.now forms.old forms.new }
 {
     for form in forms.iter_mut() {
@@ -137,8 +142,10 @@ pub(crate) fn first_violation(
 ) -> Option<Violation>
     requires each { length values.now ≡ length forms.now }
     requires within { AllByRecursion IsContribution values.now }
-    ensures { (amounts : List ℤ) (reservations : List (List ℤ)) → values.now ≡ map (λ check. form check.coeffs amounts) (checks_of forms.now)
-        → AllByRecursion (λ check. IsCovered check.coeffs amounts) (checks_of forms.now) → HaveSums forms.now reservations
+    ensures { (amounts : List ℤ) (reservations : List (List ℤ))
+        → values.now ≡ map (λ check. form check.coeffs amounts) (checks_of forms.now)
+        → AllByRecursion (λ check. IsCovered check.coeffs amounts) (checks_of forms.now)
+        → HaveSums forms.now reservations
         → result ≡ broken (checks_of forms.now) amounts changes.now reservations }
 {
     let listed = Sparse::of(changes);

@@ -29,4 +29,5 @@ pub record Transacts (old new : State) (is_done : Bool) (Makes : Database → Da
   pub refused : is_done ≡ false → IsUsable new → new.now ≡ old.now
   pub usable : IsUsable new → IsUsable old
   pub durable : is_done ≡ true → HasCleanDisk new → (trees : Trees) → new.may_leave trees → trees ≡ new.now.trees
-  pub survives : Survives old new (λ trees. IsTrue old.is_open × (db : Database) × Makes old.now db × (trees ≡ db.trees))
+  pub survives : Survives old new
+      (λ trees. IsTrue old.is_open × (db : Database) × Makes old.now db × (trees ≡ db.trees))

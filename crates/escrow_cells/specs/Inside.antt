@@ -14,14 +14,16 @@ pub record IsPending (old new : State) : Type 0 where
 -- A statement inside a transaction. If it is done, the store was open, the transaction goes on, and the statement did
 -- what its text says. Whatever happens, nothing is committed.
 pub record Wrote (sql : List ℕ) (params : Row) (old new : State) (is_done : Bool) : Type 0 where
-  pub done : is_done ≡ true → HasCleanDisk new → IsTrue old.in_transaction → IsTrue new.in_transaction × (n : ℕ) × Executes sql params old new (Ok n)
+  pub done : is_done ≡ true → HasCleanDisk new → IsTrue old.in_transaction → IsTrue new.in_transaction × (n : ℕ)
+      × Executes sql params old new (Ok n)
   pub was_open : is_done ≡ true → HasCleanDisk new → IsTrue old.in_transaction → IsTrue old.is_open
   pub pending : IsPending old new
 
 -- A call inside a transaction, of this many steps. If it is done, the transaction goes on, the call made its database
 -- from the old one, and if there was a step, the store was open. Whatever happens, nothing is committed.
 pub record Acts (old new : State) (is_done : Bool) (steps : ℕ) (Makes : Database → Database → Type 0) : Type 0 where
-  pub done : is_done ≡ true → HasCleanDisk new → IsTrue old.in_transaction → IsTrue new.in_transaction × Makes old.now new.now
+  pub done : is_done ≡ true → HasCleanDisk new → IsTrue old.in_transaction → IsTrue new.in_transaction
+      × Makes old.now new.now
   pub was_open : is_done ≡ true → HasCleanDisk new → IsTrue old.in_transaction → 0 < steps → IsTrue old.is_open
   pub pending : IsPending old new
 

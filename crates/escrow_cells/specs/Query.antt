@@ -14,9 +14,10 @@ use Rattle.escrow_cells.specs.Tables.{beside}
 abbrev pub IsReading : List ℕ → Type 0
 IsReading sql = (schema : Schema) (c : Compiled) → understood schema sql ≡ Ok c → c.returning ≡ None
 
--- a text has no RETURNING, and is a SELECT without a WITH, whatever objects come after the three tables. Rows that begin an
--- answer to it are therefore the first rows of a whole answer
+-- a text has no RETURNING, and is a SELECT without a WITH, whatever objects come after the three tables. Rows that
+-- begin an answer to it are therefore the first rows of a whole answer
 pub record IsSelecting (sql : List ℕ) : Type 0 where
   pub reads : IsReading sql
-  pub selects : (more : List Table) (indexes : List Index) (views : List View) (c : Compiled) → understood (beside more indexes views) sql ≡ Ok c
+  pub selects : (more : List Table) (indexes : List Index) (views : List View) (c : Compiled)
+      → understood (beside more indexes views) sql ≡ Ok c
       → (body : Query) × (names : List (List ℕ)) × (c.command ≡ Select (record { lets = []; body = body }) names)

@@ -15,12 +15,14 @@ pub record AreOfRow (table key : Value) (cells : List Row) (answer : List Row) :
 
 -- the cells of a table, each with its key, its place and its value, in order of key and place
 pub record AreOfTable (table : Value) (cells : List Row) (answer : List Row) : Type 0 where
-  pub same_cells : IsPermutation (map (λ c. column c 1 ∷ column c 2 ∷ column c 3 ∷ []) (filter (is_in table) cells)) answer
+  pub same_cells : IsPermutation
+      (map (λ c. column c 1 ∷ column c 2 ∷ column c 3 ∷ []) (filter (is_in table) cells)) answer
   pub in_order : IsSorted (then_cmp (on (λ r. column r 0) value_cmp) (on (λ r. column r 1) value_cmp)) answer
 
 -- the keys of a table's cells at one place
 pub record AreKeys (table place : Value) (cells : List Row) (answer : List Row) : Type 0 where
-  pub same_keys : IsPermutation (map (λ c. column c 1 ∷ []) (filter (λ c. is_in table c && same (column c 2) place) cells)) answer
+  pub same_keys : IsPermutation
+      (map (λ c. column c 1 ∷ []) (filter (λ c. is_in table c && same (column c 2) place) cells)) answer
 
 -- the table of each cell, in any order
 abbrev pub AreTablesOfCells : List Row → List Row → Type 0
@@ -38,4 +40,6 @@ pub record LeavesIdle {S : Type 0} (g : Ghosts S) (old new : Held S) : Type 0 wh
 
 -- if a sink has taken some rows since it began, it has then also taken those of an answer
 abbrev pub Takes : {K : Type 0} → (K → K → List Row → Type 0) → (List Row → Type 0) → K → K → Type 0
-Takes {K} HasTaken IsAnswer old new = (first : K) (before : List Row) → HasTaken first old before → (rows : List Row) × IsAnswer rows × HasTaken first new (before ++ rows)
+Takes {K} HasTaken IsAnswer old new =
+    (first : K) (before : List Row) → HasTaken first old before → (rows : List Row) × IsAnswer rows
+    × HasTaken first new (before ++ rows)

@@ -22,10 +22,14 @@ is_within first last place = is_from first place && is_up_to last place
 
 -- the cells of the row of a key from one place to another, each with its place and its value, in order of place
 pub record AreOfSpan (first last : ℤ) (table key : Value) (cells : List Row) (answer : List Row) : Type 0 where
-  pub same_cells : IsPermutation (filter (λ r. is_within first last (column r 0)) (map (λ c. column c 2 ∷ column c 3 ∷ []) (filter (is_of table key) cells))) answer
+  pub same_cells : IsPermutation
+      (filter (λ r. is_within first last (column r 0))
+      (map (λ c. column c 2 ∷ column c 3 ∷ []) (filter (is_of table key) cells))) answer
   pub in_order : IsSorted (on (λ r. column r 0) value_cmp) answer
 
 -- the cells of a table from one place to another, each with its key, its place and its value, in order of key and place
 pub record AreOfSpans (first last : ℤ) (table : Value) (cells : List Row) (answer : List Row) : Type 0 where
-  pub same_cells : IsPermutation (filter (λ r. is_within first last (column r 1)) (map (λ c. column c 1 ∷ column c 2 ∷ column c 3 ∷ []) (filter (is_in table) cells))) answer
+  pub same_cells : IsPermutation
+      (filter (λ r. is_within first last (column r 1))
+      (map (λ c. column c 1 ∷ column c 2 ∷ column c 3 ∷ []) (filter (is_in table) cells))) answer
   pub in_order : IsSorted (then_cmp (on (λ r. column r 0) value_cmp) (on (λ r. column r 1) value_cmp)) answer

@@ -48,12 +48,15 @@ pub record Contents : Type 0 where
 abbrev pub contents : Database → Contents
 contents db = record { cells = cells db; tabs = tabs db }
 
--- the rows of CELL and TAB after a step. Their order here has no meaning, since SQL has none. Where a cell is looked for
--- first changes nothing
+-- the rows of CELL and TAB after a step. Their order here has no meaning, since SQL has none. Where a cell is looked
+-- for first changes nothing
 abbrev pub done : Contents → Step → Contents
-done c (step.InsertCell table key place value) = record c { cells = (Int table ∷ kept key ∷ Int place ∷ kept value ∷ []) ∷ c.cells }
-done c (step.SetCell table key place value hint) = record c { cells = map (with_value (Int table) (kept key) (Int place) (kept value)) c.cells }
-done c (step.DeleteRow table key) = record c { cells = filter (λ cell. not (is_of (Int table) (kept key) cell)) c.cells }
+done c (step.InsertCell table key place value) =
+    record c { cells = (Int table ∷ kept key ∷ Int place ∷ kept value ∷ []) ∷ c.cells }
+done c (step.SetCell table key place value hint) =
+    record c { cells = map (with_value (Int table) (kept key) (Int place) (kept value)) c.cells }
+done c (step.DeleteRow table key) =
+    record c { cells = filter (λ cell. not (is_of (Int table) (kept key) cell)) c.cells }
 done c (step.DeleteCells table) = record c { cells = filter (λ cell. not (is_in (Int table) cell)) c.cells }
 done c (step.InsertTab id name text) = record c { tabs = (Int id ∷ Text name.now ∷ Text text.now ∷ []) ∷ c.tabs }
 done c (step.DeleteTab id) = record c { tabs = filter (λ tab. not (same (column tab 0) (Int id))) c.tabs }

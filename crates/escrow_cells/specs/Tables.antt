@@ -25,7 +25,8 @@ cell_text = codes "CREATE TABLE CELL(TAB INTEGER NOT NULL, K ANY NOT NULL, C INT
 
 -- a column that is NOT NULL
 abbrev pub filled : List ℕ → Kind → Column
-filled name what = record { name = name; kind = what; is_strict = true; not_null = true; default = Null; collation = Binary }
+filled name what =
+    record { name = name; kind = what; is_strict = true; not_null = true; default = Null; collation = Binary }
 
 -- a table whose rows are in a tree, with these columns; the INTEGER PRIMARY KEY among them, if there is one; the places
 -- of its primary key; and those of each key that an index keeps, from 1

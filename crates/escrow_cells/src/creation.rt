@@ -52,7 +52,8 @@ fn make<S: Alter>(conn: &mut Connection<S>, origin: Origin) -> Result<(), Failur
 /// Makes a store as [`make`] does, in a connection that is outside a transaction.
 fn make_outside<S: Alter>(conn: &mut Connection<S>, origin: Origin) -> Result<(), Error>
     requires outside { conn.old.in_transaction ≡ false }
-    requires settled { IsTrue (state S.Store conn.old).is_open → (state S.Store conn.old).now ≡ (state S.Store conn.old).committed }
+    requires settled { IsTrue (state S.Store conn.old).is_open
+        → (state S.Store conn.old).now ≡ (state S.Store conn.old).committed }
     ensures writes { Transacts (state S.Store conn.old) (state S.Store conn.new) (is_ok result) (made_of origin) }
     ensures mode { conn.new.in_transaction ≡ false }
 {
@@ -64,7 +65,8 @@ fn make_outside<S: Alter>(conn: &mut Connection<S>, origin: Origin) -> Result<()
 /// Makes a store as [`make`] does, inside a transaction.
 fn make_inside<S: Alter>(tx: &mut Transaction<'_, S>, origin: Origin) -> Result<(), Error>
     ensures same_reference { tx.new.conn.ghost_name ≡ tx.old.conn.ghost_name }
-    ensures acts { Acts (state S.Store tx.old.conn.now) (state S.Store tx.new.conn.now) (is_ok result) 1 (made_of origin) }
+    ensures acts { Acts (state S.Store tx.old.conn.now) (state S.Store tx.new.conn.now) (is_ok result) 1
+        (made_of origin) }
 {
     match origin {
         Origin::Nothing => make_tables(tx),

@@ -64,7 +64,9 @@ impl Sink for Numbers {
 /// Returns whether SQLite's own numbers of the rows of META, TAB and CELL are whole, and no number
 /// occurs twice in one of them.
 pub fn are_numbered<S: Alter>(conn: &mut Connection<S>) -> Result<bool, Failure>
-    ensures numbered { HasCleanDisk (state S.Store conn.new) → IfOk result (λ are. HasTables (state S.Store conn.old).now.schema → (IsTrue are ↔ AreAllNumbered (state S.Store conn.old).now)) }
+    ensures numbered { HasCleanDisk (state S.Store conn.new)
+        → IfOk result (λ are. HasTables (state S.Store conn.old).now.schema
+        → (IsTrue are ↔ AreAllNumbered (state S.Store conn.old).now)) }
     ensures leaves_idle { conn.old.in_transaction ≡ false → LeavesIdle S.Store conn.old conn.new }
     ensures is_open { HasCleanDisk (state S.Store conn.new) → OnOk result (IsTrue (state S.Store conn.new).is_open) }
 {
@@ -78,7 +80,9 @@ pub fn are_numbered<S: Alter>(conn: &mut Connection<S>) -> Result<bool, Failure>
 }
 
 fn are_metas_numbered<S: Alter>(conn: &mut Connection<S>) -> Result<bool, Failure>
-    ensures numbered { HasCleanDisk (state S.Store conn.new) → IfOk result (λ are. HasTables (state S.Store conn.old).now.schema → (IsTrue are ↔ NumbersDiffer ((state S.Store conn.old).now.trees meta_tree))) }
+    ensures numbered { HasCleanDisk (state S.Store conn.new)
+        → IfOk result (λ are. HasTables (state S.Store conn.old).now.schema
+        → (IsTrue are ↔ NumbersDiffer ((state S.Store conn.old).now.trees meta_tree))) }
     ensures leaves_idle { conn.old.in_transaction ≡ false → LeavesIdle S.Store conn.old conn.new }
     ensures is_open { HasCleanDisk (state S.Store conn.new) → OnOk result (IsTrue (state S.Store conn.new).is_open) }
 {
@@ -86,7 +90,9 @@ fn are_metas_numbered<S: Alter>(conn: &mut Connection<S>) -> Result<bool, Failur
 }
 
 fn are_tabs_numbered<S: Alter>(conn: &mut Connection<S>) -> Result<bool, Failure>
-    ensures numbered { HasCleanDisk (state S.Store conn.new) → IfOk result (λ are. HasTables (state S.Store conn.old).now.schema → (IsTrue are ↔ NumbersDiffer ((state S.Store conn.old).now.trees tab_tree))) }
+    ensures numbered { HasCleanDisk (state S.Store conn.new)
+        → IfOk result (λ are. HasTables (state S.Store conn.old).now.schema
+        → (IsTrue are ↔ NumbersDiffer ((state S.Store conn.old).now.trees tab_tree))) }
     ensures leaves_idle { conn.old.in_transaction ≡ false → LeavesIdle S.Store conn.old conn.new }
     ensures is_open { HasCleanDisk (state S.Store conn.new) → OnOk result (IsTrue (state S.Store conn.new).is_open) }
 {
@@ -94,7 +100,9 @@ fn are_tabs_numbered<S: Alter>(conn: &mut Connection<S>) -> Result<bool, Failure
 }
 
 fn are_cells_numbered<S: Alter>(conn: &mut Connection<S>) -> Result<bool, Failure>
-    ensures numbered { HasCleanDisk (state S.Store conn.new) → IfOk result (λ are. HasTables (state S.Store conn.old).now.schema → (IsTrue are ↔ NumbersDiffer ((state S.Store conn.old).now.trees cell_tree))) }
+    ensures numbered { HasCleanDisk (state S.Store conn.new)
+        → IfOk result (λ are. HasTables (state S.Store conn.old).now.schema
+        → (IsTrue are ↔ NumbersDiffer ((state S.Store conn.old).now.trees cell_tree))) }
     ensures leaves_idle { conn.old.in_transaction ≡ false → LeavesIdle S.Store conn.old conn.new }
     ensures is_open { HasCleanDisk (state S.Store conn.new) → OnOk result (IsTrue (state S.Store conn.new).is_open) }
 {
@@ -104,7 +112,10 @@ fn are_cells_numbered<S: Alter>(conn: &mut Connection<S>) -> Result<bool, Failur
 /// Returns whether the first values in the rows of a query are whole numbers that rise.
 fn numbers_rise<S: Alter>(conn: &mut Connection<S>, sql: &str) -> Result<bool, Failure>
     requires { IsSelecting sql.now }
-    ensures rise { HasCleanDisk (state S.Store conn.new) → IfOk result (λ rise. HasTables (state S.Store conn.old).now.schema → (rows : List Cells) × Shown sql.now [] (state S.Store conn.old) (state S.Store conn.new) rows × (rise ≡ (with_numbers (record { last = None; rise = true }) rows).rise)) }
+    ensures rise { HasCleanDisk (state S.Store conn.new)
+        → IfOk result (λ rise. HasTables (state S.Store conn.old).now.schema → (rows : List Cells)
+        × Shown sql.now [] (state S.Store conn.old) (state S.Store conn.new) rows
+        × (rise ≡ (with_numbers (record { last = None; rise = true }) rows).rise)) }
     ensures leaves_idle { conn.old.in_transaction ≡ false → LeavesIdle S.Store conn.old conn.new }
     ensures is_open { HasCleanDisk (state S.Store conn.new) → OnOk result (IsTrue (state S.Store conn.new).is_open) }
 {

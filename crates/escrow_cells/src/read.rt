@@ -25,7 +25,9 @@ fn read_all<S: Alter>(
     params: &[ValueRef<'_>],
 ) -> Result<Vec<Row>, Failure>
     requires { IsReading sql.now }
-    ensures shown { HasCleanDisk (state S.Store conn.new) → IfOk result (λ rows. Shown sql.now (bound params.now) (state S.Store conn.old) (state S.Store conn.new) rows.items) }
+    ensures shown { HasCleanDisk (state S.Store conn.new)
+        → IfOk result (λ rows. Shown sql.now (bound params.now) (state S.Store conn.old)
+        (state S.Store conn.new) rows.items) }
     ensures leaves_idle { conn.old.in_transaction ≡ false → LeavesIdle S.Store conn.old conn.new }
     ensures is_open { HasCleanDisk (state S.Store conn.new) → OnOk result (IsTrue (state S.Store conn.new).is_open) }
 {
@@ -46,7 +48,10 @@ pub(crate) fn read_each<S: Alter, K: Sink>(
     sink: &mut K,
 ) -> Result<(), Failure>
     requires { IsSelecting sql.now }
-    ensures taken { HasCleanDisk (state S.Store conn.new) → OnOk result (HasTables (state S.Store conn.old).now.schema → Takes K.has_taken (Shown sql.now (bound params.now) (state S.Store conn.old) (state S.Store conn.new)) sink.old sink.new) }
+    ensures taken { HasCleanDisk (state S.Store conn.new)
+        → OnOk result (HasTables (state S.Store conn.old).now.schema
+        → Takes K.has_taken (Shown sql.now (bound params.now) (state S.Store conn.old) (state S.Store conn.new))
+        sink.old sink.new) }
     ensures leaves_idle { conn.old.in_transaction ≡ false → LeavesIdle S.Store conn.old conn.new }
     ensures is_open { HasCleanDisk (state S.Store conn.new) → OnOk result (IsTrue (state S.Store conn.new).is_open) }
 {
@@ -75,7 +80,9 @@ pub(crate) fn read_each<S: Alter, K: Sink>(
 
 /// Gives the rows of META to a sink, in any order. Each has its K and its V.
 pub fn metas<S: Alter, K: Sink>(conn: &mut Connection<S>, sink: &mut K) -> Result<(), Failure>
-    ensures rows { HasCleanDisk (state S.Store conn.new) → OnOk result (HasTables (state S.Store conn.old).now.schema → Takes K.has_taken (IsPermutation (metas (state S.Store conn.old).now)) sink.old sink.new) }
+    ensures rows { HasCleanDisk (state S.Store conn.new)
+        → OnOk result (HasTables (state S.Store conn.old).now.schema
+        → Takes K.has_taken (IsPermutation (metas (state S.Store conn.old).now)) sink.old sink.new) }
     ensures leaves_idle { conn.old.in_transaction ≡ false → LeavesIdle S.Store conn.old conn.new }
     ensures is_open { HasCleanDisk (state S.Store conn.new) → OnOk result (IsTrue (state S.Store conn.new).is_open) }
 {
@@ -84,7 +91,9 @@ pub fn metas<S: Alter, K: Sink>(conn: &mut Connection<S>, sink: &mut K) -> Resul
 
 /// Returns the rows of TAB, in order of ID. Each has its ID, its NAME and its DDL.
 pub fn tabs<S: Alter>(conn: &mut Connection<S>) -> Result<Vec<Row>, Failure>
-    ensures rows { HasCleanDisk (state S.Store conn.new) → IfOk result (λ rows. IsStore (state S.Store conn.old).now → AreTabs (tabs (state S.Store conn.old).now) rows.items) }
+    ensures rows { HasCleanDisk (state S.Store conn.new)
+        → IfOk result (λ rows. IsStore (state S.Store conn.old).now
+        → AreTabs (tabs (state S.Store conn.old).now) rows.items) }
     ensures leaves_idle { conn.old.in_transaction ≡ false → LeavesIdle S.Store conn.old conn.new }
     ensures is_open { HasCleanDisk (state S.Store conn.new) → OnOk result (IsTrue (state S.Store conn.new).is_open) }
 {
@@ -97,7 +106,9 @@ pub fn row_cells<S: Alter>(
     table: i64,
     key: Datum<'_>,
 ) -> Result<Vec<Row>, Failure>
-    ensures rows { HasCleanDisk (state S.Store conn.new) → IfOk result (λ rows. IsStore (state S.Store conn.old).now → AreOfRow (Int table) (kept key.entry) (cells (state S.Store conn.old).now) rows.items) }
+    ensures rows { HasCleanDisk (state S.Store conn.new)
+        → IfOk result (λ rows. IsStore (state S.Store conn.old).now
+        → AreOfRow (Int table) (kept key.entry) (cells (state S.Store conn.old).now) rows.items) }
     ensures leaves_idle { conn.old.in_transaction ≡ false → LeavesIdle S.Store conn.old conn.new }
     ensures is_open { HasCleanDisk (state S.Store conn.new) → OnOk result (IsTrue (state S.Store conn.new).is_open) }
 {
@@ -117,7 +128,9 @@ pub fn span_cells<S: Alter>(
     first: i64,
     last: i64,
 ) -> Result<Vec<Row>, Failure>
-    ensures rows { HasCleanDisk (state S.Store conn.new) → IfOk result (λ rows. IsStore (state S.Store conn.old).now → AreOfSpan first last (Int table) (kept key.entry) (cells (state S.Store conn.old).now) rows.items) }
+    ensures rows { HasCleanDisk (state S.Store conn.new)
+        → IfOk result (λ rows. IsStore (state S.Store conn.old).now
+        → AreOfSpan first last (Int table) (kept key.entry) (cells (state S.Store conn.old).now) rows.items) }
     ensures leaves_idle { conn.old.in_transaction ≡ false → LeavesIdle S.Store conn.old conn.new }
     ensures is_open { HasCleanDisk (state S.Store conn.new) → OnOk result (IsTrue (state S.Store conn.new).is_open) }
 {
@@ -135,7 +148,9 @@ pub fn table_cells<S: Alter, K: Sink>(
     table: i64,
     sink: &mut K,
 ) -> Result<(), Failure>
-    ensures rows { HasCleanDisk (state S.Store conn.new) → OnOk result (IsStore (state S.Store conn.old).now → Takes K.has_taken (AreOfTable (Int table) (cells (state S.Store conn.old).now)) sink.old sink.new) }
+    ensures rows { HasCleanDisk (state S.Store conn.new)
+        → OnOk result (IsStore (state S.Store conn.old).now
+        → Takes K.has_taken (AreOfTable (Int table) (cells (state S.Store conn.old).now)) sink.old sink.new) }
     ensures leaves_idle { conn.old.in_transaction ≡ false → LeavesIdle S.Store conn.old conn.new }
     ensures is_open { HasCleanDisk (state S.Store conn.new) → OnOk result (IsTrue (state S.Store conn.new).is_open) }
 {
@@ -159,7 +174,10 @@ pub fn spans_cells<S: Alter, K: Sink>(
     last: i64,
     sink: &mut K,
 ) -> Result<(), Failure>
-    ensures rows { HasCleanDisk (state S.Store conn.new) → OnOk result (IsStore (state S.Store conn.old).now → Takes K.has_taken (AreOfSpans first last (Int table) (cells (state S.Store conn.old).now)) sink.old sink.new) }
+    ensures rows { HasCleanDisk (state S.Store conn.new)
+        → OnOk result (IsStore (state S.Store conn.old).now
+        → Takes K.has_taken (AreOfSpans first last (Int table) (cells (state S.Store conn.old).now)) sink.old
+        sink.new) }
     ensures leaves_idle { conn.old.in_transaction ≡ false → LeavesIdle S.Store conn.old conn.new }
     ensures is_open { HasCleanDisk (state S.Store conn.new) → OnOk result (IsTrue (state S.Store conn.new).is_open) }
 {
@@ -178,7 +196,9 @@ pub fn key_cells<S: Alter, K: Sink>(
     place: i64,
     sink: &mut K,
 ) -> Result<(), Failure>
-    ensures rows { HasCleanDisk (state S.Store conn.new) → OnOk result (IsStore (state S.Store conn.old).now → Takes K.has_taken (AreKeys (Int table) (Int place) (cells (state S.Store conn.old).now)) sink.old sink.new) }
+    ensures rows { HasCleanDisk (state S.Store conn.new)
+        → OnOk result (IsStore (state S.Store conn.old).now
+        → Takes K.has_taken (AreKeys (Int table) (Int place) (cells (state S.Store conn.old).now)) sink.old sink.new) }
     ensures leaves_idle { conn.old.in_transaction ≡ false → LeavesIdle S.Store conn.old conn.new }
     ensures is_open { HasCleanDisk (state S.Store conn.new) → OnOk result (IsTrue (state S.Store conn.new).is_open) }
 {
@@ -196,7 +216,10 @@ pub fn count_keys<S: Alter>(
     table: i64,
     place: i64,
 ) -> Result<usize, Failure>
-    ensures count { HasCleanDisk (state S.Store conn.new) → IfOk result (λ n. IsStore (state S.Store conn.old).now → n ≡ length (filter (λ c. is_in (Int table) c && same (column c 2) (Int place)) (cells (state S.Store conn.old).now))) }
+    ensures count { HasCleanDisk (state S.Store conn.new)
+        → IfOk result (λ n. IsStore (state S.Store conn.old).now
+        → n ≡ length (filter (λ c. is_in (Int table) c && same (column c 2) (Int place))
+        (cells (state S.Store conn.old).now))) }
     ensures leaves_idle { conn.old.in_transaction ≡ false → LeavesIdle S.Store conn.old conn.new }
     ensures is_open { HasCleanDisk (state S.Store conn.new) → OnOk result (IsTrue (state S.Store conn.new).is_open) }
 {
@@ -212,7 +235,9 @@ pub fn count_cells<S: Alter>(
     key: Datum<'_>,
     place: i64,
 ) -> Result<usize, Failure>
-    ensures count { HasCleanDisk (state S.Store conn.new) → IfOk result (λ n. IsStore (state S.Store conn.old).now → n ≡ length (filter (is_at (Int table) (kept key.entry) (Int place)) (cells (state S.Store conn.old).now))) }
+    ensures count { HasCleanDisk (state S.Store conn.new)
+        → IfOk result (λ n. IsStore (state S.Store conn.old).now
+        → n ≡ length (filter (is_at (Int table) (kept key.entry) (Int place)) (cells (state S.Store conn.old).now))) }
     ensures leaves_idle { conn.old.in_transaction ≡ false → LeavesIdle S.Store conn.old conn.new }
     ensures is_open { HasCleanDisk (state S.Store conn.new) → OnOk result (IsTrue (state S.Store conn.new).is_open) }
 {
@@ -228,7 +253,9 @@ pub fn count_cells<S: Alter>(
 
 /// Gives the table of each cell to a sink, in any order.
 pub fn cell_tables<S: Alter, K: Sink>(conn: &mut Connection<S>, sink: &mut K) -> Result<(), Failure>
-    ensures rows { HasCleanDisk (state S.Store conn.new) → OnOk result (HasTables (state S.Store conn.old).now.schema → Takes K.has_taken (AreTablesOfCells (cells (state S.Store conn.old).now)) sink.old sink.new) }
+    ensures rows { HasCleanDisk (state S.Store conn.new)
+        → OnOk result (HasTables (state S.Store conn.old).now.schema
+        → Takes K.has_taken (AreTablesOfCells (cells (state S.Store conn.old).now)) sink.old sink.new) }
     ensures leaves_idle { conn.old.in_transaction ≡ false → LeavesIdle S.Store conn.old conn.new }
     ensures is_open { HasCleanDisk (state S.Store conn.new) → OnOk result (IsTrue (state S.Store conn.new).is_open) }
 {

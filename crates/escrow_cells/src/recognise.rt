@@ -87,7 +87,8 @@ fn is_named(table: &Table, name: &str, tree: u32) -> bool
 /// Returns whether these are the keys of a table: the INTEGER PRIMARY KEY, the places of the
 /// primary key, and those of the one key that an index keeps.
 fn is_keyed(table: &Table, key: Option<usize>, primary: &[usize], unique: &[usize]) -> bool
-    ensures { IsTrue result ↔ ((table.now.key ≡ key) × (table.now.primary ≡ primary.now) × (table.now.uniques ≡ unique.now ∷ []) × (table.now.orders ≡ plain ∷ [])) }
+    ensures { IsTrue result ↔ ((table.now.key ≡ key) × (table.now.primary ≡ primary.now)
+        × (table.now.uniques ≡ unique.now ∷ []) × (table.now.orders ≡ plain ∷ [])) }
 {
     table.key == key
         && table.primary.as_slice() == primary
@@ -162,7 +163,8 @@ fn is_column(column: &Column, name: &str, kind: Kind, not_null: bool) -> bool
 
 /// Returns whether a column is of a STRICT table, has no default, and is ordered by bytes.
 fn is_strict(column: &Column) -> bool
-    ensures { IsTrue result ↔ ((column.now.is_strict ≡ true) × (column.now.default ≡ Null) × (column.now.collation ≡ Binary)) }
+    ensures { IsTrue result ↔ ((column.now.is_strict ≡ true) × (column.now.default ≡ Null)
+        × (column.now.collation ≡ Binary)) }
 {
     column.is_strict && is_null(&column.default) && column.collation == Collation::Binary
 }

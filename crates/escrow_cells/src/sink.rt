@@ -13,11 +13,13 @@ pub trait Sink {
 
     /// Takes one more row.
     fn take(&mut self, row: &Row) -> Result<(), Failure>
-        ensures { OnOk result ((first : Self) (rows : List Cells) → has_taken first self.old rows → has_taken first self.new (rows ++ row.now ∷ [])) };
+        ensures { OnOk result ((first : Self) (rows : List Cells) → has_taken first self.old rows
+            → has_taken first self.new (rows ++ row.now ∷ [])) };
 
     /// Returns whether no further row changes it. A read stops once it is done.
     fn is_done(&self) -> bool
-        ensures { IsTrue result → (first : Self) (rows more : List Cells) → has_taken first self.now rows → has_taken first self.now (rows ++ more) }
+        ensures { IsTrue result → (first : Self) (rows more : List Cells) → has_taken first self.now rows
+            → has_taken first self.now (rows ++ more) }
     {
         false
     }

@@ -24,9 +24,12 @@ fn change<S: Alter>(
     params: &[ValueRef<'_>],
 ) -> Result<usize, Error>
     ensures same_reference { tx.new.conn.ghost_name ≡ tx.old.conn.ghost_name }
-    ensures wrote { Wrote sql.now (bound params.now) (state S.Store tx.old.conn.now) (state S.Store tx.new.conn.now) (is_ok result) }
-    ensures counted { HasCleanDisk (state S.Store tx.new.conn.now) → IsTrue (state S.Store tx.old.conn.now).in_transaction
-        → IfOk result (λ n. Executes sql.now (bound params.now) (state S.Store tx.old.conn.now) (state S.Store tx.new.conn.now) (Ok n)) }
+    ensures wrote { Wrote sql.now (bound params.now) (state S.Store tx.old.conn.now) (state S.Store tx.new.conn.now)
+        (is_ok result) }
+    ensures counted { HasCleanDisk (state S.Store tx.new.conn.now)
+        → IsTrue (state S.Store tx.old.conn.now).in_transaction
+        → IfOk result (λ n. Executes sql.now (bound params.now) (state S.Store tx.old.conn.now)
+        (state S.Store tx.new.conn.now) (Ok n)) }
 {
     let rows = tx.execute(sql, params)?;
     Ok(rows)
@@ -39,7 +42,8 @@ pub(crate) fn write<S: Alter>(
     params: &[ValueRef<'_>],
 ) -> Result<(), Error>
     ensures same_reference { tx.new.conn.ghost_name ≡ tx.old.conn.ghost_name }
-    ensures wrote { Wrote sql.now (bound params.now) (state S.Store tx.old.conn.now) (state S.Store tx.new.conn.now) (is_ok result) }
+    ensures wrote { Wrote sql.now (bound params.now) (state S.Store tx.old.conn.now) (state S.Store tx.new.conn.now)
+        (is_ok result) }
 {
     change(tx, sql, params)?;
     Ok(())
@@ -48,7 +52,8 @@ pub(crate) fn write<S: Alter>(
 /// Inserts a new cell.
 fn insert_cell<S: Alter>(tx: &mut Transaction<'_, S>, cell: &NewCell<'_>) -> Result<(), Error>
     ensures same_reference { tx.new.conn.ghost_name ≡ tx.old.conn.ghost_name }
-    ensures acts { ActsBy (state S.Store tx.old.conn.now) (state S.Store tx.new.conn.now) (is_ok result) (step_of cell.now ∷ []) }
+    ensures acts { ActsBy (state S.Store tx.old.conn.now) (state S.Store tx.new.conn.now) (is_ok result)
+        (step_of cell.now ∷ []) }
 {
     write(
         tx,
@@ -64,7 +69,8 @@ fn insert_two<S: Alter>(
     b: &NewCell<'_>,
 ) -> Result<(), Error>
     ensures same_reference { tx.new.conn.ghost_name ≡ tx.old.conn.ghost_name }
-    ensures acts { ActsBy (state S.Store tx.old.conn.now) (state S.Store tx.new.conn.now) (is_ok result) (step_of a.now ∷ step_of b.now ∷ []) }
+    ensures acts { ActsBy (state S.Store tx.old.conn.now) (state S.Store tx.new.conn.now) (is_ok result)
+        (step_of a.now ∷ step_of b.now ∷ []) }
 {
     write(
         tx,
@@ -83,7 +89,8 @@ fn insert_three<S: Alter>(
     c: &NewCell<'_>,
 ) -> Result<(), Error>
     ensures same_reference { tx.new.conn.ghost_name ≡ tx.old.conn.ghost_name }
-    ensures acts { ActsBy (state S.Store tx.old.conn.now) (state S.Store tx.new.conn.now) (is_ok result) (step_of a.now ∷ step_of b.now ∷ step_of c.now ∷ []) }
+    ensures acts { ActsBy (state S.Store tx.old.conn.now) (state S.Store tx.new.conn.now) (is_ok result)
+        (step_of a.now ∷ step_of b.now ∷ step_of c.now ∷ []) }
 {
     write(
         tx,
@@ -104,7 +111,8 @@ fn insert_four<S: Alter>(
     d: &NewCell<'_>,
 ) -> Result<(), Error>
     ensures same_reference { tx.new.conn.ghost_name ≡ tx.old.conn.ghost_name }
-    ensures acts { ActsBy (state S.Store tx.old.conn.now) (state S.Store tx.new.conn.now) (is_ok result) (step_of a.now ∷ step_of b.now ∷ step_of c.now ∷ step_of d.now ∷ []) }
+    ensures acts { ActsBy (state S.Store tx.old.conn.now) (state S.Store tx.new.conn.now) (is_ok result)
+        (step_of a.now ∷ step_of b.now ∷ step_of c.now ∷ step_of d.now ∷ []) }
 {
     write(
         tx,
@@ -125,9 +133,12 @@ fn set_cell<S: Alter>(
     value: Datum<'_>,
 ) -> Result<usize, Error>
     ensures same_reference { tx.new.conn.ghost_name ≡ tx.old.conn.ghost_name }
-    ensures acts { ActsBy (state S.Store tx.old.conn.now) (state S.Store tx.new.conn.now) (is_ok result) (step.SetCell table key.entry place value.entry None ∷ []) }
+    ensures acts { ActsBy (state S.Store tx.old.conn.now) (state S.Store tx.new.conn.now) (is_ok result)
+        (step.SetCell table key.entry place value.entry None ∷ []) }
     ensures found { HasCleanDisk (state S.Store tx.new.conn.now) → IsTrue (state S.Store tx.old.conn.now).in_transaction
-        → IfOk result (λ n. IsStore (state S.Store tx.old.conn.now).now → nat_lt 0 n ≡ list_any (is_at (Int table) (kept key.entry) (Int place)) (cells (state S.Store tx.old.conn.now).now)) }
+        → IfOk result (λ n. IsStore (state S.Store tx.old.conn.now).now
+        → nat_lt 0 n ≡ list_any (is_at (Int table) (kept key.entry) (Int place))
+        (cells (state S.Store tx.old.conn.now).now)) }
 {
     change(
         tx,
@@ -147,7 +158,9 @@ fn set_cell_at<S: Alter>(
     value: Datum<'_>,
 ) -> Result<bool, Error>
     ensures same_reference { tx.new.conn.ghost_name ≡ tx.old.conn.ghost_name }
-    ensures set { result ≡ Ok true → ActsBy (state S.Store tx.old.conn.now) (state S.Store tx.new.conn.now) true (step.SetCell table key.entry place value.entry (Some rowid) ∷ []) }
+    ensures set { result ≡ Ok true
+        → ActsBy (state S.Store tx.old.conn.now) (state S.Store tx.new.conn.now) true
+        (step.SetCell table key.entry place value.entry (Some rowid) ∷ []) }
     ensures left { result ≡ Ok false → ActsBy (state S.Store tx.old.conn.now) (state S.Store tx.new.conn.now) true [] }
     ensures pending { IsPending (state S.Store tx.old.conn.now) (state S.Store tx.new.conn.now) }
 {
@@ -170,7 +183,8 @@ fn set_cell_hinted<S: Alter>(
     value: Datum<'_>,
 ) -> Result<(), Error>
     ensures same_reference { tx.new.conn.ghost_name ≡ tx.old.conn.ghost_name }
-    ensures acts { ActsBy (state S.Store tx.old.conn.now) (state S.Store tx.new.conn.now) (is_ok result) (step.SetCell table key.entry place value.entry hint ∷ []) }
+    ensures acts { ActsBy (state S.Store tx.old.conn.now) (state S.Store tx.new.conn.now) (is_ok result)
+        (step.SetCell table key.entry place value.entry hint ∷ []) }
 {
     if let Some(rowid) = hint {
         if set_cell_at(tx, rowid, table, key, place, value)? {
@@ -188,9 +202,11 @@ fn delete_row<S: Alter>(
     key: Datum<'_>,
 ) -> Result<usize, Error>
     ensures same_reference { tx.new.conn.ghost_name ≡ tx.old.conn.ghost_name }
-    ensures acts { ActsBy (state S.Store tx.old.conn.now) (state S.Store tx.new.conn.now) (is_ok result) (step.DeleteRow table key.entry ∷ []) }
+    ensures acts { ActsBy (state S.Store tx.old.conn.now) (state S.Store tx.new.conn.now) (is_ok result)
+        (step.DeleteRow table key.entry ∷ []) }
     ensures found { HasCleanDisk (state S.Store tx.new.conn.now) → IsTrue (state S.Store tx.old.conn.now).in_transaction
-        → IfOk result (λ n. IsStore (state S.Store tx.old.conn.now).now → nat_lt 0 n ≡ list_any (is_of (Int table) (kept key.entry)) (cells (state S.Store tx.old.conn.now).now)) }
+        → IfOk result (λ n. IsStore (state S.Store tx.old.conn.now).now
+        → nat_lt 0 n ≡ list_any (is_of (Int table) (kept key.entry)) (cells (state S.Store tx.old.conn.now).now)) }
 {
     change(
         tx,
@@ -202,7 +218,8 @@ fn delete_row<S: Alter>(
 /// Deletes the cells of a table.
 fn delete_cells<S: Alter>(tx: &mut Transaction<'_, S>, table: i64) -> Result<(), Error>
     ensures same_reference { tx.new.conn.ghost_name ≡ tx.old.conn.ghost_name }
-    ensures acts { ActsBy (state S.Store tx.old.conn.now) (state S.Store tx.new.conn.now) (is_ok result) (step.DeleteCells table ∷ []) }
+    ensures acts { ActsBy (state S.Store tx.old.conn.now) (state S.Store tx.new.conn.now) (is_ok result)
+        (step.DeleteCells table ∷ []) }
 {
     write(tx, "DELETE FROM CELL WHERE TAB = ?1", params![table])
 }
@@ -215,7 +232,8 @@ fn insert_tab<S: Alter>(
     text: &str,
 ) -> Result<(), Error>
     ensures same_reference { tx.new.conn.ghost_name ≡ tx.old.conn.ghost_name }
-    ensures acts { ActsBy (state S.Store tx.old.conn.now) (state S.Store tx.new.conn.now) (is_ok result) (step.InsertTab id name.entry text.entry ∷ []) }
+    ensures acts { ActsBy (state S.Store tx.old.conn.now) (state S.Store tx.new.conn.now) (is_ok result)
+        (step.InsertTab id name.entry text.entry ∷ []) }
 {
     write(
         tx,
@@ -227,7 +245,8 @@ fn insert_tab<S: Alter>(
 /// Deletes the name and the text of a table.
 fn delete_tab<S: Alter>(tx: &mut Transaction<'_, S>, id: i64) -> Result<(), Error>
     ensures same_reference { tx.new.conn.ghost_name ≡ tx.old.conn.ghost_name }
-    ensures acts { ActsBy (state S.Store tx.old.conn.now) (state S.Store tx.new.conn.now) (is_ok result) (step.DeleteTab id ∷ []) }
+    ensures acts { ActsBy (state S.Store tx.old.conn.now) (state S.Store tx.new.conn.now) (is_ok result)
+        (step.DeleteTab id ∷ []) }
 {
     write(tx, "DELETE FROM TAB WHERE ID = ?1", params![id])
 }
@@ -235,7 +254,8 @@ fn delete_tab<S: Alter>(tx: &mut Transaction<'_, S>, id: i64) -> Result<(), Erro
 /// Does one step.
 fn do_step<S: Alter>(tx: &mut Transaction<'_, S>, step: &Step<'_>) -> Result<(), Error>
     ensures same_reference { tx.new.conn.ghost_name ≡ tx.old.conn.ghost_name }
-    ensures acts { ActsBy (state S.Store tx.old.conn.now) (state S.Store tx.new.conn.now) (is_ok result) (step.now ∷ []) }
+    ensures acts { ActsBy (state S.Store tx.old.conn.now) (state S.Store tx.new.conn.now) (is_ok result)
+        (step.now ∷ []) }
 {
     match *step {
         Step::InsertCell {
@@ -275,9 +295,11 @@ pub(crate) fn do_finding<S: Alter>(
     step: &Step<'_>,
 ) -> Result<bool, Error>
     ensures same_reference { tx.new.conn.ghost_name ≡ tx.old.conn.ghost_name }
-    ensures acts { ActsBy (state S.Store tx.old.conn.now) (state S.Store tx.new.conn.now) (is_ok result) (step.now ∷ []) }
+    ensures acts { ActsBy (state S.Store tx.old.conn.now) (state S.Store tx.new.conn.now) (is_ok result)
+        (step.now ∷ []) }
     ensures found { HasCleanDisk (state S.Store tx.new.conn.now) → IsTrue (state S.Store tx.old.conn.now).in_transaction
-        → IfOk result (λ found. IsStore (state S.Store tx.old.conn.now).now → found ≡ finds step.now (cells (state S.Store tx.old.conn.now).now)) }
+        → IfOk result (λ found. IsStore (state S.Store tx.old.conn.now).now
+        → found ≡ finds step.now (cells (state S.Store tx.old.conn.now).now)) }
 {
     match *step {
         Step::SetCell {

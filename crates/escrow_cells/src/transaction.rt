@@ -49,8 +49,10 @@ pub fn run_if_found<S: Alter>(
     first: &Step<'_>,
     rest: &[Step<'_>],
 ) -> Result<bool, Failure>
-    ensures writes { Transacts (state S.Store conn.old) (state S.Store conn.new) (was_done result) (DoesFinding first.now rest.now) }
-    ensures none { HasCleanDisk (state S.Store conn.new) → result ≡ Ok false → IsTrue (state S.Store conn.old).is_open × (IsStore (state S.Store conn.old).now → finds first.now (cells (state S.Store conn.old).now) ≡ false) }
+    ensures writes { Transacts (state S.Store conn.old) (state S.Store conn.new) (was_done result)
+        (DoesFinding first.now rest.now) }
+    ensures none { HasCleanDisk (state S.Store conn.new) → result ≡ Ok false → IsTrue (state S.Store conn.old).is_open
+        × (IsStore (state S.Store conn.old).now → finds first.now (cells (state S.Store conn.old).now) ≡ false) }
     ensures mode { conn.old.in_transaction ≡ false → conn.new.in_transaction ≡ false }
 {
     if !conn.is_autocommit() {
@@ -65,7 +67,8 @@ pub fn run_if_found<S: Alter>(
 /// Does steps in a connection that is outside a transaction.
 fn run_outside<S: Alter>(conn: &mut Connection<S>, steps: &[Step<'_>]) -> Result<(), Error>
     requires outside { conn.old.in_transaction ≡ false }
-    requires settled { IsTrue (state S.Store conn.old).is_open → (state S.Store conn.old).now ≡ (state S.Store conn.old).committed }
+    requires settled { IsTrue (state S.Store conn.old).is_open
+        → (state S.Store conn.old).now ≡ (state S.Store conn.old).committed }
     ensures writes { Transacts (state S.Store conn.old) (state S.Store conn.new) (is_ok result) (Does steps.now) }
     ensures mode { conn.new.in_transaction ≡ false }
 {
@@ -78,7 +81,8 @@ fn run_outside<S: Alter>(conn: &mut Connection<S>, steps: &[Step<'_>]) -> Result
 /// Writes nothing. Fails if a fault has shut the store.
 fn do_nothing<S: Alter>(conn: &mut Connection<S>) -> Result<(), Error>
     requires outside { conn.old.in_transaction ≡ false }
-    requires settled { IsTrue (state S.Store conn.old).is_open → (state S.Store conn.old).now ≡ (state S.Store conn.old).committed }
+    requires settled { IsTrue (state S.Store conn.old).is_open
+        → (state S.Store conn.old).now ≡ (state S.Store conn.old).committed }
     ensures writes { Transacts (state S.Store conn.old) (state S.Store conn.new) (is_ok result) (Does []) }
     ensures mode { conn.new.in_transaction ≡ false }
 {
@@ -90,7 +94,8 @@ fn do_nothing<S: Alter>(conn: &mut Connection<S>) -> Result<(), Error>
 fn transact<S: Alter>(conn: &mut Connection<S>, steps: &[Step<'_>]) -> Result<(), Error>
     requires some { 0 < length steps.now }
     requires outside { conn.old.in_transaction ≡ false }
-    requires settled { IsTrue (state S.Store conn.old).is_open → (state S.Store conn.old).now ≡ (state S.Store conn.old).committed }
+    requires settled { IsTrue (state S.Store conn.old).is_open
+        → (state S.Store conn.old).now ≡ (state S.Store conn.old).committed }
     ensures writes { Transacts (state S.Store conn.old) (state S.Store conn.new) (is_ok result) (Does steps.now) }
     ensures mode { conn.new.in_transaction ≡ false }
 {
@@ -109,9 +114,12 @@ fn transact_if_found<S: Alter>(
     rest: &[Step<'_>],
 ) -> Result<bool, Error>
     requires outside { conn.old.in_transaction ≡ false }
-    requires settled { IsTrue (state S.Store conn.old).is_open → (state S.Store conn.old).now ≡ (state S.Store conn.old).committed }
-    ensures writes { Transacts (state S.Store conn.old) (state S.Store conn.new) (was_done result) (DoesFinding first.now rest.now) }
-    ensures none { HasCleanDisk (state S.Store conn.new) → result ≡ Ok false → IsTrue (state S.Store conn.old).is_open × (IsStore (state S.Store conn.old).now → finds first.now (cells (state S.Store conn.old).now) ≡ false) }
+    requires settled { IsTrue (state S.Store conn.old).is_open
+        → (state S.Store conn.old).now ≡ (state S.Store conn.old).committed }
+    ensures writes { Transacts (state S.Store conn.old) (state S.Store conn.new) (was_done result)
+        (DoesFinding first.now rest.now) }
+    ensures none { HasCleanDisk (state S.Store conn.new) → result ≡ Ok false → IsTrue (state S.Store conn.old).is_open
+        × (IsStore (state S.Store conn.old).now → finds first.now (cells (state S.Store conn.old).now) ≡ false) }
     ensures mode { conn.new.in_transaction ≡ false }
 {
     let mut tx = conn.transaction();

@@ -28,7 +28,8 @@ abbrev pub OtherRowsStay : RowName → State → State → Type 0
 OtherRowsStay name s new = (other : RowName) → ¬ (other ≡ name) → row_named new.rows other ≡ row_named s.rows other
 
 abbrev pub OtherTablesStay : List ℕ → State → State → Type 0
-OtherTablesStay name s new = (other : List ℕ) → ¬ (other ≡ name) → table_named new.catalog other ≡ table_named s.catalog other
+OtherTablesStay name s new =
+    (other : List ℕ) → ¬ (other ≡ name) → table_named new.catalog other ≡ table_named s.catalog other
 
 -- SELECT
 
@@ -109,7 +110,8 @@ abbrev pub value_or : List (Option Value) → ℕ → Value → Value
 value_or values place old = unwrap_or (option_and_then (λ new. new) (slice_get values place)) old
 
 -- the row of the key has new values at the places that are assigned. Its amounts stay, and all other values
-pub record Replaces (s : State) (session : ℕ) (text : UpdateText) (key : Value) (values : List (Option Value)) (answer : Reply) (new : State) : Type 0 where
+pub record Replaces (s : State) (session : ℕ) (text : UpdateText) (key : Value) (values : List (Option Value))
+    (answer : Reply) (new : State) : Type 0 where
   pub replies : answer ≡ reply.Updated
   pub closed : is_open session s ≡ false
   pub row : Row
@@ -118,6 +120,7 @@ pub record Replaces (s : State) (session : ℕ) (text : UpdateText) (key : Value
   pub stands : row_named new.rows (row_name text.table key) ≡ Some now
   pub alike : now ≡ record row { plain = now.plain }
   pub many : length now.plain ≡ length row.plain
-  pub each : (place : ℕ) (old : Value) → slice_get row.plain place ≡ Some old → slice_get now.plain place ≡ Some (value_or values place old)
+  pub each : (place : ℕ) (old : Value) → slice_get row.plain place ≡ Some old
+      → slice_get now.plain place ≡ Some (value_or values place old)
   pub others : OtherRowsStay (row_name text.table key) s new
   pub rest : new ≡ record s { rows = new.rows }

@@ -22,16 +22,23 @@ SelectShowsRows = (s : State) (session : ℕ) (text : SelectText) → IsValid s
 
 abbrev pub DeleteTakesItsRow : Type 0
 DeleteTakesItsRow = (s : State) (session : ℕ) (text : RowText)
-    → let after = step s session (statement.Delete text) in is_refused after.0 ≡ false → Deletes s session text after.0 after.1
+    → let after =
+    step s session (statement.Delete text) in is_refused after.0 ≡ false → Deletes s session text after.0 after.1
 
 abbrev pub DropTakesItsTable : Type 0
 DropTakesItsTable = (s : State) (session : ℕ) (name : List ℕ)
-    → let after = step s session (statement.Drop name) in is_refused after.0 ≡ false → Drops s session name after.0 after.1
+    → let after =
+    step s session (statement.Drop name) in is_refused after.0 ≡ false → Drops s session name after.0 after.1
 
 abbrev pub AlterChangesChecks : Type 0
 AlterChangesChecks = (s : State) (session : ℕ) (text : AlterText) → IsValid s
-    → let after = step s session (statement.Alter text) in is_refused after.0 ≡ false → Alters s session text after.0 after.1
+    → let after =
+    step s session (statement.Alter text) in is_refused after.0 ≡ false → Alters s session text after.0 after.1
 
 abbrev pub UpdateReplacesValues : Type 0
-UpdateReplacesValues = (s : State) (session : ℕ) (text : UpdateText) (key : Value) (values : List (Option Value)) → plan_of s text ≡ Some (plan.Plain key values)
-    → let after = step s session (statement.Update text) in is_refused after.0 ≡ false → Replaces s session text key values after.0 after.1
+UpdateReplacesValues =
+    (s : State) (session : ℕ) (text : UpdateText) (key : Value) (values : List (Option Value))
+    → plan_of s text ≡ Some (plan.Plain key values)
+    → let after =
+    step s session (statement.Update text) in is_refused after.0 ≡ false
+    → Replaces s session text key values after.0 after.1

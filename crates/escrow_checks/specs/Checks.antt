@@ -36,7 +36,8 @@ right_of (Between low high) = []
 -- a column's coefficient in a condition brought to one side: the sum of those on the left less the sum of those on the
 -- right
 abbrev pub coefficient_of : Condition → List ℕ → ℤ
-coefficient_of condition name = total (coefficient_in name) condition.sum -ℤ total (coefficient_in name) (right_of condition.test)
+coefficient_of condition name =
+    total (coefficient_in name) condition.sum -ℤ total (coefficient_in name) (right_of condition.test)
 
 -- the coefficients of one column: 1 at its place, 0 at the others
 abbrev pub unit_of : List (List ℕ) → List ℕ → List ℤ
@@ -69,7 +70,8 @@ span_of Equal n = record { lo = Some n; hi = Some n }
 -- subtracted from each limit
 abbrev pub limits_of : ℕ → Test → ℤ → Span
 limits_of scale (Compare comparison sum) left = span_of comparison (units_in scale (total number_in sum -ℤ left))
-limits_of scale (Between low high) left = record { lo = Some (units_in scale (low -ℤ left)); hi = Some (units_in scale (high -ℤ left)) }
+limits_of scale (Between low high) left =
+    record { lo = Some (units_in scale (low -ℤ left)); hi = Some (units_in scale (high -ℤ left)) }
 
 -- the limits are whole numbers of units: none is rounded
 abbrev pub has_whole_limits : ℕ → Test → ℤ → Bool
@@ -90,7 +92,8 @@ columns_in (term.Column coefficient column) = column ∷ []
 -- each column that a condition names, whatever its coefficient, is one of these
 abbrev pub names_columns : List (List ℕ) → Condition → Bool
 names_columns columns condition =
-    list_all (λ name. list_any (λ column. bytes_eq column name) columns) (flat_map columns_in (condition.sum ++ right_of condition.test))
+    list_all (λ name. list_any (λ column. bytes_eq column name) columns)
+    (flat_map columns_in (condition.sum ++ right_of condition.test))
 
 -- a coefficient has a magnitude of at most 1,000,000
 abbrev pub is_coefficient : ℤ → Bool
@@ -118,7 +121,8 @@ is_good_span span = is_limit span.lo && is_limit span.hi && in_order span.lo spa
 -- a condition's limits are whole numbers of units of a scale, each of at most 15 digits, and in order
 abbrev pub has_good_limits : ℕ → Condition → Bool
 has_good_limits scale condition =
-    has_whole_limits scale condition.test (total number_in condition.sum) && is_good_span (condition_limits scale condition)
+    has_whole_limits scale condition.test (total number_in condition.sum) && is_good_span
+    (condition_limits scale condition)
 
 -- NAMES
 
@@ -137,29 +141,39 @@ abbrev pub check_of : List (List ℕ) → List ℕ → List ℕ → Condition �
 check_of columns scales name condition =
     let written = map (coefficient_of condition) columns in
     let scale = form_scale written scales in
-    if names_columns columns condition && are_good_coefficients written && has_good_limits scale condition && is_written_name name
-    then Some (record { name = name; coeffs = scaled_coeffs scale written scales; scale = scale; span = condition_limits scale condition })
+    if names_columns columns condition && are_good_coefficients written && has_good_limits scale condition &&
+    is_written_name name
+    then Some (record {
+      name = name;
+      coeffs = scaled_coeffs scale written scales;
+      scale = scale;
+      span = condition_limits scale condition;
+    })
     else None
 
 -- the checks of a CHECK's conditions, or nothing if one of them breaks a rule. The first condition is the k-th of the
 -- CHECK and the n-th of the table's
-abbrev pub checks_of_conditions : List (List ℕ) → List ℕ → Option (List ℕ) → ℕ → ℕ → List Condition → Option (List Check)
+abbrev pub checks_of_conditions : List (List ℕ) → List ℕ → Option (List ℕ) → ℕ → ℕ → List Condition
+    → Option (List Check)
 checks_of_conditions columns scales name k n [] = Some []
 checks_of_conditions columns scales name k n (condition ∷ conditions) =
-    option_and_then (λ check. option_map (λ checks. check ∷ checks) (checks_of_conditions columns scales name (k + 1) (n + 1) conditions))
+    option_and_then (λ check.
+    option_map (λ checks. check ∷ checks) (checks_of_conditions columns scales name (k + 1) (n + 1) conditions))
     (check_of columns scales (check_name name k n) condition)
 
 -- the checks of CHECKs, whose first condition is the n-th of the table's
 abbrev pub checks_from : List (List ℕ) → List ℕ → List CheckText → ℕ → Option (List Check)
 checks_from columns scales [] n = Some []
 checks_from columns scales (text ∷ texts) n =
-    option_and_then (λ first. option_map (λ others. first ++ others) (checks_from columns scales texts (n + length text.conditions)))
+    option_and_then (λ first.
+    option_map (λ others. first ++ others) (checks_from columns scales texts (n + length text.conditions)))
     (checks_of_conditions columns scales text.name 1 n text.conditions)
 
 -- declared checks of a table, and after them those that CHECKs declare, in order: at most 32 in all
 abbrev pub checks_behind : List (List ℕ) → List ℕ → List Check → List CheckText → Option (List Check)
 checks_behind columns scales declared texts =
-    option_and_then (λ more. let checks = declared ++ more in if nat_le (length checks) MAX_CHECKS then Some checks else None)
+    option_and_then (λ more. let checks = declared ++ more in if nat_le (length checks) MAX_CHECKS then Some checks
+    else None)
     (checks_from columns scales texts (length declared + 1))
 
 -- the checks that the CHECKs of a table declare, in order: those after no declared checks

@@ -13,17 +13,21 @@ Meets check amounts = Holds check.span (form check.coeffs amounts)
 
 -- a row meets a check whichever of the open reservations are applied
 abbrev pub AlwaysMeets : Check → List ℤ → List (List ℤ) → Type 0
-AlwaysMeets check amounts reservations = All (λ chosen. Meets check (all_changed amounts chosen)) (sublists reservations)
+AlwaysMeets check amounts reservations =
+    All (λ chosen. Meets check (all_changed amounts chosen)) (sublists reservations)
 
 -- what a new reservation breaks of a check: the first limit that an extreme passes, over the choices of the open
 -- reservations that contain the new one
 abbrev pub broken_by : Check → List ℤ → List ℤ → List (List ℤ) → Option Violation
 broken_by check amounts changes reservations =
     let with_new = changed amounts changes in
-    option_map (λ limit. record { check = check.name; side = limit.0; worst = limit.1; limit = limit.2; scale = check.scale })
-    (first_broken_of check.span (least check.coeffs with_new reservations) (greatest check.coeffs with_new reservations))
+    option_map (λ limit. record
+    { check = check.name; side = limit.0; worst = limit.1; limit = limit.2; scale = check.scale })
+    (first_broken_of check.span (least check.coeffs with_new reservations)
+    (greatest check.coeffs with_new reservations))
 
 -- the grant rule: the first check, in the table's order, that a new reservation breaks; it is granted if there is none
 abbrev pub broken : List Check → List ℤ → List ℤ → List (List ℤ) → Option Violation
 broken [] amounts changes reservations = None
-broken (check ∷ checks) amounts changes reservations = first_of_two (broken_by check amounts changes reservations) (broken checks amounts changes reservations)
+broken (check ∷ checks) amounts changes reservations =
+    first_of_two (broken_by check amounts changes reservations) (broken checks amounts changes reservations)

@@ -31,16 +31,22 @@ use Rattle.escrow_checks.specs.Grant.{AlwaysMeets, broken_by, broken}
 
 -- checks mean what the CHECKs that declare them say
 abbrev pub ChecksMeanTheirTexts : Type 0
-ChecksMeanTheirTexts = (columns : List (List ℕ)) (scales : List ℕ) (texts : List CheckText) (checks : List Check) → checks_of columns scales texts ≡ Some checks
+ChecksMeanTheirTexts =
+    (columns : List (List ℕ)) (scales : List ℕ) (texts : List CheckText) (checks : List Check)
+    → checks_of columns scales texts ≡ Some checks
     → MeanTheSame columns scales texts checks
 
 -- there is one check for each condition of the CHECKs, at most 32, each with a coefficient for each column
 abbrev pub ChecksAreWhole : Type 0
-ChecksAreWhole = (columns : List (List ℕ)) (scales : List ℕ) (texts : List CheckText) (checks : List Check) → checks_of columns scales texts ≡ Some checks
-    → (length checks ≡ length (flat_map (λ text. text.conditions) texts)) × (length checks ≤ MAX_CHECKS) × All (λ check. length check.coeffs ≡ length columns) checks
+ChecksAreWhole =
+    (columns : List (List ℕ)) (scales : List ℕ) (texts : List CheckText) (checks : List Check)
+    → checks_of columns scales texts ≡ Some checks
+    → (length checks ≡ length (flat_map (λ text. text.conditions) texts)) × (length checks ≤ MAX_CHECKS)
+    × All (λ check. length check.coeffs ≡ length columns) checks
 
 -- declared checks of a table, and after them those that CHECKs add
-pub record StandBehind (columns : List (List ℕ)) (scales : List ℕ) (declared : List Check) (texts : List CheckText) (checks : List Check) : Type 0 where
+pub record StandBehind (columns : List (List ℕ)) (scales : List ℕ) (declared : List Check) (texts : List CheckText)
+    (checks : List Check) : Type 0 where
   -- the declared ones stay, and the new ones come after them; at most 32 in all
   pub more : List Check
   pub behind : checks ≡ declared ++ more
@@ -52,21 +58,28 @@ pub record StandBehind (columns : List (List ℕ)) (scales : List ℕ) (declared
 
 -- this holds for the checks that CHECKs add after those of a table
 abbrev pub ChecksStandBehind : Type 0
-ChecksStandBehind = (columns : List (List ℕ)) (scales : List ℕ) (declared : List Check) (texts : List CheckText) (checks : List Check)
+ChecksStandBehind =
+    (columns : List (List ℕ)) (scales : List ℕ) (declared : List Check) (texts : List CheckText) (checks : List Check)
     → checks_behind columns scales declared texts ≡ Some checks → StandBehind columns scales declared texts checks
 
 -- the coefficients, the scale, the limits and the name of each are as the rules of CHECKs demand
 abbrev pub ChecksAreDeclared : Type 0
-ChecksAreDeclared = (columns : List (List ℕ)) (scales : List ℕ) (texts : List CheckText) (checks : List Check) → checks_of columns scales texts ≡ Some checks
+ChecksAreDeclared =
+    (columns : List (List ℕ)) (scales : List ℕ) (texts : List CheckText) (checks : List Check)
+    → checks_of columns scales texts ≡ Some checks
     → All (λ check. IsDeclared columns scales check) checks
 
 -- the written coefficients of scaled ones are those that were scaled, whatever the scales
 abbrev pub WrittenAreGivenBack : Type 0
-WrittenAreGivenBack = (scale : ℕ) (coeffs : List ℤ) (scales : List ℕ) → written_coeffs scale (scaled_coeffs scale coeffs scales) scales ≡ coeffs
+WrittenAreGivenBack =
+    (scale : ℕ) (coeffs : List ℤ) (scales : List ℕ)
+    → written_coeffs scale (scaled_coeffs scale coeffs scales) scales ≡ coeffs
 
 -- a limit in units of a scale is written in millionths: these are a whole number of units, and the same units
 abbrev pub UnitsAreWhole : Type 0
-UnitsAreWhole = (scale : ℕ) (units : ℤ) → (is_whole scale (units *ℤ pos (unit_at scale)) ≡ true) × (units_in scale (units *ℤ pos (unit_at scale)) ≡ units)
+UnitsAreWhole =
+    (scale : ℕ) (units : ℤ) → (is_whole scale (units *ℤ pos (unit_at scale)) ≡ true)
+    × (units_in scale (units *ℤ pos (unit_at scale)) ≡ units)
 
 -- how many conditions the CHECKs before the i-th have, counted from 0
 abbrev pub conditions_before : List CheckText → ℕ → ℕ
@@ -78,18 +91,23 @@ pub record AreNamed (texts : List CheckText) (names : List (List ℕ)) : Type 0 
   -- there is a name for each condition
   pub each : length names ≡ length (flat_map (λ (text : CheckText). text.conditions) texts)
   -- the first condition of a CHECK with a name has that name
-  pub first : (i : ℕ) (text : CheckText) (name : List ℕ) → slice_get texts i ≡ Some text → text.name ≡ Some name → 0 < length text.conditions
+  pub first : (i : ℕ) (text : CheckText) (name : List ℕ) → slice_get texts i ≡ Some text → text.name ≡ Some name
+      → 0 < length text.conditions
       → slice_get names (conditions_before texts i) ≡ Some name
   -- the second one has _2 after that name, the third one _3, and so on
-  pub later : (i j : ℕ) (text : CheckText) (name : List ℕ) → slice_get texts i ≡ Some text → text.name ≡ Some name → j + 1 < length text.conditions
+  pub later : (i j : ℕ) (text : CheckText) (name : List ℕ) → slice_get texts i ≡ Some text → text.name ≡ Some name
+      → j + 1 < length text.conditions
       → slice_get names (conditions_before texts i + (j + 1)) ≡ Some (name ++ codes "_" ++ decimal (j + 2))
   -- a condition of a CHECK without a name is called CHECK_ and its place among all conditions, counted from 1
-  pub unnamed : (i j : ℕ) (text : CheckText) → slice_get texts i ≡ Some text → text.name ≡ None → j < length text.conditions
+  pub unnamed : (i j : ℕ) (text : CheckText) → slice_get texts i ≡ Some text → text.name ≡ None
+      → j < length text.conditions
       → slice_get names (conditions_before texts i + j) ≡ Some (codes "CHECK_" ++ decimal (conditions_before texts i + j + 1))
 
 -- the checks that CHECKs declare have these names
 abbrev pub ChecksAreNamed : Type 0
-ChecksAreNamed = (columns : List (List ℕ)) (scales : List ℕ) (texts : List CheckText) (checks : List Check) → checks_of columns scales texts ≡ Some checks
+ChecksAreNamed =
+    (columns : List (List ℕ)) (scales : List ℕ) (texts : List CheckText) (checks : List Check)
+    → checks_of columns scales texts ≡ Some checks
     → AreNamed texts (map (λ (check : Check). check.name) checks)
 
 -- if the columns' names differ, the form of one column's coefficients is its amount
@@ -101,12 +119,14 @@ UnitGivesTheAmount = (columns : List (List ℕ)) (amounts : List ℤ) (name : Li
 
 -- some choice of the open reservations gives the form this value
 abbrev pub IsReached : List ℤ → List ℤ → List (List ℤ) → ℤ → Type 0
-IsReached coeffs amounts reservations z = (chosen : List (List ℤ)) × Contains (sublists reservations) chosen × (form coeffs (all_changed amounts chosen) ≡ z)
+IsReached coeffs amounts reservations z =
+    (chosen : List (List ℤ)) × Contains (sublists reservations) chosen × (form coeffs (all_changed amounts chosen) ≡ z)
 
 -- every choice gives the form a value from the least to the greatest, and some choice gives each of the two
 abbrev pub ExtremesAreReached : Type 0
 ExtremesAreReached = (coeffs amounts : List ℤ) (reservations : List (List ℤ))
-    → All (λ chosen. (least coeffs amounts reservations ≤ℤ form coeffs (all_changed amounts chosen)) × (form coeffs (all_changed amounts chosen) ≤ℤ greatest coeffs amounts reservations)) (sublists reservations)
+    → All (λ chosen. (least coeffs amounts reservations ≤ℤ form coeffs (all_changed amounts chosen))
+    × (form coeffs (all_changed amounts chosen) ≤ℤ greatest coeffs amounts reservations)) (sublists reservations)
     × IsReached coeffs amounts reservations (least coeffs amounts reservations)
     × IsReached coeffs amounts reservations (greatest coeffs amounts reservations)
 
@@ -119,15 +139,18 @@ GrantedWhereAlwaysMet = (check : Check) (amounts changes : List ℤ) (reservatio
 -- a new reservation is granted exactly if this holds for every check
 abbrev pub GrantedWhereAllAlwaysMet : Type 0
 GrantedWhereAllAlwaysMet = (checks : List Check) (amounts changes : List ℤ) (reservations : List (List ℤ))
-    → (broken checks amounts changes reservations ≡ None) ↔ All (λ check. AlwaysMeets check (changed amounts changes) reservations) checks
+    → (broken checks amounts changes reservations ≡ None)
+    ↔ All (λ check. AlwaysMeets check (changed amounts changes) reservations) checks
 
 -- a new reservation moves the least and the greatest by what it adds to the form. It breaks nothing of a check exactly
 -- if both are then within the limits
 abbrev pub BoundsDecide : Type 0
-BoundsDecide = (check : Check) (amounts changes : List ℤ) (reservations : List (List ℤ)) → IsCovered check.coeffs amounts
+BoundsDecide =
+    (check : Check) (amounts changes : List ℤ) (reservations : List (List ℤ)) → IsCovered check.coeffs amounts
     → let low = least check.coeffs amounts reservations +ℤ form check.coeffs changes in
     let high = greatest check.coeffs amounts reservations +ℤ form check.coeffs changes in
-    (least check.coeffs (changed amounts changes) reservations ≡ low) × (greatest check.coeffs (changed amounts changes) reservations ≡ high)
+    (least check.coeffs (changed amounts changes) reservations ≡ low)
+    × (greatest check.coeffs (changed amounts changes) reservations ≡ high)
     × ((broken_by check amounts changes reservations ≡ None) ↔ (Holds check.span low × Holds check.span high))
 
 -- if a row always meets a check, it still does after a grant
@@ -148,28 +171,33 @@ IsBeyond span High worst limit = (span.hi ≡ Some limit) × (limit <ℤ worst)
 abbrev pub RefusedNamesAChoice : Type 0
 RefusedNamesAChoice = (check : Check) (amounts changes : List ℤ) (reservations : List (List ℤ)) (violation : Violation)
     → broken_by check amounts changes reservations ≡ Some violation
-    → (violation.check ≡ check.name) × IsBeyond check.span violation.side violation.worst violation.limit × IsReached check.coeffs (changed amounts changes) reservations violation.worst
+    → (violation.check ≡ check.name) × IsBeyond check.span violation.side violation.worst violation.limit
+    × IsReached check.coeffs (changed amounts changes) reservations violation.worst
     × (violation.scale ≡ check.scale)
 
 -- ---- of the ends of reservations
 
 -- whichever of the open reservations are committed while the others stay open, the row always meets the check
 abbrev pub AnyChoiceCanCommit : Type 0 → Type 0
-AnyChoiceCanCommit R = (check : Check) (amounts : List ℤ) (changes_of : R → List ℤ) (ends : R → Bool) (reservations : List R)
+AnyChoiceCanCommit R =
+    (check : Check) (amounts : List ℤ) (changes_of : R → List ℤ) (ends : R → Bool) (reservations : List R)
     → IsCovered check.coeffs amounts
     → AlwaysMeets check amounts (map changes_of reservations)
-    → AlwaysMeets check (all_changed amounts (map changes_of (filter ends reservations))) (map changes_of (filter (λ r. not (ends r)) reservations))
+    → AlwaysMeets check (all_changed amounts (map changes_of (filter ends reservations)))
+    (map changes_of (filter (λ r. not (ends r)) reservations))
 
 -- whichever of the open reservations are dropped while the others stay open, the row always meets the check
 abbrev pub AnyChoiceCanRollBack : Type 0 → Type 0
-AnyChoiceCanRollBack R = (check : Check) (amounts : List ℤ) (changes_of : R → List ℤ) (stays : R → Bool) (reservations : List R)
+AnyChoiceCanRollBack R =
+    (check : Check) (amounts : List ℤ) (changes_of : R → List ℤ) (stays : R → Bool) (reservations : List R)
     → IsCovered check.coeffs amounts
     → AlwaysMeets check amounts (map changes_of reservations)
     → AlwaysMeets check amounts (map changes_of (filter stays reservations))
 
 -- changes don't change the number of amounts
 abbrev pub ChangesKeepTheNumber : Type 0
-ChangesKeepTheNumber = (amounts : List ℤ) (chosen : List (List ℤ)) → length (all_changed amounts chosen) ≡ length amounts
+ChangesKeepTheNumber =
+    (amounts : List ℤ) (chosen : List (List ℤ)) → length (all_changed amounts chosen) ≡ length amounts
 
 -- ---- of other rows
 
@@ -193,10 +221,13 @@ NewRowIsSafe = (check : Check) (amounts : List ℤ) (reservations : List (List �
 -- no sum exceeds 128 bits, at any scales. With at most 16,384 open reservations, the form of a row is wide, and so are
 -- what a new reservation adds to it and the extremes with it
 abbrev pub SumsAreWide : Type 0
-SumsAreWide = (coeffs amounts changes : List ℤ) (reservations : List (List ℤ)) → AreCoefficients coeffs → IsCovered coeffs amounts
-    → All IsAmount amounts → All IsAmount changes → All (λ listed. All IsAmount listed) reservations → length reservations ≤ MAX_OPEN
+SumsAreWide =
+    (coeffs amounts changes : List ℤ) (reservations : List (List ℤ)) → AreCoefficients coeffs → IsCovered coeffs amounts
+    → All IsAmount amounts → All IsAmount changes → All (λ listed. All IsAmount listed) reservations
+    → length reservations ≤ MAX_OPEN
     → IsWide (form coeffs amounts) × IsWide (form coeffs changes)
-    × IsWide (least coeffs (changed amounts changes) reservations) × IsWide (greatest coeffs (changed amounts changes) reservations)
+    × IsWide (least coeffs (changed amounts changes) reservations)
+    × IsWide (greatest coeffs (changed amounts changes) reservations)
 
 -- the limits of this layer, as numbers
 pub record Limits : Type 0 where

@@ -11,7 +11,8 @@ AreScales columns scales = (length scales ≡ length columns) × All IsScale sca
 abbrev pub form_scale : List ℤ → List ℕ → ℕ
 form_scale [] scales = 0
 form_scale (k ∷ coeffs) [] = 0
-form_scale (k ∷ coeffs) (s ∷ scales) = if int_eq k (pos 0) then form_scale coeffs scales else max s (form_scale coeffs scales)
+form_scale (k ∷ coeffs) (s ∷ scales) =
+    if int_eq k (pos 0) then form_scale coeffs scales else max s (form_scale coeffs scales)
 
 -- how many units of scale c are in one unit of scale s, if s is at most c; else 1
 unfoldable pub factor : ℕ → ℕ → ℕ

@@ -25,7 +25,8 @@ AreContributions coeffs reservations = AllByRecursion (λ changes. IsContributio
 -- 10^28
 abbrev pub IsSpread : List ℤ → List (List ℤ) → Spread → Type 0
 IsSpread coeffs reservations spread =
-    (spread.falls ≡ falls coeffs reservations) × (spread.rises ≡ rises coeffs reservations) × AreContributions coeffs reservations
+    (spread.falls ≡ falls coeffs reservations) × (spread.rises ≡ rises coeffs reservations)
+    × AreContributions coeffs reservations
 
 -- a reservation of another row, wherever it is among the others, leaves a row's spread as it is
 abbrev pub OtherRowsAddNothing : Type 0

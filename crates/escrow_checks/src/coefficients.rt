@@ -29,13 +29,16 @@ impl Model for Coefficients {
 
     ghost view = { λ c. take c.len c.values };
 
-    ghost invariant = { λ c. AreCoefficients (take c.len c.values) × (c.len ≤ MAX_LEN) × (c.values ≡ padded (take c.len c.values)) };
+    ghost invariant = { λ c. AreCoefficients (take c.len c.values) × (c.len ≤ MAX_LEN)
+        × (c.values ≡ padded (take c.len c.values)) };
 
     ghost inverse = { λ coeffs. record { values = padded coeffs; len = length coeffs } };
 
     ghost use Rattle.std.proofs.Common.{sym, ap₂};
 
-    ghost inverse_ok = { λ c h. ap₂ (λ (v : List ℤ) (l : ℕ). record { values = v; len = l }) (sym h.2) (length-held c.values c.len h.1 h.0.0 h.2) };
+    ghost inverse_ok = { λ c h.
+        ap₂ (λ (v : List ℤ) (l : ℕ). record { values = v; len = l }) (sym h.2)
+        (length-held c.values c.len h.1 h.0.0 h.2) };
 }
 
 impl Coefficients {

@@ -52,9 +52,11 @@ pub fn normalise(
 ) -> Result<Seq<Check>, CheckFault>
     requires few { length columns.now ≤ Coefficients.MAX_LEN }
     requires scales { length scales.now ≡ length columns.now }
-    ensures ok { IfOk result (λ checks. checks_of columns.now scales.now (map (λ text. text.now) texts.now) ≡ Some checks) }
+    ensures ok { IfOk result (λ checks.
+        checks_of columns.now scales.now (map (λ text. text.now) texts.now) ≡ Some checks) }
     ensures meaning { IfOk result (MeanTheSame columns.now scales.now (map (λ text. text.now) texts.now)) }
-    ensures definition { IsErrOf result CheckFault.Definition → checks_of columns.now scales.now (map (λ text. text.now) texts.now) ≡ None }
+    ensures definition { IsErrOf result CheckFault.Definition
+        → checks_of columns.now scales.now (map (λ text. text.now) texts.now) ≡ None }
     ensures broken { checks_of columns.now scales.now (map (λ text. text.now) texts.now) ≡ None → IsErr result }
 {
     normalise_behind(alloc, &[], texts, columns, scales)
@@ -74,9 +76,12 @@ pub fn normalise_behind(
     requires declared { length declared.now ≤ MAX_CHECKS }
     requires few { length columns.now ≤ Coefficients.MAX_LEN }
     requires scales { length scales.now ≡ length columns.now }
-    ensures ok { IfOk result (λ checks. checks_behind columns.now scales.now declared.now (map (λ text. text.now) texts.now) ≡ Some checks) }
-    ensures definition { IsErrOf result CheckFault.Definition → checks_behind columns.now scales.now declared.now (map (λ text. text.now) texts.now) ≡ None }
-    ensures broken { checks_behind columns.now scales.now declared.now (map (λ text. text.now) texts.now) ≡ None → IsErr result }
+    ensures ok { IfOk result (λ checks.
+        checks_behind columns.now scales.now declared.now (map (λ text. text.now) texts.now) ≡ Some checks) }
+    ensures definition { IsErrOf result CheckFault.Definition
+        → checks_behind columns.now scales.now declared.now (map (λ text. text.now) texts.now) ≡ None }
+    ensures broken { checks_behind columns.now scales.now declared.now (map (λ text. text.now) texts.now) ≡ None
+        → IsErr result }
 {
     let mut checks = copy_all(alloc, declared)?;
     for text in texts {
@@ -96,12 +101,14 @@ fn add_checks(
     requires scales { length scales.now ≡ length columns.now }
     requires before { length checks.old ≤ MAX_CHECKS }
     ensures ok { OnOk result ((others : Option (List Check))
-        → found checks.old (checks_of_conditions columns.now scales.now text.now.name 1 (length checks.old + 1) text.now.conditions) others
+        → found checks.old (checks_of_conditions columns.now scales.now text.now.name 1
+        (length checks.old + 1) text.now.conditions) others
         ≡ followed_by checks.new others) }
     ensures counted { OnOk result (length checks.new ≡ length checks.old + length text.now.conditions) }
     ensures within { OnOk result (length checks.new ≤ MAX_CHECKS) }
     ensures definition { IsErrOf result CheckFault.Definition → (others : Option (List Check))
-        → few (found checks.old (checks_of_conditions columns.now scales.now text.now.name 1 (length checks.old + 1) text.now.conditions) others)
+        → few (found checks.old (checks_of_conditions columns.now scales.now text.now.name 1
+        (length checks.old + 1) text.now.conditions) others)
         ≡ None }
 {
     for (k, condition) in text.conditions.as_slice().iter().enumerate() {
@@ -159,7 +166,8 @@ fn names_columns(columns: &[Name], condition: &Condition) -> bool
 
 /// Returns whether each column that a term names is one of these.
 fn are_columns(columns: &[Name], terms: &[Term]) -> bool
-    ensures { result ≡ list_all (λ term. list_all (λ name. list_any (λ column. bytes_eq column name) columns.now) (columns_in term)) terms.now }
+    ensures { result ≡ list_all
+        (λ term. list_all (λ name. list_any (λ column. bytes_eq column name) columns.now) (columns_in term)) terms.now }
 {
     terms.iter().all(|term| is_column(columns, term))
 }

@@ -26,7 +26,8 @@ impl<'a> Model for Sparse<'a> {
 
     ghost view = { λ s. s.amounts.now };
 
-    ghost invariant = { λ s. (s.count ≤ MAX_LEN) × (length s.columns ≡ MAX_LEN) × AreListed s.amounts.now (take s.count s.columns) };
+    ghost invariant = { λ s. (s.count ≤ MAX_LEN) × (length s.columns ≡ MAX_LEN)
+        × AreListed s.amounts.now (take s.count s.columns) };
 }
 
 impl<'a> Sparse<'a> {

@@ -46,7 +46,11 @@ new_ones added = take added.count (drop added.first added.table.checks)
 
 -- the table without the added checks
 abbrev pub table_without : AddedChecks → TableDef
-table_without added = record added.table { checks = take added.first added.table.checks ++ drop (added.first + added.count) added.table.checks }
+table_without added =
+    record added.table {
+      checks = take added.first added.table.checks
+          ++ drop (added.first + added.count) added.table.checks;
+    }
 
 -- a table with the checks that a CHECK adds to an old one, after the declared ones
 pub record Adds (old : TableDef) (text : CheckText) (added : AddedChecks) : Type 0 where
@@ -63,11 +67,13 @@ pub record AddedJudge : Type 0 where
 
 -- the amounts of the row of a name: those of its place, if it has one, or else those that were read
 abbrev pub amounts_by : AddedJudge → RowName → List ℤ → List ℤ
-amounts_by judge name amounts = unwrap_or (option_map (λ (place : Place). place.amounts) (place_at judge.addition name)) amounts
+amounts_by judge name amounts =
+    unwrap_or (option_map (λ (place : Place). place.amounts) (place_at judge.addition name)) amounts
 
 -- what the open reservations of a row, some of them or none, could break of the added checks
 abbrev pub violation_by : AddedJudge → RowName → List ℤ → Option Violation
-violation_by judge name amounts = broken (new_ones judge.added) (amounts_by judge name amounts) [] (of_row name judge.reservations)
+violation_by judge name amounts =
+    broken (new_ones judge.added) (amounts_by judge name amounts) [] (of_row name judge.reservations)
 
 -- the added checks are some of a table's, and an addition was prepared for the reserved rows of the table
 pub record CanJudge (added : AddedChecks) (reserved : Reserved) (addition : Bounds) : Type 0 where

@@ -14,7 +14,9 @@ pub record Database (S : Type 0) : Type 0 where
   pub state : State
 
 abbrev pub database_code : {S : Type 0} → Coded S → Coded (Database S)
-database_code {S} store = code_by (Held S × State) (coded× (held_code store) state_code) (λ d. (d.store, d.state)) (λ p. record { store = p.0; state = p.1 }) (λ _. refl)
+database_code {S} store =
+    code_by (Held S × State) (coded× (held_code store) state_code) (λ d. (d.store, d.state))
+    (λ p. record { store = p.0; state = p.1 }) (λ _. refl)
 
 -- what a database keeps: its state is always orderly, and valid if the disk has returned what was written
 pub record IsKept {S : Type 0} (g : Ghosts S) (d : Database S) : Type 0 where

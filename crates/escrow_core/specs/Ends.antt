@@ -19,7 +19,8 @@ use Rattle.escrow_core.specs.Serves.{AreAfterAtLeast, AreAfterEnds, done_of}
 -- each entry of a plan is a COMMIT, and no session is named twice
 abbrev pub AreCommits : List (ℕ × End) → Type 0
 AreCommits [] = Unit {0}
-AreCommits (entry ∷ plan) = (entry.1 ≡ end.Commit) × (list_any (λ later. later.0 == entry.0) plan ≡ false) × AreCommits plan
+AreCommits (entry ∷ plan) =
+    (entry.1 ≡ end.Commit) × (list_any (λ later. later.0 == entry.0) plan ≡ false) × AreCommits plan
 
 -- a group: each entry is a COMMIT, no session is named twice, and the first one holds a reservation
 pub record IsGroup (reservations : List Reservation) (plan : List (ℕ × End)) : Type 0 where
@@ -34,13 +35,18 @@ left_after (entry ∷ plan) reservations = left_after plan (others entry.0 reser
 -- A plan was settled, or stopped at a COMMIT that failed. A store that a fault has shut stays shut. After a crash the
 -- disk has what it might have had before, or what some first entries of the plan make, if the store was open. Once a
 -- reservation was committed, it has what at least the entries that were done make.
-pub record Settles {S : Type 0} (g : Ghosts S) (plan : List (ℕ × End)) (old : Database S) (result : Result Settled Stop) (new : Database S) : Type 0 where
+pub record Settles {S : Type 0} (g : Ghosts S) (plan : List (ℕ × End)) (old : Database S) (result : Result Settled Stop)
+    (new : Database S) : Type 0 where
   pub ok : HasCleanDisk (state g new.store) → OnOk result (new.state ≡ after_ends old.state plan)
   pub counts : IfOk result (λ done. AreCounts plan old.state.reservations done)
   pub left : OnOk result (new.state.reservations ≡ left_after plan old.state.reservations)
-  pub stays : HasCleanDisk (state g new.store) → OnOk result (IsTrue (state g old.store).is_open → IsTrue (state g new.store).is_open)
+  pub stays : HasCleanDisk (state g new.store)
+      → OnOk result (IsTrue (state g old.store).is_open → IsTrue (state g new.store).is_open)
   pub stop : HasCleanDisk (state g new.store) → IfErr result (λ stop. IsStop plan old.state stop new.state)
   pub within : IfErr result (λ stop. stop.place < length plan)
   pub usable : IsUsable (state g new.store) → IsUsable (state g old.store)
-  pub crash : Survives (state g old.store) (state g new.store) (λ trees. IsTrue (state g old.store).is_open × AreAfterEnds plan old.state trees)
-  pub durable : Lasts (state g old.store) (state g new.store) (committed_by (done_of plan result) old.state.reservations ≡ []) (AreAfterAtLeast (length (done_of plan result)) plan old.state)
+  pub crash : Survives (state g old.store) (state g new.store)
+      (λ trees. IsTrue (state g old.store).is_open × AreAfterEnds plan old.state trees)
+  pub durable : Lasts (state g old.store) (state g new.store)
+      (committed_by (done_of plan result) old.state.reservations ≡ [])
+      (AreAfterAtLeast (length (done_of plan result)) plan old.state)

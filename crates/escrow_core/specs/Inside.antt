@@ -32,8 +32,8 @@ pub record Keeps {S : Type 0} (g : Ghosts S) (d : Database S) (places : Bounds) 
   pub of_tables : AreOfTables d.state.catalog places
   pub amounts : HasCleanDisk (state g d.store) → HaveAmounts d.state.rows places
 
--- it also keeps the amounts of rows that were read or inserted, which are still theirs if the disk has returned what was
--- written
+-- it also keeps the amounts of rows that were read or inserted, which are still theirs if the disk has returned what
+-- was written
 pub record Holds {S : Type 0} (g : Ghosts S) (d : Database S) (places : Bounds) (recent : ReadRows) : Type 0 where
   pub keeps : Keeps g d places
   pub known : AreKnown d.state.catalog recent

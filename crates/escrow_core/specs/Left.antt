@@ -33,8 +33,8 @@ pub record AreAfterSome (s : State) (events : List Event) (given : List Reply) (
 abbrev pub TellNoWrite : List Reply → Type 0
 TellNoWrite replies = AllByRecursion (λ answer. tells_write answer ≡ false) replies
 
--- NO ANSWERED WRITE IS MISSING: the same, and the given replies are those that count, up to the last one that says that the
--- store was written
+-- NO ANSWERED WRITE IS MISSING: the same, and the given replies are those that count, up to the last one that says that
+-- the store was written
 pub record AreAfterAnswered (s : State) (events : List Event) (given : List Reply) (trees : Trees) : Type 0 where
   pub some : AreAfterSome s events given trees
   pub sure : List Reply

@@ -50,12 +50,17 @@ done_of plan (Err stop) = take stop.place plan
 -- nothing, whatever the disk did. A store that a fault has shut stays shut. After a crash the disk has what it might
 -- have had before, or what the step makes, if the store was open. After a reply that says that the store was written,
 -- it has the tables and rows of the new state.
-pub record Serves {S : Type 0} (g : Ghosts S) (session : ℕ) (asked : Statement) (old : Database S) (answer : Reply) (new : Database S) : Type 0 where
+pub record Serves {S : Type 0} (g : Ghosts S) (session : ℕ) (asked : Statement) (old : Database S) (answer : Reply)
+    (new : Database S) : Type 0 where
   pub event : HasCleanDisk (state g new.store) → StepOrRefusal old.state session asked answer new.state
-  pub early : (r : Refusal) → first_refusal (transition_of old.state session asked).early ≡ Some r → (answer ≡ reply.Refused r) × (new ≡ old)
-  pub apart : asks_store old.state session asked ≡ false → (new.store ≡ old.store) × ¬ (failure_of answer ≡ Some failure.Store)
+  pub early : (r : Refusal) → first_refusal (transition_of old.state session asked).early ≡ Some r
+      → (answer ≡ reply.Refused r) × (new ≡ old)
+  pub apart : asks_store old.state session asked ≡ false → (new.store ≡ old.store)
+      × ¬ (failure_of answer ≡ Some failure.Store)
   pub unread : reads_rows old.state session asked ≡ false → StepOrRefusal old.state session asked answer new.state
   pub refused : IsTrue (is_refused answer) → new.state ≡ old.state
   pub usable : IsUsable (state g new.store) → IsUsable (state g old.store)
-  pub survives : Survives (state g old.store) (state g new.store) (λ trees. IsTrue (state g old.store).is_open × AreAfter old.state session asked trees)
-  pub durable : IsTrue (tells_write answer) → HasCleanDisk (state g new.store) → (trees : Trees) → (state g new.store).may_leave trees → AreHeldOf new.state trees
+  pub survives : Survives (state g old.store) (state g new.store)
+      (λ trees. IsTrue (state g old.store).is_open × AreAfter old.state session asked trees)
+  pub durable : IsTrue (tells_write answer) → HasCleanDisk (state g new.store) → (trees : Trees)
+      → (state g new.store).may_leave trees → AreHeldOf new.state trees

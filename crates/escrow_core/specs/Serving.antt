@@ -50,9 +50,11 @@ abbrev pub Answers : {S : Type 0} → Ghosts S → ℕ → Statement → Databas
 Answers g session asked old result new = Serves g session asked old (answer_of result) new
 
 -- if the disk has returned what was written, and the machine refuses a statement, the result of a call is that refusal
-abbrev pub TellsRefusal : {S : Type 0} → Ghosts S → ℕ → Statement → Database S → Result Reply Refusal → Database S → Type 0
+abbrev pub TellsRefusal : {S : Type 0} → Ghosts S → ℕ → Statement → Database S → Result Reply Refusal → Database S
+    → Type 0
 TellsRefusal g session asked old result new =
-    HasCleanDisk (state g new.store) → (r : Refusal) → (step old.state session asked).0 ≡ reply.Refused r → result ≡ Err r
+    HasCleanDisk (state g new.store) → (r : Refusal) → (step old.state session asked).0 ≡ reply.Refused r
+    → result ≡ Err r
 
 -- a call fails exactly if a statement is refused early, with its first early refusal
 abbrev pub IsEarly : {T : Type 0} → State → ℕ → Statement → Result T Refusal → Type 0
@@ -60,7 +62,9 @@ IsEarly s session asked result = result_err result ≡ first_refusal (transition
 
 -- why the row that a text names isn't looked for: there is no such table, or its WHERE names no row
 abbrev pub row_refusal : State → RowText → Option Refusal
-row_refusal s text = first_refusal (refuse_if (is_none (table_named s.catalog text.table)) refusal.NoSuchTable ∷ key_refusal_of s text.table text.row ∷ [])
+row_refusal s text =
+    first_refusal (refuse_if (is_none (table_named s.catalog text.table)) refusal.NoSuchTable
+    ∷ key_refusal_of s text.table text.row ∷ [])
 
 -- a refusal is a failure
 abbrev pub IsFailure : Refusal → Type 0

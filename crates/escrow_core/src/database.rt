@@ -101,7 +101,8 @@ impl<S: Alter> Database<S> {
         requires { HasCleanDisk (state S.Store found.store) → IsOpened (state S.Store found.store) found.catalog }
         ensures store { IfOk result (λ d. d.store ≡ found.store) }
         ensures state { IfOk result (λ d. d.state ≡ opened (catalog_of found.catalog) d.state.rows) }
-        ensures rows { IfOk result (λ d. (rows : List Row) → Stores (state S.Store found.store) found.catalog rows → d.state.rows ≡ rows) }
+        ensures rows { IfOk result
+            (λ d. (rows : List Row) → Stores (state S.Store found.store) found.catalog rows → d.state.rows ≡ rows) }
         ensures refused { IfErr result (λ failed. (failed.0 ≡ found) × (failed.1 ≡ Refusal.Memory)) }
     {
         match Reserved::new(alloc) {
@@ -139,7 +140,8 @@ impl<S: Alter> Database<S> {
         ensures value { result ≡ id_left self.now.state.next_id }
         ensures kept { IsKept S.Store self.now }
         ensures valid { HasCleanDisk (state S.Store self.now.store) → IsValid self.now.state }
-        ensures left { IsUsable (state S.Store self.now.store) → (trees : Trees) → (state S.Store self.now.store).may_leave trees → AreHeldOf self.now.state trees }
+        ensures left { IsUsable (state S.Store self.now.store) → (trees : Trees)
+            → (state S.Store self.now.store).may_leave trees → AreHeldOf self.now.state trees }
     {
         prove!(self.tables.is_at_rest());
         self.reserved.txns().next_id()
@@ -181,13 +183,19 @@ impl<S: Alter> Database<S> {
     /// has at most 4 RESERVABLE columns, and the disk has returned what was written, a refusal of
     /// the machine comes before want of memory.
     pub fn step(&mut self, alloc: Global, session: Session, statement: &Statement) -> Reply
-        ensures event { HasCleanDisk (state S.Store self.new.store) → StepOrRefusal self.old.state session statement.now result self.new.state }
-        ensures succeeds { IsTrue (is_promised self.old.state session statement.now) → (self.new.store ≡ self.old.store) × IsStep self.old.state session statement.now result self.new.state }
-        ensures apart { asks_store self.old.state session statement.now ≡ false → (self.new.store ≡ self.old.store) × ¬ (failure_of result ≡ Some Store) }
-        ensures unread { reads_rows self.old.state session statement.now ≡ false → StepOrRefusal self.old.state session statement.now result self.new.state }
+        ensures event { HasCleanDisk (state S.Store self.new.store)
+            → StepOrRefusal self.old.state session statement.now result self.new.state }
+        ensures succeeds { IsTrue (is_promised self.old.state session statement.now) → (self.new.store ≡ self.old.store)
+            × IsStep self.old.state session statement.now result self.new.state }
+        ensures apart { asks_store self.old.state session statement.now ≡ false → (self.new.store ≡ self.old.store)
+            × ¬ (failure_of result ≡ Some Store) }
+        ensures unread { reads_rows self.old.state session statement.now ≡ false
+            → StepOrRefusal self.old.state session statement.now result self.new.state }
 
-        ensures against { HasCleanDisk (state S.Store self.new.store) → IsTrue (is_judged_first self.old.state statement.now)
-            → (r : Refusal) → (step self.old.state session statement.now).0 ≡ Reply.Refused r → result ≡ Reply.Refused r }
+        ensures against { HasCleanDisk (state S.Store self.new.store)
+            → IsTrue (is_judged_first self.old.state statement.now)
+            → (r : Refusal) → (step self.old.state session statement.now).0 ≡ Reply.Refused r
+            → result ≡ Reply.Refused r }
 
         // A refusal changes nothing, whatever the store is like.
         ensures refused { IsTrue (is_refused result) → self.new.state ≡ self.old.state }
@@ -197,8 +205,11 @@ impl<S: Alter> Database<S> {
         // rows of the new state. A store that a fault has shut stays shut, and is not written
         // again.
         ensures usable { IsUsable (state S.Store self.new.store) → IsUsable (state S.Store self.old.store) }
-        ensures crash { Survives (state S.Store self.old.store) (state S.Store self.new.store) (λ trees. IsTrue (state S.Store self.old.store).is_open × AreAfter self.old.state session statement.now trees) }
-        ensures durable { IsTrue (tells_write result) → HasCleanDisk (state S.Store self.new.store) → (trees : Trees) → (state S.Store self.new.store).may_leave trees → AreHeldOf self.new.state trees }
+        ensures crash { Survives (state S.Store self.old.store) (state S.Store self.new.store)
+            (λ trees. IsTrue (state S.Store self.old.store).is_open
+            × AreAfter self.old.state session statement.now trees) }
+        ensures durable { IsTrue (tells_write result) → HasCleanDisk (state S.Store self.new.store) → (trees : Trees)
+            → (state S.Store self.new.store).may_leave trees → AreHeldOf self.new.state trees }
     {
         match self.serve_statement(alloc, session, statement) {
             Ok(reply) => reply,
@@ -209,7 +220,8 @@ impl<S: Alter> Database<S> {
     /// Serves one statement of a session, by its kind. Returns the reply or the refusal.
     fn serve_statement(&mut self, alloc: Global, session: Session, statement: &Statement) -> Answer
         ensures answers { Answers S.Store session statement.now self.old result self.new }
-        ensures against { IsTrue (is_judged_first self.old.state statement.now) → TellsRefusal S.Store session statement.now self.old result self.new }
+        ensures against { IsTrue (is_judged_first self.old.state statement.now)
+            → TellsRefusal S.Store session statement.now self.old result self.new }
     {
         match statement {
             Statement::Create(text) => self.create(alloc, session, text),

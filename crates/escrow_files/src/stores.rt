@@ -154,7 +154,8 @@ pub trait OpenStore<S: Alter> {
 
     /// Opens the store of the database at a place, counted from 0.
     fn open(&self, alloc: Global, place: u8) -> Result<Opened<Connection<S>>, OpenFault>
-        ensures { IfOk result (λ o. IsUsable (state S.Store o.connection) → may_hold self.now place (state S.Store o.connection).now) };
+        ensures { IfOk result (λ o. IsUsable (state S.Store o.connection)
+            → may_hold self.now place (state S.Store o.connection).now) };
 
     /// Restores the files of a store that is refused to what they were before it was opened. They
     /// must still be open.

@@ -16,5 +16,6 @@ IsAdded old r new = (new.pass ≡ old.pass) × (new.requests.items ≡ old.reque
 -- each pass has a feed, with the requests of the items that name its place, in order
 pub record AreDealt (passes : List Pass) (items : List (ℕ × Request)) (feeds : List Feed) : Type 0 where
   pub count : length feeds ≡ length passes
-  pub each : (place : ℕ) (seat : Pass) (feed : Feed) → slice_get passes place ≡ Some seat → slice_get feeds place ≡ Some feed
+  pub each : (place : ℕ) (seat : Pass) (feed : Feed) → slice_get passes place ≡ Some seat
+      → slice_get feeds place ≡ Some feed
       → (feed.pass ≡ seat) × (feed.requests.items ≡ of place items)

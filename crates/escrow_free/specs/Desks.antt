@@ -59,7 +59,8 @@ pub record HavePasses {S : Type 0} (sharing : Shared S) (desks : List Desk) : Ty
 -- passes were served: each has a desk, whose answers are those to the requests of the items that name its place
 pub record ArePassesServed (passes : List Pass) (items : List (ℕ × Request)) (served : List Desk) : Type 0 where
   pub count : length served ≡ length passes
-  pub each : (place : ℕ) (seat : Pass) (desk : Desk) → slice_get passes place ≡ Some seat → slice_get served place ≡ Some desk
+  pub each : (place : ℕ) (seat : Pass) (desk : Desk) → slice_get passes place ≡ Some seat
+      → slice_get served place ≡ Some desk
       → Serves seat (of place items) (answers_of desk) desk.pass
 
 -- desks were served: if a desk had no answers left, its answers are those to the requests of the items that name it
@@ -71,7 +72,8 @@ pub record AreServed (old : List Desk) (items : List (ℕ × Request)) (new : Li
 -- the totals of a session count what it was given, as long as it has more receipts than were counted before
 abbrev pub IsCounted : Option Given → Pass → Tally → Tally → Type 0
 IsCounted (Some (given.Reply (answer.Served reply))) seat old new =
-    (replies : List Reply) → length replies < length seat.receipts → old ≡ tally_of replies → new ≡ tally_of (replies ++ reply ∷ [])
+    (replies : List Reply) → length replies < length seat.receipts → old ≡ tally_of replies
+    → new ≡ tally_of (replies ++ reply ∷ [])
 IsCounted _ seat old new = new ≡ old
 
 -- the pass of a session whose lines took these receipts

@@ -34,7 +34,9 @@ pub record Taken : Type 0 where
 -- what the lines of one session took, in order
 abbrev pub taken_by : ℕ → ℕ → List Taken → List Receipt
 taken_by place session [] = []
-taken_by place session (t ∷ taken) = if (t.place == place) && (t.session == session) then t.receipt ∷ taken_by place session taken else taken_by place session taken
+taken_by place session (t ∷ taken) =
+    if (t.place == place) && (t.session == session) then t.receipt ∷ taken_by place session taken
+    else taken_by place session taken
 
 -- the replies in these
 abbrev pub replies_by : ℕ → ℕ → List Taken → List Reply
@@ -50,11 +52,13 @@ refused place session cause = rendered (database_name place) session (reply.Refu
 abbrev pub TakesNext : List Taken → ℕ → ℕ → Statement → List ℕ → List Taken → Type 0
 TakesNext taken place session asked out new =
     (number : ℕ) × (answer : Reply) × (out ≡ rendered (database_name place) session answer)
-    × (new ≡ taken ++ (record { place = place; session = session; receipt = record { number = number; statement = asked; reply = answer } }) ∷ [])
+    × (new ≡ taken ++ (record
+    { place = place; session = session; receipt = record { number = number; statement = asked; reply = answer } }) ∷ [])
 
 -- a statement takes no entry, and prints that it wasn't served: 51, 52 or 60
 abbrev pub TakesNone : List Taken → ℕ → ℕ → List ℕ → List Taken → Type 0
-TakesNone taken place session out new = (cause : Refusal) × IsUnserved cause × (out ≡ refused place session cause) × (new ≡ taken)
+TakesNone taken place session out new =
+    (cause : Refusal) × IsUnserved cause × (out ≡ refused place session cause) × (new ≡ taken)
 
 -- SHOW STATISTICS takes no entry, and prints the totals of what its session took so far
 abbrev pub ShowsTotals : List Taken → ℕ → ℕ → List ℕ → List Taken → Type 0
@@ -63,7 +67,8 @@ ShowsTotals taken place session out new =
 
 -- what a request does
 abbrev pub Does : List Taken → ℕ → ℕ → Request → List ℕ → List Taken → Type 0
-Does taken place session (request.Statement asked) out new = TakesNext taken place session asked out new ⊎ TakesNone taken place session out new
+Does taken place session (request.Statement asked) out new =
+    TakesNext taken place session asked out new ⊎ TakesNone taken place session out new
 Does taken place session request.Statistics out new = ShowsTotals taken place session out new
 
 -- A text does what it asks. Or it asks nothing, and is refused with the column of its first fault. Or it is refused for
@@ -83,13 +88,15 @@ DoesLine taken (statement place session text) out new = DoesText taken place ses
 
 -- the bytes of a line, with this many databases
 abbrev pub DoesBytes : ℕ → List Taken → List ℕ → List ℕ → List Taken → Type 0
-DoesBytes databases taken bytes out new = (reading : Reading) × Reads databases MAX_SHARED bytes reading × DoesLine taken reading out new
+DoesBytes databases taken bytes out new =
+    (reading : Reading) × Reads databases MAX_SHARED bytes reading × DoesLine taken reading out new
 
 -- lines, one after another
 abbrev pub DoLines : ℕ → List Taken → List (List ℕ) → List ℕ → List Taken → Type 0
 DoLines databases taken [] out new = (out ≡ []) × (new ≡ taken)
 DoLines databases taken (line ∷ lines) out new =
-    (first rest : List ℕ) × (mid : List Taken) × DoesBytes databases taken line first mid × DoLines databases mid lines rest new × (out ≡ first ++ rest)
+    (first rest : List ℕ) × (mid : List Taken) × DoesBytes databases taken line first mid
+    × DoLines databases mid lines rest new × (out ≡ first ++ rest)
 
 -- THE OUTPUT OF A SCRIPT whose databases have these histories. Its lines wrote it one after another. At the end, the
 -- lines of each session have taken all its entries, each once, in their order.
@@ -100,7 +107,8 @@ pub record FreeOutput (script : List ℕ) (histories : List (List Entry)) (out :
       → taken_by place session taken ≡ receipts_of session entries
 
 -- the whole script was served: it is no longer than a script may be, and its output was written
-pub record ServesFree (script : List ℕ) (histories : List (List Entry)) (old_bytes new_bytes : Option (List ℕ)) : Type 0 where
+pub record ServesFree (script : List ℕ) (histories : List (List Entry))
+    (old_bytes new_bytes : Option (List ℕ)) : Type 0 where
   pub limit : length script ≤ MAX_SCRIPT
   pub out : List ℕ
   pub output : FreeOutput script histories out

@@ -19,12 +19,15 @@ histories parts closed = histories_from 0 parts closed
 
 -- The history of a database began as the database was handed in, and is whole. If the disk returned what was written,
 -- the history is one legal run of the machine, from the state that was handed in to the state that is handed back.
-pub record IsHistory {S : Type 0} (g : Ghosts S) (place : ℕ) (parts : List (Part S)) (database : Database S) (c : Closed S) : Type 0 where
+pub record IsHistory {S : Type 0} (g : Ghosts S) (place : ℕ) (parts : List (Part S)) (database : Database S)
+    (c : Closed S) : Type 0 where
   pub began : IsRead g database (database_at c.opening)
   pub whole : IsWhole g place parts c
 
 -- there is a history for each database, by place: each began as its database was handed in, and is whole
-pub record AreHistories {S : Type 0} (g : Ghosts S) (databases : List (Database S)) (parts : List (Part S)) (closed : List (Closed S)) : Type 0 where
+pub record AreHistories {S : Type 0} (g : Ghosts S) (databases : List (Database S)) (parts : List (Part S))
+    (closed : List (Closed S)) : Type 0 where
   pub count : length closed ≡ length databases
-  pub each : (place : ℕ) (database : Database S) (c : Closed S) → slice_get databases place ≡ Some database → slice_get closed place ≡ Some c
+  pub each : (place : ℕ) (database : Database S) (c : Closed S) → slice_get databases place ≡ Some database
+      → slice_get closed place ≡ Some c
       → IsHistory g place parts database c

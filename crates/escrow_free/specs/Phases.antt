@@ -29,7 +29,8 @@ IsOver (Some bytes) None = ⊥
 IsOver (Some bytes) (Some rest) = rest ≡ []
 
 -- a script was served: what its lines do was written, and the desks fit what they took
-pub record IsServed (databases : ℕ) (script : List ℕ) (desks : List Desk) (old_bytes new_bytes : Option (List ℕ)) : Type 0 where
+pub record IsServed (databases : ℕ) (script : List ℕ) (desks : List Desk)
+    (old_bytes new_bytes : Option (List ℕ)) : Type 0 where
   pub limit : length script ≤ MAX_SCRIPT
   pub out : List ℕ
   pub taken : List Taken

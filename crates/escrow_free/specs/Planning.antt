@@ -15,7 +15,8 @@ use Rattle.escrow_free.specs.declared.plan.Planned.TheVariants as planned
 -- that asks for totals; or a line that refuses the text
 abbrev pub PlansText : ℕ → ℕ → List ℕ → List Planned → List (ℕ × Request) → Type 0
 PlansText place session text lines items =
-    ((asked : Statement) × Asks text (request.Statement asked) × (lines ≡ planned.Asked place session ∷ []) × (items ≡ (desk_of place session, request.Statement asked) ∷ []))
+    ((asked : Statement) × Asks text (request.Statement asked) × (lines ≡ planned.Asked place session ∷ [])
+    × (items ≡ (desk_of place session, request.Statement asked) ∷ []))
     ⊎ (Asks text request.Statistics × (lines ≡ planned.Totals place session ∷ []) × (items ≡ []))
     ⊎ ((f : ParseFault) × IsFaultIn text f × (lines ≡ planned.Refused place session f ∷ []) × (items ≡ []))
 
@@ -29,10 +30,12 @@ PlansReading (statement place session text) lines items = PlansText place sessio
 
 -- what the bytes of a line add, with this many databases
 abbrev pub PlansBytes : ℕ → List ℕ → List Planned → List (ℕ × Request) → Type 0
-PlansBytes databases bytes lines items = (reading : Reading) × Reads databases MAX_SHARED bytes reading × PlansReading reading lines items
+PlansBytes databases bytes lines items =
+    (reading : Reading) × Reads databases MAX_SHARED bytes reading × PlansReading reading lines items
 
 -- what lines add, one after another
 abbrev pub Plans : ℕ → List (List ℕ) → List Planned → List (ℕ × Request) → Type 0
 Plans databases [] plan items = (plan ≡ []) × (items ≡ [])
 Plans databases (line ∷ lines) plan items =
-    (p ps : List Planned) × (i is : List (ℕ × Request)) × PlansBytes databases line p i × Plans databases lines ps is × (plan ≡ p ++ ps) × (items ≡ i ++ is)
+    (p ps : List Planned) × (i is : List (ℕ × Request)) × PlansBytes databases line p i × Plans databases lines ps is
+    × (plan ≡ p ++ ps) × (items ≡ i ++ is)

@@ -34,8 +34,10 @@ given_text name session None = rendered name session (reply.Refused refusal.Memo
 abbrev pub HasItsDesk : ℕ → Planned → Type 0
 HasItsDesk desks planned.NoLine = Unit {0}
 HasItsDesk desks (planned.Refused place session f) = place < MAX_DATABASES
-HasItsDesk desks (planned.Asked place session) = (place < MAX_DATABASES) × (session ≤ MAX_SHARED) × (desk_of place session < desks)
-HasItsDesk desks (planned.Totals place session) = (place < MAX_DATABASES) × (session ≤ MAX_SHARED) × (desk_of place session < desks)
+HasItsDesk desks (planned.Asked place session) =
+    (place < MAX_DATABASES) × (session ≤ MAX_SHARED) × (desk_of place session < desks)
+HasItsDesk desks (planned.Totals place session) =
+    (place < MAX_DATABASES) × (session ≤ MAX_SHARED) × (desk_of place session < desks)
 
 -- each line that asks has its statement, for its session's desk, in order
 abbrev pub Matches : List Planned → List (ℕ × Request) → Type 0
@@ -50,30 +52,37 @@ Matches (planned.Asked place session ∷ plan) (item ∷ items) =
 -- what planned lines print for these requests, and what they take
 abbrev pub Prints : List Taken → List Planned → List (ℕ × Request) → List ℕ → List Taken → Type 0
 Prints taken [] items out end = (out ≡ []) × (end ≡ taken)
-Prints taken (planned.NoLine ∷ plan) items out end = (rest : List ℕ) × Prints taken plan items rest end × (out ≡ no_line_text ++ rest)
+Prints taken (planned.NoLine ∷ plan) items out end =
+    (rest : List ℕ) × Prints taken plan items rest end × (out ≡ no_line_text ++ rest)
 Prints taken (planned.Refused place session f ∷ plan) items out end =
     (rest : List ℕ) × Prints taken plan items rest end × (out ≡ refused place session (fault_refusal f) ++ rest)
 Prints taken (planned.Totals place session ∷ plan) items out end =
-    (rest : List ℕ) × Prints taken plan items rest end × (out ≡ rendered_totals (database_name place) session (tally_of (replies_by place session taken)) ++ rest)
+    (rest : List ℕ) × Prints taken plan items rest end
+    × (out ≡ rendered_totals (database_name place) session (tally_of (replies_by place session taken)) ++ rest)
 Prints taken (planned.Asked place session ∷ plan) [] out end = ⊥
 Prints taken (planned.Asked place session ∷ plan) (item ∷ items) out end =
-    (first rest : List ℕ) × (mid : List Taken) × Does taken place session item.1 first mid × Prints mid plan items rest end × (out ≡ first ++ rest)
+    (first rest : List ℕ) × (mid : List Taken) × Does taken place session item.1 first mid
+    × Prints mid plan items rest end × (out ≡ first ++ rest)
 
 -- Some planned lines were printed. Some requests remain for the other lines, and some entries were taken. The desks fit
 -- these, and the totals count these. Whatever the other lines print follows what was printed.
-pub record GoesOn (taken : List Taken) (plan : List Planned) (items : List (ℕ × Request)) (out : List ℕ) (rest : List Planned) (desks : List Desk) (totals : List Tally) : Type 0 where
+pub record GoesOn (taken : List Taken) (plan : List Planned) (items : List (ℕ × Request)) (out : List ℕ)
+    (rest : List Planned) (desks : List Desk) (totals : List Tally) : Type 0 where
   pub left : List (ℕ × Request)
   pub took : List Taken
   pub matches : Matches rest left
   pub fits : Fits left took desks
   pub counts : AreTotals took totals
-  pub prints : (back : List ℕ) (end : List Taken) → Prints took rest left back end → Prints taken plan items (out ++ back) end
+  pub prints : (back : List ℕ) (end : List Taken) → Prints took rest left back end
+      → Prints taken plan items (out ++ back) end
 
 -- this holds whatever was asked and taken, as long as it fits the desks, and the totals count it
 abbrev pub PrintsTo : List Planned → List Desk → List Tally → List ℕ → List Planned → List Desk → List Tally → Type 0
 PrintsTo plan old counted out rest new totals =
-    (items : List (ℕ × Request)) (taken : List Taken) → Matches plan items → Fits items taken old → AreTotals taken counted → GoesOn taken plan items out rest new totals
+    (items : List (ℕ × Request)) (taken : List Taken) → Matches plan items → Fits items taken old
+    → AreTotals taken counted → GoesOn taken plan items out rest new totals
 
 -- some of what is to be written was written, and the rest is left
 abbrev pub PassesOn : Option (List ℕ) → Option (List ℕ) → List ℕ → List ℕ → Type 0
-PassesOn old_bytes new_bytes all left = (written : List ℕ) × Appends old_bytes new_bytes written × (all ≡ written ++ left)
+PassesOn old_bytes new_bytes all left =
+    (written : List ℕ) × Appends old_bytes new_bytes written × (all ≡ written ++ left)

@@ -49,7 +49,8 @@ pub(crate) fn run_phase<
 ) -> Result<Vec<Desk>, FreeFault>
     requires seats { AllByRecursion (HasDesk shared.now) desks.items }
     requires places { All (λ x. x.0 < length desks.items) items.items }
-    ensures { MatchResult result (λ new. AreServed desks.items items.items new.items) (λ fault. fault ≢ FreeFault.Open) }
+    ensures { MatchResult result (λ new. AreServed desks.items items.items new.items)
+        (λ fault. fault ≢ FreeFault.Open) }
 {
     audience.begin(items.len());
     let served = serve_requests(workers, alloc, shared, desks, items);
@@ -72,7 +73,8 @@ fn serve_requests<
 ) -> Result<Vec<Desk>, FreeFault>
     requires seats { AllByRecursion (HasDesk shared.now) desks.items }
     requires places { All (λ x. x.0 < length desks.items) items.items }
-    ensures { MatchResult result (λ new. AreServed desks.items items.items new.items) (λ fault. fault ≢ FreeFault.Open) }
+    ensures { MatchResult result (λ new. AreServed desks.items items.items new.items)
+        (λ fault. fault ≢ FreeFault.Open) }
 {
     if items.is_empty() {
         return Ok(desks);
@@ -95,7 +97,8 @@ fn serve_passes<S: Alter + Send, L: UnderLock<S> + Send, R: Threads + Wait + Syn
 ) -> Result<Vec<Desk>, FreeFault>
     requires seats { AllByRecursion (HasPass shared.now) passes.items }
     requires places { All (λ x. x.0 < length passes.items) items.items }
-    ensures { MatchResult result (λ served. ArePassesServed passes.items items.items served.items) (λ fault. fault ≢ FreeFault.Open) }
+    ensures { MatchResult result (λ served. ArePassesServed passes.items items.items served.items)
+        (λ fault. fault ≢ FreeFault.Open) }
 {
     let feeds = deal(alloc, passes, items)?;
     match run_sessions(workers.rt, alloc, shared, feeds, workers.gate) {

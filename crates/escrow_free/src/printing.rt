@@ -52,7 +52,8 @@ fn pass_on<W: Write>(
     replies: &mut Vec<u8>,
     reply: Vec<u8>,
 ) -> Result<(), ServeFault>
-    ensures { OnOk result (PassesOn (W.contents writer.old) (W.contents writer.new) (replies.old.items ++ reply.items) replies.new.items) }
+    ensures { OnOk result (PassesOn (W.contents writer.old) (W.contents writer.new)
+        (replies.old.items ++ reply.items) replies.new.items) }
 {
     let Ok(()) = gather(replies, reply) else {
         return Err(out_of_memory(writer, replies));
@@ -72,7 +73,9 @@ fn print_line(
 ) -> Result<Vec<u8>, AllocError>
     requires desk { HasItsDesk (vec_len desks.old) line }
     requires beside { vec_len totals.old ≡ vec_len desks.old }
-    ensures printed { IfOk result (λ out. (plan : List Planned) → PrintsTo (line ∷ plan) desks.old.items totals.old.items out.items plan desks.new.items totals.new.items) }
+    ensures printed { IfOk result
+        (λ out. (plan : List Planned)
+        → PrintsTo (line ∷ plan) desks.old.items totals.old.items out.items plan desks.new.items totals.new.items) }
     ensures count { vec_len desks.new ≡ vec_len desks.old }
     ensures beside { vec_len totals.new ≡ vec_len desks.new }
 {

@@ -25,10 +25,13 @@ pub(crate) fn read_phase<R: Read>(
 ) -> Result<Phase, ServeFault>
     requires few { databases ≤ MAX_DATABASES }
     requires ended { script.old.has_ended ≡ true → HasEnded script.old.unread (R.remaining reader.old) }
-    ensures read { IfOk result (λ phase. IsRead databases (left script.old.unread (R.remaining reader.old)) (left script.new.unread (R.remaining reader.new)) phase.plan) }
+    ensures read { IfOk result
+        (λ phase. IsRead databases (left script.old.unread (R.remaining reader.old))
+        (left script.new.unread (R.remaining reader.new)) phase.plan) }
     ensures less { IfOk result (λ phase. phase.has_more ≡ true →
         script.new.bytes_left + length script.new.unread < script.old.bytes_left + length script.old.unread) }
-    ensures spent { OnOk result (Spends (R.remaining reader.old) (R.remaining reader.new) script.old.bytes_left script.new.bytes_left) }
+    ensures spent { OnOk result
+        (Spends (R.remaining reader.old) (R.remaining reader.new) script.old.bytes_left script.new.bytes_left) }
     ensures ended { OnOk result (script.new.has_ended ≡ true → HasEnded script.new.unread (R.remaining reader.new)) }
     ensures over { IfOk result (λ phase. phase.has_more ≡ false →
         IsOver (left script.old.unread (R.remaining reader.old)) (left script.new.unread (R.remaining reader.new))) }

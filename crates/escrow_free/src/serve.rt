@@ -74,7 +74,8 @@ pub fn serve_free<
     // The output is what the script's lines write according to the histories. All of the script was
     // read.
     ensures output { IfOk result (λ audit. IfSome (R.remaining reader.old) (λ script.
-        ServesFree script (histories audit.parts.items audit.closed.items) (W.contents writer.old) (W.contents writer.new))) }
+        ServesFree script (histories audit.parts.items audit.closed.items) (W.contents writer.old)
+        (W.contents writer.new))) }
     ensures end { OnOk result (IfSome (R.remaining reader.old) (λ script. IsAtEnd (R.remaining reader.new))) }
 
     // The fault says that a transaction is open exactly if one is.
@@ -114,7 +115,8 @@ pub fn serve_free_watched<
     requires few { vec_len databases ≤ MAX_DATABASES }
     ensures legal { IfOk result (λ audit. AreHistories S.Store databases.items audit.parts.items audit.closed.items) }
     ensures output { IfOk result (λ audit. IfSome (R.remaining reader.old) (λ script.
-        ServesFree script (histories audit.parts.items audit.closed.items) (W.contents writer.old) (W.contents writer.new))) }
+        ServesFree script (histories audit.parts.items audit.closed.items) (W.contents writer.old)
+        (W.contents writer.new))) }
     ensures end { OnOk result (IfSome (R.remaining reader.old) (λ script. IsAtEnd (R.remaining reader.new))) }
     ensures open { IsErrOf result FreeFault.Open ↔ (any_open databases.items ≡ true) }
 {
@@ -146,10 +148,12 @@ fn serve_stage<
     requires passes { stage.passes.items ≡ new_passes (length stage.shared.openings) MAX_SHARED }
 
     // This holds for whichever databases were read when the sharing began.
-    ensures legal { IfOk result (λ audit. (databases : List (Database S)) → AreRead S.Store databases (map database_at stage.shared.openings)
+    ensures legal { IfOk result
+        (λ audit. (databases : List (Database S)) → AreRead S.Store databases (map database_at stage.shared.openings)
         → AreHistories S.Store databases audit.parts.items audit.closed.items) }
     ensures output { IfOk result (λ audit. IfSome (R.remaining reader.old) (λ script.
-        ServesFree script (histories audit.parts.items audit.closed.items) (W.contents writer.old) (W.contents writer.new))) }
+        ServesFree script (histories audit.parts.items audit.closed.items) (W.contents writer.old)
+        (W.contents writer.new))) }
     ensures end { OnOk result (IfSome (R.remaining reader.old) (λ script. IsAtEnd (R.remaining reader.new))) }
     ensures shared { IfErr result (λ fault. fault ≢ FreeFault.Open) }
 {

@@ -25,8 +25,10 @@ pub record Audited (S : Type 0) : Type 0 where
 abbrev pub audited_code : {S : Type 0} → Coded S → Coded (Audited S)
 audited_code {S} store =
     code_by (Held S × (State × (Base × (List Entry × ℕ))))
-    (coded× (held_code store) (coded× state_code (coded× base_row.the_row.coded (coded× (coded_list entry_row.the_row.coded) coded_ℕ))))
-    (λ h. (h.store, (h.state, (h.base, (h.entries, h.room))))) (λ p. record { store = p.0; state = p.1.0; base = p.1.1.0; entries = p.1.1.1.0; room = p.1.1.1.1 }) (λ _. refl)
+    (coded× (held_code store)
+    (coded× state_code (coded× base_row.the_row.coded (coded× (coded_list entry_row.the_row.coded) coded_ℕ))))
+    (λ h. (h.store, (h.state, (h.base, (h.entries, h.room)))))
+    (λ p. record { store = p.0; state = p.1.0; base = p.1.1.0; entries = p.1.1.1.0; room = p.1.1.1.1 }) (λ _. refl)
 
 -- What always holds of it. If the disk returned what was written, the transcript is legal from its base to the state.
 -- It has at most 65,536 entries, and a number is left for each of this many.

@@ -26,13 +26,15 @@ pub record IsAnswer (answer : Reply) : Type 0 where
 
 -- A statement of a session was served. If the disk returned what was written, this was a step of the machine. The
 -- statement is the one new entry, with the next number. The reply is an answer, whatever the disk did.
-pub record Appends {S : Type 0} (g : Ghosts S) (old : Audited S) (session : ℕ) (asked : Statement) (number : ℕ) (answer : Reply) (new : Audited S) : Type 0 where
+pub record Appends {S : Type 0} (g : Ghosts S) (old : Audited S) (session : ℕ) (asked : Statement) (number : ℕ)
+    (answer : Reply) (new : Audited S) : Type 0 where
   pub step : HasCleanDisk (state g new.store) → IsStep old.state session asked answer new.state
   pub succeeds : failure_of answer ≡ None
   pub answers : IsAnswer answer
   pub number_is : number ≡ old.base.before + length old.entries + 1
   pub base : new.base ≡ old.base
-  pub entries : new.entries ≡ old.entries ++ (record { number = number; session = session; statement = asked; reply = answer }) ∷ []
+  pub entries : new.entries ≡ old.entries
+      ++ (record { number = number; session = session; statement = asked; reply = answer }) ∷ []
 
 -- Nothing changed: neither the base and the entries, nor, if the disk returned what was written, the state.
 pub record Stays {S : Type 0} (g : Ghosts S) (old new : Audited S) : Type 0 where

@@ -16,7 +16,8 @@ use Rattle.escrow_history.specs.Audited.{Audited}
 
 -- the entry of a COMMIT that was served
 abbrev pub commit_of : ℕ → Committed → Entry
-commit_of session c = record { number = c.number; session = session; statement = statement.Commit; reply = reply.Committed c.count }
+commit_of session c =
+    record { number = c.number; session = session; statement = statement.Commit; reply = reply.Committed c.count }
 
 -- the entries of COMMITs, in the order of their sessions: one for each that was served, and none for one that wasn't
 abbrev pub commits_of : List ℕ → List (Result Committed Failure) → List Entry
@@ -31,8 +32,10 @@ commits_of [] outcomes = []
 abbrev pub AreOutcomes : State → List ℕ → List (Result Committed Failure) → State → Type 0
 AreOutcomes s [] [] new = new ≡ s
 AreOutcomes s (session ∷ sessions) (Ok c ∷ outcomes) new =
-    (mid : State) × IsStep s session statement.Commit (reply.Committed c.count) mid × AreOutcomes mid sessions outcomes new
-AreOutcomes s (session ∷ sessions) (Err f ∷ outcomes) new = (holds s session ≡ true) × AreOutcomes s sessions outcomes new
+    (mid : State) × IsStep s session statement.Commit (reply.Committed c.count) mid
+    × AreOutcomes mid sessions outcomes new
+AreOutcomes s (session ∷ sessions) (Err f ∷ outcomes) new =
+    (holds s session ≡ true) × AreOutcomes s sessions outcomes new
 AreOutcomes s (session ∷ sessions) [] new = ⊥
 AreOutcomes s [] (outcome ∷ outcomes) new = ⊥
 
@@ -46,7 +49,8 @@ NameTheirs [] outcomes = Unit {0}
 -- Sessions asked for COMMITs, one after another, and each has its outcome. If the disk returned what was written, only
 -- sessions that held a reservation have a failure, and those that were served are steps of the machine, from the state
 -- before to the state after. They are the new entries, with the next numbers, and name their sessions.
-pub record Commits {S : Type 0} (g : Ghosts S) (old : Audited S) (sessions : List ℕ) (outcomes : List (Result Committed Failure)) (new : Audited S) : Type 0 where
+pub record Commits {S : Type 0} (g : Ghosts S) (old : Audited S) (sessions : List ℕ)
+    (outcomes : List (Result Committed Failure)) (new : Audited S) : Type 0 where
   pub each : length outcomes ≡ length sessions
   pub steps : HasCleanDisk (state g new.store) → AreSteps old.state (commits_of sessions outcomes) new.state
   pub told : HasCleanDisk (state g new.store) → AreOutcomes old.state sessions outcomes new.state

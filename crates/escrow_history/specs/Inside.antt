@@ -18,11 +18,13 @@ room_of entries = min (vec_capacity entries) MAX_ENTRIES - vec_len entries
 
 -- the history of a database, a base and entries
 abbrev pub audited_of : {S Z : Type 0} → Database S → Base → Vec Entry Z → Audited S
-audited_of d base entries = record { store = d.store; state = d.state; base = base; entries = entries.items; room = room_of entries }
+audited_of d base entries =
+    record { store = d.store; state = d.state; base = base; entries = entries.items; room = room_of entries }
 
 -- why a reply is no answer: it reports a failure, or only a transcript gives it, which counts as the store's failure
 abbrev pub IsNoAnswer : Reply → Failure → Type 0
-IsNoAnswer answer f = (failure_of answer ≡ Some f) ⊎ ((answer ≡ reply.Refused refusal.TranscriptFull) × (f ≡ failure.Store))
+IsNoAnswer answer f =
+    (failure_of answer ≡ Some f) ⊎ ((answer ≡ reply.Refused refusal.TranscriptFull) × (f ≡ failure.Store))
 
 -- why a reply isn't kept: it is no answer, or a copy of it takes memory, which is refused
 abbrev pub IsNotKept : Reply → Failure → Type 0

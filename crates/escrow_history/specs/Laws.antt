@@ -9,4 +9,6 @@ use Rattle.escrow_history.specs.Calls.{IsAnswer}
 
 -- no entry of a legal transcript has the reply 51, 52 or 60
 abbrev pub EntriesAreAnswers : Type 0
-EntriesAreAnswers = (base : Base) (entries : List Entry) (end : State) → IsLegal base entries end → AllByRecursion (λ e. IsAnswer e.reply) entries
+EntriesAreAnswers =
+    (base : Base) (entries : List Entry) (end : State) → IsLegal base entries end
+    → AllByRecursion (λ e. IsAnswer e.reply) entries

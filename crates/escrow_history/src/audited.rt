@@ -74,7 +74,8 @@ impl<S: Alter> Audited<S> {
         ensures state { IfOk result (λ a. a.state ≡ database.state) }
         ensures begins { IfOk result (λ a. (a.entries ≡ []) × (a.base.before ≡ 0)) }
         ensures base { IfOk result (λ a. HasCleanDisk (state S.Store a.store) → a.state ≡ started a.base.image) }
-        ensures clean { IfOk result (λ a. HasCleanDisk (state S.Store a.store) → HasCleanDisk (state S.Store database.store)) }
+        ensures clean { IfOk result
+            (λ a. HasCleanDisk (state S.Store a.store) → HasCleanDisk (state S.Store database.store)) }
         ensures closed { OnOk result (has_open database.state ≡ false) }
         ensures back { IfErr result (λ f. f.0.state ≡ database.state) }
         ensures open { IfErr result (λ f. (f.1 ≡ Refusal.TransactionOpen) ↔ (has_open database.state ≡ true)) }
@@ -207,10 +208,13 @@ impl<S: Alter> Audited<S> {
         ensures full { IsErrOf result Unserved.Full ↔ (length self.old.entries ≡ MAX_ENTRIES) }
 
         // The store refuses only what asks it.
-        ensures apart { IsApart self.old.state session statement.now → ¬ (IsErrOf result (Unserved.Failed Failure.Store)) }
-        ensures cause { HasCleanDisk (state S.Store self.new.store) → IsErrOf result (Unserved.Failed Failure.Store) → IsTrue (may_fail self.old.state session statement.now Failure.Store) }
+        ensures apart { IsApart self.old.state session statement.now
+            → ¬ (IsErrOf result (Unserved.Failed Failure.Store)) }
+        ensures cause { HasCleanDisk (state S.Store self.new.store) → IsErrOf result (Unserved.Failed Failure.Store)
+            → IsTrue (may_fail self.old.state session statement.now Failure.Store) }
         ensures promised { 0 < self.old.room → NeedsAnEntry self.old.state session statement.now → IsOk result }
-        ensures room { MatchResult result (λ _. self.old.room ≤ self.new.room + 1) (λ _. self.old.room ≤ self.new.room) }
+        ensures room { MatchResult result (λ _. self.old.room ≤ self.new.room + 1)
+            (λ _. self.old.room ≤ self.new.room) }
         ensures clean { HasCleanDisk (state S.Store self.new.store) → HasCleanDisk (state S.Store self.old.store) }
     {
         if self.entries.len() == Transcript::MAX_ENTRIES {
@@ -261,7 +265,9 @@ impl<S: Alter> Audited<S> {
         ensures unserved { OnErr result (Stays S.Store self.old self.new) }
         ensures full { IsErrOf result Unserved.Full ↔ (MAX_ENTRIES < length self.old.entries + length sessions.now) }
         ensures apart { ¬ (IsErrOf result (Unserved.Failed Failure.Store)) }
-        ensures room { MatchResult result (λ outcomes. self.old.room ≤ self.new.room + length (commits_of sessions.now outcomes.items)) (λ _. self.old.room ≤ self.new.room) }
+        ensures room { MatchResult result
+            (λ outcomes. self.old.room ≤ self.new.room + length (commits_of sessions.now outcomes.items))
+            (λ _. self.old.room ≤ self.new.room) }
         ensures clean { HasCleanDisk (state S.Store self.new.store) → HasCleanDisk (state S.Store self.old.store) }
     {
         if Transcript::MAX_ENTRIES - self.entries.len() < sessions.len() {
@@ -292,14 +298,17 @@ impl<S: Alter> Audited<S> {
     pub fn drain(&mut self, alloc: Global) -> Result<(Transcript, Base), Refusal>
         ensures whole { IfOk result (λ r. (r.0.base ≡ self.old.base) × (r.0.entries ≡ self.old.entries)) }
         ensures end { IfOk result (λ r. r.1.before ≡ self.old.base.before + length self.old.entries) }
-        ensures legal { IfOk result (λ r. HasCleanDisk (state S.Store self.new.store) → IsLegal r.0.base r.0.entries (started r.1.image)) }
+        ensures legal { IfOk result
+            (λ r. HasCleanDisk (state S.Store self.new.store) → IsLegal r.0.base r.0.entries (started r.1.image)) }
         ensures begun { IfOk result (λ r. (self.new.base ≡ r.1) × (self.new.entries ≡ [])) }
         ensures state { self.new.state ≡ self.old.state }
-        ensures stands { IfOk result (λ r. HasCleanDisk (state S.Store self.new.store) → self.new.state ≡ started r.1.image) }
+        ensures stands { IfOk result
+            (λ r. HasCleanDisk (state S.Store self.new.store) → self.new.state ≡ started r.1.image) }
         ensures refused { OnErr result (Stays S.Store self.old self.new) }
         ensures open { IsErrOf result Refusal.TransactionOpen ↔ (has_open self.old.state ≡ true) }
         ensures only { IfErr result IsNotDrained }
-        ensures full { IsErrOf result Refusal.TranscriptFull → MAX_NUMBER < self.old.base.before + length self.old.entries + MAX_ENTRIES }
+        ensures full { IsErrOf result Refusal.TranscriptFull
+            → MAX_NUMBER < self.old.base.before + length self.old.entries + MAX_ENTRIES }
         ensures clean { HasCleanDisk (state S.Store self.new.store) → HasCleanDisk (state S.Store self.old.store) }
     {
         if self.database.has_open() {
@@ -377,7 +386,8 @@ fn two_copies(alloc: Global, reply: &Reply) -> Result<(Reply, Reply), AllocError
 pub(crate) fn keep(entries: &mut Vec<Entry>, entry: Entry)
     requires { vec_len entries.old < vec_capacity entries.old }
     ensures items { entries.new.items ≡ entries.old.items ++ entry ∷ [] }
-    ensures room { (vec_len entries.new ≡ vec_len entries.old + 1) × (vec_capacity entries.new ≡ vec_capacity entries.old) }
+    ensures room { (vec_len entries.new ≡ vec_len entries.old + 1)
+        × (vec_capacity entries.new ≡ vec_capacity entries.old) }
 {
     entries.push_reserved(entry);
 }

@@ -9,7 +9,8 @@ journal_of j = record { session = j.session; reservations = j.reservations.items
 
 -- a journal with only its first savepoints and its first reservations
 abbrev pub first_of : ℕ → ℕ → Journal → Journal
-first_of savepoints reservations log = record log { reservations = take reservations log.reservations; savepoints = take savepoints log.savepoints }
+first_of savepoints reservations log =
+    record log { reservations = take reservations log.reservations; savepoints = take savepoints log.savepoints }
 
 -- how many savepoints and reservations remain when a journal goes back to the savepoint of a name, if there is one: the
 -- first ones; the other reservations are those after it

@@ -45,7 +45,9 @@ pushed r log = record log { reservations = log.reservations ++ r ∷ [] }
 -- the journal with a savepoint of a name at the end, in place of an earlier one of that name
 abbrev pub marked : List ℕ → ℕ → Journal → Journal
 marked name id log = record log {
-  savepoints = without_savepoint log.session name log.savepoints ++ (record { session = log.session; name = name; id = id }) ∷ [];
+  savepoints =
+      without_savepoint log.session name log.savepoints
+      ++ (record { session = log.session; name = name; id = id }) ∷ [];
 }
 
 -- the reservations after the savepoint of a name, if there is one
@@ -54,7 +56,8 @@ later name log = option_map (λ p. after p log.reservations) (savepoint_of log.s
 
 -- the journal without the reservations after a savepoint, and without the savepoints after it
 abbrev pub cut_at : Journal → Savepoint → Journal
-cut_at log p = record log { reservations = not_after p log.reservations; savepoints = through log.session p.name log.savepoints }
+cut_at log p =
+    record log { reservations = not_after p log.reservations; savepoints = through log.session p.name log.savepoints }
 
 -- the journal, gone back to the savepoint of a name if there is one
 abbrev pub cut_journal : List ℕ → Journal → Journal

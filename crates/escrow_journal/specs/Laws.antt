@@ -32,31 +32,38 @@ GoingBackAtOnceDropsNothing = (log : Journal) (name : List ℕ) (id : ℕ) → C
 -- going back drops exactly the reservations that were added after the savepoint was made, and leaves the journal as it
 -- was then
 abbrev pub GoingBackUndoesWhatCame : Type 0
-GoingBackUndoesWhatCame = (log : Journal) (name : List ℕ) (id : ℕ) (more : List Reservation) → CameBefore id log → CameSince id log more
-    → (later name (all_pushed more (marked name id log)) ≡ Some more) × (cut_journal name (all_pushed more (marked name id log)) ≡ marked name id log)
+GoingBackUndoesWhatCame =
+    (log : Journal) (name : List ℕ) (id : ℕ) (more : List Reservation) → CameBefore id log → CameSince id log more
+    → (later name (all_pushed more (marked name id log)) ≡ Some more)
+    × (cut_journal name (all_pushed more (marked name id log)) ≡ marked name id log)
 
 -- going back drops a savepoint of another name that was made later
 abbrev pub GoingBackDropsLaterSavepoints : Type 0
-GoingBackDropsLaterSavepoints = (log : Journal) (name other : List ℕ) (id later_id : ℕ) (more : List Reservation) → CameBefore id log → CameSince id log more
+GoingBackDropsLaterSavepoints =
+    (log : Journal) (name other : List ℕ) (id later_id : ℕ) (more : List Reservation) → CameBefore id log
+    → CameSince id log more
     → (other ≢ name) → savepoint_of log.session other log.savepoints ≡ None
     → cut_journal name (marked other later_id (all_pushed more (marked name id log))) ≡ marked name id log
 
 -- after going back to a savepoint, the savepoint still exists, and nothing comes after it
 abbrev pub GoingBackAgainDropsNothing : Type 0
-GoingBackAgainDropsNothing = (log : Journal) (name : List ℕ) (dropped : List Reservation) → later name log ≡ Some dropped
+GoingBackAgainDropsNothing =
+    (log : Journal) (name : List ℕ) (dropped : List Reservation) → later name log ≡ Some dropped
     → later name (cut_journal name log) ≡ Some []
 
 -- the reservations that going back leaves and those that it drops are together those of the journal, each once and in
 -- order
 abbrev pub NothingIsLost : Type 0
-NothingIsLost = (log : Journal) (name : List ℕ) (dropped : List Reservation) → IsJournal log → later name log ≡ Some dropped
+NothingIsLost =
+    (log : Journal) (name : List ℕ) (dropped : List Reservation) → IsJournal log → later name log ≡ Some dropped
     → (cut_journal name log).reservations ++ dropped ≡ log.reservations
 
 -- of two savepoints of one name only the second exists, and nothing shows that there was a first
 abbrev pub TheLastOfANameStands : Type 0
 TheLastOfANameStands = (log : Journal) (name : List ℕ) (first second : ℕ)
     → (marked name second (marked name first log) ≡ marked name second log)
-    × (savepoints_named name (marked name second log) ≡ (record { session = log.session; name = name; id = second }) ∷ [])
+    × (savepoints_named name (marked name second log) ≡ (record { session = log.session; name = name; id = second })
+    ∷ [])
 
 -- a savepoint whose name already exists takes no further place
 abbrev pub ANameTakesOnePlace : Type 0

@@ -25,7 +25,8 @@ nothing_open = record { reservations = []; savepoints = []; next_id = 1 }
 
 -- whether a session's transaction is open: it holds a reservation or a savepoint
 abbrev pub is_open : ℕ → Open → Bool
-is_open session o = nat_lt 0 (length (own session o.reservations)) || nat_lt 0 (length (own_savepoints session o.savepoints))
+is_open session o =
+    nat_lt 0 (length (own session o.reservations)) || nat_lt 0 (length (own_savepoints session o.savepoints))
 
 -- whether anything is open: a reservation or a savepoint of any session
 abbrev pub has_open : Open → Bool
@@ -51,13 +52,17 @@ open_after_grant session row changes o = record o {
 
 -- why a session can't get a savepoint of a name: it has as many of other names as it may
 abbrev pub savepoint_refusal : ℕ → List ℕ → Open → Option Refusal
-savepoint_refusal session name o = refuse_if (nat_le MAX_SAVEPOINTS (length (own_savepoints session (without_savepoint session name o.savepoints)))) refusal.TooManySavepoints
+savepoint_refusal session name o =
+    refuse_if (nat_le MAX_SAVEPOINTS (length (own_savepoints session (without_savepoint session name o.savepoints))))
+    refusal.TooManySavepoints
 
 -- a savepoint of a session, the last of its own, in place of an earlier one of that name; it has the id that the next
 -- reservation takes
 abbrev pub open_after_savepoint : ℕ → List ℕ → Open → Open
 open_after_savepoint session name o = record o {
-  savepoints = put_savepoint (record { session = session; name = name; id = o.next_id }) (without_savepoint session name o.savepoints);
+  savepoints =
+      put_savepoint (record { session = session; name = name; id = o.next_id })
+      (without_savepoint session name o.savepoints);
 }
 
 -- how many reservations came after the session's savepoint of a name, if there is one
@@ -66,12 +71,15 @@ released session name o = option_map (λ p. length (after p o.reservations)) (sa
 
 -- without the reservations after a savepoint, and without the savepoints that its session made after it
 abbrev pub returned_to : Open → Savepoint → Open
-returned_to o p = record o { reservations = not_after p o.reservations; savepoints = through p.session p.name o.savepoints }
+returned_to o p =
+    record o { reservations = not_after p o.reservations; savepoints = through p.session p.name o.savepoints }
 
 -- the session has gone back to its savepoint of a name, if there is one
 abbrev pub open_after_rollback_to : ℕ → List ℕ → Open → Open
-open_after_rollback_to session name o = unwrap_or (option_map (returned_to o) (savepoint_of session name o.savepoints)) o
+open_after_rollback_to session name o =
+    unwrap_or (option_map (returned_to o) (savepoint_of session name o.savepoints)) o
 
 -- the session's transaction has ended: none of its reservations and savepoints are left
 abbrev pub open_after_end : ℕ → Open → Open
-open_after_end session o = record o { reservations = others session o.reservations; savepoints = other_savepoints session o.savepoints }
+open_after_end session o =
+    record o { reservations = others session o.reservations; savepoints = other_savepoints session o.savepoints }

@@ -25,4 +25,5 @@ reservation_before a b = nat_lt a.id b.id
 
 -- savepoints are in order of session; in a session their ids never fall, and no two have the same name
 abbrev pub savepoint_before : Savepoint → Savepoint → Bool
-savepoint_before a b = nat_lt a.session b.session || ((a.session == b.session) && nat_le a.id b.id && not (bytes_eq a.name b.name))
+savepoint_before a b =
+    nat_lt a.session b.session || ((a.session == b.session) && nat_le a.id b.id && not (bytes_eq a.name b.name))

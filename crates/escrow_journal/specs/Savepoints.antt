@@ -24,7 +24,8 @@ put_savepoint p (q ∷ rest) = if nat_lt p.session q.session then p ∷ q ∷ re
 -- the savepoints without those that the session made after the one of this name, which stays
 abbrev pub through : ℕ → List ℕ → List Savepoint → List Savepoint
 through session name [] = []
-through session name (p ∷ rest) = if is_named session name p then p ∷ other_savepoints session rest else p ∷ through session name rest
+through session name (p ∷ rest) =
+    if is_named session name p then p ∷ other_savepoints session rest else p ∷ through session name rest
 
 -- whether a reservation came after a savepoint: it is of the same session, and its id isn't below the next id when the
 -- savepoint was made

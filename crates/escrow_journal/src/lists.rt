@@ -52,7 +52,8 @@ pub(crate) fn make_room(
     name: Name,
 ) -> Result<(), AllocError>
     ensures room { OnOk result (HasRoomFor savepoints.new 1) }
-    ensures without { OnOk result (savepoints.new.items ≡ filter (λ p. not (bytes_eq p.name name)) savepoints.old.items) }
+    ensures without { OnOk result
+        (savepoints.new.items ≡ filter (λ p. not (bytes_eq p.name name)) savepoints.old.items) }
     ensures unchanged { OnErr result (savepoints.new.items ≡ savepoints.old.items) }
     ensures again { IsSome (find (λ p. bytes_eq p.name name) savepoints.old.items) → IsOk result }
 {

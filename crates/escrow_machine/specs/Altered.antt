@@ -31,19 +31,23 @@ table_with_check s name text = option_and_then (λ table. with_check table text)
 abbrev pub new_checks : TableDef → CheckText → Option (List Check)
 new_checks table text =
     let columns = reservables table.columns in
-    checks_of_conditions (names_of columns) (scales_of columns) text.name 1 (length (declared_checks table) + 1) text.conditions
+    checks_of_conditions (names_of columns) (scales_of columns) text.name 1
+    (length (declared_checks table) + 1) text.conditions
 
 -- what rows break of checks, over every choice of the open reservations, including the empty one. The first row, in
 -- their order, that breaks a check decides, and the first check that it breaks
 abbrev pub rows_violation : List Check → List Reservation → List Row → Option Violation
 rows_violation checks reservations [] = None
 rows_violation checks reservations (row ∷ rows) =
-    first_of_two (broken checks row.amounts [] (map (changes_to row) reservations)) (rows_violation checks reservations rows)
+    first_of_two (broken checks row.amounts [] (map (changes_to row) reservations))
+    (rows_violation checks reservations rows)
 
 -- what the rows of a table, in order of key, break of the checks that a CHECK adds to it
 abbrev pub added_violation : State → List ℕ → CheckText → Option Violation
 added_violation s name text =
-    option_and_then (λ table. option_and_then (λ checks. rows_violation checks s.reservations (rows_of s.rows name)) (new_checks table text)) (table_named s.catalog name)
+    option_and_then (λ table.
+    option_and_then (λ checks. rows_violation checks s.reservations (rows_of s.rows name)) (new_checks table text))
+    (table_named s.catalog name)
 
 -- DROP CONSTRAINT
 
@@ -54,7 +58,8 @@ table_without_check s name check = option_and_then (λ table. without_check tabl
 -- why a change can't drop a constraint: the table has no declared check of its name
 abbrev pub drop_refusal_of : State → List ℕ → TableChange → Option Refusal
 drop_refusal_of s name (change.Add text) = None
-drop_refusal_of s name (change.Drop check) = refuse_if (is_none (table_without_check s name check)) refusal.NoSuchConstraint
+drop_refusal_of s name (change.Drop check) =
+    refuse_if (is_none (table_without_check s name check)) refusal.NoSuchConstraint
 
 -- BOTH
 
@@ -65,4 +70,5 @@ table_altered s name (change.Drop check) = table_without_check s name check
 
 -- the state with an altered table, if there is one, in place of the one of its name
 abbrev pub after_alter : State → Option TableDef → State
-after_alter s altered = record s { catalog = unwrap_or (option_map (λ table. with_altered table s.catalog) altered) s.catalog }
+after_alter s altered =
+    record s { catalog = unwrap_or (option_map (λ table. with_altered table s.catalog) altered) s.catalog }

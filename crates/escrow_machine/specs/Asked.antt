@@ -39,7 +39,8 @@ new_row s text = option_and_then (λ table. inserted_row table text) (table_name
 -- what a new row breaks of its table's checks, judged with no open reservation and no change
 abbrev pub insert_violation : State → InsertText → Option Violation
 insert_violation s text =
-    option_and_then (λ table. option_and_then (λ row. broken table.checks row.amounts [] []) (new_row s text)) (table_named s.catalog text.table)
+    option_and_then (λ table. option_and_then (λ row. broken table.checks row.amounts [] []) (new_row s text))
+    (table_named s.catalog text.table)
 
 -- UPDATE
 
@@ -80,7 +81,9 @@ reserves_beside s text = unwrap_or (option_map (is_beside s text.table) (plan_of
 -- what a reservation breaks of its table's checks, over every choice of the open ones that contains it
 abbrev pub violation_of : State → Reservation → Option Violation
 violation_of s r =
-    option_and_then (λ table. option_and_then (λ row. broken table.checks row.amounts (deltas r.changes) (map (changes_to row) s.reservations))
+    option_and_then (λ table.
+    option_and_then (λ row. broken table.checks row.amounts (deltas r.changes)
+    (map (changes_to row) s.reservations))
     (row_named s.rows r.row)) (table_named s.catalog r.row.table)
 
 -- WHERE
@@ -117,9 +120,13 @@ heading_of column = record { name = column.name; scale = scale_of column.kind }
 -- the rows are in order of key
 abbrev pub select_reply : State → SelectText → Reply
 select_reply s text =
-    unwrap_or (option_map (λ table. reply.Rows (map heading_of table.columns) (map (values_of table) (filter (is_shown s.catalog text.table text.row) s.rows))) (table_named s.catalog text.table))
+    unwrap_or (option_map (λ table.
+    reply.Rows (map heading_of table.columns)
+    (map (values_of table) (filter (is_shown s.catalog text.table text.row) s.rows)))
+    (table_named s.catalog text.table))
     (reply.Rows [] [])
 
 -- what a SHOW TABLE shows: the text that defines the table
 abbrev pub show_reply : State → List ℕ → Reply
-show_reply s name = unwrap_or (option_map (λ table. reply.Table (canonical table)) (table_named s.catalog name)) (reply.Table [])
+show_reply s name =
+    unwrap_or (option_map (λ table. reply.Table (canonical table)) (table_named s.catalog name)) (reply.Table [])

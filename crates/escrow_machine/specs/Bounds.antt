@@ -48,7 +48,8 @@ check_bounds amounts reservations check = record {
 abbrev pub bounds_over : List (List ℤ) → TableDef → List ℤ → Reply
 bounds_over reservations table amounts =
     let columns = reservables table.columns in
-    reply.Bounds (map (column_bounds (names_of columns) amounts reservations) columns) (map (check_bounds amounts reservations) (declared_checks table))
+    reply.Bounds (map (column_bounds (names_of columns) amounts reservations) columns)
+    (map (check_bounds amounts reservations) (declared_checks table))
 
 -- what SHOW BOUNDS shows of the row of a name, with these amounts, over every choice of the open reservations of all
 -- sessions
@@ -58,5 +59,7 @@ bounds_in open_ones table name amounts = bounds_over (map (changes_at name) open
 -- what a SHOW BOUNDS shows of the row that it names
 abbrev pub bounds_reply : State → RowText → Reply
 bounds_reply s text =
-    unwrap_or (option_and_then (λ table. option_map (λ row. bounds_in s.reservations table row.name row.amounts) (row_named s.rows (named_by s.catalog text.table text.row))) (table_named s.catalog text.table))
+    unwrap_or (option_and_then
+    (λ table. option_map (λ row. bounds_in s.reservations table row.name row.amounts)
+    (row_named s.rows (named_by s.catalog text.table text.row))) (table_named s.catalog text.table))
     (reply.Bounds [] [])

@@ -65,7 +65,8 @@ abbrev pub IsHeldRun : State → List Waiting → State → Type 0
 IsHeldRun s [] now = now ≡ s
 IsHeldRun s (w ∷ earlier) now =
     (mid : State) × IsHeldRun s earlier mid × AllByRecursion (λ session. ¬ (session ≡ w.session)) (holding earlier)
-    × MatchBool w.is_held (IsHeldBack w.session w.asked w.answer mid now) (IsServedBeside w.session w.asked w.answer mid now)
+    × MatchBool w.is_held (IsHeldBack w.session w.asked w.answer mid now)
+    (IsServedBeside w.session w.asked w.answer mid now)
 
 -- how each session's COMMIT ended: it was done, or it failed
 abbrev pub Outcome : Type 0
@@ -86,7 +87,8 @@ is_done outcome w = w.is_held && is_none (outcome w.session)
 
 -- the reply to a statement that waited
 abbrev pub answer_by : Outcome → Waiting → Reply
-answer_by outcome w = unwrap_or (option_map (λ failure. reply.Refused (refusal_for failure)) (failure_by outcome w)) w.answer
+answer_by outcome w =
+    unwrap_or (option_map (λ failure. reply.Refused (refusal_for failure)) (failure_by outcome w)) w.answer
 
 -- the replies, in order
 abbrev pub answers_by : Outcome → List Waiting → List Reply
@@ -97,4 +99,5 @@ answers_by outcome (w ∷ earlier) = answers_by outcome earlier ++ answer_by out
 abbrev pub ended_by : Outcome → List Waiting → State → State
 ended_by outcome [] now = now
 ended_by outcome (w ∷ earlier) now =
-    if is_done outcome w then (step (ended_by outcome earlier now) w.session statement.Commit).1 else ended_by outcome earlier now
+    if is_done outcome w then (step (ended_by outcome earlier now) w.session statement.Commit).1
+    else ended_by outcome earlier now

@@ -61,7 +61,8 @@ use Rattle.escrow_machine.specs.Valid.{IsValid}
 
 -- whatever a session asks, the machine leads from a valid state to a valid one
 abbrev pub StepKeepsValid : Type 0
-StepKeepsValid = (s : State) (session : ℕ) (asked : Statement) → IsValid s → IsSession session → IsValid (step s session asked).1
+StepKeepsValid =
+    (s : State) (session : ℕ) (asked : Statement) → IsValid s → IsSession session → IsValid (step s session asked).1
 
 -- from a valid state, any events of sessions, some of which may fail, lead to a valid state
 abbrev pub RunKeepsValid : Type 0
@@ -74,7 +75,8 @@ CommittedRowsMeetChecks = (s : State) → IsValid s → AllByRecursion (MeetsChe
 
 -- each value of a row fits the type of its column
 abbrev pub HasFittingValues : List TableDef → Row → Type 0
-HasFittingValues catalog row = IsSomeAnd (table_named catalog row.name.table) (λ table. FitColumns table.columns (values_of table row))
+HasFittingValues catalog row =
+    IsSomeAnd (table_named catalog row.name.table) (λ table. FitColumns table.columns (values_of table row))
 
 -- each value of each committed row of a valid state fits the type of its column
 abbrev pub CommittedValuesFit : Type 0
@@ -83,7 +85,8 @@ CommittedValuesFit = (s : State) → IsValid s → AllByRecursion (HasFittingVal
 -- after any events of sessions, from the empty state, each committed row meets each check of its table
 abbrev pub EveryRunIsSafe : Type 0
 EveryRunIsSafe = (events : List Event) (answers : List Reply) (new : State)
-    → AllByRecursion HasSession events → IsRun empty events answers new → AllByRecursion (MeetsChecks new.catalog) new.rows
+    → AllByRecursion HasSession events → IsRun empty events answers new
+    → AllByRecursion (MeetsChecks new.catalog) new.rows
 
 -- REFUSALS AND FAILURES
 
@@ -104,7 +107,9 @@ EarlyRefusalsStand = (s : State) (session : ℕ) (asked : Statement) (answer : R
 
 -- the reply to COMMIT is the number of the session's reservations, in every state
 abbrev pub CommitIsNeverRefused : Type 0
-CommitIsNeverRefused = (s : State) (session : ℕ) → (step s session statement.Commit).0 ≡ reply.Committed (length (own session s.reservations))
+CommitIsNeverRefused =
+    (s : State) (session : ℕ)
+    → (step s session statement.Commit).0 ≡ reply.Committed (length (own session s.reservations))
 
 -- WHAT A STATEMENT CHANGES
 
@@ -119,12 +124,14 @@ IsQuery _ = ⊥
 pub record ShowsJust (s : State) (tables : List TableDef) (committed : List Row) : Type 0 where
   pub catalog : s.catalog ≡ tables
   pub rows : s.rows ≡ committed
-  pub answers : (asker : ℕ) (query : Statement) → IsQuery query → (step s asker query).0 ≡ (step (opened tables committed) asker query).0
+  pub answers : (asker : ℕ) (query : Statement) → IsQuery query
+      → (step s asker query).0 ≡ (step (opened tables committed) asker query).0
 
 -- what a state shows after an UPDATE, by its plan: the plain values that it replaces; what it reserves shows nowhere
 abbrev pub ShowsPlanned : State → List ℕ → Plan → State → Type 0
 ShowsPlanned s table (plan.Reserve key changes) new = ShowsJust new s.catalog s.rows
-ShowsPlanned s table (plan.Plain key values) new = ShowsJust new s.catalog (with_plain (row_name table key) values s.rows)
+ShowsPlanned s table (plan.Plain key values) new =
+    ShowsJust new s.catalog (with_plain (row_name table key) values s.rows)
 
 -- what a state shows after a statement that is accepted: after a CREATE TABLE, one table more; after a DROP TABLE,
 -- neither the table nor its rows; after an ALTER TABLE, the altered table; after an INSERT, the row among the others;
@@ -132,15 +139,22 @@ ShowsPlanned s table (plan.Plain key values) new = ShowsJust new s.catalog (with
 -- else, as a ROLLBACK, what it showed before. ROLLBACK leaves open only the reservations of the other sessions, so no
 -- COMMIT adds what it dropped
 abbrev pub ShowsAfter : State → ℕ → Statement → State → Type 0
-ShowsAfter s session (statement.Create text) new = (table : TableDef) × (definition_of text ≡ Some table) × ShowsJust new (with_table table s.catalog) s.rows
-ShowsAfter s session (statement.Drop name) new = ShowsJust new (without_table name s.catalog) (without_rows_of name s.rows)
+ShowsAfter s session (statement.Create text) new =
+    (table : TableDef) × (definition_of text ≡ Some table) × ShowsJust new (with_table table s.catalog) s.rows
+ShowsAfter s session (statement.Drop name) new =
+    ShowsJust new (without_table name s.catalog) (without_rows_of name s.rows)
 ShowsAfter s session (statement.Alter text) new =
-    (table : TableDef) × (table_altered s text.table text.change ≡ Some table) × ShowsJust new (with_altered table s.catalog) s.rows
-ShowsAfter s session (statement.Insert text) new = (row : Row) × (new_row s text ≡ Some row) × ShowsJust new s.catalog (with_row row s.rows)
-ShowsAfter s session (statement.Update text) new = (asked : Plan) × (plan_of s text ≡ Some asked) × ShowsPlanned s text.table asked new
-ShowsAfter s session (statement.Delete text) new = ShowsJust new s.catalog (without_row (named_by s.catalog text.table text.row) s.rows)
+    (table : TableDef) × (table_altered s text.table text.change ≡ Some table)
+    × ShowsJust new (with_altered table s.catalog) s.rows
+ShowsAfter s session (statement.Insert text) new =
+    (row : Row) × (new_row s text ≡ Some row) × ShowsJust new s.catalog (with_row row s.rows)
+ShowsAfter s session (statement.Update text) new =
+    (asked : Plan) × (plan_of s text ≡ Some asked) × ShowsPlanned s text.table asked new
+ShowsAfter s session (statement.Delete text) new =
+    ShowsJust new s.catalog (without_row (named_by s.catalog text.table text.row) s.rows)
 ShowsAfter s session statement.Commit new = ShowsJust new s.catalog (applied s.rows (own session s.reservations))
-ShowsAfter s session statement.Rollback new = ShowsJust new s.catalog s.rows × (new.reservations ≡ others session s.reservations)
+ShowsAfter s session statement.Rollback new =
+    ShowsJust new s.catalog s.rows × (new.reservations ≡ others session s.reservations)
 ShowsAfter s session asked new = ShowsJust new s.catalog s.rows
 
 -- every statement of every session is answered from what is committed, and a refused one leaves it as it is
@@ -150,7 +164,8 @@ pub record SeesCommitsAlone (s : State) (session : ℕ) (asked : Statement) (ans
   pub accepted : is_refused answer ≡ false → ShowsAfter s session asked new
 
 abbrev pub QueriesSeeCommitsAlone : Type 0
-QueriesSeeCommitsAlone = (s : State) (session : ℕ) (asked : Statement) → let after = step s session asked in SeesCommitsAlone s session asked after.0 after.1
+QueriesSeeCommitsAlone = (s : State) (session : ℕ) (asked : Statement) → let after =
+    step s session asked in SeesCommitsAlone s session asked after.0 after.1
 
 -- no step lowers the next id
 abbrev pub IdsNeverFall : Type 0
@@ -170,9 +185,11 @@ IdsAreUsedOnce = (s : State) (events : List Event) (answers : List Reply) (new :
 -- ids show the order. Those of the open reservations rise in their order, from 1 on, and are below the next id. Of two
 -- savepoints of a session, the earlier one has another name, and no greater id. No savepoint's id is above the next one
 pub record AreIdsInOrder (s : State) : Type 0 where
-  pub rise : (i k : ℕ) (a b : Reservation) → i < k → slice_get s.reservations i ≡ Some a → slice_get s.reservations k ≡ Some b → a.id < b.id
+  pub rise : (i k : ℕ) (a b : Reservation) → i < k → slice_get s.reservations i ≡ Some a
+      → slice_get s.reservations k ≡ Some b → a.id < b.id
   pub taken : (i : ℕ) (r : Reservation) → slice_get s.reservations i ≡ Some r → (1 ≤ r.id) × (r.id < s.next_id)
-  pub never_fall : (session i k : ℕ) (p q : Savepoint) → i < k → slice_get (own_savepoints session s.savepoints) i ≡ Some p
+  pub never_fall : (session i k : ℕ) (p q : Savepoint) → i < k
+      → slice_get (own_savepoints session s.savepoints) i ≡ Some p
       → slice_get (own_savepoints session s.savepoints) k ≡ Some q → (p.id ≤ q.id) × (¬ (p.name ≡ q.name))
   pub made : (i : ℕ) (p : Savepoint) → slice_get s.savepoints i ≡ Some p → (1 ≤ p.id) × (p.id ≤ s.next_id)
 
@@ -183,7 +200,9 @@ IdsTellTheOrder = (s : State) → IsValid s → AreIdsInOrder s
 -- after a step from a valid state, the row of each open reservation exists, and so does its table
 abbrev pub ReservationsKeepRows : Type 0
 ReservationsKeepRows = (s : State) (session : ℕ) (asked : Statement) → IsValid s → IsSession session
-    → let new = (step s session asked).1 in AllByRecursion (λ r. IsSome (row_named new.rows r.row) × IsSome (table_named new.catalog r.row.table)) new.reservations
+    → let new =
+    (step s session asked).1 in AllByRecursion
+    (λ r. IsSome (row_named new.rows r.row) × IsSome (table_named new.catalog r.row.table)) new.reservations
 
 -- WHAT A QUERY SHOWS
 
@@ -211,11 +230,13 @@ MakesNone session name event.Restart = Unit {0}
 -- back to them. If the savepoint still exists and wasn't made again, going back to it leaves the session's reservations
 -- as they were when it was made. The reservations of the others, and all else but savepoints, stay as they are.
 abbrev pub BackLeavesWhatWas : Type 0
-BackLeavesWhatWas = (s : State) (session : ℕ) (name : List ℕ) (events : List Event) (answers : List Reply) (later : State)
+BackLeavesWhatWas =
+    (s : State) (session : ℕ) (name : List ℕ) (events : List Event) (answers : List Reply) (later : State)
     → IsValid s → IsSession session → AllByRecursion HasSession events → AllByRecursion (MakesNone session name) events
     → let made = step s session (statement.Savepoint name) in made.0 ≡ reply.Savepoint name
     → IsRun made.1 events answers later → IsSome (savepoint_of session name later.savepoints)
-    → let back = (step later session (statement.RollbackTo name)).1 in (own session back.reservations ≡ own session s.reservations)
+    → let back =
+    (step later session (statement.RollbackTo name)).1 in (own session back.reservations ≡ own session s.reservations)
     × (others session back.reservations ≡ others session later.reservations)
     × (back ≡ record later { reservations = back.reservations; savepoints = back.savepoints })
 
@@ -228,42 +249,52 @@ BackRefusesNothing = (s : State) (session other : ℕ) (name : List ℕ) (text :
 -- two numbers are the bounds of a row's value. Whichever of the open reservations are applied, the value is from the
 -- one to the other, and some choice gives it each of the two
 pub record AreBounds (reservations : List Reservation) (row : Row) (value : List ℤ → ℤ) (low high : ℤ) : Type 0 where
-  pub each : AllByRecursion (λ chosen. (low ≤ℤ value (row_after chosen row).amounts) × (value (row_after chosen row).amounts ≤ℤ high)) (sublists reservations)
-  pub reaches_low : (chosen : List Reservation) × Contains (sublists reservations) chosen × (value (row_after chosen row).amounts ≡ low)
-  pub reaches_high : (chosen : List Reservation) × Contains (sublists reservations) chosen × (value (row_after chosen row).amounts ≡ high)
+  pub each : AllByRecursion
+      (λ chosen. (low ≤ℤ value (row_after chosen row).amounts) × (value (row_after chosen row).amounts ≤ℤ high))
+      (sublists reservations)
+  pub reaches_low : (chosen : List Reservation) × Contains (sublists reservations) chosen
+      × (value (row_after chosen row).amounts ≡ low)
+  pub reaches_high : (chosen : List Reservation) × Contains (sublists reservations) chosen
+      × (value (row_after chosen row).amounts ≡ high)
 
 -- a column's line, among the RESERVABLE columns of these names: its scale, its committed amount, and the
 -- bounds of its amount
 abbrev pub IsColumnLine : List Reservation → Row → List (List ℕ) → Column → ColumnBounds → Type 0
 IsColumnLine reservations row names column shown =
-    (shown.column ≡ column.name) × (shown.scale ≡ scale_of column.kind) × (shown.value ≡ amount_of names row.amounts column.name)
+    (shown.column ≡ column.name) × (shown.scale ≡ scale_of column.kind)
+    × (shown.value ≡ amount_of names row.amounts column.name)
     × AreBounds reservations row (λ amounts. amount_of names amounts column.name) shown.inf shown.sup
 
 -- a check's line: its scale, its limits, and the bounds of its form, which are within them
 abbrev pub IsCheckLine : List Reservation → Row → Check → CheckBounds → Type 0
 IsCheckLine reservations row check shown =
-    (shown.check ≡ check.name) × (shown.scale ≡ check.scale) × (shown.limits ≡ check.span) × AreBounds reservations row (form check.coeffs) shown.least shown.greatest
+    (shown.check ≡ check.name) × (shown.scale ≡ check.scale) × (shown.limits ≡ check.span)
+    × AreBounds reservations row (form check.coeffs) shown.least shown.greatest
     × Holds check.span shown.least × Holds check.span shown.greatest
 
 -- SHOW BOUNDS shows a line for each RESERVABLE column and each declared check of the row that it names
-pub record IsShownBounds (s : State) (text : RowText) (columns : List ColumnBounds) (checks : List CheckBounds) : Type 0 where
+pub record IsShownBounds (s : State) (text : RowText) (columns : List ColumnBounds)
+    (checks : List CheckBounds) : Type 0 where
   pub table : TableDef
   pub named : table_named s.catalog text.table ≡ Some table
   pub row : Row
   pub found : row_named s.rows (named_by s.catalog text.table text.row) ≡ Some row
-  pub column_lines : AllZip (IsColumnLine s.reservations row (names_of (reservables table.columns))) (reservables table.columns) columns
+  pub column_lines : AllZip (IsColumnLine s.reservations row (names_of (reservables table.columns)))
+      (reservables table.columns) columns
   pub check_lines : AllZip (IsCheckLine s.reservations row) (declared_checks table) checks
 
 -- in a valid state SHOW BOUNDS shows this
 abbrev pub BoundsAreReached : Type 0
-BoundsAreReached = (s : State) (session : ℕ) (text : RowText) (columns : List ColumnBounds) (checks : List CheckBounds) → IsValid s
+BoundsAreReached =
+    (s : State) (session : ℕ) (text : RowText) (columns : List ColumnBounds) (checks : List CheckBounds) → IsValid s
     → (step s session (statement.ShowBounds text)).0 ≡ reply.Bounds columns checks → IsShownBounds s text columns checks
 
 -- ENDS OF TRANSACTIONS
 
 -- the ends of two sessions' transactions, commits or rollbacks, lead to one state in either order
 abbrev pub TransactionsCommute : Type 0
-TransactionsCommute = (s : State) (a b : ℕ) (x y : End) → ¬ (a ≡ b) → after_end (after_end s a x) b y ≡ after_end (after_end s b y) a x
+TransactionsCommute =
+    (s : State) (a b : ℕ) (x y : End) → ¬ (a ≡ b) → after_end (after_end s a x) b y ≡ after_end (after_end s b y) a x
 
 -- if transactions are committed or rolled back, in any order, the state is valid after each of the ends
 abbrev pub AnyOrderOfEnds : Type 0
@@ -279,32 +310,39 @@ SettledStaysValid = (s : State) (plan : List (ℕ × End)) (n : ℕ) → IsValid
 
 -- two plans that end the same sessions' transactions in the same way leave equal states, whatever their order
 abbrev pub SettledInAnyOrder : Type 0
-SettledInAnyOrder = (s : State) (plan other : List (ℕ × End)) → ((session : ℕ) → end_of plan session ≡ end_of other session) → settled plan s ≡ settled other s
+SettledInAnyOrder =
+    (s : State) (plan other : List (ℕ × End)) → ((session : ℕ) → end_of plan session ≡ end_of other session)
+    → settled plan s ≡ settled other s
 
 -- COMMITS THAT ARE HELD BACK
 
 -- in a valid state, a statement that may be served while another session's COMMIT is held back has the same reply after
 -- that COMMIT. Both orders lead to one state
 abbrev pub PassesCommits : Type 0
-PassesCommits = (s : State) (session other : ℕ) (asked : Statement) → IsValid s → ¬ (session ≡ other) → passes s other asked ≡ true
-    → step (step s session statement.Commit).1 other asked ≡ ((step s other asked).0, (step (step s other asked).1 session statement.Commit).1)
+PassesCommits =
+    (s : State) (session other : ℕ) (asked : Statement) → IsValid s → ¬ (session ≡ other) → passes s other asked ≡ true
+    → step (step s session statement.Commit).1 other asked
+    ≡ ((step s other asked).0, (step (step s other asked).1 session statement.Commit).1)
 
 -- from a valid state, however the COMMITs that are held back end, the replies and the state are those of a run in the
 -- order in which everything was asked
 abbrev pub HeldCommitsMayComeLast : Type 0
 HeldCommitsMayComeLast = (s : State) (waiting : List Waiting) (now : State) (outcome : Outcome)
-    → IsValid s → IsHeldRun s waiting now → IsRun s (events_of waiting) (answers_by outcome waiting) (ended_by outcome waiting now)
+    → IsValid s → IsHeldRun s waiting now
+    → IsRun s (events_of waiting) (answers_by outcome waiting) (ended_by outcome waiting now)
 
 -- THE GRANT RULE
 
 -- the table, the row and the reservation that an UPDATE asks for
 abbrev pub IsAsked : State → ℕ → UpdateText → TableDef → Row → Reservation → Type 0
 IsAsked s session text table row r =
-    (table_named s.catalog text.table ≡ Some table) × (reservation_of s session text ≡ Some r) × (row_named s.rows r.row ≡ Some row)
+    (table_named s.catalog text.table ≡ Some table) × (reservation_of s session text ≡ Some r)
+    × (row_named s.rows r.row ≡ Some row)
 
 -- a row with the chosen reservations and a new one applied meets each check of its table
 abbrev pub MeetsWith : TableDef → Row → Reservation → List Reservation → Type 0
-MeetsWith table row new chosen = AllByRecursion (λ check. Meets check (row_after (chosen ++ new ∷ []) row).amounts) table.checks
+MeetsWith table row new chosen =
+    AllByRecursion (λ check. Meets check (row_after (chosen ++ new ∷ []) row).amounts) table.checks
 
 -- a granted reservation: whichever of the open reservations are applied with it, its row meets each check
 abbrev pub GrantedInEveryChoice : Type 0
@@ -324,9 +362,11 @@ OwnIncrementNotSpent = (s : State) (session : ℕ) (text : UpdateText) (id : ℕ
 -- a violation that can happen. With the new reservation, some choice of the open ones gives the form of the named check
 -- the named worst value. This is past the named limit; both are in units of the check's scale
 abbrev pub IsReachedViolation : TableDef → Row → List Reservation → Reservation → Violation → Type 0
-IsReachedViolation table row reservations new violation = (check : Check) × Contains table.checks check × (violation.check ≡ check.name) × (violation.scale ≡ check.scale)
+IsReachedViolation table row reservations new violation =
+    (check : Check) × Contains table.checks check × (violation.check ≡ check.name) × (violation.scale ≡ check.scale)
     × IsBeyond check.span violation.side violation.worst violation.limit
-    × ((chosen : List Reservation) × Contains (sublists reservations) chosen × (form check.coeffs (row_after (chosen ++ new ∷ []) row).amounts ≡ violation.worst))
+    × ((chosen : List Reservation) × Contains (sublists reservations) chosen
+    × (form check.coeffs (row_after (chosen ++ new ∷ []) row).amounts ≡ violation.worst))
 
 -- a reservation that a check refuses: some choice of the open reservations with the new one breaks that check
 abbrev pub RefusedByAChoice : Type 0
@@ -345,8 +385,11 @@ StaysWithin row reservations changes check =
 -- the bounds decide: a granted reservation keeps those of every check of its table within the limits, and one that a
 -- check refuses doesn't
 abbrev pub BoundsDecideGrants : Type 0
-BoundsDecideGrants = (s : State) (session : ℕ) (text : UpdateText) (table : TableDef) (row : Row) (new : Reservation) → IsValid s → IsAsked s session text table row new
-    → ((id : ℕ) → (step s session (statement.Update text)).0 ≡ reply.Reserved id → AllByRecursion (StaysWithin row s.reservations (deltas new.changes)) table.checks)
+BoundsDecideGrants =
+    (s : State) (session : ℕ) (text : UpdateText) (table : TableDef) (row : Row) (new : Reservation) → IsValid s
+    → IsAsked s session text table row new
+    → ((id : ℕ) → (step s session (statement.Update text)).0 ≡ reply.Reserved id
+    → AllByRecursion (StaysWithin row s.reservations (deltas new.changes)) table.checks)
     × ((violation : Violation) → (step s session (statement.Update text)).0 ≡ reply.Refused (refusal.Check violation)
     → ¬ (AllByRecursion (StaysWithin row s.reservations (deltas new.changes)) table.checks))
 
@@ -362,6 +405,9 @@ refusals_without_limit s session table key changes =
 
 -- if a row may have all the reservations that so many sessions may hold, its limit refuses nothing that theirs doesn't
 abbrev pub SessionsFillFirst : Type 0
-SessionsFillFirst = (s : State) (sessions session : ℕ) (table : List ℕ) (key : Value) (changes : List (Option ℤ)) → IsValid s
-    → MAX_RESERVATIONS * sessions ≤ MAX_OPEN → AllByRecursion (λ r. r.session ≤ sessions) s.reservations → 1 ≤ session → session ≤ sessions
-    → first_refusal (update_refusals s session table (plan.Reserve key changes)) ≡ first_refusal (refusals_without_limit s session table key changes)
+SessionsFillFirst =
+    (s : State) (sessions session : ℕ) (table : List ℕ) (key : Value) (changes : List (Option ℤ)) → IsValid s
+    → MAX_RESERVATIONS * sessions ≤ MAX_OPEN → AllByRecursion (λ r. r.session ≤ sessions) s.reservations → 1 ≤ session
+    → session ≤ sessions
+    → first_refusal (update_refusals s session table (plan.Reserve key changes))
+    ≡ first_refusal (refusals_without_limit s session table key changes)

@@ -42,8 +42,9 @@ is_plain_refusal asked _ = false
 abbrev pub is_promised : State → ℕ → Statement → Bool
 is_promised s session asked = needs_nothing s session asked || is_plain_refusal asked (step s session asked).0
 
--- whether a statement is an UPDATE that is judged before it takes memory: its plan takes none, and reserves changes of a
--- row that has an open reservation, of any session
+-- whether a statement is an UPDATE that is judged before it takes memory: its plan takes none, and reserves changes of
+-- a row that has an open reservation, of any session
 abbrev pub is_judged_first : State → Statement → Bool
-is_judged_first s (statement.Update text) = reserves_beside s text && unwrap_or (option_map is_in_place (plan_of s text)) false
+is_judged_first s (statement.Update text) =
+    reserves_beside s text && unwrap_or (option_map is_in_place (plan_of s text)) false
 is_judged_first s asked = false

@@ -14,7 +14,9 @@ use Rattle.escrow_machine.specs.State.{State}
 abbrev pub state_code : Coded State
 state_code =
     code_by (List TableDef × (List Row × (List Reservation × (List Savepoint × ℕ))))
-    (coded× (coded_list table.the_row.coded) (coded× (coded_list row.the_row.coded) (coded× (coded_list reservation.the_row.coded) (coded× (coded_list savepoint.the_row.coded) coded_ℕ))))
+    (coded× (coded_list table.the_row.coded)
+    (coded× (coded_list row.the_row.coded)
+    (coded× (coded_list reservation.the_row.coded) (coded× (coded_list savepoint.the_row.coded) coded_ℕ))))
     (λ s. (s.catalog, (s.rows, (s.reservations, (s.savepoints, s.next_id)))))
     (λ p. record { catalog = p.0; rows = p.1.0; reservations = p.1.1.0; savepoints = p.1.1.1.0; next_id = p.1.1.1.1 })
     (λ _. refl)

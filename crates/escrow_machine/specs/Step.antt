@@ -23,11 +23,13 @@ refusals transition = transition.early ++ transition.late
 
 -- the first refusal that applies is the reply, and the state stays; if none applies, the reply and the new state
 abbrev pub unless_refused : State → List (Option Refusal) → Reply → State → Reply × State
-unless_refused s refusals done new = unwrap_or (option_map (λ r. (reply.Refused r, s)) (first_refusal refusals)) (done, new)
+unless_refused s refusals done new =
+    unwrap_or (option_map (λ r. (reply.Refused r, s)) (first_refusal refusals)) (done, new)
 
 -- THE STEP: the reply to a statement of a session, and the state after it
 abbrev pub step : State → ℕ → Statement → Reply × State
-step s session asked = let transition = transition_of s session asked in unless_refused s (refusals transition) transition.reply transition.next
+step s session asked = let transition =
+    transition_of s session asked in unless_refused s (refusals transition) transition.reply transition.next
 
 -- the reply and the new state are those of the step
 pub record IsStep (s : State) (session : ℕ) (asked : Statement) (answer : Reply) (new : State) : Type 0 where
@@ -48,12 +50,14 @@ fails_for s session asked f = true
 
 -- whether a statement may fail, for memory or by the store: if no early refusal applies, and only for what it takes
 abbrev pub may_fail : State → ℕ → Statement → Failure → Bool
-may_fail s session asked failure = is_none (first_refusal (transition_of s session asked).early) && fails_for s session asked failure
+may_fail s session asked failure =
+    is_none (first_refusal (transition_of s session asked).early) && fails_for s session asked failure
 
 -- the step, or a failure that the statement may meet, which leaves the state equal
 abbrev pub StepOrRefusal : State → ℕ → Statement → Reply → State → Type 0
 StepOrRefusal s session asked answer new =
-    MatchOption (failure_of answer) (IsStep s session asked answer new) (λ failure. IsTrue (may_fail s session asked failure) × (new ≡ s))
+    MatchOption (failure_of answer) (IsStep s session asked answer new)
+    (λ failure. IsTrue (may_fail s session asked failure) × (new ≡ s))
 
 -- the reply to an event, and the state after it. A restart keeps the catalog and the rows; nothing is open after it,
 -- and the next id is 1. Or it is refused, for memory or by the store, and the state is equal
@@ -68,4 +72,5 @@ abbrev pub IsRun : State → List Event → List Reply → State → Type 0
 IsRun s [] [] new = new ≡ s
 IsRun s [] (answer ∷ answers) new = ⊥
 IsRun s (happened ∷ events) [] new = ⊥
-IsRun s (happened ∷ events) (answer ∷ answers) new = (mid : State) × IsServed s happened answer mid × IsRun mid events answers new
+IsRun s (happened ∷ events) (answer ∷ answers) new =
+    (mid : State) × IsServed s happened answer mid × IsRun mid events answers new

@@ -38,7 +38,8 @@ pub record Transition : Type 0 where
 
 -- the state with the table that a text defines added to its catalog
 abbrev pub after_create : State → CreateText → State
-after_create s text = record s { catalog = unwrap_or (option_map (λ table. with_table table s.catalog) (definition_of text)) s.catalog }
+after_create s text =
+    record s { catalog = unwrap_or (option_map (λ table. with_table table s.catalog) (definition_of text)) s.catalog }
 
 -- the state without a table and its rows
 abbrev pub after_drop : State → List ℕ → State
@@ -80,12 +81,14 @@ update_reply s (plan.Plain key values) = reply.Updated
 
 -- the state after an UPDATE, by its plan: with one reservation more, or with other plain values in the row
 abbrev pub after_update : State → ℕ → List ℕ → Plan → State
-after_update s session table (plan.Reserve key changes) = with_open s (open_after_grant session (row_name table key) changes (open_in s))
+after_update s session table (plan.Reserve key changes) =
+    with_open s (open_after_grant session (row_name table key) changes (open_in s))
 after_update s session table (plan.Plain key values) = record s { rows = with_plain (row_name table key) values s.rows }
 
 -- the session's reservations are applied to the committed rows, and its transaction has ended
 abbrev pub after_commit : State → ℕ → State
-after_commit s session = record (with_open s (open_after_end session (open_in s))) { rows = applied s.rows (own session s.reservations) }
+after_commit s session =
+    record (with_open s (open_after_end session (open_in s))) { rows = applied s.rows (own session s.reservations) }
 
 -- the session's reservations are dropped, and its transaction has ended
 abbrev pub after_rollback : State → ℕ → State

@@ -25,7 +25,8 @@ pub record IsReservationIn (catalog : List TableDef) (next_id : ℕ) (r : Reserv
   pub session : IsSession r.session
   pub first : 1 ≤ r.id
   pub below : r.id < next_id
-  pub changes : IsSomeAnd (table_named catalog r.row.table) (λ table. length r.changes ≡ length (reservables table.columns))
+  pub changes : IsSomeAnd (table_named catalog r.row.table)
+      (λ table. length r.changes ≡ length (reservables table.columns))
 
 -- a savepoint is of a session, and has an id up to the next one
 pub record IsSavepointIn (next_id : ℕ) (p : Savepoint) : Type 0 where
@@ -34,7 +35,8 @@ pub record IsSavepointIn (next_id : ℕ) (p : Savepoint) : Type 0 where
   pub within : p.id ≤ next_id
 
 -- what holds of the catalog, the reservations, the savepoints and the next id, whatever the rows
-pub record IsOrderly (catalog : List TableDef) (reservations : List Reservation) (savepoints : List Savepoint) (next_id : ℕ) : Type 0 where
+pub record IsOrderly (catalog : List TableDef) (reservations : List Reservation) (savepoints : List Savepoint)
+    (next_id : ℕ) : Type 0 where
   pub tables : IsCatalog catalog
   pub reservations_in : AllByRecursion (IsReservationIn catalog next_id) reservations
   pub reservation_order : IsAscending reservation_before reservations
@@ -57,7 +59,8 @@ pub record AreSafeRows (catalog : List TableDef) (rows : List Row) (reservations
   pub row_order : IsAscending row_before rows
   pub few_rows : (table : List ℕ) → length (rows_of rows table) ≤ MAX_ROWS
   pub reserved_rows : AllByRecursion (HasRow rows) reservations
-  pub safe : AllByRecursion (λ chosen. AllByRecursion (MeetsChecks catalog) (applied rows chosen)) (sublists reservations)
+  pub safe : AllByRecursion
+      (λ chosen. AllByRecursion (MeetsChecks catalog) (applied rows chosen)) (sublists reservations)
 
 -- A state is valid. Every statement preserves this.
 pub record IsValid (s : State) : Type 0 where

@@ -18,7 +18,8 @@ columns_from [] amounts ranges = []
 columns_from (name ∷ names) [] ranges = []
 columns_from (name ∷ names) (a ∷ amounts) [] = []
 columns_from (name ∷ names) (a ∷ amounts) (range ∷ ranges) =
-    record { column = name; scale = range.scale; value = a; inf = range.least; sup = range.greatest } ∷ columns_from names amounts ranges
+    record { column = name; scale = range.scale; value = a; inf = range.least; sup = range.greatest }
+    ∷ columns_from names amounts ranges
 
 -- counts that include the reservations of one more transaction, which ended this way
 abbrev pub counted_end : End → ℕ → Settled → Settled

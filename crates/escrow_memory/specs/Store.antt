@@ -40,7 +40,8 @@ left_of trees cursor = left_from cursor.direction cursor.at (rows_of trees curso
 
 -- the cursor of a number is this one, and all others are as they were
 abbrev pub SetsCursor : List (Option Cursor) → List (Option Cursor) → ℕ → Cursor → Type 0
-SetsCursor old new at cursor = (c : ℕ) → slice_index_or new c None ≡ (if c == at then Some cursor else slice_index_or old c None)
+SetsCursor old new at cursor =
+    (c : ℕ) → slice_index_or new c None ≡ (if c == at then Some cursor else slice_index_or old c None)
 
 -- the cursor after this one returned a row, or none at its end
 abbrev pub Steps : List Held → Cursor → Row → Option Cursor → Type 0
@@ -78,4 +79,14 @@ pub record IsReplaced (old new : BlockStore) (tree : ℕ) (it : Held) : Type 0 w
 
 -- the store's view, as the kit's SQLite uses it
 abbrev pub over_blocks : Ghosts BlockStore
-over_blocks = record { view = block_view; faults = λ _. 0; recovers = λ s db. db ≡ (block_view s).committed; is_shielded = λ _. Unit {0}; is_step = λ _ _ _. Unit {0}; blamed = λ _. None; names = λ _ _ _. Unit {0} }
+over_blocks =
+    record {
+      view = block_view;
+      faults = λ _. 0;
+      recovers = λ s db. db ≡ (block_view s).committed;
+      is_shielded = λ _.
+          Unit {0};
+      is_step = λ _ _ _. Unit {0};
+      blamed = λ _. None;
+      names = λ _ _ _. Unit {0};
+    }

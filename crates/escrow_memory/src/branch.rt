@@ -43,7 +43,8 @@ fn find<N: Node>(children: &[Child<N>], at: usize, cut: usize) -> (usize, usize)
     requires within { at + cut ≤ length (children_rows N.rows children.now) }
     requires one { cut ≤ 1 }
     ensures before { at ≡ length (children_rows N.rows (take result.0 children.now)) + result.1 }
-    ensures inside { IfSome (slice_get children.now result.0) (λ child. result.1 + cut ≤ length (N.rows child.node.value)) }
+    ensures inside { IfSome (slice_get children.now result.0)
+        (λ child. result.1 + cut ≤ length (N.rows child.node.value)) }
     ensures none { slice_get children.now result.0 ≡ None → children.now ≡ [] }
     ensures found { 0 < cut → result.0 < length children.now }
     ensures place { result.0 ≤ length children.now }
@@ -69,9 +70,12 @@ fn add_next<N: Node>(
     next: Option<N>,
 ) -> Result<(), AllocError>
     requires { place < length children.old.items }
-    ensures rows { OnOk result (children_rows N.rows children.new.items ≡ children_rows N.rows (take (place + 1) children.old.items) ++ next_rows N.rows next ++ children_rows N.rows (drop (place + 1) children.old.items)) }
+    ensures rows { OnOk result
+        (children_rows N.rows children.new.items ≡ children_rows N.rows (take (place + 1) children.old.items)
+        ++ next_rows N.rows next ++ children_rows N.rows (drop (place + 1) children.old.items)) }
     ensures front { OnOk result (take (place + 1) children.new.items ≡ take (place + 1) children.old.items) }
-    ensures back { OnOk result (AreCounted N.rows (drop (place + 1) children.old.items) → AreCounted N.rows (drop (place + 1) children.new.items)) }
+    ensures back { OnOk result (AreCounted N.rows (drop (place + 1) children.old.items)
+        → AreCounted N.rows (drop (place + 1) children.new.items)) }
 {
     match next {
         Some(node) if node.len() > 0 => {
@@ -112,10 +116,14 @@ fn splice_child<N: Node>(
     new: Option<&[u8]>,
 ) -> Result<(), AllocError>
     requires counted { AreCounted N.rows children.old.items }
-    requires inside { IfSome (slice_get children.old.items place) (λ child. at + cut ≤ length (N.rows child.node.value)) }
+    requires inside { IfSome (slice_get children.old.items place)
+        (λ child. at + cut ≤ length (N.rows child.node.value)) }
     requires place { place < length children.old.items }
     requires one { cut ≤ 1 }
-    ensures rows { OnOk result (children_rows N.rows children.new.items ≡ spliced (length (children_rows N.rows (take place children.old.items)) + at) cut (entry_rows new.entry) (children_rows N.rows children.old.items)) }
+    ensures rows { OnOk result
+        (children_rows N.rows children.new.items
+        ≡ spliced (length (children_rows N.rows (take place children.old.items)) + at) cut (entry_rows new.entry)
+        (children_rows N.rows children.old.items)) }
     ensures counted { OnOk result (AreCounted N.rows children.new.items) }
 {
     let next = children[place].splice(alloc, Change { at, cut, new })?;
@@ -137,7 +145,9 @@ fn edit_children<N: Node>(
     requires counted { AreCounted N.rows children.old.items }
     requires within { at + cut ≤ length (children_rows N.rows children.old.items) }
     requires one { cut ≤ 1 }
-    ensures rows { OnOk result (children_rows N.rows children.new.items ≡ spliced at cut (entry_rows new.entry) (children_rows N.rows children.old.items)) }
+    ensures rows { OnOk result
+        (children_rows N.rows children.new.items
+        ≡ spliced at cut (entry_rows new.entry) (children_rows N.rows children.old.items)) }
     ensures counted { OnOk result (AreCounted N.rows children.new.items) }
 {
     let (place, within) = find(children.as_slice(), at, cut);
@@ -156,8 +166,11 @@ fn edit_children<N: Node>(
 
 /// Appends children that share the nodes of others.
 fn share_all<N: Node>(children: &mut Vec<Child<N>>, others: &[Child<N>]) -> Result<(), AllocError>
-    ensures rows { OnOk result (children_rows N.rows children.new.items ≡ children_rows N.rows children.old.items ++ children_rows N.rows others.now) }
-    ensures counted { OnOk result (AreCounted N.rows children.old.items → AreCounted N.rows others.now → AreCounted N.rows children.new.items) }
+    ensures rows { OnOk result
+        (children_rows N.rows children.new.items ≡ children_rows N.rows children.old.items
+        ++ children_rows N.rows others.now) }
+    ensures counted { OnOk result (AreCounted N.rows children.old.items → AreCounted N.rows others.now
+        → AreCounted N.rows children.new.items) }
 {
     for child in others {
         children.push(child.share()?)?;
@@ -187,7 +200,9 @@ impl<N: Node> Branch<N> {
     ) -> Result<(Branch<N>, usize), AllocError>
         requires within { at + cut ≤ length (children_rows N.rows self.children.items) }
         requires one { cut ≤ 1 }
-        ensures { IfOk result (λ done. children_rows N.rows done.0.children.items ≡ spliced at cut (entry_rows new.entry) (children_rows N.rows self.children.items)) }
+        ensures { IfOk result (λ done.
+            children_rows N.rows done.0.children.items
+            ≡ spliced at cut (entry_rows new.entry) (children_rows N.rows self.children.items)) }
     {
         let Branch {
             mut children,
@@ -202,7 +217,9 @@ impl<N: Node> Branch<N> {
     /// Returns the branch, divided in two if it is too large. If the newest child is the last, as
     /// when entries come in order, the first part is as full as a branch may be.
     fn divided(self, newest: usize) -> Result<(Branch<N>, Option<Branch<N>>), AllocError>
-        ensures { IfOk result (λ parts. children_rows N.rows parts.0.children.items ++ next_rows (λ branch. children_rows N.rows branch.children.items) parts.1 ≡ children_rows N.rows self.children.items) }
+        ensures { IfOk result (λ parts.
+            children_rows N.rows parts.0.children.items ++ next_rows
+            (λ branch. children_rows N.rows branch.children.items) parts.1 ≡ children_rows N.rows self.children.items) }
     {
         let Branch {
             mut children,
@@ -233,7 +250,11 @@ impl<N: Node> Branch<N> {
         change: Change<'_>,
     ) -> Result<(Branch<N>, Option<Branch<N>>), AllocError>
         requires { change.at + change.cut ≤ length (children_rows N.rows self.children.items) }
-        ensures { IfOk result (λ parts. children_rows N.rows parts.0.children.items ++ next_rows (λ branch. children_rows N.rows branch.children.items) parts.1 ≡ spliced change.entry.at change.entry.cut (entry_rows change.entry.new) (children_rows N.rows self.children.items)) }
+        ensures { IfOk result (λ parts.
+            children_rows N.rows parts.0.children.items ++ next_rows
+            (λ branch. children_rows N.rows branch.children.items) parts.1
+            ≡ spliced change.entry.at change.entry.cut (entry_rows change.entry.new)
+            (children_rows N.rows self.children.items)) }
     {
         let Change { at, cut, new } = change;
         let (branch, place) = self.edited(alloc, at, cut, new)?;

@@ -53,7 +53,10 @@ impl<N: Node> Child<N> {
         change: Change<'_>,
     ) -> Result<Option<N>, AllocError>
         requires { change.at + change.cut ≤ length (N.rows self.old.node.value) }
-        ensures ok { IfOk result (λ next. N.rows self.new.node.value ++ next_rows N.rows next ≡ spliced change.entry.at change.entry.cut (entry_rows change.entry.new) (N.rows self.old.node.value)) }
+        ensures ok { IfOk result (λ next.
+            N.rows self.new.node.value
+            ++ next_rows N.rows next ≡ spliced change.entry.at change.entry.cut (entry_rows change.entry.new)
+            (N.rows self.old.node.value)) }
         ensures len { OnOk result (self.new.len ≡ length (N.rows self.new.node.value)) }
     {
         let next = match Arc::get_mut(&mut self.node) {

@@ -68,7 +68,8 @@ impl<N: Node> Entries<N> {
 
     /// Returns the entry at a place, or `None` past the last.
     pub(crate) fn get(&self, at: usize) -> Option<&[u8]>
-        ensures some { IfSome result (λ entry. (at < length self.now) × (decode entry.now ≡ slice_index_or self.now at [])) }
+        ensures some { IfSome result
+            (λ entry. (at < length self.now) × (decode entry.now ≡ slice_index_or self.now at [])) }
         ensures none { result ≡ None → length self.now ≤ at }
     {
         if at < self.root.len() {
@@ -98,7 +99,9 @@ impl<N: Node> Entries<N> {
         requires { IsCut (passes probe) self.now }
         ensures fails { IfSome result (λ _. count_by (passes probe.entry) self.now ≤ at) }
         ensures passes { result ≡ None → at < count_by (passes probe.entry) self.now }
-        ensures some { IfSome result (λ found. IfSome found (λ entry. (at < length self.now) × (decode entry.now ≡ slice_index_or self.now at []))) }
+        ensures some { IfSome result
+            (λ found. IfSome found (λ entry. (at < length self.now)
+            × (decode entry.now ≡ slice_index_or self.now at []))) }
         ensures none { IfSome result (λ found. found ≡ None → length self.now ≤ at) }
     {
         match self.get(at) {
@@ -113,7 +116,9 @@ impl<N: Node> Entries<N> {
     fn seek_near(&self, probe: Probe<'_>, near: usize) -> Option<(usize, Option<&[u8]>)>
         requires { IsCut (passes probe) self.now }
         ensures place { IfSome result (λ found. IsPlaceOf (passes probe.entry) self.now found.0) }
-        ensures some { IfSome result (λ found. IfSome found.1 (λ entry. (found.0 < length self.now) × (decode entry.now ≡ slice_index_or self.now found.0 []))) }
+        ensures some { IfSome result
+            (λ found. IfSome found.1 (λ entry. (found.0 < length self.now)
+            × (decode entry.now ≡ slice_index_or self.now found.0 []))) }
         ensures none { IfSome result (λ found. found.1 ≡ None → length self.now ≤ found.0) }
     {
         if let Some(found) = self.get_failing(probe, near) {
@@ -130,7 +135,8 @@ impl<N: Node> Entries<N> {
     /// Returns the place where the entry of a rowid is expected, and the entry there, if the last two
     /// places that were found are as far apart as their rowids.
     pub(crate) fn expected(&self, rowid: usize) -> Option<(usize, &[u8])>
-        ensures { IfSome result (λ found. (found.0 < length self.now) × (decode found.1.now ≡ slice_index_or self.now found.0 [])) }
+        ensures { IfSome result (λ found. (found.0 < length self.now)
+            × (decode found.1.now ≡ slice_index_or self.now found.0 [])) }
     {
         if !self.is_run.load(Ordering::SeqCst) {
             return None;
@@ -146,7 +152,8 @@ impl<N: Node> Entries<N> {
     pub(crate) fn seek(&self, probe: Probe<'_>) -> (usize, Option<&[u8]>)
         requires { IsCut (passes probe) self.now }
         ensures place { IsPlaceOf (passes probe.entry) self.now result.0 }
-        ensures some { IfSome result.1 (λ entry. (result.0 < length self.now) × (decode entry.now ≡ slice_index_or self.now result.0 [])) }
+        ensures some { IfSome result.1
+            (λ entry. (result.0 < length self.now) × (decode entry.now ≡ slice_index_or self.now result.0 [])) }
         ensures none { result.1 ≡ None → length self.now ≤ result.0 }
     {
         let number = probe.number();

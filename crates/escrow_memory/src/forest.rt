@@ -55,7 +55,9 @@ impl Forest {
     ) -> Result<(), AllocError>
         requires fits { Fits edit (shape_of (trees_of self.old) tree) }
         requires bytes { Writes edit bytes.now }
-        ensures rows { OnOk result (rows_of (trees_of self.new) ≡ with_tree (rows_of (trees_of self.old)) tree (edited edit.entry (rows_of (trees_of self.old) tree))) }
+        ensures rows { OnOk result
+            (rows_of (trees_of self.new)
+            ≡ with_tree (rows_of (trees_of self.old)) tree (edited edit.entry (rows_of (trees_of self.old) tree))) }
         ensures headings { headings (trees_of self.new) ≡ headings (trees_of self.old) }
         ensures version { self.new.version ≡ self.old.version }
     {

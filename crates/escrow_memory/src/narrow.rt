@@ -90,7 +90,8 @@ fn split_int(serial: u8, bytes: &[u8]) -> Option<(i64, &[u8])>
 #[inline(always)]
 #[tactic(auto, unfolding(sqlite_record::specs::Serial::serial_size, sqlite_record::specs::Serial::serial_value))]
 fn split_text(serial: u8, bytes: &[u8]) -> Option<(&[u8], &[u8])>
-    ensures value { IfSome result (λ split. serial_value serial (take (serial_size serial) bytes.now) ≡ Text split.0.now) }
+    ensures value { IfSome result
+        (λ split. serial_value serial (take (serial_size serial) bytes.now) ≡ Text split.0.now) }
     ensures behind { IfSome result (λ split. split.1.now ≡ drop (serial_size serial) bytes.now) }
     ensures narrow { IfSome result (λ _. serial < 128) }
 {
@@ -153,7 +154,9 @@ impl<'a> NarrowFields<'a> {
     /// Returns the first field, if it is an integer, and the fields after it.
     #[inline(always)]
     fn split_int(self) -> Option<(i64, NarrowFields<'a>)>
-        ensures { IfSome result (λ split. values_of self.entry.types.now self.entry.body.now ≡ Int split.0 ∷ values_of split.1.types.now split.1.body.now) }
+        ensures { IfSome result (λ split.
+            values_of self.entry.types.now self.entry.body.now ≡ Int split.0
+            ∷ values_of split.1.types.now split.1.body.now) }
     {
         let [serial, types @ ..] = self.types else {
             return None;
@@ -165,7 +168,9 @@ impl<'a> NarrowFields<'a> {
     /// Returns the first field, if it is NULL, an integer or a text, and the fields after it.
     #[inline(always)]
     fn split_first(self) -> Option<(ValueRef<'a>, NarrowFields<'a>)>
-        ensures { IfSome result (λ split. values_of self.entry.types.now self.entry.body.now ≡ owned split.0 ∷ values_of split.1.types.now split.1.body.now) }
+        ensures { IfSome result (λ split.
+            values_of self.entry.types.now self.entry.body.now ≡ owned split.0
+            ∷ values_of split.1.types.now split.1.body.now) }
     {
         let [serial, types @ ..] = self.types else {
             return None;
@@ -181,7 +186,10 @@ impl<'a> NarrowFields<'a> {
         order: Order,
         value: ValueRef<'_>,
     ) -> Option<(Ordering, NarrowFields<'a>)>
-        ensures { IfSome result (λ found. (first : Value) × (values_of self.entry.types.now self.entry.body.now ≡ first ∷ values_of found.1.types.now found.1.body.now) × (found.0 ≡ by_key (first_key order) first (owned value.entry))) }
+        ensures { IfSome result (λ found. (first : Value)
+            × (values_of self.entry.types.now self.entry.body.now ≡ first
+            ∷ values_of found.1.types.now found.1.body.now)
+            × (found.0 ≡ by_key (first_key order) first (owned value.entry))) }
     {
         let (first, behind) = self.split_first()?;
         Some((order.compare_first(first, value), behind))
@@ -190,7 +198,9 @@ impl<'a> NarrowFields<'a> {
     /// [`NarrowFields::compare_first`], if the field and the value are integers.
     #[inline(always)]
     fn compare_int(self, order: Order, value: i64) -> Option<(Ordering, NarrowFields<'a>)>
-        ensures { IfSome result (λ found. (first : Value) × (values_of self.entry.types.now self.entry.body.now ≡ first ∷ values_of found.1.types.now found.1.body.now) × (found.0 ≡ by_key (first_key order) first (Int value))) }
+        ensures { IfSome result (λ found. (first : Value)
+            × (values_of self.entry.types.now self.entry.body.now ≡ first
+            ∷ values_of found.1.types.now found.1.body.now) × (found.0 ≡ by_key (first_key order) first (Int value))) }
     {
         let (first, behind) = self.split_int()?;
         Some((compare_ints(order, first, value), behind))
@@ -206,8 +216,12 @@ impl<'a> NarrowFields<'a> {
         from: usize,
     ) -> Option<(Ordering, NarrowFields<'a>)>
         requires { from ≤ length row.now }
-        ensures prefix { IfSome result (λ found. found.0 ≡ prefix_cmp order (values_of self.entry.types.now self.entry.body.now) (drop from row.now)) }
-        ensures entry { IfSome result (λ found. (found.0 ≢ Ordering.Equal) ⊎ (values_of found.1.types.now found.1.body.now ≡ []) → found.0 ≡ entry_cmp order (values_of self.entry.types.now self.entry.body.now) (drop from row.now)) }
+        ensures prefix { IfSome result
+            (λ found. found.0 ≡ prefix_cmp order (values_of self.entry.types.now self.entry.body.now)
+            (drop from row.now)) }
+        ensures entry { IfSome result
+            (λ found. (found.0 ≢ Ordering.Equal) ⊎ (values_of found.1.types.now found.1.body.now ≡ [])
+            → found.0 ≡ entry_cmp order (values_of self.entry.types.now self.entry.body.now) (drop from row.now)) }
     {
         let mut fields = self;
         for at in from..row.len() {
@@ -224,8 +238,11 @@ impl<'a> NarrowFields<'a> {
     /// most columns are, up to the first other value.
     #[inline(always)]
     fn compare(self, mut order: Order, row: &Row) -> Option<(Ordering, NarrowFields<'a>)>
-        ensures prefix { IfSome result (λ found. found.0 ≡ prefix_cmp order (values_of self.entry.types.now self.entry.body.now) row.now) }
-        ensures entry { IfSome result (λ found. (found.0 ≢ Ordering.Equal) ⊎ (values_of found.1.types.now found.1.body.now ≡ []) → found.0 ≡ entry_cmp order (values_of self.entry.types.now self.entry.body.now) row.now) }
+        ensures prefix { IfSome result
+            (λ found. found.0 ≡ prefix_cmp order (values_of self.entry.types.now self.entry.body.now) row.now) }
+        ensures entry { IfSome result
+            (λ found. (found.0 ≢ Ordering.Equal) ⊎ (values_of found.1.types.now found.1.body.now ≡ [])
+            → found.0 ≡ entry_cmp order (values_of self.entry.types.now self.entry.body.now) row.now) }
     {
         let mut fields = self;
         for at in 0..row.len() {

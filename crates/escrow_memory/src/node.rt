@@ -44,7 +44,9 @@ pub(crate) trait Node: Sized + Drop {
     fn seek(&self, probe: Probe<'_>) -> (usize, Option<&[u8]>)
         requires { IsCut (passes probe) (rows self.now) }
         ensures place { result.0 ≡ count_by (passes probe.entry) (rows self.now) }
-        ensures some { IfSome result.1 (λ entry. (result.0 < length (rows self.now)) × (decode entry.now ≡ slice_index_or (rows self.now) result.0 [])) }
+        ensures some { IfSome result.1
+            (λ entry. (result.0 < length (rows self.now))
+            × (decode entry.now ≡ slice_index_or (rows self.now) result.0 [])) }
         ensures none { result.1 ≡ None → length (rows self.now) ≤ result.0 };
 
     /// Returns a node of one entry.
@@ -59,7 +61,9 @@ pub(crate) trait Node: Sized + Drop {
     /// returned. After an error the node is empty.
     fn splice(&mut self, alloc: Global, change: Change<'_>) -> Result<Option<Self>, AllocError>
         requires { change.at + change.cut ≤ length (rows self.old) }
-        ensures ok { IfOk result (λ next. rows self.new ++ next_rows rows next ≡ spliced change.entry.at change.entry.cut (entry_rows change.entry.new) (rows self.old)) }
+        ensures ok { IfOk result (λ next.
+            rows self.new ++ next_rows rows next
+            ≡ spliced change.entry.at change.entry.cut (entry_rows change.entry.new) (rows self.old)) }
         ensures err { OnErr result (rows self.new ≡ []) };
 
     /// Takes over the entries of the next node. After an error the node is empty.

@@ -70,8 +70,12 @@ impl BlockStore {
     /// Returns a store with an empty tree for each object, listed as that object. Fails only if
     /// memory is refused.
     pub fn new(alloc: Global, schema: &[Object<'_>]) -> Result<BlockStore, AllocError>
-        ensures shape { IfOk result (λ s. (block_view s).shape ≡ set_at (set_at (shapes_of schema.now) catalog_tree Shape.Table) version_tree Shape.Table) }
-        ensures reals { IfOk result (λ s. (t : ℕ) → t ≢ catalog_tree → t ≢ version_tree → shapes_of schema.now t ≢ Shape.Absent → (block_view s).reals t ≡ reals_of schema.now t) }
+        ensures shape { IfOk result
+            (λ s. (block_view s).shape
+            ≡ set_at (set_at (shapes_of schema.now) catalog_tree Shape.Table) version_tree Shape.Table) }
+        ensures reals { IfOk result
+            (λ s. (t : ℕ) → t ≢ catalog_tree → t ≢ version_tree → shapes_of schema.now t ≢ Shape.Absent
+            → (block_view s).reals t ≡ reals_of schema.now t) }
         ensures empty { IfOk result (λ s. (t : ℕ) → t ≢ catalog_tree → t ≢ version_tree → (block_view s).trees t ≡ []) }
         ensures version { IfOk result (λ s. (block_view s).trees version_tree ≡ version_rows 0) }
         ensures unlisted { IfOk result (λ s. schema.now ≡ [] → (block_view s).trees catalog_tree ≡ []) }
@@ -107,7 +111,9 @@ impl BlockStore {
 
     /// Returns the cursor that a seek places.
     fn placed(&self, tree: usize, key: &Row, direction: Direction) -> Cursor
-        ensures { left_of (trees_of (current self.now)) result ≡ sought (order_of (shape_of (trees_of (current self.now)) tree)) direction key.now (rows_of (trees_of (current self.now)) tree) }
+        ensures { left_of (trees_of (current self.now)) result
+            ≡ sought (order_of (shape_of (trees_of (current self.now)) tree)) direction key.now
+            (rows_of (trees_of (current self.now)) tree) }
     {
         let Some(found) = self.current().tree(tree) else {
             return Cursor {
@@ -167,7 +173,9 @@ impl BlockStore {
 
     /// Returns one more owner of the trees that the transaction has written, if it has.
     fn share_changed(alloc: Global, changed: &Option<Forest>) -> Result<Option<Forest>, AllocError>
-        ensures { (base : ForestValue) → IfOk result (λ mark. (trees_of (unwrap_or mark base) ≡ trees_of (unwrap_or changed.now base)) × ((unwrap_or mark base).version ≡ (unwrap_or changed.now base).version)) }
+        ensures { (base : ForestValue)
+            → IfOk result (λ mark. (trees_of (unwrap_or mark base) ≡ trees_of (unwrap_or changed.now base))
+            × ((unwrap_or mark base).version ≡ (unwrap_or changed.now base).version)) }
     {
         match changed {
             Some(forest) => Ok(Some(forest.share(alloc)?)),
@@ -204,10 +212,13 @@ impl BlockStore {
     /// error but `Unstorable`, the transaction can only be rolled back, wholly or to a savepoint.
     fn write(&mut self, tree: u32, edit: Edit<'_>) -> Result<(), StoreError>
         requires { Fits edit ((block_view self.old).shape tree) }
-        ensures ok { OnOk result (IsClean (block_view self.new) → SetsTree (block_view self.old) (block_view self.new) tree (edited edit.entry)) }
-        ensures frame { OnOk result (IsClean (block_view self.new) → OnlyWrites (block_view self.old) (block_view self.new)) }
+        ensures ok { OnOk result (IsClean (block_view self.new)
+            → SetsTree (block_view self.old) (block_view self.new) tree (edited edit.entry)) }
+        ensures frame { OnOk result (IsClean (block_view self.new)
+            → OnlyWrites (block_view self.old) (block_view self.new)) }
         ensures schema { KeepsSchema (block_view self.old) (block_view self.new) }
-        ensures quiet { IsQuiet block_view over_blocks.faults over_blocks.recovers over_blocks.is_shielded self.old self.new }
+        ensures quiet { IsQuiet block_view over_blocks.faults over_blocks.recovers over_blocks.is_shielded self.old
+            self.new }
         ensures err { IfErr result (IsFailure (block_view self.old) (block_view self.new)) }
         ensures cause { (reals : ℕ) → IfErr result (HasCause (block_view self.old) ⊥ (¬ Storable reals edit.entry)) }
     {

@@ -49,7 +49,8 @@ pub(crate) enum Edit<'a> {
 
 /// Returns whether an entry was found and has the rowid.
 fn has_rowid(found: Option<&[u8]>, id: ValueRef<'_>) -> bool
-    ensures some { IfSome found.entry (λ entry. result ≡ is_eq (value_cmp (rowid (decode entry.now)) (owned id.entry))) }
+    ensures some { IfSome found.entry
+        (λ entry. result ≡ is_eq (value_cmp (rowid (decode entry.now)) (owned id.entry))) }
     ensures none { found.entry ≡ None → result ≡ false }
 {
     match found {
@@ -86,7 +87,8 @@ impl Tree {
 
     /// Returns an empty tree.
     pub(crate) fn new(alloc: Global, object: &Object<'_>) -> Result<Tree, AllocError>
-        ensures heading { IfOk result (λ tree. heading tree ≡ (object.now.shape, object.now.reals, description object.now)) }
+        ensures heading { IfOk result
+            (λ tree. heading tree ≡ (object.now.shape, object.now.reals, description object.now)) }
         ensures rows { IfOk result (λ tree. tree.rows ≡ []) }
     {
         Ok(Tree {
@@ -113,7 +115,8 @@ impl Tree {
     /// Returns its row in `sqlite_schema`, up to the SQL text.
     pub(crate) fn listing(&self, alloc: Global, tree: usize) -> Result<Row, AllocError>
         requires { tree < 2 ^ 62 }
-        ensures { IfOk result (λ row. row ≡ take 5 (listing tree self.now.described.value self.now.shape self.now.reals)) }
+        ensures { IfOk result (λ row.
+            row ≡ take 5 (listing tree self.now.described.value self.now.shape self.now.reals)) }
     {
         let mut row = Row::new(alloc);
         row.push(ValueRef::Int(tree as i64 + 1))?;
@@ -139,9 +142,13 @@ impl Tree {
     /// Returns the place of the row with a rowid, and its entry, if it is where it is expected.
     fn expected(&self, id: ValueRef<'_>) -> Option<(usize, &[u8])>
         requires { self.now.shape ≡ Shape.Table }
-        ensures place { IfSome result (λ found. IsPlaceOf (λ row. is_lt (value_cmp (rowid row) (owned id.entry))) self.now.rows found.0) }
-        ensures entry { IfSome result (λ found. (found.0 < length self.now.rows) × (decode found.1.now ≡ slice_index_or self.now.rows found.0 [])) }
-        ensures own { IfSome result (λ found. IsTrue (is_eq (value_cmp (rowid (decode found.1.now)) (owned id.entry)))) }
+        ensures place { IfSome result
+            (λ found. IsPlaceOf (λ row. is_lt (value_cmp (rowid row) (owned id.entry))) self.now.rows found.0) }
+        ensures entry { IfSome result
+            (λ found. (found.0 < length self.now.rows)
+            × (decode found.1.now ≡ slice_index_or self.now.rows found.0 [])) }
+        ensures own { IfSome result
+            (λ found. IsTrue (is_eq (value_cmp (rowid (decode found.1.now)) (owned id.entry)))) }
     {
         let (at, entry) = self.rows.expected(Probe::BelowRowid(id).number())?;
         if with_rowid(entry, id).is_eq() {
@@ -155,7 +162,8 @@ impl Tree {
     fn place_of(&self, id: ValueRef<'_>) -> (usize, bool)
         requires { self.now.shape ≡ Shape.Table }
         ensures place { IsPlaceOf (λ row. is_lt (value_cmp (rowid row) (owned id.entry))) self.now.rows result.0 }
-        ensures test { IsTestAt (λ row. is_eq (value_cmp (rowid row) (owned id.entry))) self.now.rows result.0 result.1 }
+        ensures test { IsTestAt (λ row.
+            is_eq (value_cmp (rowid row) (owned id.entry))) self.now.rows result.0 result.1 }
     {
         if let Some((at, _)) = self.expected(id) {
             return (at, true);

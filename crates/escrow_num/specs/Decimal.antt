@@ -34,7 +34,8 @@ unfoldable pub millionths_of : List ℕ → List ℕ → Option ℤ
 millionths_of front behind =
     let digits = trimmed behind in
     let units = number_of (front ++ digits) in
-    if nat_le (length digits) MAX_SCALE && nat_le units (unsigned_abs MAX) then Some (pos (units * unit_at (length digits))) else None
+    if nat_le (length digits) MAX_SCALE && nat_le units (unsigned_abs MAX)
+    then Some (pos (units * unit_at (length digits))) else None
 
 -- the millionths that a numeral spells
 abbrev pub whole_spelled : List ℕ → Option ℤ
@@ -66,4 +67,5 @@ decimal_spelled text = negated_if (is_negative text) (unsigned_spelled (after_si
 unfoldable pub units_at : ℕ → ℤ → Option ℤ
 units_at scale z =
     let units = int_div z (pos (unit_at scale)) in
-    if nat_le scale MAX_SCALE && (int_eq (int_rem z (pos (unit_at scale))) (pos 0) && is_amount units) then Some units else None
+    if nat_le scale MAX_SCALE && (int_eq (int_rem z (pos (unit_at scale))) (pos 0) && is_amount units) then Some units
+    else None

@@ -28,8 +28,10 @@ pub row_decides : (a b : RowName) → Decides (same_row a b) (a ≡ b)
 row_decides a b = (
   λ e.
       let parts = both (bytes_eq a.table b.table) (value_eq a.key b.key) e in
-      ap₂ (λ table key. record { table = table; key = key }) ((bytes_decides a.table b.table).0 parts.0) ((value_decides a.key b.key).0 parts.1),
-  λ e. ap₂ (λ (s t : Bool). s && t) ((bytes_decides a.table b.table).1 (ap (λ (r : RowName). r.table) e)) ((value_decides a.key b.key).1 (ap (λ (r : RowName). r.key) e)),
+      ap₂ (λ table key. record { table = table; key = key }) ((bytes_decides a.table b.table).0 parts.0)
+      ((value_decides a.key b.key).0 parts.1),
+  λ e. ap₂ (λ (s t : Bool). s && t) ((bytes_decides a.table b.table).1 (ap (λ (r : RowName). r.table) e))
+      ((value_decides a.key b.key).1 (ap (λ (r : RowName). r.key) e)),
 )
 
 pub same_row_equiv : IsEquivalence same_row

@@ -30,11 +30,13 @@ pub record Limits : Type 0 where
 
 -- units of a scale exist exactly if they make up the millionths and are an amount: nothing is rounded
 pub record UnitsAreExact : Type 0 where
-  pub exact : (scale : ℕ) (millionths units : ℤ) → (units_at scale millionths ≡ Some units) ↔ AreUnits scale millionths units
+  pub exact : (scale : ℕ) (millionths units : ℤ) → (units_at scale millionths ≡ Some units)
+      ↔ AreUnits scale millionths units
 
 -- what the text of an amount of units spells, and the text of whole units
 pub record TextsAreReadBack : Type 0 where
-  pub read_back : (scale : ℕ) (units : ℤ) → IsScale scale → IsAmount units → decimal_spelled (scaled_text scale units) ≡ Some (units *ℤ pos (unit_at scale))
+  pub read_back : (scale : ℕ) (units : ℤ) → IsScale scale → IsAmount units
+      → decimal_spelled (scaled_text scale units) ≡ Some (units *ℤ pos (unit_at scale))
   pub whole : (units : ℤ) → scaled_text 0 units ≡ signed_decimal units
 
 -- the parts of a text of units are digits, and spell them
@@ -42,10 +44,13 @@ pub record PartsAreDigits : Type 0 where
   pub whole : (scale n : ℕ) → n ≤ unsigned_abs MAX_AMOUNT → is_numeral (decimal (before_last scale n)) ≡ true
   pub behind : (scale n : ℕ) → all_ascii_digits (last_digits scale n) ≡ true
   pub as_many : (scale n : ℕ) → length (last_digits scale n) ≡ scale
-  pub spelled : (scale n : ℕ) → IsScale scale → n ≤ unsigned_abs MAX_AMOUNT → millionths_of (decimal (before_last scale n)) (last_digits scale n) ≡ Some (pos (n * unit_at scale))
+  pub spelled : (scale n : ℕ) → IsScale scale → n ≤ unsigned_abs MAX_AMOUNT
+      → millionths_of (decimal (before_last scale n)) (last_digits scale n) ≡ Some (pos (n * unit_at scale))
 
 -- what digits spell, and a text that spells an amount
 pub record DigitsAreSpelled : Type 0 where
   pub whole : (digits : List ℕ) → is_numeral digits ≡ true → decimal_spelled digits ≡ millionths_of digits []
-  pub pointed : (front behind : List ℕ) → is_numeral front ≡ true → is_numeral behind ≡ true → decimal_spelled (front ++ 46 ∷ behind) ≡ millionths_of front behind
-  pub amounts : (text : List ℕ) (amount : ℤ) → spelled text ≡ Some amount → decimal_spelled text ≡ Some (amount *ℤ pos (unit_at 0))
+  pub pointed : (front behind : List ℕ) → is_numeral front ≡ true → is_numeral behind ≡ true
+      → decimal_spelled (front ++ 46 ∷ behind) ≡ millionths_of front behind
+  pub amounts : (text : List ℕ) (amount : ℤ) → spelled text ≡ Some amount
+      → decimal_spelled text ≡ Some (amount *ℤ pos (unit_at 0))

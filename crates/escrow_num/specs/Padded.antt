@@ -10,10 +10,17 @@ padded name = name ++ replicate (MAX_LEN - length name) 0
 
 -- a place is 36 bytes long
 length-padded : (name : List ℕ) → length name ≤ MAX_LEN → length (padded name) ≡ MAX_LEN
-length-padded name short = omega (arith, length-append name (replicate (MAX_LEN - length name) 0), length-replicate {A = ℕ} (MAX_LEN - length name) 0)
+length-padded name short =
+    omega (
+      arith,
+      length-append name (replicate (MAX_LEN - length name) 0),
+      length-replicate {A = ℕ}
+          (MAX_LEN - length name) 0,
+    )
 
 -- the length of the name that a place holds
-pub length-held : (bytes : List ℕ) (len : ℕ) → len ≤ MAX_LEN → length (take len bytes) ≤ MAX_LEN → bytes ≡ padded (take len bytes) → length (take len bytes) ≡ len
+pub length-held : (bytes : List ℕ) (len : ℕ) → len ≤ MAX_LEN → length (take len bytes) ≤ MAX_LEN
+    → bytes ≡ padded (take len bytes) → length (take len bytes) ≡ len
 length-held bytes len small short whole =
     let long : length bytes ≡ MAX_LEN = ap length whole ∙ length-padded (take len bytes) short in
     omega (arith, length-take len bytes)

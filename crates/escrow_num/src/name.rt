@@ -34,14 +34,17 @@ impl Model for Name {
 
     ghost view = { λ n. take n.len n.bytes };
 
-    ghost invariant = { λ n. IsName (take n.len n.bytes) × (n.len ≤ MAX_LEN) × (n.bytes ≡ padded (take n.len n.bytes)) };
+    ghost invariant = { λ n. IsName (take n.len n.bytes) × (n.len ≤ MAX_LEN)
+        × (n.bytes ≡ padded (take n.len n.bytes)) };
 
     ghost inverse = { λ name. record { bytes = padded name; len = length name } };
 
     ghost use Rattle.std.proofs.Common.{sym, ap₂};
     ghost use Rattle.escrow_num.specs.Padded.{length-held};
 
-    ghost inverse_ok = { λ n h. ap₂ (λ (b : List ℕ) (l : ℕ). record { bytes = b; len = l }) (sym h.2) (length-held n.bytes n.len h.1 h.0.short h.2) };
+    ghost inverse_ok = { λ n h.
+        ap₂ (λ (b : List ℕ) (l : ℕ). record { bytes = b; len = l }) (sym h.2)
+        (length-held n.bytes n.len h.1 h.0.short h.2) };
 }
 
 impl Name {

@@ -22,7 +22,8 @@ output_of served = flat_map (λ l. l.wrote) served
 abbrev pub AreServed : ℕ → List Sitting → List Served → List Sitting → Type 0
 AreServed sessions sittings [] new = new ≡ sittings
 AreServed sessions sittings (l ∷ served) new =
-    (mid : List Sitting) × Reads (length sittings) sessions l.bytes l.reading × ServesLine sittings l.reading l.wrote mid × AreServed sessions mid served new
+    (mid : List Sitting) × Reads (length sittings) sessions l.bytes l.reading
+    × ServesLine sittings l.reading l.wrote mid × AreServed sessions mid served new
 
 -- A SCRIPT LINE BY LINE: the lines that were served from the databases' states, and the states after them
 abbrev pub ServesEach : ℕ → List State → List Served → List State → Type 0

@@ -21,52 +21,64 @@ pub record IsReached (catalog : List TableDef) (rows : List Row) (s : Protocol) 
   pub events : List Event
   pub run : IsRun (installed catalog rows) events s
 
--- the rows with the journal are the first rows after each change of each committed transaction, once, in the order of the
--- commits
+-- the rows with the journal are the first rows after each change of each committed transaction, once, in the order of
+-- the commits
 abbrev pub EachChangeOnce : Type 0
-EachChangeOnce = (catalog : List TableDef) (rows : List Row) (s : Protocol) → IsReached catalog rows s → amounts_in s.now ≡ all_done rows s.now.history
+EachChangeOnce =
+    (catalog : List TableDef) (rows : List Row) (s : Protocol) → IsReached catalog rows s
+    → amounts_in s.now ≡ all_done rows s.now.history
 
 -- they are the rows of the last owner's server, with those of its open reservations that PostgreSQL has committed
 abbrev pub ServerKnows : Type 0
 ServerKnows = (catalog : List TableDef) (rows : List Row) (s : Protocol) → IsReached catalog rows s
-    → amounts_in s.now ≡ applied s.now.server.rows (filter (λ r. is_committed (transaction_of s.now r)) s.now.server.reservations)
+    → amounts_in s.now ≡ applied s.now.server.rows
+    (filter (λ r. is_committed (transaction_of s.now r)) s.now.server.reservations)
 
 -- a transaction that may still commit, or a hold, is of the last owner: its notes are all that the server holds of its
 -- session
 abbrev pub WhatIsOpenIsReserved : Type 0
-WhatIsOpenIsReserved = (catalog : List TableDef) (rows : List Row) (s : Protocol) → IsReached catalog rows s → (epoch session : ℕ) (notes : List Reservation)
+WhatIsOpenIsReserved =
+    (catalog : List TableDef) (rows : List Row) (s : Protocol) → IsReached catalog rows s
+    → (epoch session : ℕ) (notes : List Reservation)
     → (s.now.transactions epoch session ≡ running notes) ⊎ (s.now.transactions epoch session ≡ holding notes)
     → (epoch ≡ s.now.served) × (own session s.now.server.reservations ≡ notes)
 
 -- the state of the last owner's server is a valid one of the machine: each choice of what is open is legal
 abbrev pub ServerIsValid : Type 0
-ServerIsValid = (catalog : List TableDef) (rows : List Row) (s : Protocol) → IsReached catalog rows s → IsValid s.now.server
+ServerIsValid =
+    (catalog : List TableDef) (rows : List Row) (s : Protocol) → IsReached catalog rows s → IsValid s.now.server
 
--- no check refuses what is open, if a server with the same rows reserves it again in this order. It doesn't matter which
--- of those before it are reserved
+-- no check refuses what is open, if a server with the same rows reserves it again in this order. It doesn't matter
+-- which of those before it are reserved
 abbrev pub WhatIsOpenIsGrantedAgain : Type 0
 WhatIsOpenIsGrantedAgain = (catalog : List TableDef) (rows : List Row) (s : Protocol) → IsReached catalog rows s
-    → (first rest : List Reservation) (r : Reservation) (kept : Reservation → Bool) → s.now.server.reservations ≡ first ++ r ∷ rest
+    → (first rest : List Reservation) (r : Reservation) (kept : Reservation → Bool)
+    → s.now.server.reservations ≡ first ++ r ∷ rest
     → violation_of (record s.now.server { reservations = filter kept first }) r ≡ None
 
 -- what is open of the chosen sessions, and may still commit
 abbrev pub may_go : (ℕ → Bool) → Moment → List Reservation
 may_go chosen m = filter (λ r. chosen r.session && may_commit (transaction_of m r)) m.server.reservations
 
--- whichever of the transactions and holds that may still commit are committed, the rows with the journal meet all checks
+-- whichever of the transactions and holds that may still commit are committed, the rows with the journal meet all
+-- checks
 abbrev pub NoCheckBreaks : Type 0
-NoCheckBreaks = (catalog : List TableDef) (rows : List Row) (s : Protocol) → IsReached catalog rows s → (chosen : ℕ → Bool)
+NoCheckBreaks =
+    (catalog : List TableDef) (rows : List Row) (s : Protocol) → IsReached catalog rows s → (chosen : ℕ → Bool)
     → AllByRecursion (MeetsChecks catalog) (applied (amounts_in s.now) (may_go chosen s.now))
 
 -- the rows by themselves meet all checks, and do after a fold of any key: no check refuses it
 abbrev pub NoFoldIsRefused : Type 0
-NoFoldIsRefused = (catalog : List TableDef) (rows : List Row) (s : Protocol) → IsReached catalog rows s → (key : RowName)
+NoFoldIsRefused =
+    (catalog : List TableDef) (rows : List Row) (s : Protocol) → IsReached catalog rows s → (key : RowName)
     → AllByRecursion (MeetsChecks catalog) s.now.rows × AllByRecursion (MeetsChecks catalog) (after_fold key s.now).rows
 
--- a load of a key folds it and reads its row. If nothing of the key is reserved, the row is what the last owner's server
--- has. So it may come later than `serve`, when the key is first asked for; and a row may be given up, and loaded again
+-- a load of a key folds it and reads its row. If nothing of the key is reserved, the row is what the last owner's
+-- server has. So it may come later than `serve`, when the key is first asked for; and a row may be given up, and loaded
+-- again
 abbrev pub LoadsMayComeLater : Type 0
-LoadsMayComeLater = (catalog : List TableDef) (rows : List Row) (s : Protocol) → IsReached catalog rows s → (key : RowName)
+LoadsMayComeLater =
+    (catalog : List TableDef) (rows : List Row) (s : Protocol) → IsReached catalog rows s → (key : RowName)
     → AllByRecursion (λ r. same_row key r.row ≡ false) s.now.server.reservations
     → row_named (after_fold key s.now).rows key ≡ row_named s.now.server.rows key
 
@@ -74,7 +86,8 @@ LoadsMayComeLater = (catalog : List TableDef) (rows : List Row) (s : Protocol) �
 
 -- without any one of the rules there is a run after which a row breaks a check, by itself or with the journal
 abbrev pub EachRuleIsNeeded : Type 0
-EachRuleIsNeeded = (rule : Rule) → (catalog : List TableDef) × (rows : List Row) × (steps : List (Option Event)) × (s : Protocol)
+EachRuleIsNeeded =
+    (rule : Rule) → (catalog : List TableDef) × (rows : List Row) × (steps : List (Option Event)) × (s : Protocol)
     × IsValid (opened catalog rows) × IsWrongRun rule (installed catalog rows) steps s
     × ¬ (AllByRecursion (MeetsChecks catalog) s.now.rows × AllByRecursion (MeetsChecks catalog) (amounts_in s.now))
 
@@ -105,4 +118,5 @@ kind (crash lost left older stay) = 19
 abbrev pub EachEventComes : Type 0
 EachEventComes = (catalog : List TableDef) × (rows : List Row) × (events : List Event) × (s : Protocol)
     × IsValid (opened catalog rows) × IsRun (installed catalog rows) events s
-    × AllByRecursion (λ n. list_any (λ event. kind event == n) events ≡ true) (0 ∷ 1 ∷ 2 ∷ 3 ∷ 4 ∷ 5 ∷ 6 ∷ 7 ∷ 8 ∷ 9 ∷ 10 ∷ 11 ∷ 12 ∷ 13 ∷ 14 ∷ 15 ∷ 16 ∷ 17 ∷ 18 ∷ 19 ∷ [])
+    × AllByRecursion (λ n. list_any (λ event. kind event == n) events ≡ true)
+    (0 ∷ 1 ∷ 2 ∷ 3 ∷ 4 ∷ 5 ∷ 6 ∷ 7 ∷ 8 ∷ 9 ∷ 10 ∷ 11 ∷ 12 ∷ 13 ∷ 14 ∷ 15 ∷ 16 ∷ 17 ∷ 18 ∷ 19 ∷ [])

@@ -45,7 +45,8 @@ abbrev pub all_done : List Row → List Change → List Row
 all_done rows [] = rows
 all_done rows (change ∷ changes) = all_done (done change rows) changes
 
--- What PostgreSQL's snapshots show at a moment, and what has become of the transactions. A crash leaves an earlier moment.
+-- What PostgreSQL's snapshots show at a moment, and what has become of the transactions. A crash leaves an earlier
+-- moment.
 pub record Moment : Type 0 where
   -- the rows of the tables, D
   pub rows : List Row
@@ -57,8 +58,9 @@ pub record Moment : Type 0 where
   pub transactions : ℕ → ℕ → Transaction
   -- the epoch of the last owner that has loaded the rows, or 0
   pub served : ℕ
-  -- what this owner's server holds: the rows V, and the open reservations O. It has all rows here; a real one loads each
-  -- when it is first asked for. An owner that has died is one that does nothing more: then nobody reads what it held
+  -- what this owner's server holds: the rows V, and the open reservations O. It has all rows here; a real one loads
+  -- each when it is first asked for. An owner that has died is one that does nothing more: then nobody reads what it
+  -- held
   pub server : State
 
 -- the protocol
@@ -72,7 +74,15 @@ pub record Protocol : Type 0 where
 -- PostgreSQL with these tables and rows. Nobody has reserved anything
 abbrev pub installed : List TableDef → List Row → Protocol
 installed catalog rows = record {
-  now = record { rows = rows; journal = []; history = []; transactions = λ epoch session. idle; served = 0; server = opened catalog rows };
+  now =
+      record {
+        rows = rows;
+        journal = [];
+        history = [];
+        transactions = λ epoch session. idle;
+        served = 0;
+        server = opened catalog rows;
+      };
   before = [];
   epoch = 0;
 }

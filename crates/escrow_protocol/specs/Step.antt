@@ -57,8 +57,8 @@ pub data Event : Type 0 where
   -- Somebody folds the row of a key. It comes here when the fold has its snapshot: what commits after that stays in the
   -- journal. A transaction that folds itself commits here at that moment too. If a crash loses a fold, it hasn't come.
   fold : (key : RowName) → Event
-  -- A client's transaction commits that has inserted a row, or deleted the row of a key. Nobody holds the row: its owner's
-  -- server hasn't loaded it, or has given it up. What the server would load changes with it.
+  -- A client's transaction commits that has inserted a row, or deleted the row of a key. Nobody holds the row: its
+  -- owner's server hasn't loaded it, or has given it up. What the server would load changes with it.
   insert : (text : InsertText) → (row : Row) → Event
   delete : (key : RowName) → Event
   -- A new owner sets its epoch. The one before has died, was stopped, or doesn't know it yet.
@@ -67,9 +67,10 @@ pub data Event : Type 0 where
   serve : (ends : List (ℕ × End)) → Event
   -- An owner that has lost its place grants what it likes.
   stale : (epoch : ℕ) → (session : ℕ) → (r : Reservation) → (notes : List Reservation) → Event
-  -- PostgreSQL crashes, or stops, or a standby is promoted. These moments are lost; this one is left, and those before it.
-  -- Of the transactions that ran at that moment some stay, and may commit: they were prepared, or their commit record is
-  -- written.
+  -- PostgreSQL crashes, or stops, or a standby is promoted. These moments are lost; this one is left, and those before
+  -- it.
+  -- Of the transactions that ran at that moment some stay, and may commit: they were prepared, or their commit record
+  -- is written.
   crash : (lost : List Moment) → (left : Moment) → (older : List Moment) → (stay : ℕ → ℕ → Bool) → Event
 
 -- THE RULES, with their numbers in gateway/proxy/PROTOCOL.md
@@ -106,15 +107,18 @@ abbrev pub May : Protocol → Event → Type 0
 -- The owner alone grants, and its server, which is the machine, decides. All that was granted before is noted (rule 5).
 May s (grant session text r notes) =
     IsServing s × IsSession session × (noted (s.now.transactions s.epoch session) ≡ Some notes)
-    × (reservation_of s.now.server session text ≡ Some r) × ((step s.now.server session (statement.Update text)).0 ≡ reply.Reserved r.id)
+    × (reservation_of s.now.server session text ≡ Some r)
+    × ((step s.now.server session (statement.Update text)).0 ≡ reply.Reserved r.id)
 -- What is written was granted, and is written once (rules 17 to 19).
 May s (write epoch session notes r) = s.now.transactions epoch session ≡ noting notes r
--- A note is tested behind its write (rule 7). It passes if PostgreSQL shows its epoch, which is somebody's (rules 8 and 10).
-May s (pass epoch session notes r) = (s.now.transactions epoch session ≡ written notes r) × (epoch ≡ s.epoch) × (0 < s.epoch)
+-- A note is tested behind its write (rule 7). It passes if PostgreSQL shows its epoch, which is somebody's (rules 8 and
+-- 10).
+May s (pass epoch session notes r) =
+    (s.now.transactions epoch session ≡ written notes r) × (epoch ≡ s.epoch) × (0 < s.epoch)
 May s (mark session name) = IsServing s × IsSession session
--- The server then holds of the session just what is alive (rules 5 and 6). Here it goes back at once. In fact it goes back
--- later, but before its next grant to the session, and before it is told of the end. Until then it holds more than here, so
--- it grants no more than here: see `back_refuses_nothing` of the machine's laws.
+-- The server then holds of the session just what is alive (rules 5 and 6). Here it goes back at once. In fact it goes
+-- back later, but before its next grant to the session, and before it is told of the end. Until then it holds more than
+-- here, so it grants no more than here: see `back_refuses_nothing` of the machine's laws.
 May s (back session name notes gone) =
     IsServing s × IsSession session × (s.now.transactions s.epoch session ≡ running (notes ++ gone))
     × (own session (step s.now.server session (statement.RollbackTo name)).1.reservations ≡ notes)
@@ -135,13 +139,15 @@ May s (drop session) = IsServing s × (s.now.transactions s.epoch session ≡ ab
 -- Anybody may fold, at any moment (rules 12 and 13). That it takes all of a key, `after_fold` says (rule 11).
 May s (fold key) = Unit {0}
 May s (insert text row) = IsAccepted s.now.server.catalog s.now.rows text row
--- A row is deleted only if nobody holds it, so that nothing of it is open, and the journal has nothing of it (rules 14 and
--- 16). A change of its key deletes and inserts.
-May s (delete key) = (is_reserved s.now.server key ≡ false) × AllByRecursion (λ r. same_row r.row key ≡ false) s.now.journal
+-- A row is deleted only if nobody holds it, so that nothing of it is open, and the journal has nothing of it (rules 14
+-- and 16). A change of its key deletes and inserts.
+May s (delete key) =
+    (is_reserved s.now.server key ≡ false) × AllByRecursion (λ r. same_row r.row key ≡ false) s.now.journal
 May s (take_over epoch) = IsFresh s epoch
 -- A new owner loads after it has set its epoch, and only when no transaction holds the lock of a journal (rule 9).
 May s (serve ends) =
-    (0 < s.epoch) × ¬ (s.now.served ≡ s.epoch) × ((epoch session : ℕ) → holds_lock (s.now.transactions epoch session) ≡ false)
+    (0 < s.epoch) × ¬ (s.now.served ≡ s.epoch)
+    × ((epoch session : ℕ) → holds_lock (s.now.transactions epoch session) ≡ false)
     × ((session : ℕ) → end_of ends session ≡ ending (s.now.transactions s.now.served session))
 May s (stale epoch session r notes) = ¬ (epoch ≡ s.epoch) × (noted (s.now.transactions epoch session) ≡ Some notes)
 May s (crash lost left older stay) = lost ++ left ∷ older ≡ s.now ∷ s.before
@@ -155,7 +161,8 @@ with_one epoch session new m = record m { transactions = with_transaction epoch 
 -- the session of the owner's server goes back to a mark, and its transaction has these notes left
 abbrev pub gone_back_to : ℕ → List ℕ → List Reservation → Protocol → Moment
 gone_back_to session name notes s =
-    record (with_one s.epoch session (left_with notes) s.now) { server = (step s.now.server session (statement.RollbackTo name)).1 }
+    record (with_one s.epoch session (left_with notes) s.now)
+    { server = (step s.now.server session (statement.RollbackTo name)).1 }
 
 -- these changes are committed
 abbrev pub with_changes : List Reservation → Moment → Moment
@@ -212,10 +219,12 @@ still m s = record s { now = m }
 -- the state after an event
 abbrev pub after : Protocol → Event → Protocol
 after s (grant session text r notes) =
-    still (record (with_one s.epoch session (noting notes r) s.now) { server = (step s.now.server session (statement.Update text)).1 }) s
+    still (record (with_one s.epoch session (noting notes r) s.now)
+    { server = (step s.now.server session (statement.Update text)).1 }) s
 after s (write epoch session notes r) = still (with_one epoch session (written notes r) s.now) s
 after s (pass epoch session notes r) = still (with_one epoch session (running (notes ++ r ∷ [])) s.now) s
-after s (mark session name) = still (record s.now { server = (step s.now.server session (statement.Savepoint name)).1 }) s
+after s (mark session name) =
+    still (record s.now { server = (step s.now.server session (statement.Savepoint name)).1 }) s
 after s (back session name notes gone) = still (gone_back_to session name notes s) s
 after s (fail session name notes r) = still (gone_back_to session name notes s) s
 after s (commit epoch session notes) = later (with_one epoch session (committed notes) (with_changes notes s.now)) s
@@ -223,8 +232,10 @@ after s (abort epoch session) = still (with_one epoch session aborted s.now) s
 after s (hold epoch session notes) = later (with_one epoch session (holding notes) s.now) s
 after s (take epoch session notes) = later (with_one epoch session (committed notes) (with_changes notes s.now)) s
 after s (release epoch session notes) = later (with_one epoch session aborted s.now) s
-after s (tell session notes) = still (record (with_one s.epoch session idle s.now) { server = after_end s.now.server session end.Commit }) s
-after s (drop session) = still (record (with_one s.epoch session idle s.now) { server = after_end s.now.server session end.Rollback }) s
+after s (tell session notes) =
+    still (record (with_one s.epoch session idle s.now) { server = after_end s.now.server session end.Commit }) s
+after s (drop session) =
+    still (record (with_one s.epoch session idle s.now) { server = after_end s.now.server session end.Rollback }) s
 after s (fold key) = later (after_fold key s.now) s
 after s (insert text row) = later (with_inserted row s.now) s
 after s (delete key) = later (with_deleted key s.now) s
@@ -233,14 +244,19 @@ after s (take_over epoch) = record s { epoch = epoch }
 -- number anew.
 after s (serve ends) = still (record s.now {
   transactions = λ epoch session.
-      if epoch == s.epoch then held_again (s.now.transactions s.now.served session) else without_hold (s.now.transactions epoch session);
+      if epoch == s.epoch then held_again (s.now.transactions s.now.served session)
+      else without_hold (s.now.transactions epoch session);
   served = s.epoch;
   server = record (settled ends s.now.server) { rows = amounts_in s.now };
 }) s
 after s (stale epoch session r notes) = still (with_one epoch session (noting notes r) s.now) s
 -- The epoch is lost, and the server's state is that of the moment that is left: nobody reads it.
 after s (crash lost left older stay) = record s {
-  now = record left { transactions = λ epoch session. crashed (stay epoch session) (left.transactions epoch session) (s.now.transactions epoch session) };
+  now =
+      record left {
+        transactions = λ epoch session.
+            crashed (stay epoch session) (left.transactions epoch session) (s.now.transactions epoch session);
+      };
   before = older;
   epoch = 0;
 }

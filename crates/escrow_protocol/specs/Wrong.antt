@@ -47,10 +47,11 @@ Slip postgres_first s new =
 Slip dropped_when_dead s new =
     (session : ℕ) × (notes : List Reservation) × IsServing s × (s.now.transactions s.epoch session ≡ running notes)
     × (new ≡ still (record s.now { server = after_end s.now.server session end.Rollback }) s)
--- COMMIT is sent behind a note, and done. The connection is lost before the note is answered, and the transaction counts
--- as rolled back
+-- COMMIT is sent behind a note, and done. The connection is lost before the note is answered, and the transaction
+-- counts as rolled back
 Slip answered_first s new =
-    (epoch session : ℕ) × (notes : List Reservation) × (r : Reservation) × (s.now.transactions epoch session ≡ written notes r)
+    (epoch session : ℕ) × (notes : List Reservation) × (r : Reservation)
+    × (s.now.transactions epoch session ≡ written notes r)
     × (new ≡ later (with_one epoch session aborted (with_changes (notes ++ r ∷ []) s.now)) s)
 -- a transaction takes back its last notes, and the server isn't asked to go back
 Slip gone_back s new =
@@ -58,30 +59,38 @@ Slip gone_back s new =
     × (new ≡ still (with_one s.epoch session (left_with notes) s.now) s)
 -- a note passes whatever its epoch
 Slip epoch_tested s new =
-    (epoch session : ℕ) × (notes : List Reservation) × (r : Reservation) × (s.now.transactions epoch session ≡ written notes r)
+    (epoch session : ℕ) × (notes : List Reservation) × (r : Reservation)
+    × (s.now.transactions epoch session ≡ written notes r)
     × (new ≡ still (with_one epoch session (running (notes ++ r ∷ [])) s.now) s)
 -- a note that was tested when it was granted is written later
 Slip written_first s new =
-    (epoch session : ℕ) × (notes : List Reservation) × (r : Reservation) × (s.now.transactions epoch session ≡ noting notes r)
+    (epoch session : ℕ) × (notes : List Reservation) × (r : Reservation)
+    × (s.now.transactions epoch session ≡ noting notes r)
     × (new ≡ still (with_one epoch session (running (notes ++ r ∷ [])) s.now) s)
 -- a crash loses commits, the epoch stays, and the owner doesn't notice it
 Slip epoch_lost s new =
     (lost : List Moment) × (left : Moment) × (older : List Moment) × (lost ++ left ∷ older ≡ s.now ∷ s.before)
-    × (new ≡ record s { now = record s.now { rows = left.rows; journal = left.journal; history = left.history }; before = older })
+    × (new ≡ record s {
+      now = record s.now { rows = left.rows; journal = left.journal; history = left.history };
+      before = older;
+    })
 -- it loads at once, or has looked for holders before it has set its epoch
 Slip fenced s new =
     (ends : List (ℕ × End)) × (0 < s.epoch) × ¬ (s.now.served ≡ s.epoch)
-    × ((session : ℕ) → end_of ends session ≡ ending (s.now.transactions s.now.served session)) × (new ≡ after s (serve ends))
+    × ((session : ℕ) → end_of ends session ≡ ending (s.now.transactions s.now.served session))
+    × (new ≡ after s (serve ends))
 -- a fold takes one row of a journal
 Slip folded_whole s new =
     (first : List Reservation) × (r : Reservation) × (rest : List Reservation) × (s.now.journal ≡ first ++ r ∷ rest)
     × (new ≡ later (record s.now { rows = applied s.now.rows (r ∷ []); journal = first ++ rest }) s)
 -- a row is deleted, and the server goes on with it
 Slip kept_if_held s new =
-    (key : RowName) × (new ≡ later (record s.now { rows = without_row key s.now.rows; history = s.now.history ++ deleted key ∷ [] }) s)
+    (key : RowName) × (new ≡ later
+    (record s.now { rows = without_row key s.now.rows; history = s.now.history ++ deleted key ∷ [] }) s)
 -- a transaction sends a note again
 Slip noted_once s new =
-    (epoch session : ℕ) × (notes : List Reservation) × (r : Reservation) × (s.now.transactions epoch session ≡ running (notes ++ r ∷ []))
+    (epoch session : ℕ) × (notes : List Reservation) × (r : Reservation)
+    × (s.now.transactions epoch session ≡ running (notes ++ r ∷ []))
     × (new ≡ still (with_one epoch session (running (notes ++ r ∷ r ∷ [])) s.now) s)
 -- it loads the rows, and forgets the holds, which stand in PostgreSQL
 Slip held_again_first s new =

@@ -10,7 +10,8 @@ use Rattle.escrow_schema.specs.Print.{canonical}
 
 -- a text asks for a CREATE TABLE that defines the table
 abbrev pub ReadsBack : TableDef → List ℕ → Type 0
-ReadsBack table written = (text : CreateText) × Asks written (requests.Statement (statements.Create text)) × (definition_of text ≡ Some table)
+ReadsBack table written =
+    (text : CreateText) × Asks written (requests.Statement (statements.Create text)) × (definition_of text ≡ Some table)
 
 -- the canonical text of each table is read back
 abbrev pub TablesAreReadBack : Type 0

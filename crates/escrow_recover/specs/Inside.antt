@@ -53,7 +53,8 @@ pub record AreRowsIn (s : StoredTable) (rows : List Row) (db : Database) : Type 
   pub sound : AllByRecursion (IsSoundRow s.table) rows
   pub row_order : IsAscending row_before rows
   pub few : length rows ≤ MAX_ROWS
-  pub cells_are : IsPermutation (flat_map (keyed_cells s.table) rows) (map (λ c. column c 1 ∷ column c 2 ∷ column c 3 ∷ []) (filter (is_in (Int s.id)) (cells db)))
+  pub cells_are : IsPermutation (flat_map (keyed_cells s.table) rows)
+      (map (λ c. column c 1 ∷ column c 2 ∷ column c 3 ∷ []) (filter (is_in (Int s.id)) (cells db)))
 
 -- a table's number of rows in a store is the one that is counted
 abbrev pub HasRows : Database → CountedTable → Type 0

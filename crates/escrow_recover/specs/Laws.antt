@@ -20,5 +20,6 @@ OneIsHeld =
 -- format
 abbrev pub HeldIsAStore : Type 0
 HeldIsAStore =
-    (catalog : List TableDef) (rows : List Row) (db : Database) → Holds catalog rows db → AllByRecursion (MeetsChecks catalog) rows → AllByRecursion (HasHeldValues catalog) rows
+    (catalog : List TableDef) (rows : List Row) (db : Database) → Holds catalog rows db
+    → AllByRecursion (MeetsChecks catalog) rows → AllByRecursion (HasHeldValues catalog) rows
     → ¬ (IsNoStore db) × ¬ (HasOtherFormat db)

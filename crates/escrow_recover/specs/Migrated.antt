@@ -29,7 +29,8 @@ pub record HasUnknownFormat (db : Database) : Type 0 where
 
 -- the disk holds, in the known format, the tables and rows that a database held in the previous format
 abbrev pub IsMigrated : Database → Trees → Type 0
-IsMigrated old trees = (catalog : List TableDef) × (rows : List Row) × HoldsInFormat1 catalog rows old × AreHeld catalog rows trees
+IsMigrated old trees =
+    (catalog : List TableDef) × (rows : List Row) × HoldsInFormat1 catalog rows old × AreHeld catalog rows trees
 
 -- the disk has what opening a store made of it, if it made anything
 abbrev pub IsMade : Database → Trees → Type 0

@@ -17,7 +17,8 @@ use Rattle.escrow_schema.specs.declared.counted_table.CountedTable.{CountedTable
 
 -- each value of a row is one that a column can hold: an amount, or a text in UTF-8
 abbrev pub HasHeldValues : List TableDef → Row → Type 0
-HasHeldValues catalog row = IsSomeAnd (table_named catalog row.name.table) (λ table. AllByRecursion CanBeHeld (values_of table row))
+HasHeldValues catalog row =
+    IsSomeAnd (table_named catalog row.name.table) (λ table. AllByRecursion CanBeHeld (values_of table row))
 
 -- A STORE in the format of a number: the image of tables and rows. Each row meets the checks of its table, and has
 -- values that can be held

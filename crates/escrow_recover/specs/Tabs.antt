@@ -17,7 +17,9 @@ use Rattle.escrow_rows.specs.Image.{tab_row}
 
 -- a text asks for a CREATE TABLE that defines a table
 abbrev pub Defines : List ℕ → TableDef → Type 0
-Defines text table = (create : CreateText) × Asks text (requests.Statement (statements.Create create)) × (definition_of create ≡ Some table)
+Defines text table =
+    (create : CreateText) × Asks text (requests.Statement (statements.Create create))
+    × (definition_of create ≡ Some table)
 
 -- a row with a number, a name and a text
 abbrev pub tab_with : ℤ → List ℕ → List ℕ → SqlRow

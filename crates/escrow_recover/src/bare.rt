@@ -24,12 +24,18 @@ pub(crate) fn is_bare(schema: &Schema) -> bool
 pub(crate) fn make_store<S: Alter>(connection: &mut Connection<S>) -> Result<(), Failure>
     requires outside { connection.old.in_transaction ≡ false }
     requires bare { (state S.Store connection.old).now.schema ≡ no_schema }
-    ensures image { HasCleanDisk (state S.Store connection.new) → OnOk result (IsTrue (state S.Store connection.new).is_open × IsImage [] [] (state S.Store connection.new).now) }
-    ensures kept { HasCleanDisk (state S.Store connection.new) → IsTrue (state S.Store connection.new).is_open → OnErr result ((state S.Store connection.new).now ≡ (state S.Store connection.old).now) }
+    ensures image { HasCleanDisk (state S.Store connection.new)
+        → OnOk result (IsTrue (state S.Store connection.new).is_open
+        × IsImage [] [] (state S.Store connection.new).now) }
+    ensures kept { HasCleanDisk (state S.Store connection.new) → IsTrue (state S.Store connection.new).is_open
+        → OnErr result ((state S.Store connection.new).now ≡ (state S.Store connection.old).now) }
     ensures mode { connection.new.in_transaction ≡ false }
     ensures usable { IsUsable (state S.Store connection.new) → IsUsable (state S.Store connection.old) }
-    ensures durable { HasCleanDisk (state S.Store connection.new) → OnOk result ((trees : Trees) → (state S.Store connection.new).may_leave trees → trees ≡ (state S.Store connection.new).now.trees) }
-    ensures crash { Survives (state S.Store connection.old) (state S.Store connection.new) (IsFounded (state S.Store connection.old).now) }
+    ensures durable { HasCleanDisk (state S.Store connection.new)
+        → OnOk result ((trees : Trees) → (state S.Store connection.new).may_leave trees
+        → trees ≡ (state S.Store connection.new).now.trees) }
+    ensures crash { Survives (state S.Store connection.old) (state S.Store connection.new)
+        (IsFounded (state S.Store connection.old).now) }
 {
     create(connection)
 }

@@ -21,8 +21,11 @@ pub(crate) fn check_cells<S: Alter>(
     store: &mut RowStore<S>,
     tables: &[StoredTable],
 ) -> Result<(), PartFault>
-    ensures found { HasCleanDisk (state S.Store store.new) → OnOk result (IsTrue (state S.Store store.new).is_open × (HasTables (state S.Store store.old).now.schema → AreOfTables tables.now (state S.Store store.old).now)) }
-    ensures foreign { IsUsable (state S.Store store.new) → result ≡ Err Foreign → HasTables (state S.Store store.old).now.schema → AreOfTables tables.now (state S.Store store.old).now → ⊥ }
+    ensures found { HasCleanDisk (state S.Store store.new)
+        → OnOk result (IsTrue (state S.Store store.new).is_open
+        × (HasTables (state S.Store store.old).now.schema → AreOfTables tables.now (state S.Store store.old).now)) }
+    ensures foreign { IsUsable (state S.Store store.new) → result ≡ Err Foreign
+        → HasTables (state S.Store store.old).now.schema → AreOfTables tables.now (state S.Store store.old).now → ⊥ }
     ensures only_reads { OnlyReads (state S.Store store.old) (state S.Store store.new) }
 {
     let mut owners = Owners {
@@ -52,7 +55,9 @@ impl<'a> Sink for Owners<'a> {
     ghost use Rattle.sqlite_value.specs.Order.{column};
     ghost use Rattle.escrow_recover.specs.Inside.{IsNumberOf};
 
-    ghost has_taken = { λ first owners rows. (owners.tables ≡ first.tables) × (IsTrue first.known → (IsTrue owners.known ↔ AllByRecursion (λ row. IsNumberOf first.tables.now (column row 0)) rows)) };
+    ghost has_taken = { λ first owners rows. (owners.tables ≡ first.tables)
+        × (IsTrue first.known → (IsTrue owners.known
+        ↔ AllByRecursion (λ row. IsNumberOf first.tables.now (column row 0)) rows)) };
 
     fn take(&mut self, row: &Row) -> Result<(), Failure> {
         let id: i64 = match row.get(0) {

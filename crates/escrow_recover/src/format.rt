@@ -25,10 +25,15 @@ pub(crate) fn check_format<S: Alter>(
     store: &mut RowStore<S>,
     known: Format,
 ) -> Result<(), Unverified>
-    ensures known { HasCleanDisk (state S.Store store.new) → OnOk result (IsTrue (state S.Store store.new).is_open × IsKnown (format_number known) (state S.Store store.old).now) }
-    ensures foreign { IsUsable (state S.Store store.new) → result ≡ Err unverified.ForeignStore → IsKnown (format_number known) (state S.Store store.old).now → ⊥ }
-    ensures other { IsUsable (state S.Store store.new) → result ≡ Err unverified.ForeignStore → HasFormatBut (format_number known) (state S.Store store.old).now → ⊥ }
-    ensures version { IsUsable (state S.Store store.new) → result ≡ Err unverified.OtherFormat → HasFormatBut (format_number known) (state S.Store store.old).now }
+    ensures known { HasCleanDisk (state S.Store store.new)
+        → OnOk result (IsTrue (state S.Store store.new).is_open
+        × IsKnown (format_number known) (state S.Store store.old).now) }
+    ensures foreign { IsUsable (state S.Store store.new) → result ≡ Err unverified.ForeignStore
+        → IsKnown (format_number known) (state S.Store store.old).now → ⊥ }
+    ensures other { IsUsable (state S.Store store.new) → result ≡ Err unverified.ForeignStore
+        → HasFormatBut (format_number known) (state S.Store store.old).now → ⊥ }
+    ensures version { IsUsable (state S.Store store.new) → result ≡ Err unverified.OtherFormat
+        → HasFormatBut (format_number known) (state S.Store store.old).now }
     ensures only_reads { OnlyReads (state S.Store store.old) (state S.Store store.new) }
 {
     if !store.is_store() {
@@ -44,10 +49,18 @@ pub(crate) fn check_format<S: Alter>(
 
 /// Tests whether META has the one row of the known format.
 fn check_meta<S: Alter>(store: &mut RowStore<S>, known: Format) -> Result<(), Unverified>
-    ensures known { HasCleanDisk (state S.Store store.new) → OnOk result (IsTrue (state S.Store store.new).is_open × (HasTables (state S.Store store.old).now.schema → metas (state S.Store store.old).now ≡ format (format_number known))) }
-    ensures foreign { IsUsable (state S.Store store.new) → result ≡ Err unverified.ForeignStore → HasTables (state S.Store store.old).now.schema → metas (state S.Store store.old).now ≡ format (format_number known) → ⊥ }
-    ensures other { IsUsable (state S.Store store.new) → result ≡ Err unverified.ForeignStore → HasFormatBut (format_number known) (state S.Store store.old).now → ⊥ }
-    ensures version { IsUsable (state S.Store store.new) → result ≡ Err unverified.OtherFormat → IsStoreSchema (state S.Store store.old).now.schema → HasFormatBut (format_number known) (state S.Store store.old).now }
+    ensures known { HasCleanDisk (state S.Store store.new)
+        → OnOk result (IsTrue (state S.Store store.new).is_open
+        × (HasTables (state S.Store store.old).now.schema
+        → metas (state S.Store store.old).now ≡ format (format_number known))) }
+    ensures foreign { IsUsable (state S.Store store.new) → result ≡ Err unverified.ForeignStore
+        → HasTables (state S.Store store.old).now.schema
+        → metas (state S.Store store.old).now ≡ format (format_number known) → ⊥ }
+    ensures other { IsUsable (state S.Store store.new) → result ≡ Err unverified.ForeignStore
+        → HasFormatBut (format_number known) (state S.Store store.old).now → ⊥ }
+    ensures version { IsUsable (state S.Store store.new) → result ≡ Err unverified.OtherFormat
+        → IsStoreSchema (state S.Store store.old).now.schema
+        → HasFormatBut (format_number known) (state S.Store store.old).now }
     ensures only_reads { OnlyReads (state S.Store store.old) (state S.Store store.new) }
 {
     let mut meta = Meta::Empty;

@@ -31,10 +31,16 @@ pub(crate) fn verify_format_1<S: Alter>(
     store: &mut RowStore<S>,
 ) -> Result<Catalog, Unverified>
     ensures listed { IfOk result IsListed }
-    ensures store { HasCleanDisk (state S.Store store.new) → IfOk result (λ catalog. IsTrue (state S.Store store.new).is_open × (rows : List Row) × IsFormat1Store (stored_of catalog) rows (state S.Store store.old).now × AllByRecursion (HasCount rows) catalog) }
-    ensures foreign { IsUsable (state S.Store store.new) → result ≡ Err ForeignStore → IsNoFormat1Store (state S.Store store.old).now }
-    ensures version { IsUsable (state S.Store store.new) → result ≡ Err OtherFormat → HasFormatBut FORMAT_1 (state S.Store store.old).now }
-    ensures other { IsUsable (state S.Store store.new) → result ≡ Err ForeignStore → HasFormatBut FORMAT_1 (state S.Store store.old).now → ⊥ }
+    ensures store { HasCleanDisk (state S.Store store.new)
+        → IfOk result (λ catalog. IsTrue (state S.Store store.new).is_open × (rows : List Row)
+        × IsFormat1Store (stored_of catalog) rows (state S.Store store.old).now
+        × AllByRecursion (HasCount rows) catalog) }
+    ensures foreign { IsUsable (state S.Store store.new) → result ≡ Err ForeignStore
+        → IsNoFormat1Store (state S.Store store.old).now }
+    ensures version { IsUsable (state S.Store store.new) → result ≡ Err OtherFormat
+        → HasFormatBut FORMAT_1 (state S.Store store.old).now }
+    ensures other { IsUsable (state S.Store store.new) → result ≡ Err ForeignStore
+        → HasFormatBut FORMAT_1 (state S.Store store.old).now → ⊥ }
     ensures only_reads { OnlyReads (state S.Store store.old) (state S.Store store.new) }
 {
     match verify_format(alloc, store, Format::V1) {

@@ -38,32 +38,58 @@ pub fn migrate<S: Alter>(
 ) -> Result<Opened<S>, StoreFault<S>>
     // The store has these tables, with their numbers of rows, and each row meets its checks. It is
     // what was there, or an empty one.
-    ensures store { IfOk result (λ o. HasCleanDisk (state S.Store o.store) → IsOpened (state S.Store o.store) o.catalog) }
-    ensures found { IfOk result (λ o. IsUsable (state S.Store o.store) → (state S.Store connection).now.schema ≢ no_schema → o.migrated ≡ false → (state S.Store o.store).now ≡ (state S.Store connection).now) }
-    ensures migrated { IfOk result (λ o. HasCleanDisk (state S.Store o.store) → IsTrue o.migrated → IsMigratedFrom (state S.Store connection).now (state S.Store o.store) o.catalog) }
-    ensures flag { IfOk result (λ o. HasCleanDisk (state S.Store o.store) → (IsTrue o.migrated ↔ HasFormat FORMAT_1 (state S.Store connection).now)) }
-    ensures made { IfOk result (λ o. (state S.Store connection).now.schema ≡ no_schema → (o.catalog ≡ []) × (HasCleanDisk (state S.Store o.store) → Stores (state S.Store o.store) [] [])) }
+    ensures store { IfOk result
+        (λ o. HasCleanDisk (state S.Store o.store) → IsOpened (state S.Store o.store) o.catalog) }
+    ensures found { IfOk result
+        (λ o. IsUsable (state S.Store o.store) → (state S.Store connection).now.schema ≢ no_schema → o.migrated ≡ false
+        → (state S.Store o.store).now ≡ (state S.Store connection).now) }
+    ensures migrated { IfOk result
+        (λ o. HasCleanDisk (state S.Store o.store) → IsTrue o.migrated
+        → IsMigratedFrom (state S.Store connection).now (state S.Store o.store) o.catalog) }
+    ensures flag { IfOk result
+        (λ o. HasCleanDisk (state S.Store o.store)
+        → (IsTrue o.migrated ↔ HasFormat FORMAT_1 (state S.Store connection).now)) }
+    ensures made { IfOk result
+        (λ o. (state S.Store connection).now.schema ≡ no_schema → (o.catalog ≡ [])
+        × (HasCleanDisk (state S.Store o.store) → Stores (state S.Store o.store) [] [])) }
 
     // Why a store isn't opened: each reason is returned exactly if it is true.
-    ensures bare { (state S.Store connection).now.schema ≡ no_schema → IfErr result (λ f. (why : Why) × (f.cause ≡ refusal_for why)) }
-    ensures foreign { IfErr result (λ f. IsUsable (state S.Store f.connection) → f.cause ≡ Refusal.ForeignStore → IsNoStore (state S.Store connection).now × IsNoFormat1Store (state S.Store connection).now) }
-    ensures version { IfErr result (λ f. IsUsable (state S.Store f.connection) → f.cause ≡ Refusal.UnknownVersion → HasUnknownFormat (state S.Store connection).now) }
-    ensures other { IfErr result (λ f. IsUsable (state S.Store f.connection) → f.cause ≡ Refusal.ForeignStore → HasUnknownFormat (state S.Store connection).now → ⊥) }
+    ensures bare { (state S.Store connection).now.schema ≡ no_schema
+        → IfErr result (λ f. (why : Why) × (f.cause ≡ refusal_for why)) }
+    ensures foreign { IfErr result
+        (λ f. IsUsable (state S.Store f.connection) → f.cause ≡ Refusal.ForeignStore
+        → IsNoStore (state S.Store connection).now × IsNoFormat1Store (state S.Store connection).now) }
+    ensures version { IfErr result
+        (λ f. IsUsable (state S.Store f.connection) → f.cause ≡ Refusal.UnknownVersion
+        → HasUnknownFormat (state S.Store connection).now) }
+    ensures other { IfErr result
+        (λ f. IsUsable (state S.Store f.connection) → f.cause ≡ Refusal.ForeignStore
+        → HasUnknownFormat (state S.Store connection).now → ⊥) }
     ensures only { IfErr result (λ f. IsOpening f.cause) }
 
     // The connection is then as it was.
-    ensures kept { IfErr result (λ f. IsUsable (state S.Store f.connection) → (state S.Store f.connection).now ≡ (state S.Store connection).now) }
+    ensures kept { IfErr result
+        (λ f. IsUsable (state S.Store f.connection)
+        → (state S.Store f.connection).now ≡ (state S.Store connection).now) }
     ensures outside { connection.in_transaction ≡ false → IfErr result (λ f. f.connection.in_transaction ≡ false) }
 
     // If the store is usable, it was before. After a crash the disk has what it might have had
     // before; an empty store, if there was no object; or the tables and rows of a store in the
     // previous format.
     ensures usable_opened { IfOk result (λ o. IsUsable (state S.Store o.store) → IsUsable (state S.Store connection)) }
-    ensures usable_refused { IfErr result (λ f. IsUsable (state S.Store f.connection) → IsUsable (state S.Store connection)) }
-    ensures durable_made { IfOk result (λ o. HasCleanDisk (state S.Store o.store) → (state S.Store connection).now.schema ≡ no_schema → (trees : Trees) → (state S.Store o.store).may_leave trees → trees ≡ (state S.Store o.store).now.trees) }
-    ensures durable_migrated { IfOk result (λ o. HasCleanDisk (state S.Store o.store) → IsTrue o.migrated → (trees : Trees) → (state S.Store o.store).may_leave trees → trees ≡ (state S.Store o.store).now.trees) }
-    ensures crash_opened { IfOk result (λ o. Survives (state S.Store connection) (state S.Store o.store) (IsMade (state S.Store connection).now)) }
-    ensures crash_refused { IfErr result (λ f. Survives (state S.Store connection) (state S.Store f.connection) (IsMade (state S.Store connection).now)) }
+    ensures usable_refused { IfErr result
+        (λ f. IsUsable (state S.Store f.connection) → IsUsable (state S.Store connection)) }
+    ensures durable_made { IfOk result
+        (λ o. HasCleanDisk (state S.Store o.store) → (state S.Store connection).now.schema ≡ no_schema → (trees : Trees)
+        → (state S.Store o.store).may_leave trees → trees ≡ (state S.Store o.store).now.trees) }
+    ensures durable_migrated { IfOk result
+        (λ o. HasCleanDisk (state S.Store o.store) → IsTrue o.migrated → (trees : Trees)
+        → (state S.Store o.store).may_leave trees → trees ≡ (state S.Store o.store).now.trees) }
+    ensures crash_opened { IfOk result
+        (λ o. Survives (state S.Store connection) (state S.Store o.store) (IsMade (state S.Store connection).now)) }
+    ensures crash_refused { IfErr result
+        (λ f. Survives (state S.Store connection) (state S.Store f.connection)
+        (IsMade (state S.Store connection).now)) }
 {
     if !connection.is_autocommit() {
         return Err(StoreFault {
@@ -85,21 +111,42 @@ fn migrate_whole<S: Alter>(
 ) -> Result<Opened<S>, StoreFault<S>>
     requires outside { connection.in_transaction ≡ false }
     requires there { (state S.Store connection).now.schema ≢ no_schema }
-    ensures store { IfOk result (λ o. HasCleanDisk (state S.Store o.store) → IsOpened (state S.Store o.store) o.catalog) }
-    ensures found { IfOk result (λ o. IsUsable (state S.Store o.store) → o.migrated ≡ false → (state S.Store o.store).now ≡ (state S.Store connection).now) }
-    ensures migrated { IfOk result (λ o. HasCleanDisk (state S.Store o.store) → IsTrue o.migrated → IsMigratedFrom (state S.Store connection).now (state S.Store o.store) o.catalog) }
-    ensures flag { IfOk result (λ o. HasCleanDisk (state S.Store o.store) → (IsTrue o.migrated ↔ HasFormat FORMAT_1 (state S.Store connection).now)) }
-    ensures foreign { IfErr result (λ f. IsUsable (state S.Store f.connection) → f.cause ≡ Refusal.ForeignStore → IsNoStore (state S.Store connection).now × IsNoFormat1Store (state S.Store connection).now) }
-    ensures version { IfErr result (λ f. IsUsable (state S.Store f.connection) → f.cause ≡ Refusal.UnknownVersion → HasUnknownFormat (state S.Store connection).now) }
-    ensures other { IfErr result (λ f. IsUsable (state S.Store f.connection) → f.cause ≡ Refusal.ForeignStore → HasUnknownFormat (state S.Store connection).now → ⊥) }
+    ensures store { IfOk result
+        (λ o. HasCleanDisk (state S.Store o.store) → IsOpened (state S.Store o.store) o.catalog) }
+    ensures found { IfOk result
+        (λ o. IsUsable (state S.Store o.store) → o.migrated ≡ false
+        → (state S.Store o.store).now ≡ (state S.Store connection).now) }
+    ensures migrated { IfOk result
+        (λ o. HasCleanDisk (state S.Store o.store) → IsTrue o.migrated
+        → IsMigratedFrom (state S.Store connection).now (state S.Store o.store) o.catalog) }
+    ensures flag { IfOk result
+        (λ o. HasCleanDisk (state S.Store o.store)
+        → (IsTrue o.migrated ↔ HasFormat FORMAT_1 (state S.Store connection).now)) }
+    ensures foreign { IfErr result
+        (λ f. IsUsable (state S.Store f.connection) → f.cause ≡ Refusal.ForeignStore
+        → IsNoStore (state S.Store connection).now × IsNoFormat1Store (state S.Store connection).now) }
+    ensures version { IfErr result
+        (λ f. IsUsable (state S.Store f.connection) → f.cause ≡ Refusal.UnknownVersion
+        → HasUnknownFormat (state S.Store connection).now) }
+    ensures other { IfErr result
+        (λ f. IsUsable (state S.Store f.connection) → f.cause ≡ Refusal.ForeignStore
+        → HasUnknownFormat (state S.Store connection).now → ⊥) }
     ensures only { IfErr result (λ f. IsOpening f.cause) }
-    ensures kept { IfErr result (λ f. IsUsable (state S.Store f.connection) → (state S.Store f.connection).now ≡ (state S.Store connection).now) }
+    ensures kept { IfErr result
+        (λ f. IsUsable (state S.Store f.connection)
+        → (state S.Store f.connection).now ≡ (state S.Store connection).now) }
     ensures outside { IfErr result (λ f. f.connection.in_transaction ≡ false) }
     ensures usable_opened { IfOk result (λ o. IsUsable (state S.Store o.store) → IsUsable (state S.Store connection)) }
-    ensures usable_refused { IfErr result (λ f. IsUsable (state S.Store f.connection) → IsUsable (state S.Store connection)) }
-    ensures durable_migrated { IfOk result (λ o. HasCleanDisk (state S.Store o.store) → IsTrue o.migrated → (trees : Trees) → (state S.Store o.store).may_leave trees → trees ≡ (state S.Store o.store).now.trees) }
-    ensures crash_opened { IfOk result (λ o. Survives (state S.Store connection) (state S.Store o.store) (IsMade (state S.Store connection).now)) }
-    ensures crash_refused { IfErr result (λ f. Survives (state S.Store connection) (state S.Store f.connection) (IsMade (state S.Store connection).now)) }
+    ensures usable_refused { IfErr result
+        (λ f. IsUsable (state S.Store f.connection) → IsUsable (state S.Store connection)) }
+    ensures durable_migrated { IfOk result
+        (λ o. HasCleanDisk (state S.Store o.store) → IsTrue o.migrated → (trees : Trees)
+        → (state S.Store o.store).may_leave trees → trees ≡ (state S.Store o.store).now.trees) }
+    ensures crash_opened { IfOk result
+        (λ o. Survives (state S.Store connection) (state S.Store o.store) (IsMade (state S.Store connection).now)) }
+    ensures crash_refused { IfErr result
+        (λ f. Survives (state S.Store connection) (state S.Store f.connection)
+        (IsMade (state S.Store connection).now)) }
 {
     match read_any(alloc, RowStore::over(connection)) {
         Ok(opened) => Ok(opened),
@@ -113,19 +160,37 @@ fn read_any<S: Alter>(
     alloc: Global,
     store: RowStore<S>,
 ) -> Result<Opened<S>, (RowStore<S>, Unverified)>
-    ensures store { IfOk result (λ o. HasCleanDisk (state S.Store o.store) → IsOpened (state S.Store o.store) o.catalog) }
-    ensures found { IfOk result (λ o. IsUsable (state S.Store o.store) → o.migrated ≡ false → (state S.Store o.store).now ≡ (state S.Store store).now) }
-    ensures migrated { IfOk result (λ o. HasCleanDisk (state S.Store o.store) → IsTrue o.migrated → IsMigratedFrom (state S.Store store).now (state S.Store o.store) o.catalog) }
-    ensures flag { IfOk result (λ o. HasCleanDisk (state S.Store o.store) → (IsTrue o.migrated ↔ HasFormat FORMAT_1 (state S.Store store).now)) }
-    ensures foreign { IfErr result (λ f. IsUsable (state S.Store f.0) → f.1 ≡ unverified.ForeignStore → IsNoStore (state S.Store store).now × IsNoFormat1Store (state S.Store store).now) }
-    ensures version { IfErr result (λ f. IsUsable (state S.Store f.0) → f.1 ≡ unverified.OtherFormat → HasUnknownFormat (state S.Store store).now) }
-    ensures other { IfErr result (λ f. IsUsable (state S.Store f.0) → f.1 ≡ unverified.ForeignStore → HasUnknownFormat (state S.Store store).now → ⊥) }
-    ensures kept { IfErr result (λ f. IsUsable (state S.Store f.0) → (state S.Store f.0).now ≡ (state S.Store store).now) }
+    ensures store { IfOk result
+        (λ o. HasCleanDisk (state S.Store o.store) → IsOpened (state S.Store o.store) o.catalog) }
+    ensures found { IfOk result
+        (λ o. IsUsable (state S.Store o.store) → o.migrated ≡ false
+        → (state S.Store o.store).now ≡ (state S.Store store).now) }
+    ensures migrated { IfOk result
+        (λ o. HasCleanDisk (state S.Store o.store) → IsTrue o.migrated
+        → IsMigratedFrom (state S.Store store).now (state S.Store o.store) o.catalog) }
+    ensures flag { IfOk result
+        (λ o. HasCleanDisk (state S.Store o.store)
+        → (IsTrue o.migrated ↔ HasFormat FORMAT_1 (state S.Store store).now)) }
+    ensures foreign { IfErr result
+        (λ f. IsUsable (state S.Store f.0) → f.1 ≡ unverified.ForeignStore → IsNoStore (state S.Store store).now
+        × IsNoFormat1Store (state S.Store store).now) }
+    ensures version { IfErr result
+        (λ f. IsUsable (state S.Store f.0) → f.1 ≡ unverified.OtherFormat
+        → HasUnknownFormat (state S.Store store).now) }
+    ensures other { IfErr result
+        (λ f. IsUsable (state S.Store f.0) → f.1 ≡ unverified.ForeignStore → HasUnknownFormat (state S.Store store).now
+        → ⊥) }
+    ensures kept { IfErr result
+        (λ f. IsUsable (state S.Store f.0) → (state S.Store f.0).now ≡ (state S.Store store).now) }
     ensures usable_opened { IfOk result (λ o. IsUsable (state S.Store o.store) → IsUsable (state S.Store store)) }
     ensures usable_refused { IfErr result (λ f. IsUsable (state S.Store f.0) → IsUsable (state S.Store store)) }
-    ensures durable_migrated { IfOk result (λ o. HasCleanDisk (state S.Store o.store) → IsTrue o.migrated → (trees : Trees) → (state S.Store o.store).may_leave trees → trees ≡ (state S.Store o.store).now.trees) }
-    ensures crash_opened { IfOk result (λ o. Survives (state S.Store store) (state S.Store o.store) (IsMade (state S.Store store).now)) }
-    ensures crash_refused { IfErr result (λ f. Survives (state S.Store store) (state S.Store f.0) (IsMade (state S.Store store).now)) }
+    ensures durable_migrated { IfOk result
+        (λ o. HasCleanDisk (state S.Store o.store) → IsTrue o.migrated → (trees : Trees)
+        → (state S.Store o.store).may_leave trees → trees ≡ (state S.Store o.store).now.trees) }
+    ensures crash_opened { IfOk result
+        (λ o. Survives (state S.Store store) (state S.Store o.store) (IsMade (state S.Store store).now)) }
+    ensures crash_refused { IfErr result
+        (λ f. Survives (state S.Store store) (state S.Store f.0) (IsMade (state S.Store store).now)) }
 {
     match read_store(alloc, store) {
         Ok(opened) => Ok(opened),
@@ -148,16 +213,28 @@ fn read_before<S: Alter>(
     mut store: RowStore<S>,
 ) -> Result<(RowStore<S>, Catalog), (RowStore<S>, Unverified)>
     ensures store { IfOk result (λ o. HasCleanDisk (state S.Store o.0) → IsOpened (state S.Store o.0) o.1) }
-    ensures migrated { IfOk result (λ o. HasCleanDisk (state S.Store o.0) → IsMigratedFrom (state S.Store store).now (state S.Store o.0) o.1) }
-    ensures foreign { IfErr result (λ f. IsUsable (state S.Store f.0) → f.1 ≡ unverified.ForeignStore → IsNoFormat1Store (state S.Store store).now) }
-    ensures version { IfErr result (λ f. IsUsable (state S.Store f.0) → f.1 ≡ unverified.OtherFormat → HasFormatBut FORMAT_1 (state S.Store store).now) }
-    ensures other { IfErr result (λ f. IsUsable (state S.Store f.0) → f.1 ≡ unverified.ForeignStore → HasFormatBut FORMAT_1 (state S.Store store).now → ⊥) }
-    ensures kept { IfErr result (λ f. IsUsable (state S.Store f.0) → (state S.Store f.0).now ≡ (state S.Store store).now) }
+    ensures migrated { IfOk result
+        (λ o. HasCleanDisk (state S.Store o.0) → IsMigratedFrom (state S.Store store).now (state S.Store o.0) o.1) }
+    ensures foreign { IfErr result
+        (λ f. IsUsable (state S.Store f.0) → f.1 ≡ unverified.ForeignStore
+        → IsNoFormat1Store (state S.Store store).now) }
+    ensures version { IfErr result
+        (λ f. IsUsable (state S.Store f.0) → f.1 ≡ unverified.OtherFormat
+        → HasFormatBut FORMAT_1 (state S.Store store).now) }
+    ensures other { IfErr result
+        (λ f. IsUsable (state S.Store f.0) → f.1 ≡ unverified.ForeignStore
+        → HasFormatBut FORMAT_1 (state S.Store store).now → ⊥) }
+    ensures kept { IfErr result
+        (λ f. IsUsable (state S.Store f.0) → (state S.Store f.0).now ≡ (state S.Store store).now) }
     ensures usable_opened { IfOk result (λ o. IsUsable (state S.Store o.0) → IsUsable (state S.Store store)) }
     ensures usable_refused { IfErr result (λ f. IsUsable (state S.Store f.0) → IsUsable (state S.Store store)) }
-    ensures durable { IfOk result (λ o. HasCleanDisk (state S.Store o.0) → (trees : Trees) → (state S.Store o.0).may_leave trees → trees ≡ (state S.Store o.0).now.trees) }
-    ensures crash_opened { IfOk result (λ o. Survives (state S.Store store) (state S.Store o.0) (WasMigrated (state S.Store store))) }
-    ensures crash_refused { IfErr result (λ f. Survives (state S.Store store) (state S.Store f.0) (WasMigrated (state S.Store store))) }
+    ensures durable { IfOk result
+        (λ o. HasCleanDisk (state S.Store o.0) → (trees : Trees) → (state S.Store o.0).may_leave trees
+        → trees ≡ (state S.Store o.0).now.trees) }
+    ensures crash_opened { IfOk result
+        (λ o. Survives (state S.Store store) (state S.Store o.0) (WasMigrated (state S.Store store))) }
+    ensures crash_refused { IfErr result
+        (λ f. Survives (state S.Store store) (state S.Store f.0) (WasMigrated (state S.Store store))) }
 {
     let catalog = match verify_format_1(alloc, &mut store) {
         Ok(catalog) => catalog,

@@ -55,29 +55,49 @@ pub fn open_store<S: Alter>(
 ) -> Result<Opened<S>, StoreFault<S>>
     // The store has these tables, with their numbers of rows, and each row meets its checks. It is
     // what was there, or an empty one.
-    ensures store { IfOk result (λ o. HasCleanDisk (state S.Store o.store) → IsOpened (state S.Store o.store) o.catalog) }
-    ensures found { IfOk result (λ o. IsUsable (state S.Store o.store) → (state S.Store connection).now.schema ≢ no_schema → (state S.Store o.store).now ≡ (state S.Store connection).now) }
-    ensures made { IfOk result (λ o. (state S.Store connection).now.schema ≡ no_schema → (o.catalog ≡ []) × (HasCleanDisk (state S.Store o.store) → Stores (state S.Store o.store) [] [])) }
+    ensures store { IfOk result
+        (λ o. HasCleanDisk (state S.Store o.store) → IsOpened (state S.Store o.store) o.catalog) }
+    ensures found { IfOk result
+        (λ o. IsUsable (state S.Store o.store) → (state S.Store connection).now.schema ≢ no_schema
+        → (state S.Store o.store).now ≡ (state S.Store connection).now) }
+    ensures made { IfOk result
+        (λ o. (state S.Store connection).now.schema ≡ no_schema → (o.catalog ≡ [])
+        × (HasCleanDisk (state S.Store o.store) → Stores (state S.Store o.store) [] [])) }
     ensures same { IfOk result (λ o. o.migrated ≡ false) }
 
     // Why a store isn't opened: each reason is returned exactly if it is true.
-    ensures bare { (state S.Store connection).now.schema ≡ no_schema → IfErr result (λ f. (why : Why) × (f.cause ≡ refusal_for why)) }
-    ensures foreign { IfErr result (λ f. IsUsable (state S.Store f.connection) → f.cause ≡ Refusal.ForeignStore → IsNoStore (state S.Store connection).now) }
-    ensures version { IfErr result (λ f. IsUsable (state S.Store f.connection) → f.cause ≡ Refusal.UnknownVersion → HasOtherFormat (state S.Store connection).now) }
-    ensures other { IfErr result (λ f. IsUsable (state S.Store f.connection) → f.cause ≡ Refusal.ForeignStore → HasOtherFormat (state S.Store connection).now → ⊥) }
+    ensures bare { (state S.Store connection).now.schema ≡ no_schema
+        → IfErr result (λ f. (why : Why) × (f.cause ≡ refusal_for why)) }
+    ensures foreign { IfErr result
+        (λ f. IsUsable (state S.Store f.connection) → f.cause ≡ Refusal.ForeignStore
+        → IsNoStore (state S.Store connection).now) }
+    ensures version { IfErr result
+        (λ f. IsUsable (state S.Store f.connection) → f.cause ≡ Refusal.UnknownVersion
+        → HasOtherFormat (state S.Store connection).now) }
+    ensures other { IfErr result
+        (λ f. IsUsable (state S.Store f.connection) → f.cause ≡ Refusal.ForeignStore
+        → HasOtherFormat (state S.Store connection).now → ⊥) }
     ensures only { IfErr result (λ f. IsOpening f.cause) }
 
     // The connection is then as it was.
-    ensures kept { IfErr result (λ f. IsUsable (state S.Store f.connection) → (state S.Store f.connection).now ≡ (state S.Store connection).now) }
+    ensures kept { IfErr result
+        (λ f. IsUsable (state S.Store f.connection)
+        → (state S.Store f.connection).now ≡ (state S.Store connection).now) }
     ensures outside { connection.in_transaction ≡ false → IfErr result (λ f. f.connection.in_transaction ≡ false) }
 
     // If the store is usable, it was before. After a crash the disk has what it might have had
     // before, or an empty store if there was no object.
     ensures usable_opened { IfOk result (λ o. IsUsable (state S.Store o.store) → IsUsable (state S.Store connection)) }
-    ensures usable_refused { IfErr result (λ f. IsUsable (state S.Store f.connection) → IsUsable (state S.Store connection)) }
-    ensures durable { IfOk result (λ o. HasCleanDisk (state S.Store o.store) → (state S.Store connection).now.schema ≡ no_schema → (trees : Trees) → (state S.Store o.store).may_leave trees → trees ≡ (state S.Store o.store).now.trees) }
-    ensures crash_opened { IfOk result (λ o. Survives (state S.Store connection) (state S.Store o.store) (IsFounded (state S.Store connection).now)) }
-    ensures crash_refused { IfErr result (λ f. Survives (state S.Store connection) (state S.Store f.connection) (IsFounded (state S.Store connection).now)) }
+    ensures usable_refused { IfErr result
+        (λ f. IsUsable (state S.Store f.connection) → IsUsable (state S.Store connection)) }
+    ensures durable { IfOk result
+        (λ o. HasCleanDisk (state S.Store o.store) → (state S.Store connection).now.schema ≡ no_schema → (trees : Trees)
+        → (state S.Store o.store).may_leave trees → trees ≡ (state S.Store o.store).now.trees) }
+    ensures crash_opened { IfOk result
+        (λ o. Survives (state S.Store connection) (state S.Store o.store) (IsFounded (state S.Store connection).now)) }
+    ensures crash_refused { IfErr result
+        (λ f. Survives (state S.Store connection) (state S.Store f.connection)
+        (IsFounded (state S.Store connection).now)) }
 {
     if !connection.is_autocommit() {
         return Err(StoreFault {
@@ -99,17 +119,27 @@ pub(crate) fn make_empty<S: Alter>(
 ) -> Result<Opened<S>, StoreFault<S>>
     requires outside { connection.in_transaction ≡ false }
     requires bare { (state S.Store connection).now.schema ≡ no_schema }
-    ensures store { IfOk result (λ o. HasCleanDisk (state S.Store o.store) → IsOpened (state S.Store o.store) o.catalog) }
-    ensures made { IfOk result (λ o. (o.catalog ≡ []) × (HasCleanDisk (state S.Store o.store) → Stores (state S.Store o.store) [] [])) }
+    ensures store { IfOk result
+        (λ o. HasCleanDisk (state S.Store o.store) → IsOpened (state S.Store o.store) o.catalog) }
+    ensures made { IfOk result
+        (λ o. (o.catalog ≡ []) × (HasCleanDisk (state S.Store o.store) → Stores (state S.Store o.store) [] [])) }
     ensures same { IfOk result (λ o. o.migrated ≡ false) }
     ensures cause { IfErr result (λ f. (why : Why) × (f.cause ≡ refusal_for why)) }
-    ensures kept { IfErr result (λ f. IsUsable (state S.Store f.connection) → (state S.Store f.connection).now ≡ (state S.Store connection).now) }
+    ensures kept { IfErr result
+        (λ f. IsUsable (state S.Store f.connection)
+        → (state S.Store f.connection).now ≡ (state S.Store connection).now) }
     ensures outside { IfErr result (λ f. f.connection.in_transaction ≡ false) }
     ensures usable_opened { IfOk result (λ o. IsUsable (state S.Store o.store) → IsUsable (state S.Store connection)) }
-    ensures usable_refused { IfErr result (λ f. IsUsable (state S.Store f.connection) → IsUsable (state S.Store connection)) }
-    ensures durable { IfOk result (λ o. HasCleanDisk (state S.Store o.store) → (trees : Trees) → (state S.Store o.store).may_leave trees → trees ≡ (state S.Store o.store).now.trees) }
-    ensures crash_opened { IfOk result (λ o. Survives (state S.Store connection) (state S.Store o.store) (IsFounded (state S.Store connection).now)) }
-    ensures crash_refused { IfErr result (λ f. Survives (state S.Store connection) (state S.Store f.connection) (IsFounded (state S.Store connection).now)) }
+    ensures usable_refused { IfErr result
+        (λ f. IsUsable (state S.Store f.connection) → IsUsable (state S.Store connection)) }
+    ensures durable { IfOk result
+        (λ o. HasCleanDisk (state S.Store o.store) → (trees : Trees) → (state S.Store o.store).may_leave trees
+        → trees ≡ (state S.Store o.store).now.trees) }
+    ensures crash_opened { IfOk result
+        (λ o. Survives (state S.Store connection) (state S.Store o.store) (IsFounded (state S.Store connection).now)) }
+    ensures crash_refused { IfErr result
+        (λ f. Survives (state S.Store connection) (state S.Store f.connection)
+        (IsFounded (state S.Store connection).now)) }
 {
     match make_store(&mut connection) {
         Ok(()) => Ok(Opened {
@@ -130,11 +160,18 @@ fn read_whole<S: Alter>(
     connection: Connection<S>,
 ) -> Result<Opened<S>, StoreFault<S>>
     requires { connection.in_transaction ≡ false }
-    ensures store { IfOk result (λ o. HasCleanDisk (state S.Store o.store) → IsOpened (state S.Store o.store) o.catalog) }
+    ensures store { IfOk result
+        (λ o. HasCleanDisk (state S.Store o.store) → IsOpened (state S.Store o.store) o.catalog) }
     ensures same { IfOk result (λ o. o.migrated ≡ false) }
-    ensures foreign { IfErr result (λ f. IsUsable (state S.Store f.connection) → f.cause ≡ Refusal.ForeignStore → IsNoStore (state S.Store connection).now) }
-    ensures version { IfErr result (λ f. IsUsable (state S.Store f.connection) → f.cause ≡ Refusal.UnknownVersion → HasOtherFormat (state S.Store connection).now) }
-    ensures other { IfErr result (λ f. IsUsable (state S.Store f.connection) → f.cause ≡ Refusal.ForeignStore → HasOtherFormat (state S.Store connection).now → ⊥) }
+    ensures foreign { IfErr result
+        (λ f. IsUsable (state S.Store f.connection) → f.cause ≡ Refusal.ForeignStore
+        → IsNoStore (state S.Store connection).now) }
+    ensures version { IfErr result
+        (λ f. IsUsable (state S.Store f.connection) → f.cause ≡ Refusal.UnknownVersion
+        → HasOtherFormat (state S.Store connection).now) }
+    ensures other { IfErr result
+        (λ f. IsUsable (state S.Store f.connection) → f.cause ≡ Refusal.ForeignStore
+        → HasOtherFormat (state S.Store connection).now → ⊥) }
     ensures only { IfErr result (λ f. IsOpening f.cause) }
     ensures outside { IfErr result (λ f. f.connection.in_transaction ≡ false) }
     ensures only_reads { IfOk result (λ o. OnlyReads (state S.Store connection) (state S.Store o.store)) }
@@ -165,11 +202,16 @@ pub(crate) fn read_store<S: Alter>(
     alloc: Global,
     mut store: RowStore<S>,
 ) -> Result<Opened<S>, (RowStore<S>, Unverified)>
-    ensures store { IfOk result (λ o. HasCleanDisk (state S.Store o.store) → IsOpened (state S.Store o.store) o.catalog) }
+    ensures store { IfOk result
+        (λ o. HasCleanDisk (state S.Store o.store) → IsOpened (state S.Store o.store) o.catalog) }
     ensures same { IfOk result (λ o. o.migrated ≡ false) }
-    ensures foreign { IfErr result (λ f. IsUsable (state S.Store f.0) → f.1 ≡ unverified.ForeignStore → IsNoStore (state S.Store store).now) }
-    ensures version { IfErr result (λ f. IsUsable (state S.Store f.0) → f.1 ≡ unverified.OtherFormat → HasOtherFormat (state S.Store store).now) }
-    ensures other { IfErr result (λ f. IsUsable (state S.Store f.0) → f.1 ≡ unverified.ForeignStore → HasOtherFormat (state S.Store store).now → ⊥) }
+    ensures foreign { IfErr result
+        (λ f. IsUsable (state S.Store f.0) → f.1 ≡ unverified.ForeignStore → IsNoStore (state S.Store store).now) }
+    ensures version { IfErr result
+        (λ f. IsUsable (state S.Store f.0) → f.1 ≡ unverified.OtherFormat → HasOtherFormat (state S.Store store).now) }
+    ensures other { IfErr result
+        (λ f. IsUsable (state S.Store f.0) → f.1 ≡ unverified.ForeignStore → HasOtherFormat (state S.Store store).now
+        → ⊥) }
     ensures only_reads { IfOk result (λ o. OnlyReads (state S.Store store) (state S.Store o.store)) }
     ensures only_reads_refused { IfErr result (λ f. OnlyReads (state S.Store store) (state S.Store f.0)) }
 {

@@ -30,8 +30,12 @@ pub(crate) fn count_rows<S: Alter>(
     table: &StoredTable,
 ) -> Result<usize, PartFault>
     requires { IsTable table.now.table }
-    ensures found { HasCleanDisk (state S.Store store.new) → IfOk result (λ n. IsTrue (state S.Store store.new).is_open × (IsStore (state S.Store store.old).now → (rows : List Row) × AreRowsIn table.now rows (state S.Store store.old).now × (n ≡ length rows))) }
-    ensures foreign { IsUsable (state S.Store store.new) → result ≡ Err Foreign → IsStore (state S.Store store.old).now → (rows : List Row) → AreRowsIn table.now rows (state S.Store store.old).now → ⊥ }
+    ensures found { HasCleanDisk (state S.Store store.new)
+        → IfOk result (λ n. IsTrue (state S.Store store.new).is_open
+        × (IsStore (state S.Store store.old).now → (rows : List Row)
+        × AreRowsIn table.now rows (state S.Store store.old).now × (n ≡ length rows))) }
+    ensures foreign { IsUsable (state S.Store store.new) → result ≡ Err Foreign → IsStore (state S.Store store.old).now
+        → (rows : List Row) → AreRowsIn table.now rows (state S.Store store.old).now → ⊥ }
     ensures only_reads { OnlyReads (state S.Store store.old) (state S.Store store.new) }
 {
     let counter = RowCounter {

@@ -28,8 +28,11 @@ pub(crate) fn read_tables<S: Alter>(
     store: &mut RowStore<S>,
 ) -> Result<Vec<StoredTable>, PartFault>
     ensures tables { IfOk result (λ tables. AreTables tables.items × IsCatalog (map (λ s. s.table) tables.items)) }
-    ensures found { HasCleanDisk (state S.Store store.new) → IfOk result (λ tables. IsTrue (state S.Store store.new).is_open × (IsStore (state S.Store store.old).now → AreTablesIn tables.items (state S.Store store.old).now)) }
-    ensures foreign { IsUsable (state S.Store store.new) → result ≡ Err Foreign → IsStore (state S.Store store.old).now → (tables : List Stored) → AreTablesIn tables (state S.Store store.old).now → ⊥ }
+    ensures found { HasCleanDisk (state S.Store store.new)
+        → IfOk result (λ tables. IsTrue (state S.Store store.new).is_open
+        × (IsStore (state S.Store store.old).now → AreTablesIn tables.items (state S.Store store.old).now)) }
+    ensures foreign { IsUsable (state S.Store store.new) → result ≡ Err Foreign → IsStore (state S.Store store.old).now
+        → (tables : List Stored) → AreTablesIn tables (state S.Store store.old).now → ⊥ }
     ensures only_reads { OnlyReads (state S.Store store.old) (state S.Store store.new) }
 {
     let rows = store.tabs()?;
@@ -40,7 +43,8 @@ pub(crate) fn read_tables<S: Alter>(
 fn tables_of(alloc: Global, rows: &[Row]) -> Result<Vec<StoredTable>, PartFault>
     ensures tables { IfOk result (λ tables. AreTables tables.items × IsCatalog (map (λ s. s.table) tables.items)) }
     ensures rows { IfOk result (λ tables. IsPermutation (map tab_row tables.items) rows.now) }
-    ensures foreign { result ≡ Err Foreign → (tables : List Stored) → AreTables tables → IsPermutation (map tab_row tables) rows.now → ⊥ }
+    ensures foreign { result ≡ Err Foreign → (tables : List Stored) → AreTables tables
+        → IsPermutation (map tab_row tables) rows.now → ⊥ }
 {
     if Catalog::MAX_TABLES < rows.len() {
         return Err(PartFault::Foreign);
@@ -68,7 +72,8 @@ fn each_table(alloc: Global, rows: &[Row]) -> Result<Vec<StoredTable>, PartFault
 
 /// Adds the table of a row of TAB.
 fn push_table(alloc: Global, tables: &mut Vec<StoredTable>, row: &Row) -> Result<(), PartFault>
-    ensures added { OnOk result ((s : Stored) × CanStand s × (row.now ≡ tab_row s) × (tables.new.items ≡ tables.old.items ++ s ∷ [])) }
+    ensures added { OnOk result ((s : Stored) × CanStand s × (row.now ≡ tab_row s)
+        × (tables.new.items ≡ tables.old.items ++ s ∷ [])) }
     ensures foreign { result ≡ Err Foreign → IsTab row.now → ⊥ }
 {
     let table = table_of(alloc, row)?;

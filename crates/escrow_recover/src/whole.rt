@@ -38,9 +38,12 @@ use std::alloc::Global;
 pub fn verify<S: Alter>(alloc: Global, store: &mut RowStore<S>) -> Result<Catalog, Refusal>
     ensures listed { IfOk result IsListed }
     ensures store { HasCleanDisk (state S.Store store.new) → IfOk result (IsOpened (state S.Store store.new)) }
-    ensures foreign { IsUsable (state S.Store store.new) → result ≡ Err Refusal.ForeignStore → IsNoStore (state S.Store store.old).now }
-    ensures version { IsUsable (state S.Store store.new) → result ≡ Err Refusal.UnknownVersion → HasOtherFormat (state S.Store store.old).now }
-    ensures other { IsUsable (state S.Store store.new) → result ≡ Err Refusal.ForeignStore → HasOtherFormat (state S.Store store.old).now → ⊥ }
+    ensures foreign { IsUsable (state S.Store store.new) → result ≡ Err Refusal.ForeignStore
+        → IsNoStore (state S.Store store.old).now }
+    ensures version { IsUsable (state S.Store store.new) → result ≡ Err Refusal.UnknownVersion
+        → HasOtherFormat (state S.Store store.old).now }
+    ensures other { IsUsable (state S.Store store.new) → result ≡ Err Refusal.ForeignStore
+        → HasOtherFormat (state S.Store store.old).now → ⊥ }
     ensures only { IfErr result IsOpening }
     ensures only_reads { OnlyReads (state S.Store store.old) (state S.Store store.new) }
 {
@@ -58,10 +61,16 @@ pub(crate) fn verify_format<S: Alter>(
     known: Format,
 ) -> Result<Vec<CountedTable>, Unverified>
     ensures listed { IfOk result (λ tables. IsListed tables.items) }
-    ensures store { HasCleanDisk (state S.Store store.new) → IfOk result (λ tables. IsTrue (state S.Store store.new).is_open × (rows : List Row) × IsStoreIn (format_number known) (stored_of tables.items) rows (state S.Store store.old).now × AllByRecursion (HasCount rows) tables.items) }
-    ensures foreign { IsUsable (state S.Store store.new) → result ≡ Err unverified.ForeignStore → IsNoStoreIn (format_number known) (state S.Store store.old).now }
-    ensures version { IsUsable (state S.Store store.new) → result ≡ Err unverified.OtherFormat → HasFormatBut (format_number known) (state S.Store store.old).now }
-    ensures other { IsUsable (state S.Store store.new) → result ≡ Err unverified.ForeignStore → HasFormatBut (format_number known) (state S.Store store.old).now → ⊥ }
+    ensures store { HasCleanDisk (state S.Store store.new)
+        → IfOk result (λ tables. IsTrue (state S.Store store.new).is_open × (rows : List Row)
+        × IsStoreIn (format_number known) (stored_of tables.items) rows (state S.Store store.old).now
+        × AllByRecursion (HasCount rows) tables.items) }
+    ensures foreign { IsUsable (state S.Store store.new) → result ≡ Err unverified.ForeignStore
+        → IsNoStoreIn (format_number known) (state S.Store store.old).now }
+    ensures version { IsUsable (state S.Store store.new) → result ≡ Err unverified.OtherFormat
+        → HasFormatBut (format_number known) (state S.Store store.old).now }
+    ensures other { IsUsable (state S.Store store.new) → result ≡ Err unverified.ForeignStore
+        → HasFormatBut (format_number known) (state S.Store store.old).now → ⊥ }
     ensures only_reads { OnlyReads (state S.Store store.old) (state S.Store store.new) }
 {
     check_format(store, known)?;
@@ -78,8 +87,12 @@ fn count_all<S: Alter>(
 ) -> Result<Vec<CountedTable>, PartFault>
     requires { AllByRecursion (λ s. IsTable s.table) tables.items }
     ensures tables { IfOk result (λ counted. stored_of counted.items ≡ tables.items) }
-    ensures found { HasCleanDisk (state S.Store store.new) → IsTrue (state S.Store store.old).is_open → IfOk result (λ counted. IsTrue (state S.Store store.new).is_open × (IsStore (state S.Store store.old).now → AllByRecursion (HasRows (state S.Store store.old).now) counted.items)) }
-    ensures foreign { IsUsable (state S.Store store.new) → result ≡ Err Foreign → IsStore (state S.Store store.old).now → HaveRows (state S.Store store.old).now tables.items → ⊥ }
+    ensures found { HasCleanDisk (state S.Store store.new) → IsTrue (state S.Store store.old).is_open
+        → IfOk result (λ counted. IsTrue (state S.Store store.new).is_open
+        × (IsStore (state S.Store store.old).now
+        → AllByRecursion (HasRows (state S.Store store.old).now) counted.items)) }
+    ensures foreign { IsUsable (state S.Store store.new) → result ≡ Err Foreign → IsStore (state S.Store store.old).now
+        → HaveRows (state S.Store store.old).now tables.items → ⊥ }
     ensures only_reads { OnlyReads (state S.Store store.old) (state S.Store store.new) }
 {
     let mut counted = Vec::with_capacity(alloc, tables.len())?;

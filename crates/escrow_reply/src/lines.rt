@@ -105,7 +105,8 @@ fn push_row_lines(
     headings: &[Heading],
     rows: &[Seq<Value>],
 ) -> Result<(), AllocError>
-    ensures { OnOk result (lines.new.items ≡ lines.old.items ++ with_prefix prefix.now (map (row_text headings.now) rows.now)) }
+    ensures { OnOk result (lines.new.items ≡ lines.old.items
+        ++ with_prefix prefix.now (map (row_text headings.now) rows.now)) }
 {
     for row in rows {
         let values = row.as_slice();

@@ -77,7 +77,8 @@ fn push_answer(
     session: Session,
     reply: &Reply,
 ) -> Result<(), AllocError>
-    ensures text { OnOk result (lines.new.items ≡ lines.old.items ++ (prefix_of database.now session ++ reply_text reply.now ++ 10 ∷ [])) }
+    ensures text { OnOk result
+        (lines.new.items ≡ lines.old.items ++ (prefix_of database.now session ++ reply_text reply.now ++ 10 ∷ [])) }
     ensures room { TakesRoom result lines.old lines.new (length database.now + 218) }
 {
     push_text(lines, database)?;
@@ -89,7 +90,8 @@ fn push_answer(
 
 /// Adds the last line of a reply to a whole database.
 fn push_whole(lines: &mut Vec<u8>, database: &str, reply: &Reply) -> Result<(), AllocError>
-    ensures text { OnOk result (lines.new.items ≡ lines.old.items ++ (database_prefix database.now ++ reply_text reply.now ++ 10 ∷ [])) }
+    ensures text { OnOk result
+        (lines.new.items ≡ lines.old.items ++ (database_prefix database.now ++ reply_text reply.now ++ 10 ∷ [])) }
     ensures room { TakesRoom result lines.old lines.new (length database.now + 177) }
 {
     push_text(lines, database)?;

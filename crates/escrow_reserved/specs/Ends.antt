@@ -14,4 +14,6 @@ all_ended (entry ∷ plan) o = all_ended plan (open_after_end entry.0 o)
 -- the places after that: in each place, the reservations of one session after another have ended
 abbrev pub AreAllEnded : List (ℕ × End) → Open → Bounds → Bounds → Type 0
 AreAllEnded [] o old new = new ≡ old
-AreAllEnded (entry ∷ plan) o old new = (mid : Bounds) × AreEnded entry.1 (own entry.0 o.reservations) old mid × AreAllEnded plan (open_after_end entry.0 o) mid new
+AreAllEnded (entry ∷ plan) o old new =
+    (mid : Bounds) × AreEnded entry.1 (own entry.0 o.reservations) old mid
+    × AreAllEnded plan (open_after_end entry.0 o) mid new

@@ -20,8 +20,11 @@ pub record IsOfTable (table : TableDef) (place : Place) : Type 0 where
 
 -- each place has the checks of the table of its row
 abbrev pub AreOfTables : List TableDef → Bounds → Type 0
-AreOfTables catalog places = (row : RowName) (place : Place) → place_at places row ≡ Some place → IsSomeAnd (table_named catalog row.table) (λ table. IsOfTable table place)
+AreOfTables catalog places =
+    (row : RowName) (place : Place) → place_at places row ≡ Some place
+    → IsSomeAnd (table_named catalog row.table) (λ table. IsOfTable table place)
 
 -- each place has the committed amounts of its row
 abbrev pub HaveAmounts : List Row → Bounds → Type 0
-HaveAmounts rows places = (row : RowName) (place : Place) → place_at places row ≡ Some place → amounts_named rows row ≡ Some place.amounts
+HaveAmounts rows places =
+    (row : RowName) (place : Place) → place_at places row ≡ Some place → amounts_named rows row ≡ Some place.amounts

@@ -56,7 +56,9 @@ row_read rows name = option_map (row_with name) (read_at rows name)
 
 -- a row has an amount for each RESERVABLE column of its table
 abbrev pub IsKnown : List TableDef → Option ReadRow → Type 0
-IsKnown catalog read = IfSome read (λ r. IsSomeAnd (table_named catalog r.0.table) (λ table. length r.1 ≡ length (reservables table.columns)))
+IsKnown catalog read =
+    IfSome read (λ r. IsSomeAnd (table_named catalog r.0.table)
+    (λ table. length r.1 ≡ length (reservables table.columns)))
 
 -- the amounts of a row are its committed ones
 abbrev pub IsRead : List Row → Option ReadRow → Type 0

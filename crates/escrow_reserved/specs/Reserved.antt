@@ -34,7 +34,8 @@ pub record AreCounted (r : Reserved) : Type 0 where
 
 -- exactly the rows that have an open reservation have a place
 abbrev pub ArePlaced : List Reservation → Bounds → Type 0
-ArePlaced reservations places = (row : RowName) → is_some (place_at places row) ≡ list_any (λ r. same_row r.row row) reservations
+ArePlaced reservations places =
+    (row : RowName) → is_some (place_at places row) ≡ list_any (λ r. same_row r.row row) reservations
 
 -- why a session can't get changes of a row with these amounts and open reservations, by the checks of its table
 abbrev pub reason_by : ℕ → List Check → List ℤ → List ℤ → List (List ℤ) → Open → Option Refusal
@@ -46,7 +47,8 @@ reason_by session checks amounts changes reservations o = first_refusal (
 
 -- why a session can't get changes of a row, by its place and the open reservations of it
 abbrev pub reason_against : ℕ → Place → RowName → List (Option ℤ) → Open → Option Refusal
-reason_against session place row changes o = reason_by session (checks_of place.checks) place.amounts (deltas changes) (of_row row o.reservations) o
+reason_against session place row changes o =
+    reason_by session (checks_of place.checks) place.amounts (deltas changes) (of_row row o.reservations) o
 
 -- the place of a row is dropped if no open reservation is of it; otherwise everything stays as it is
 pub record Releases (reservations : List Reservation) (row : RowName) (old new : Bounds) : Type 0 where
@@ -55,4 +57,5 @@ pub record Releases (reservations : List Reservation) (row : RowName) (old new :
 
 -- for each reservation, the amounts in the place of its row
 abbrev pub AreAmounts : Bounds → List Reservation → List (List ℤ) → Type 0
-AreAmounts places reservations amounts = map (λ r. option_map (λ (place : Place). place.amounts) (place_at places r.row)) reservations ≡ map Some amounts
+AreAmounts places reservations amounts =
+    map (λ r. option_map (λ (place : Place). place.amounts) (place_at places r.row)) reservations ≡ map Some amounts

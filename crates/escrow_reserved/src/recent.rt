@@ -181,8 +181,10 @@ impl Recent {
     /// memory is refused, and then the amounts aren't kept.
     pub fn remember(&mut self, name: &RowName, amounts: &[Amount]) -> Result<(), AllocError>
         ensures kept { OnOk result (read_at self.new name.now ≡ Some amounts.now) }
-        ensures others { length self.old < MAX_ROWS → (other : RowName) → same_row name.now other ≡ false → read_at self.new other ≡ read_at self.old other }
-        ensures only { (other : RowName) → IsLeft self.old self.new other ⊎ ((same_row name.now other ≡ true) × (read_at self.new other ≡ Some amounts.now)) }
+        ensures others { length self.old < MAX_ROWS → (other : RowName) → same_row name.now other ≡ false
+            → read_at self.new other ≡ read_at self.old other }
+        ensures only { (other : RowName) → IsLeft self.old self.new other
+            ⊎ ((same_row name.now other ≡ true) × (read_at self.new other ≡ Some amounts.now)) }
     {
         let alloc = *self.rows.allocator();
         let amounts = ReadAmounts::copied(alloc, amounts)?;
@@ -222,7 +224,9 @@ impl Recent {
     /// Each reservation must change at most 10 columns. Takes no memory.
     pub fn commit(&mut self, reservations: &[&Reservation])
         requires { AllByRecursion IsShort (map (λ r. r.now) reservations.now) }
-        ensures { (name : RowName) → read_at self.new name ≡ option_map (committed_to name (map (λ r. r.now) reservations.now)) (read_at self.old name) }
+        ensures { (name : RowName)
+            → read_at self.new name ≡ option_map (committed_to name (map (λ r. r.now) reservations.now))
+            (read_at self.old name) }
     {
         for r in reservations {
             self.commit_one(r);
@@ -232,8 +236,10 @@ impl Recent {
     /// Adds the changes of a committed reservation to the amounts of its row, if these are kept.
     fn commit_one(&mut self, r: &Reservation)
         requires { IsShort r.now }
-        ensures own { read_at self.new r.now.row ≡ option_map (committed_to r.now.row (r.now ∷ [])) (read_at self.old r.now.row) }
-        ensures others { (other : RowName) → same_row r.now.row other ≡ false → read_at self.new other ≡ read_at self.old other }
+        ensures own { read_at self.new r.now.row
+            ≡ option_map (committed_to r.now.row (r.now ∷ [])) (read_at self.old r.now.row) }
+        ensures others { (other : RowName) → same_row r.now.row other ≡ false
+            → read_at self.new other ≡ read_at self.old other }
     {
         if let Some(place) = self.find(&r.row) {
             self.last = place;
@@ -245,7 +251,8 @@ impl Recent {
     /// Forgets the row of a name.
     pub fn forget(&mut self, name: &RowName)
         ensures gone { read_at self.new name.now ≡ None }
-        ensures others { (other : RowName) → same_row name.now other ≡ false → read_at self.new other ≡ read_at self.old other }
+        ensures others { (other : RowName) → same_row name.now other ≡ false
+            → read_at self.new other ≡ read_at self.old other }
     {
         self.rows.swap_remove(name);
     }
@@ -253,7 +260,8 @@ impl Recent {
     /// Forgets the rows of a table.
     pub fn forget_table(&mut self, table: Name)
         ensures gone { (name : RowName) → bytes_eq name.table table ≡ true → read_at self.new name ≡ None }
-        ensures others { (name : RowName) → bytes_eq name.table table ≡ false → read_at self.new name ≡ read_at self.old name }
+        ensures others { (name : RowName) → bytes_eq name.table table ≡ false
+            → read_at self.new name ≡ read_at self.old name }
     {
         self.rows.retain(
             |name: &RowName, amounts: &mut ReadAmounts| -> bool

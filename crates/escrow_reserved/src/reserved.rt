@@ -125,8 +125,10 @@ impl Reserved {
         alloc: Global,
         plan: &[(Session, End)],
     ) -> Result<Vec<&Reservation>, AllocError>
-        ensures all { IfOk result (λ all. map (λ r. r.now) all.items ≡ flat_map (λ entry. own entry.0 self.now.txns.reservations) plan.now) }
-        ensures placed { IfOk result (λ all. AllByRecursion (λ r. IsSome (place_at self.now.places r.row)) (map (λ r. r.now) all.items)) }
+        ensures all { IfOk result
+            (λ all. map (λ r. r.now) all.items ≡ flat_map (λ entry. own entry.0 self.now.txns.reservations) plan.now) }
+        ensures placed { IfOk result
+            (λ all. AllByRecursion (λ r. IsSome (place_at self.now.places r.row)) (map (λ r. r.now) all.items)) }
         ensures short { IfOk result (λ all. AllByRecursion IsShort (map (λ r. r.now) all.items)) }
     {
         let mut all = Vec::new(alloc);
@@ -144,7 +146,8 @@ impl Reserved {
         reservations: &[&Reservation],
     ) -> Result<Vec<&[Amount]>, AllocError>
         requires { AllByRecursion (λ r. IsSome (place_at self.now.places r.row)) (map (λ r. r.now) reservations.now) }
-        ensures { IfOk result (λ all. AreAmounts self.now.places (map (λ r. r.now) reservations.now) (map (λ amounts. amounts.now) all.items)) }
+        ensures { IfOk result (λ all.
+            AreAmounts self.now.places (map (λ r. r.now) reservations.now) (map (λ amounts. amounts.now) all.items)) }
     {
         let mut all = Vec::with_capacity(alloc, reservations.len())?;
         for r in reservations {
@@ -183,12 +186,18 @@ impl Reserved {
         requires new { place_at self.old.places row ≡ None }
         requires short { length changes ≤ MAX_LEN }
         ensures id { IfOk result (λ id. id ≡ self.old.txns.next_id) }
-        ensures free { OnOk result (reason_by session checks.now amounts.now (deltas changes) (of_row row self.old.txns.reservations) self.old.txns ≡ None) }
+        ensures free { OnOk result
+            (reason_by session checks.now amounts.now (deltas changes)
+            (of_row row self.old.txns.reservations) self.old.txns ≡ None) }
         ensures granted { OnOk result (self.new.txns ≡ open_after_grant session row changes self.old.txns) }
-        ensures made { OnOk result ((place : Place) × IsNew amounts.now checks.now place × Becomes (TakesIn (deltas changes)) (Some place) (place_at self.new.places row)) }
+        ensures made { OnOk result ((place : Place) × IsNew amounts.now checks.now place
+            × Becomes (TakesIn (deltas changes)) (Some place) (place_at self.new.places row)) }
         ensures others { OthersStay row self.old.places self.new.places }
-        ensures against { IfSome (reason_by session checks.now amounts.now (deltas changes) (of_row row self.old.txns.reservations) self.old.txns) (λ e. result ≡ Err e) }
-        ensures only { IfErr result (λ e. (reason_by session checks.now amounts.now (deltas changes) (of_row row self.old.txns.reservations) self.old.txns ≡ Some e) ⊎ (e ≡ Refusal.Memory)) }
+        ensures against { IfSome (reason_by session checks.now amounts.now (deltas changes)
+            (of_row row self.old.txns.reservations) self.old.txns) (λ e. result ≡ Err e) }
+        ensures only { IfErr result
+            (λ e. (reason_by session checks.now amounts.now (deltas changes)
+            (of_row row self.old.txns.reservations) self.old.txns ≡ Some e) ⊎ (e ≡ Refusal.Memory)) }
         ensures refused { OnErr result (self.new.txns ≡ self.old.txns) }
         ensures same { OnErr result ((other : Row) → place_at self.new.places other ≡ place_at self.old.places other) }
         ensures within { IsSession session }
@@ -213,7 +222,8 @@ impl Reserved {
     ) -> Option<Refusal>
         requires { AllByRecursion (λ check. IsCovered check.coeffs amounts.now) checks.now }
         ensures reason { (row : Row) → place_at self.now.places row ≡ None
-            → result ≡ reason_by session checks.now amounts.now changes.now (of_row row self.now.txns.reservations) self.now.txns }
+            → result ≡ reason_by session checks.now amounts.now changes.now
+            (of_row row self.now.txns.reservations) self.now.txns }
         ensures within { IsSession session }
     {
         if let Some(refusal) = self.txns.grant_refusal(session) {
@@ -242,12 +252,17 @@ impl Reserved {
         requires at { IsAt self.old.places row at }
         requires short { length changes ≤ MAX_LEN }
         ensures id { IfOk result (λ id. id ≡ self.old.txns.next_id) }
-        ensures free { OnOk result ((place : Place) → place_at self.old.places row ≡ Some place → reason_against session place row changes self.old.txns ≡ None) }
+        ensures free { OnOk result ((place : Place) → place_at self.old.places row ≡ Some place
+            → reason_against session place row changes self.old.txns ≡ None) }
         ensures granted { OnOk result (self.new.txns ≡ open_after_grant session row changes self.old.txns) }
-        ensures takes { OnOk result (Becomes (TakesIn (deltas changes)) (place_at self.old.places row) (place_at self.new.places row)) }
+        ensures takes { OnOk result
+            (Becomes (TakesIn (deltas changes)) (place_at self.old.places row) (place_at self.new.places row)) }
         ensures others { OthersStay row self.old.places self.new.places }
-        ensures against { (place : Place) → place_at self.old.places row ≡ Some place → IfSome (reason_against session place row changes self.old.txns) (λ e. result ≡ Err e) }
-        ensures only { IfErr result (λ e. (place : Place) → place_at self.old.places row ≡ Some place → (reason_against session place row changes self.old.txns ≡ Some e) ⊎ (e ≡ Refusal.Memory)) }
+        ensures against { (place : Place) → place_at self.old.places row ≡ Some place
+            → IfSome (reason_against session place row changes self.old.txns) (λ e. result ≡ Err e) }
+        ensures only { IfErr result
+            (λ e. (place : Place) → place_at self.old.places row ≡ Some place
+            → (reason_against session place row changes self.old.txns ≡ Some e) ⊎ (e ≡ Refusal.Memory)) }
         ensures unchanged { OnErr result (self.new ≡ self.old) }
         ensures within { IsSession session }
     {
@@ -263,7 +278,8 @@ impl Reserved {
     /// memory aside.
     fn refusal(&self, session: Session, at: usize, changes: &[Amount]) -> Option<Refusal>
         requires { (row : Row) × IsAt self.now.places row at }
-        ensures reason { (row : Row) (place : Place) (asked : List (Option ℤ)) → IsAt self.now.places row at → place_at self.now.places row ≡ Some place → changes.now ≡ deltas asked
+        ensures reason { (row : Row) (place : Place) (asked : List (Option ℤ)) → IsAt self.now.places row at
+            → place_at self.now.places row ≡ Some place → changes.now ≡ deltas asked
             → result ≡ reason_against session place row asked self.now.txns }
         ensures within { IsSession session }
     {
@@ -297,7 +313,8 @@ impl Reserved {
         requires room { length (of_row row self.old.txns.reservations) < MAX_OPEN }
         ensures id { IfOk result (λ id. id ≡ self.old.txns.next_id) }
         ensures granted { OnOk result (self.new.txns ≡ open_after_grant session row changes self.old.txns) }
-        ensures takes { OnOk result (Becomes (TakesIn (deltas changes)) (place_at self.old.places row) (place_at self.new.places row)) }
+        ensures takes { OnOk result
+            (Becomes (TakesIn (deltas changes)) (place_at self.old.places row) (place_at self.new.places row)) }
         ensures others { OthersStay row self.old.places self.new.places }
         ensures refused { OnErr result (self.new.txns ≡ self.old.txns) }
         ensures releases { OnErr result (Releases self.old.txns.reservations row self.old.places self.new.places) }
@@ -321,7 +338,8 @@ impl Reserved {
         ensures count { result ≡ length (own session self.old.txns.reservations) }
         ensures txns { self.new.txns ≡ open_after_end session self.old.txns }
         ensures places { AreEnded end (own session self.old.txns.reservations) self.old.places self.new.places }
-        ensures placed { ArePlaced self.old.txns.reservations self.old.places → ArePlaced self.new.txns.reservations self.new.places }
+        ensures placed { ArePlaced self.old.txns.reservations self.old.places
+            → ArePlaced self.new.txns.reservations self.new.places }
     {
         let reservations = self.txns.reservations(session);
         let count = reservations.len() as u32;
@@ -337,7 +355,8 @@ impl Reserved {
         ensures count { result + length self.new.txns.reservations ≡ length self.old.txns.reservations }
         ensures txns { self.new.txns ≡ all_ended plan.now self.old.txns }
         ensures places { AreAllEnded plan.now self.old.txns self.old.places self.new.places }
-        ensures placed { ArePlaced self.old.txns.reservations self.old.places → ArePlaced self.new.txns.reservations self.new.places }
+        ensures placed { ArePlaced self.old.txns.reservations self.old.places
+            → ArePlaced self.new.txns.reservations self.new.places }
     {
         let mut count = 0;
         for (session, end) in plan {
@@ -353,7 +372,8 @@ impl Reserved {
         ensures count { result ≡ released session name self.old.txns }
         ensures txns { self.new.txns ≡ open_after_rollback_to session name self.old.txns }
         ensures places { (ended : List Held) × AreEnded Rollback ended self.old.places self.new.places }
-        ensures placed { ArePlaced self.old.txns.reservations self.old.places → ArePlaced self.new.txns.reservations self.new.places }
+        ensures placed { ArePlaced self.old.txns.reservations self.old.places
+            → ArePlaced self.new.txns.reservations self.new.places }
     {
         release_after(&self.txns, &mut self.bounds, session, name);
         self.txns.cut(session, name)
@@ -363,10 +383,12 @@ impl Reserved {
     /// has 64 of other names, however little memory there is. Otherwise it fails only if memory is
     /// refused. After an error nothing has changed.
     pub fn mark(&mut self, session: Session, name: Name) -> Result<(), Refusal>
-        ensures saved { OnOk result (self.new ≡ record self.old { txns = open_after_savepoint session name self.old.txns }) }
+        ensures saved { OnOk result
+            (self.new ≡ record self.old { txns = open_after_savepoint session name self.old.txns }) }
         ensures unchanged { OnErr result (self.new ≡ self.old) }
         ensures refused { IfSome (savepoint_refusal session name self.old.txns) (λ e. result ≡ Err e) }
-        ensures only { IfErr result (λ e. (savepoint_refusal session name self.old.txns ≡ Some e) ⊎ (e ≡ Refusal.Memory)) }
+        ensures only { IfErr result
+            (λ e. (savepoint_refusal session name self.old.txns ≡ Some e) ⊎ (e ≡ Refusal.Memory)) }
         ensures within { IsSession session }
     {
         self.txns.mark(session, name)
@@ -378,11 +400,14 @@ impl Reserved {
     pub fn prepare(&self, alloc: Global, table: Name, checks: &[Check]) -> Result<Addition, Refusal>
         requires placed { ArePlaced self.now.txns.reservations self.now.places }
         requires many { (row : Row) → length (of_row row self.now.txns.reservations) ≤ MAX_OPEN }
-        requires few { (row : Row) (place : Place) → bytes_eq row.table table ≡ true → place_at self.now.places row ≡ Some place
+        requires few { (row : Row) (place : Place) → bytes_eq row.table table ≡ true
+            → place_at self.now.places row ≡ Some place
             → length place.amounts ≤ MAX_LEN }
-        requires covered { (row : Row) (place : Place) → bytes_eq row.table table ≡ true → place_at self.now.places row ≡ Some place
+        requires covered { (row : Row) (place : Place) → bytes_eq row.table table ≡ true
+            → place_at self.now.places row ≡ Some place
             → AllByRecursion (λ check. IsCovered check.coeffs place.amounts) checks.now }
-        ensures prepared { IfOk result (λ addition. ArePrepared table checks.now self.now.txns.reservations self.now.places addition) }
+        ensures prepared { IfOk result
+            (λ addition. ArePrepared table checks.now self.now.txns.reservations self.now.places addition) }
         ensures only { IfErr result (λ e. e ≡ Refusal.Memory) }
     {
         let reservations = self.txns.all_in_order(alloc)?;
@@ -393,10 +418,13 @@ impl Reserved {
     /// is open may have changed since. Takes no memory.
     pub fn adopt(&mut self, addition: Addition)
         requires placed { ArePlaced self.old.txns.reservations self.old.places }
-        requires prepared { (table : List ℕ) × (checks : List Form) × ArePrepared table checks self.old.txns.reservations self.old.places addition }
+        requires prepared { (table : List ℕ) × (checks : List Form)
+            × ArePrepared table checks self.old.txns.reservations self.old.places addition }
         ensures txns { self.new.txns ≡ self.old.txns }
-        ensures places { (table : List ℕ) (checks : List Form) → ArePrepared table checks self.old.txns.reservations self.old.places addition
-            → TableGoes table (λ row. IsOver checks (of_row row self.old.txns.reservations)) self.old.places self.new.places }
+        ensures places { (table : List ℕ) (checks : List Form)
+            → ArePrepared table checks self.old.txns.reservations self.old.places addition
+            → TableGoes table (λ row.
+            IsOver checks (of_row row self.old.txns.reservations)) self.old.places self.new.places }
     {
         self.bounds.adopt(addition);
     }

@@ -28,7 +28,8 @@ pub fn row_bounds(
     requires table { IsTable table.now }
     requires placed { IsSome (place_at bounds.now name.now) }
     requires of_table { (place : Place) → place_at bounds.now name.now ≡ Some place → IsOfTable table.now place }
-    ensures { IfOk result (λ reply. (place : Place) (reservations : List (List ℤ)) → place_at bounds.now name.now ≡ Some place → Counts place reservations
+    ensures { IfOk result (λ reply. (place : Place) (reservations : List (List ℤ))
+        → place_at bounds.now name.now ≡ Some place → Counts place reservations
         → reply ≡ bounds_over reservations table.now place.amounts) }
 {
     let amounts = bounds.amounts(name).unwrap();
@@ -68,9 +69,12 @@ fn all_check_bounds(
     bounds: &Bounds,
 ) -> Result<Seq<CheckBounds>, AllocError>
     requires placed { IsSome (place_at bounds.now name.now) }
-    requires checks { (place : Place) → place_at bounds.now name.now ≡ Some place → checks_of place.checks ≡ checks.now }
+    requires checks { (place : Place) → place_at bounds.now name.now ≡ Some place
+        → checks_of place.checks ≡ checks.now }
     ensures many { IfOk result (λ all. length all ≡ length checks.now) }
-    ensures shown { IfOk result (λ all. (place : Place) (reservations : List (List ℤ)) → place_at bounds.now name.now ≡ Some place → Counts place reservations
+    ensures shown { IfOk result
+        (λ all. (place : Place) (reservations : List (List ℤ)) → place_at bounds.now name.now ≡ Some place
+        → Counts place reservations
         → all ≡ map (check_bounds place.amounts reservations) checks.now) }
 {
     let mut all = Seq::new(alloc);
@@ -83,7 +87,8 @@ fn all_check_bounds(
 /// Returns the bounds of a check whose form has these extremes.
 fn check_bounds(check: &Check, extremes: (Wide, Wide)) -> CheckBounds
     ensures { (amounts : List ℤ) (reservations : List (List ℤ))
-        → extremes.0 ≡ least check.now.coeffs amounts reservations → extremes.1 ≡ greatest check.now.coeffs amounts reservations
+        → extremes.0 ≡ least check.now.coeffs amounts reservations
+        → extremes.1 ≡ greatest check.now.coeffs amounts reservations
         → result ≡ check_bounds amounts reservations check.now }
 {
     CheckBounds {

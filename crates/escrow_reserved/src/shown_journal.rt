@@ -21,7 +21,8 @@ pub fn journal_entry(
     r: &Reservation,
 ) -> Result<JournalEntry, AllocError>
     requires { IfSome table (λ t. IsTable t.now) }
-    ensures { IfOk result (λ entry. (catalog : List Table) → option_copied table.entry ≡ table_named catalog r.now.row.table → entry ≡ entry_of catalog r.now) }
+    ensures { IfOk result (λ entry. (catalog : List Table)
+        → option_copied table.entry ≡ table_named catalog r.now.row.table → entry ≡ entry_of catalog r.now) }
 {
     let columns = columns_of(alloc, table)?;
     Ok(JournalEntry {
@@ -46,7 +47,8 @@ fn key_scale_of(table: Option<&TableDef>) -> Scale
 
 /// Returns the RESERVABLE columns of a table, in column order; none if there is no table.
 fn columns_of(alloc: Global, table: Option<&TableDef>) -> Result<Vec<Column>, AllocError>
-    ensures { IfOk result (λ columns. columns.items ≡ unwrap_or (option_map (λ t. reservables t.columns) (option_copied table.entry)) []) }
+    ensures { IfOk result (λ columns.
+        columns.items ≡ unwrap_or (option_map (λ t. reservables t.columns) (option_copied table.entry)) []) }
 {
     match table {
         Some(table) => reservables(alloc, table.columns.as_slice()),

@@ -17,7 +17,9 @@ use Rattle.escrow_rows.specs.Changes.{Stands, name_in}
 -- an answer is this function of the rows. This holds for any tables and rows whose image the database is, if the given
 -- table is one of these tables
 abbrev pub Tells : {A : Type 0} → StoredTable → (List Row → A) → Database → A → Type 0
-Tells s of db answer = (tables : List StoredTable) (rows : List Row) → AreTables tables → AreRows tables rows → Stands tables s → IsImage tables rows db → answer ≡ of rows
+Tells s of db answer =
+    (tables : List StoredTable) (rows : List Row) → AreTables tables → AreRows tables rows → Stands tables s
+    → IsImage tables rows db → answer ≡ of rows
 
 -- the amounts of the row of a key in a table, if it is there
 abbrev pub TellsAmounts : StoredTable → Value → Database → Option (List ℤ) → Type 0
@@ -49,5 +51,7 @@ listing s = record { id = s.id; name = s.table.name; text = canonical s.table }
 
 -- the tables as TAB lists them, in order of their numbers
 pub record TellsTables (db : Database) (answer : List ListedTable) : Type 0 where
-  pub listed : (tables : List StoredTable) (rows : List Row) → IsImage tables rows db → IsPermutation (map listing tables) answer
-  pub in_order : (tables : List StoredTable) (rows : List Row) → AreTables tables → IsImage tables rows db → IsAscending (λ a b. is_lt (int_cmp a.id b.id)) answer
+  pub listed : (tables : List StoredTable) (rows : List Row) → IsImage tables rows db
+      → IsPermutation (map listing tables) answer
+  pub in_order : (tables : List StoredTable) (rows : List Row) → AreTables tables → IsImage tables rows db
+      → IsAscending (λ a b. is_lt (int_cmp a.id b.id)) answer

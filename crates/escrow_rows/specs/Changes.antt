@@ -20,11 +20,14 @@ Stands tables s = stored_named tables s.table.name ≡ Some s
 -- rows, and the database is now the image of the same tables and of these new rows
 abbrev pub TurnsRows : StoredTable → (List Row → Bool) → (List Row → List Row) → Database → Database → Type 0
 TurnsRows s held after old new =
-    (tables : List StoredTable) (rows : List Row) → AreTables tables → AreRows tables rows → Stands tables s → IsImage tables rows old → (held rows ≡ true) × IsImage tables (after rows) new
+    (tables : List StoredTable) (rows : List Row) → AreTables tables → AreRows tables rows → Stands tables s
+    → IsImage tables rows old → (held rows ≡ true) × IsImage tables (after rows) new
 
 -- a migration: if a database was the image of tables and rows in any format, it is now their image in the known one
 abbrev pub Migrates : Database → Database → Type 0
-Migrates old new = (number : ℤ) (tables : List StoredTable) (rows : List Row) → IsImageIn number tables rows old → IsImage tables rows new
+Migrates old new =
+    (number : ℤ) (tables : List StoredTable) (rows : List Row) → IsImageIn number tables rows old
+    → IsImage tables rows new
 
 -- the name of the row of a key, in a table
 abbrev pub name_in : StoredTable → Value → RowName
@@ -32,7 +35,8 @@ name_in s key = record { table = s.table.name; key = key }
 
 -- a row with amounts replaced if it has this name, otherwise unchanged
 abbrev pub with_new_amounts : RowName → List (Option ℤ) → Row → Row
-with_new_amounts name amounts row = if same_row row.name name then record row { amounts = replaced amounts row.amounts } else row
+with_new_amounts name amounts row =
+    if same_row row.name name then record row { amounts = replaced amounts row.amounts } else row
 
 -- the rows with amounts of one of them replaced
 abbrev pub with_amounts : RowName → List (Option ℤ) → List Row → List Row
@@ -61,13 +65,15 @@ put_all news rows = fold (λ rows new. with_amounts (name_in new.table.now new.k
 -- COMMIT: amounts of rows are replaced
 abbrev pub PutsAmounts : List NewAmounts → Database → Database → Type 0
 PutsAmounts news old new =
-    (tables : List StoredTable) (rows : List Row) → AreTables tables → AreRows tables rows → AllByRecursion (λ (n : NewAmounts). Stands tables n.table.now) news
+    (tables : List StoredTable) (rows : List Row) → AreTables tables → AreRows tables rows
+    → AllByRecursion (λ (n : NewAmounts). Stands tables n.table.now) news
     → IsImage tables rows old → IsImage tables (put_all news rows) new
 
 -- CREATE TABLE: there is one more table, without rows; the tables are listed in any order
 abbrev pub Creates : StoredTable → Database → Database → Type 0
 Creates s old new =
-    (tables after : List StoredTable) (rows : List Row) → AreTables tables → AreRows tables rows → IsPermutation (s ∷ tables) after → AreTables after
+    (tables after : List StoredTable) (rows : List Row) → AreTables tables → AreRows tables rows
+    → IsPermutation (s ∷ tables) after → AreTables after
     → IsImage tables rows old → IsImage after rows new
 
 -- the tables of other names

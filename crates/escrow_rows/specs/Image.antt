@@ -39,7 +39,8 @@ tab_row s = sql.Int s.id ∷ sql.Text s.table.name ∷ sql.Text (canonical s.tab
 -- the cells of values, the first at a given place: the table's number, the key, the place, the value
 abbrev pub cells_from : ℤ → Value → ℤ → List Value → List SqlRow
 cells_from id key place [] = []
-cells_from id key place (v ∷ vs) = (sql.Int id ∷ stored key ∷ sql.Int place ∷ stored v ∷ []) ∷ cells_from id key (place +ℤ pos 1) vs
+cells_from id key place (v ∷ vs) =
+    (sql.Int id ∷ stored key ∷ sql.Int place ∷ stored v ∷ []) ∷ cells_from id key (place +ℤ pos 1) vs
 
 -- the cells of a row of a table: one for each column, by its place from 1
 abbrev pub cells_in : StoredTable → Row → List SqlRow

@@ -23,7 +23,8 @@ Change steps f = (c : Contents) → fold done c steps ≡ on_cells f c
 
 -- a step sets a cell of the row of a key of a table, at the place of one of its columns
 abbrev pub SetsCellOf : StoredTable → Value → Step → Type 0
-SetsCellOf s key (step.SetCell id k place value hint) = (id ≡ s.id) × (kept k ≡ stored key) × (i : ℕ) × (i < length s.table.columns) × (place ≡ pos (i + 1))
+SetsCellOf s key (step.SetCell id k place value hint) =
+    (id ≡ s.id) × (kept k ≡ stored key) × (i : ℕ) × (i < length s.table.columns) × (place ≡ pos (i + 1))
 SetsCellOf s key _ = ⊥
 
 -- a cell with the new value, if there is one, if it is the one at a place of the row of a key; otherwise unchanged
@@ -34,7 +35,8 @@ put_value id key place (Some v) cell = with_value (sql.Int id) key (sql.Int plac
 -- a cell with the new values of the row of a key, the first of them for the cell at a given place
 abbrev pub put_values : ℤ → Sql → ℤ → List (Option Value) → SqlRow → SqlRow
 put_values id key place [] cell = cell
-put_values id key place (v ∷ vs) cell = put_values id key (place +ℤ pos 1) vs (put_value id key place (option_map stored v) cell)
+put_values id key place (v ∷ vs) cell =
+    put_values id key (place +ℤ pos 1) vs (put_value id key place (option_map stored v) cell)
 
 -- the first of new values, if there is one
 abbrev pub first_new : {A : Type 0} → List (Option A) → Option A
@@ -62,7 +64,8 @@ plain_on s key news = put_values s.id (stored key) (pos 1) (new_plain s.table.co
 
 -- a cell with new amounts of the row of a key of a table
 abbrev pub amounts_on : NewAmounts → SqlRow → SqlRow
-amounts_on new = put_values new.table.now.id (stored new.key.now) (pos 1) (new_amounts new.table.now.table.columns new.amounts)
+amounts_on new =
+    put_values new.table.now.id (stored new.key.now) (pos 1) (new_amounts new.table.now.table.columns new.amounts)
 
 -- contents with new amounts, one after another
 abbrev pub all_on : List NewAmounts → Contents → Contents

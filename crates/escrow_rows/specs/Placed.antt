@@ -33,7 +33,8 @@ IsRowOfCells cells (Some some) = (some ≡ cells) × (cells ≢ [])
 
 -- the cells of the row of a key in a table, each with its place and its value, if the row is there
 abbrev pub TellsCells : StoredTable → Value → Database → Option (List SqlRow) → Type 0
-TellsCells s key = Tells s (λ rows. option_map (λ row. placed 1 (values_of s.table row)) (row_named rows (name_in s key)))
+TellsCells s key =
+    Tells s (λ rows. option_map (λ row. placed 1 (values_of s.table row)) (row_named rows (name_in s key)))
 
 -- the values of the `many` columns after the first `start`, each with its place
 abbrev pub placed_in : ℕ → ℕ → List Value → List SqlRow
@@ -41,4 +42,5 @@ placed_in start many values = placed (start + 1) (take many (drop start values))
 
 -- the cells of the row of a key in adjacent columns, if the row is there
 abbrev pub TellsSpan : ℕ → ℕ → StoredTable → Value → Database → Option (List SqlRow) → Type 0
-TellsSpan start many s key = Tells s (λ rows. option_map (λ row. placed_in start many (values_of s.table row)) (row_named rows (name_in s key)))
+TellsSpan start many s key =
+    Tells s (λ rows. option_map (λ row. placed_in start many (values_of s.table row)) (row_named rows (name_in s key)))

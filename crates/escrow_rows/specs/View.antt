@@ -24,7 +24,9 @@ value_kept _ = Number (pos 0)
 
 -- the value in the cell at a place of the row of a key; zero if there is no such cell
 abbrev pub kept_at : List SqlRow → ℤ → Sql → ℤ → Value
-kept_at all id key place = unwrap_or (option_map (λ cell. value_kept (column cell 3)) (find (is_at (sql.Int id) key (sql.Int place)) all)) (Number (pos 0))
+kept_at all id key place =
+    unwrap_or (option_map (λ cell. value_kept (column cell 3)) (find (is_at (sql.Int id) key (sql.Int place)) all))
+    (Number (pos 0))
 
 -- the values of columns in the row of a key, the first column at a given place
 abbrev pub kept_from : List SqlRow → ℤ → Sql → ℤ → List Column → List Value
@@ -39,7 +41,9 @@ stored_numbered tables id = find (λ s. same (sql.Int s.id) id) tables
 abbrev pub row_at : List StoredTable → List SqlRow → SqlRow → List Row
 row_at tables all cell =
     if same (column cell 2) (sql.Int (pos 1))
-    then option_to_list (option_and_then (λ s. row_with s.table (kept_from all s.id (column cell 1) (pos 1) s.table.columns)) (stored_numbered tables (column cell 0)))
+    then option_to_list (option_and_then
+    (λ s. row_with s.table (kept_from all s.id (column cell 1) (pos 1) s.table.columns))
+    (stored_numbered tables (column cell 0)))
     else []
 
 -- rows sorted by inserting each among those after it

@@ -24,7 +24,9 @@ impl<S: Alter> RowStore<S> {
         table: &StoredTable,
     ) -> Result<Seq<Seq<Value>>, Failure>
         requires { IsTable table.now.table }
-        ensures told { HasCleanDisk (state S.Store self.new) → IfOk result (λ rows. IsTrue (state S.Store self.new).is_open × TellsAllValues table.now (state S.Store self.old).now rows) }
+        ensures told { HasCleanDisk (state S.Store self.new)
+            → IfOk result (λ rows. IsTrue (state S.Store self.new).is_open
+            × TellsAllValues table.now (state S.Store self.old).now rows) }
         ensures only_reads { OnlyReads (state S.Store self.old) (state S.Store self.new) }
     {
         match self.read_rows(alloc, table, Seq::new(alloc))? {

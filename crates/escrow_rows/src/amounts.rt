@@ -59,7 +59,8 @@ fn push_steps<'a>(
     before: Option<i64>,
     new: &NewAmounts<'a>,
 ) -> Result<(), AllocError>
-    ensures { OnOk result ((c : Contents) → fold done c steps.new.items ≡ on_cells (amounts_on new.now) (fold done c steps.old.items)) }
+    ensures { OnOk result ((c : Contents)
+        → fold done c steps.new.items ≡ on_cells (amounts_on new.now) (fold done c steps.old.items)) }
 {
     let mut at = 0;
     for (i, column) in new.table.table.columns.as_slice().iter().enumerate() {

@@ -20,8 +20,12 @@ pub(crate) fn push_cell<'a>(
     hint: Option<i64>,
 ) -> Result<(), AllocError>
     requires { place < 2 ^ 63 - 1 }
-    ensures puts { OnOk result ((c : Contents) → fold done c steps.new.items ≡ on_cells (put_value table (kept key.entry) (pos (place + 1)) (option_map kept value.entry)) (fold done c steps.old.items)) }
-    ensures sets { OnOk result ((s : Stored) (k : HeldValue) → table ≡ s.id → kept key.entry ≡ stored k → place < length s.table.columns
+    ensures puts { OnOk result ((c : Contents)
+        → fold done c steps.new.items
+        ≡ on_cells (put_value table (kept key.entry) (pos (place + 1)) (option_map kept value.entry))
+        (fold done c steps.old.items)) }
+    ensures sets { OnOk result ((s : Stored) (k : HeldValue) → table ≡ s.id → kept key.entry ≡ stored k
+        → place < length s.table.columns
         → AllByRecursion (SetsCellOf s k) steps.old.items → AllByRecursion (SetsCellOf s k) steps.new.items) }
 {
     if let Some(value) = value {

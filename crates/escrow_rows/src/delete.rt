@@ -16,8 +16,11 @@ impl<S: Alter> RowStore<S> {
     /// Deletes the row of a key of a table, if it exists. Returns whether it did. Takes no memory
     /// of its own.
     pub fn delete(&mut self, table: &StoredTable, key: &Value) -> Result<bool, Failure>
-        ensures writes { Transacts (state S.Store self.old) (state S.Store self.new) (was_done result) (Deletes table.now key.now) }
-        ensures none { HasCleanDisk (state S.Store self.new) → result ≡ Ok false → IsTrue (state S.Store self.old).is_open × Tells table.now (is_there table.now key.now) (state S.Store self.old).now false }
+        ensures writes { Transacts (state S.Store self.old) (state S.Store self.new) (was_done result)
+            (Deletes table.now key.now) }
+        ensures none { HasCleanDisk (state S.Store self.new) → result ≡ Ok false
+            → IsTrue (state S.Store self.old).is_open
+            × Tells table.now (is_there table.now key.now) (state S.Store self.old).now false }
     {
         run_if_found(
             &mut self.conn,

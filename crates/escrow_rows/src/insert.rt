@@ -22,7 +22,8 @@ impl<S: Alter> RowStore<S> {
     /// inserted.
     pub fn insert(&mut self, alloc: Global, table: &StoredTable, row: &Row) -> Result<bool, Failure>
         requires { IsRowOf table.now.table row.now }
-        ensures { Transacts (state S.Store self.old) (state S.Store self.new) (was_done result) (Inserts table.now row.now) }
+        ensures { Transacts (state S.Store self.old) (state S.Store self.new) (was_done result)
+            (Inserts table.now row.now) }
     {
         let is_inserted = self.insert_cells(alloc, table, row)?;
         if is_inserted {
@@ -39,7 +40,8 @@ impl<S: Alter> RowStore<S> {
         row: &Row,
     ) -> Result<bool, Failure>
         requires { IsRowOf table.now.table row.now }
-        ensures { Transacts (state S.Store self.old) (state S.Store self.new) (was_done result) (Inserts table.now row.now) }
+        ensures { Transacts (state S.Store self.old) (state S.Store self.new) (was_done result)
+            (Inserts table.now row.now) }
     {
         let values = values_of(alloc, &table.table, row)?;
         let steps = cell_steps(alloc, table.id, &row.name.key, values.as_slice())?;

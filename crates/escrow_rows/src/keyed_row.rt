@@ -47,7 +47,8 @@ impl KeyedRow {
         cell: &Row,
     ) -> Result<bool, AllocError>
         ensures next { IfOk result (λ next. IsTrue next → Extends start self.old cell.now self.new) }
-        ensures other { result ≡ Ok false → CanBeHeld self.old.key → (new : Keyed) → Extends start self.old cell.now new → ⊥ }
+        ensures other { result ≡ Ok false → CanBeHeld self.old.key → (new : Keyed) → Extends start self.old cell.now new
+            → ⊥ }
     {
         if self.values.is_empty() {
             let Some(key) = value_at(alloc, cell, 0)? else {
@@ -94,7 +95,8 @@ fn amounts_of(alloc: Global, columns: &[Column], values: &[Value]) -> Result<Vec
 
 /// Adds the amount of a column if the column is RESERVABLE.
 fn add_amount(amounts: &mut Vec<Amount>, column: &Column, value: &Value) -> Result<(), Failure>
-    ensures { OnOk result (amounts.new.items ≡ amounts.old.items ++ (if column.now.reservable then number_in value.now ∷ [] else [])) }
+    ensures { OnOk result (amounts.new.items ≡ amounts.old.items
+        ++ (if column.now.reservable then number_in value.now ∷ [] else [])) }
 {
     if column.reservable {
         amounts.push(number_of(value)?)?;

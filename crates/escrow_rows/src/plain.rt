@@ -32,8 +32,11 @@ impl<S: Alter> RowStore<S> {
         key: &Value,
         values: &[Option<Value>],
     ) -> Result<bool, Failure>
-        ensures writes { Transacts (state S.Store self.old) (state S.Store self.new) (was_done result) (SetsPlain table.now key.now values.now) }
-        ensures none { HasCleanDisk (state S.Store self.new) → result ≡ Ok false → IsTrue (state S.Store self.old).is_open × Tells table.now (is_there table.now key.now) (state S.Store self.old).now false }
+        ensures writes { Transacts (state S.Store self.old) (state S.Store self.new) (was_done result)
+            (SetsPlain table.now key.now values.now) }
+        ensures none { HasCleanDisk (state S.Store self.new) → result ≡ Ok false
+            → IsTrue (state S.Store self.old).is_open
+            × Tells table.now (is_there table.now key.now) (state S.Store self.old).now false }
     {
         let steps = plain_steps(alloc, table, key, values)?;
         let Some((first, rest)) = steps.as_slice().split_first() else {

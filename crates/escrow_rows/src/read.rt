@@ -38,8 +38,11 @@ impl<S: Alter> RowStore<S> {
         key: &Value,
     ) -> Result<Option<Seq<Amount>>, Failure>
         requires { IsTable table.now.table }
-        ensures told { HasCleanDisk (state S.Store self.new) → IfOk result (λ found. IsTrue (state S.Store self.new).is_open × TellsAmounts table.now key.now (state S.Store self.old).now found) }
-        ensures many { IfOk result (λ found. IfSome found (λ amounts. length amounts ≡ length (reservables table.now.table.columns))) }
+        ensures told { HasCleanDisk (state S.Store self.new)
+            → IfOk result (λ found. IsTrue (state S.Store self.new).is_open
+            × TellsAmounts table.now key.now (state S.Store self.old).now found) }
+        ensures many { IfOk result
+            (λ found. IfSome found (λ amounts. length amounts ≡ length (reservables table.now.table.columns))) }
         ensures only_reads { OnlyReads (state S.Store self.old) (state S.Store self.new) }
     {
         let columns = table.table.columns.as_slice();
@@ -60,7 +63,9 @@ impl<S: Alter> RowStore<S> {
         key: &Value,
     ) -> Result<Option<Seq<Value>>, Failure>
         requires { IsTable table.now.table }
-        ensures told { HasCleanDisk (state S.Store self.new) → IfOk result (λ found. IsTrue (state S.Store self.new).is_open × TellsValues table.now key.now (state S.Store self.old).now found) }
+        ensures told { HasCleanDisk (state S.Store self.new)
+            → IfOk result (λ found. IsTrue (state S.Store self.new).is_open
+            × TellsValues table.now key.now (state S.Store self.old).now found) }
         ensures only_reads { OnlyReads (state S.Store self.old) (state S.Store self.new) }
     {
         let Some(cells) = self.cells_of(table, key)? else {
@@ -73,7 +78,10 @@ impl<S: Alter> RowStore<S> {
     /// Returns whether a row has a key. If so, it has one cell at the first place. Takes no memory
     /// of its own.
     pub fn stands(&mut self, table: &StoredTable, key: &Value) -> Result<bool, Failure>
-        ensures told { HasCleanDisk (state S.Store self.new) → IfOk result (λ stands. IsTrue (state S.Store self.new).is_open × Tells table.now (λ rows. is_some (row_named rows (name_in table.now key.now))) (state S.Store self.old).now stands) }
+        ensures told { HasCleanDisk (state S.Store self.new)
+            → IfOk result (λ stands. IsTrue (state S.Store self.new).is_open
+            × Tells table.now (λ rows. is_some (row_named rows (name_in table.now key.now)))
+            (state S.Store self.old).now stands) }
         ensures only_reads { OnlyReads (state S.Store self.old) (state S.Store self.new) }
     {
         let cells = count_cells(&mut self.conn, table.id, datum(key), 1)?;
@@ -84,7 +92,9 @@ impl<S: Alter> RowStore<S> {
     /// are none. Fails if the row doesn't have a cell for each column.
     fn cells_of(&mut self, table: &StoredTable, key: &Value) -> Result<Option<Seq<Row>>, Failure>
         requires { IsTable table.now.table }
-        ensures told { HasCleanDisk (state S.Store self.new) → IfOk result (λ found. IsTrue (state S.Store self.new).is_open × TellsCells table.now key.now (state S.Store self.old).now found) }
+        ensures told { HasCleanDisk (state S.Store self.new)
+            → IfOk result (λ found. IsTrue (state S.Store self.new).is_open
+            × TellsCells table.now key.now (state S.Store self.old).now found) }
         ensures many { IfOk result (λ found. IfSome found (λ cells. length cells ≡ length table.now.table.columns)) }
         ensures only_reads { OnlyReads (state S.Store self.old) (state S.Store self.new) }
     {
@@ -104,7 +114,9 @@ impl<S: Alter> RowStore<S> {
         requires some { 0 < span.len }
         requires within { span.start + span.len ≤ length table.now.table.columns }
         requires few { span.start + span.len < 2 ^ 63 }
-        ensures told { HasCleanDisk (state S.Store self.new) → IfOk result (λ found. IsTrue (state S.Store self.new).is_open × TellsSpan span.start span.len table.now key.now (state S.Store self.old).now found) }
+        ensures told { HasCleanDisk (state S.Store self.new)
+            → IfOk result (λ found. IsTrue (state S.Store self.new).is_open
+            × TellsSpan span.start span.len table.now key.now (state S.Store self.old).now found) }
         ensures many { IfOk result (λ found. IfSome found (λ cells. length cells ≡ span.len)) }
         ensures only_reads { OnlyReads (state S.Store self.old) (state S.Store self.new) }
     {
@@ -138,7 +150,9 @@ fn read_amounts(
 ) -> Result<Seq<Amount>, Failure>
     requires many { length cells.now ≡ length columns.now }
     requires few { before + length columns.now < 2 ^ 63 }
-    ensures told { IfOk result (λ amounts. (values : List HeldValue) → cells.now ≡ placed (before + 1) values → amounts ≡ amounts_of columns.now values) }
+    ensures told { IfOk result
+        (λ amounts. (values : List HeldValue) → cells.now ≡ placed (before + 1) values
+        → amounts ≡ amounts_of columns.now values) }
     ensures many { IfOk result (λ amounts. length amounts ≡ length (reservables columns.now)) }
 {
     let mut amounts = Seq::new(alloc);
@@ -153,7 +167,8 @@ fn read_amounts(
 /// Adds the amount of a cell at a place.
 fn push_amount(amounts: &mut Seq<Amount>, cell: &Row, place: usize) -> Result<(), Failure>
     requires { place < 2 ^ 63 }
-    ensures { OnOk result ((a : ℤ) × (cell.now ≡ Int (pos place) ∷ Int a ∷ []) × (amounts.new ≡ amounts.old ++ a ∷ [])) }
+    ensures { OnOk result ((a : ℤ) × (cell.now ≡ Int (pos place) ∷ Int a ∷ [])
+        × (amounts.new ≡ amounts.old ++ a ∷ [])) }
 {
     let amount = amount_in(value_at(cell, place)?)?;
     Ok(amounts.push(amount)?)

@@ -35,7 +35,10 @@ impl<S: Alter> RowStore<S> {
         taker: T,
     ) -> Result<Option<T>, Failure>
         requires { IsTable table.now.table }
-        ensures read { HasCleanDisk (state S.Store self.new) → IfOk result (λ found. IsTrue (state S.Store self.new).is_open × (IsStore (state S.Store self.old).now → ReadsRows T.has_taken T.is_enough table.now (state S.Store self.old).now taker found)) }
+        ensures read { HasCleanDisk (state S.Store self.new)
+            → IfOk result (λ found. IsTrue (state S.Store self.new).is_open
+            × (IsStore (state S.Store self.old).now
+            → ReadsRows T.has_taken T.is_enough table.now (state S.Store self.old).now taker found)) }
         ensures only_reads { OnlyReads (state S.Store self.old) (state S.Store self.new) }
     {
         let whole = Span {
@@ -60,7 +63,9 @@ impl<S: Alter> RowStore<S> {
         requires some { 0 < span.len }
         requires within { span.start + span.len ≤ length table.now.table.columns }
         requires few { span.start + span.len < 2 ^ 63 }
-        ensures taken { HasCleanDisk (state S.Store self.new) → IfOk result (λ last. IsTrue (state S.Store self.new).is_open × TakesSpans T.has_taken span.start span.len table.now (state S.Store self.old).now taker last) }
+        ensures taken { HasCleanDisk (state S.Store self.new)
+            → IfOk result (λ last. IsTrue (state S.Store self.new).is_open
+            × TakesSpans T.has_taken span.start span.len table.now (state S.Store self.old).now taker last) }
         ensures only_reads { OnlyReads (state S.Store self.old) (state S.Store self.new) }
     {
         let mut reader = RowReader::new(alloc, span, taker);
@@ -79,7 +84,10 @@ impl<S: Alter> RowStore<S> {
         requires table { IsTable table.now.table }
         requires within { span.start + span.len ≤ length table.now.table.columns }
         requires few { span.start + span.len < 2 ^ 63 }
-        ensures taken { HasCleanDisk (state S.Store self.new) → OnOk result (IsTrue (state S.Store self.new).is_open × TakesCells T.has_taken T.is_enough span.start span.len table.now (state S.Store self.old).now reader.old reader.new) }
+        ensures taken { HasCleanDisk (state S.Store self.new)
+            → OnOk result (IsTrue (state S.Store self.new).is_open
+            × TakesCells T.has_taken T.is_enough span.start span.len table.now
+            (state S.Store self.old).now reader.old reader.new) }
         ensures only_reads { OnlyReads (state S.Store self.old) (state S.Store self.new) }
     {
         if span.len == table.table.columns.len() {
@@ -129,9 +137,16 @@ impl<T: RowTaker> RowReader<T> {
     fn take_cell(&mut self, cell: &Row) -> Result<bool, Failure>
         requires { self.old.enough ≡ false }
         ensures same { OnOk result (self.new.span ≡ self.old.span) }
-        ensures enough { IfOk result (λ next. IsTrue self.new.enough → IsTrue next × IsEnough T.has_taken T.is_enough self.new.taker self.new.row) }
-        ensures more { IfOk result (λ next. IsTrue next → (first : T) (cells : List SqlRow) → IsGathered T.has_taken self.old.span.start self.old.span.len first self.old.taker self.old.row cells → IsGathered T.has_taken self.old.span.start self.old.span.len first self.new.taker self.new.row (cells ++ cell.now ∷ [])) }
-        ensures other { result ≡ Ok false → CanBeHeld self.old.row.key → (new : Keyed) → Extends self.old.span.start self.old.row cell.now new → ⊥ }
+        ensures enough { IfOk result
+            (λ next. IsTrue self.new.enough → IsTrue next
+            × IsEnough T.has_taken T.is_enough self.new.taker self.new.row) }
+        ensures more { IfOk result
+            (λ next. IsTrue next → (first : T) (cells : List SqlRow)
+            → IsGathered T.has_taken self.old.span.start self.old.span.len first self.old.taker self.old.row cells
+            → IsGathered T.has_taken self.old.span.start self.old.span.len first self.new.taker self.new.row
+            (cells ++ cell.now ∷ [])) }
+        ensures other { result ≡ Ok false → CanBeHeld self.old.row.key → (new : Keyed)
+            → Extends self.old.span.start self.old.row cell.now new → ⊥ }
     {
         if !self.row.take_cell(self.alloc, self.span.start, cell)? {
             return Ok(false);

@@ -53,7 +53,8 @@ impl<S: Alter> RowStore<S> {
     /// store call.
     pub fn is_at_rest(&self) -> bool
         ensures always { IsTrue result }
-        ensures left { IsTrue (state S.Store self.now).is_open → (trees : Trees) → (state S.Store self.now).may_leave trees → trees ≡ (state S.Store self.now).now.trees }
+        ensures left { IsTrue (state S.Store self.now).is_open → (trees : Trees)
+            → (state S.Store self.now).may_leave trees → trees ≡ (state S.Store self.now).now.trees }
     {
         self.conn.is_autocommit()
     }

@@ -45,7 +45,8 @@ impl<S: Alter> RowStore<S> {
     ) -> Result<(), Failure>
         requires defined { IsTable altered.now }
         requires alike { altered.now ≡ record table.now.table { checks = altered.now.checks } }
-        ensures { Transacts (state S.Store self.old) (state S.Store self.new) (is_ok result) (Redefines table.now altered.now.checks) }
+        ensures { Transacts (state S.Store self.old) (state S.Store self.new) (is_ok result)
+            (Redefines table.now altered.now.checks) }
     {
         let id = table.id;
         let text = print_table(alloc, altered)?;
@@ -77,7 +78,9 @@ impl<S: Alter> RowStore<S> {
 
     /// Returns the tables, in order of number.
     pub fn tables(&mut self, alloc: Global) -> Result<Vec<ListedTable>, Failure>
-        ensures told { HasCleanDisk (state S.Store self.new) → IfOk result (λ listed. IsTrue (state S.Store self.new).is_open × TellsTables (state S.Store self.old).now listed.items) }
+        ensures told { HasCleanDisk (state S.Store self.new)
+            → IfOk result (λ listed. IsTrue (state S.Store self.new).is_open
+            × TellsTables (state S.Store self.old).now listed.items) }
         ensures only_reads { OnlyReads (state S.Store self.old) (state S.Store self.new) }
     {
         let rows = tabs(&mut self.conn)?;
@@ -87,7 +90,9 @@ impl<S: Alter> RowStore<S> {
     /// Returns how many rows a table has. Each has one cell at the first place. Takes no memory of
     /// its own.
     pub fn count(&mut self, table: &StoredTable) -> Result<usize, Failure>
-        ensures told { HasCleanDisk (state S.Store self.new) → IfOk result (λ n. IsTrue (state S.Store self.new).is_open × TellsCount table.now (state S.Store self.old).now n) }
+        ensures told { HasCleanDisk (state S.Store self.new)
+            → IfOk result (λ n. IsTrue (state S.Store self.new).is_open
+            × TellsCount table.now (state S.Store self.old).now n) }
         ensures only_reads { OnlyReads (state S.Store self.old) (state S.Store self.new) }
     {
         count_keys(&mut self.conn, table.id, 1)

@@ -16,10 +16,12 @@ pub trait RowTaker: Drop {
 
     /// Takes one more row.
     fn take(&mut self, row: KeyedRow) -> Result<(), Failure>
-        ensures { OnOk result ((first : Self) (rows : List Keyed) → has_taken first self.old rows → has_taken first self.new (rows ++ row ∷ [])) };
+        ensures { OnOk result ((first : Self) (rows : List Keyed) → has_taken first self.old rows
+            → has_taken first self.new (rows ++ row ∷ [])) };
 
     /// Returns whether no further row changes it. A read stops once it is done.
     fn is_done(&self) -> bool
         ensures enough { result ≡ is_enough self.now }
-        ensures done { IsTrue result → (first : Self) (rows more : List Keyed) → has_taken first self.now rows → has_taken first self.now (rows ++ more) };
+        ensures done { IsTrue result → (first : Self) (rows more : List Keyed) → has_taken first self.now rows
+            → has_taken first self.now (rows ++ more) };
 }

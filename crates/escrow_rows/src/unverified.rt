@@ -23,7 +23,10 @@ impl<S: Alter> RowStore<S> {
 
     /// Gives the rows of META to a sink, in any order. Each has its K and its V.
     pub fn metas<K: Sink>(&mut self, sink: &mut K) -> Result<(), Failure>
-        ensures rows { HasCleanDisk (state S.Store self.new) → OnOk result (IsTrue (state S.Store self.new).is_open × (HasTables (state S.Store self.old).now.schema → Takes K.has_taken (IsPermutation (metas (state S.Store self.old).now)) sink.old sink.new)) }
+        ensures rows { HasCleanDisk (state S.Store self.new)
+            → OnOk result (IsTrue (state S.Store self.new).is_open
+            × (HasTables (state S.Store self.old).now.schema
+            → Takes K.has_taken (IsPermutation (metas (state S.Store self.old).now)) sink.old sink.new)) }
         ensures only_reads { OnlyReads (state S.Store self.old) (state S.Store self.new) }
     {
         escrow_cells::metas(&mut self.conn, sink)
@@ -32,7 +35,10 @@ impl<S: Alter> RowStore<S> {
     /// Returns whether SQLite's own numbers of the rows of META, TAB and CELL are whole, and no
     /// number occurs twice in one of them.
     pub fn are_numbered(&mut self) -> Result<bool, Failure>
-        ensures numbered { HasCleanDisk (state S.Store self.new) → IfOk result (λ are. IsTrue (state S.Store self.new).is_open × (HasTables (state S.Store self.old).now.schema → (IsTrue are ↔ AreAllNumbered (state S.Store self.old).now))) }
+        ensures numbered { HasCleanDisk (state S.Store self.new)
+            → IfOk result (λ are. IsTrue (state S.Store self.new).is_open
+            × (HasTables (state S.Store self.old).now.schema
+            → (IsTrue are ↔ AreAllNumbered (state S.Store self.old).now))) }
         ensures only_reads { OnlyReads (state S.Store self.old) (state S.Store self.new) }
     {
         escrow_cells::are_numbered(&mut self.conn)
@@ -40,7 +46,9 @@ impl<S: Alter> RowStore<S> {
 
     /// Returns the rows of TAB, in order of ID. Each has its ID, its NAME and its DDL.
     pub fn tabs(&mut self) -> Result<Vec<Row>, Failure>
-        ensures rows { HasCleanDisk (state S.Store self.new) → IfOk result (λ rows. IsTrue (state S.Store self.new).is_open × (IsStore (state S.Store self.old).now → AreTabs (tabs (state S.Store self.old).now) rows.items)) }
+        ensures rows { HasCleanDisk (state S.Store self.new)
+            → IfOk result (λ rows. IsTrue (state S.Store self.new).is_open
+            × (IsStore (state S.Store self.old).now → AreTabs (tabs (state S.Store self.old).now) rows.items)) }
         ensures only_reads { OnlyReads (state S.Store self.old) (state S.Store self.new) }
     {
         escrow_cells::tabs(&mut self.conn)
@@ -48,7 +56,10 @@ impl<S: Alter> RowStore<S> {
 
     /// Gives the table of each cell to a sink, in any order.
     pub fn cell_tables<K: Sink>(&mut self, sink: &mut K) -> Result<(), Failure>
-        ensures rows { HasCleanDisk (state S.Store self.new) → OnOk result (IsTrue (state S.Store self.new).is_open × (HasTables (state S.Store self.old).now.schema → Takes K.has_taken (AreTablesOfCells (cells (state S.Store self.old).now)) sink.old sink.new)) }
+        ensures rows { HasCleanDisk (state S.Store self.new)
+            → OnOk result (IsTrue (state S.Store self.new).is_open
+            × (HasTables (state S.Store self.old).now.schema
+            → Takes K.has_taken (AreTablesOfCells (cells (state S.Store self.old).now)) sink.old sink.new)) }
         ensures only_reads { OnlyReads (state S.Store self.old) (state S.Store self.new) }
     {
         escrow_cells::cell_tables(&mut self.conn, sink)

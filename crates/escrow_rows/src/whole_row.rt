@@ -25,7 +25,9 @@ impl<S: Alter> RowStore<S> {
         key: &Value,
     ) -> Result<Option<Row>, Failure>
         requires { IsTable table.now.table }
-        ensures told { HasCleanDisk (state S.Store self.new) → IfOk result (λ found. IsTrue (state S.Store self.new).is_open × TellsRow table.now key.now (state S.Store self.old).now found) }
+        ensures told { HasCleanDisk (state S.Store self.new)
+            → IfOk result (λ found. IsTrue (state S.Store self.new).is_open
+            × TellsRow table.now key.now (state S.Store self.old).now found) }
         ensures only_reads { OnlyReads (state S.Store self.old) (state S.Store self.new) }
     {
         let Some(values) = self.values(alloc, table, key)? else {
@@ -38,7 +40,9 @@ impl<S: Alter> RowStore<S> {
     /// Returns the rows of a table, in order of key.
     pub fn rows(&mut self, alloc: Global, table: &StoredTable) -> Result<Seq<Row>, Failure>
         requires { IsTable table.now.table }
-        ensures told { HasCleanDisk (state S.Store self.new) → IfOk result (λ rows. IsTrue (state S.Store self.new).is_open × TellsRows table.now (state S.Store self.old).now rows) }
+        ensures told { HasCleanDisk (state S.Store self.new)
+            → IfOk result (λ rows. IsTrue (state S.Store self.new).is_open
+            × TellsRows table.now (state S.Store self.old).now rows) }
         ensures only_reads { OnlyReads (state S.Store self.old) (state S.Store self.new) }
     {
         let all = self.all_values(alloc, table)?;

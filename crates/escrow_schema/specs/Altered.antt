@@ -17,7 +17,8 @@ use Rattle.escrow_schema.specs.Print.{declared_checks}
 abbrev pub with_check : TableDef → CheckText → Option TableDef
 with_check table text =
     option_and_then (table_with table.name table.columns table.key)
-    (checks_behind (names_of (reservables table.columns)) (scales_of (reservables table.columns)) (declared_checks table) (text ∷ []))
+    (checks_behind (names_of (reservables table.columns)) (scales_of (reservables table.columns))
+    (declared_checks table) (text ∷ []))
 
 -- the place of the declared check of a name; the check of a range isn't a declared one
 abbrev pub declared_place : TableDef → List ℕ → Option ℕ

@@ -13,7 +13,8 @@ use Rattle.escrow_schema.specs.Plan.{assigned_to, changes_of, is_in_place, liter
 -- the value that is assigned to a column, if a literal is assigned that is a value at the column's scale. The value
 -- need not fit the column's type
 abbrev pub value_assigned : List Assign → Column → Option Value
-value_assigned assigns column = option_and_then (value_at (scale_of column.kind)) (option_and_then literal_in (assigned_to assigns column.name))
+value_assigned assigns column =
+    option_and_then (value_at (scale_of column.kind)) (option_and_then literal_in (assigned_to assigns column.name))
 
 -- the value that is assigned to each of some columns, or none
 abbrev pub values_assigned : List Column → List Assign → List (Option Value)
@@ -33,4 +34,6 @@ IsAnswer planned (Err e) = (planned ≡ Err e) ⊎ ((e ≡ refusal.Memory) × Ta
 -- why there are no changes: one is bad, or all are good, there are more than 4, and memory was refused
 abbrev pub IsChangesFault : List Column → List Assign → Refusal → Type 0
 IsChangesFault columns assigns e =
-    ((e ≡ refusal.BadValue) × (changes_of columns assigns ≡ None)) ⊎ ((e ≡ refusal.Memory) × IsSomeAnd (changes_of columns assigns) (λ changes. nat_le (length changes) IN_PLACE ≡ false))
+    ((e ≡ refusal.BadValue) × (changes_of columns assigns ≡ None))
+    ⊎ ((e ≡ refusal.Memory) × IsSomeAnd (changes_of columns assigns)
+    (λ changes. nat_le (length changes) IN_PLACE ≡ false))

@@ -23,11 +23,14 @@ IsKeyName table name = (column : Column) × IsNamedAt table name table.key colum
 
 -- it is RESERVABLE
 abbrev pub IsReservableName : TableDef → List ℕ → Type 0
-IsReservableName table name = (place : ℕ) × (column : Column) × IsNamedAt table name place column × (column.reservable ≡ true)
+IsReservableName table name =
+    (place : ℕ) × (column : Column) × IsNamedAt table name place column × (column.reservable ≡ true)
 
 -- it is plain: neither RESERVABLE nor the key
 abbrev pub IsPlainName : TableDef → List ℕ → Type 0
-IsPlainName table name = (place : ℕ) × (column : Column) × IsNamedAt table name place column × (column.reservable ≡ false) × (¬ (place ≡ table.key))
+IsPlainName table name =
+    (place : ℕ) × (column : Column) × IsNamedAt table name place column × (column.reservable ≡ false)
+    × (¬ (place ≡ table.key))
 
 -- THE SIX CASES
 
@@ -47,22 +50,26 @@ AssignsKey table text = (assign : Assign) × Assigns text assign × IsKeyName ta
 abbrev pub AssignsTwice : UpdateText → Type 0
 AssignsTwice text =
     (i : ℕ) × (k : ℕ) × (first : Assign) × (second : Assign) × (i < k)
-    × (slice_get text.assigns i ≡ Some first) × (slice_get text.assigns k ≡ Some second) × (first.column ≡ second.column)
+    × (slice_get text.assigns i ≡ Some first) × (slice_get text.assigns k ≡ Some second)
+    × (first.column ≡ second.column)
 
 -- it assigns to a RESERVABLE column anything but that column plus or minus a number
 abbrev pub ReplacesReservable : TableDef → UpdateText → Type 0
 ReplacesReservable table text =
-    (assign : Assign) × Assigns text assign × IsReservableName table assign.column × ((change : ℤ) → ¬ (assign.value ≡ assigned.Change assign.column change))
+    (assign : Assign) × Assigns text assign × IsReservableName table assign.column
+    × ((change : ℤ) → ¬ (assign.value ≡ assigned.Change assign.column change))
 
 -- it assigns to a plain column anything but a literal
 abbrev pub ChangesPlain : TableDef → UpdateText → Type 0
 ChangesPlain table text =
-    (assign : Assign) × Assigns text assign × IsPlainName table assign.column × ((literal : Literal) → ¬ (assign.value ≡ assigned.Literal literal))
+    (assign : Assign) × Assigns text assign × IsPlainName table assign.column
+    × ((literal : Literal) → ¬ (assign.value ≡ assigned.Literal literal))
 
 -- it mixes a RESERVABLE column and a plain one
 abbrev pub MixesColumns : TableDef → UpdateText → Type 0
 MixesColumns table text =
-    (one : Assign) × (other : Assign) × Assigns text one × Assigns text other × IsReservableName table one.column × IsPlainName table other.column
+    (one : Assign) × (other : Assign) × Assigns text one × Assigns text other × IsReservableName table one.column
+    × IsPlainName table other.column
 
 -- one of the six cases applies; by a law (BadAssignmentsAreOfSixKinds), an UPDATE of a table is refused by 24 exactly
 -- then

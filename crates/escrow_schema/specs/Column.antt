@@ -30,7 +30,8 @@ abbrev pub type_of : TypeText → Option ColumnType
 type_of text.Integer = Some (Number MAX_DIGITS 0)
 type_of (text.Number None) = Some (Number MAX_DIGITS 0)
 type_of (text.Number (Some size)) = number_type size.digits (unwrap_or size.scale (pos 0))
-type_of (text.Varchar2 n) = if int_le (pos 1) n && int_le n (pos MAX_BYTES) then Some (Varchar2 (unsigned_abs n)) else None
+type_of (text.Varchar2 n) =
+    if int_le (pos 1) n && int_le n (pos MAX_BYTES) then Some (Varchar2 (unsigned_abs n)) else None
 
 -- whether a type is one of numbers
 abbrev pub is_numeric : ColumnType → Bool
@@ -52,7 +53,8 @@ top_of (Varchar2 bytes) = pos 0
 -- whether a value fits a type. A number of units fits a type of numbers from its least to its greatest. A text fits a
 -- type of texts if it has 1 byte to as many as the type holds
 abbrev pub fits : ColumnType → Value → Bool
-fits (Number digits scale) (value.Number z) = int_le (neg_ℤ (top_of (Number digits scale))) z && int_le z (top_of (Number digits scale))
+fits (Number digits scale) (value.Number z) =
+    int_le (neg_ℤ (top_of (Number digits scale))) z && int_le z (top_of (Number digits scale))
 fits (Number digits scale) (value.Text t) = false
 fits (Varchar2 bytes) (value.Number z) = false
 fits (Varchar2 bytes) (value.Text t) = nat_le 1 (length t) && nat_le (length t) bytes

@@ -85,12 +85,14 @@ key_place items columns = option_and_then (place_of_column columns) (only_one (k
 -- the column that a text declares, if its type is valid
 abbrev pub column_of : ColumnText → Option Column
 column_of text =
-    option_map (λ kind. record { name = text.name; kind = kind; reservable = list_any is_reservable_mark text.marks }) (type_of text.kind)
+    option_map (λ kind. record { name = text.name; kind = kind; reservable = list_any is_reservable_mark text.marks })
+    (type_of text.kind)
 
 -- the columns that texts declare, in order, if each type is valid
 abbrev pub columns_of : List ColumnText → Option (List Column)
 columns_of [] = Some []
-columns_of (text ∷ texts) = option_and_then (λ column. option_map (λ columns. column ∷ columns) (columns_of texts)) (column_of text)
+columns_of (text ∷ texts) =
+    option_and_then (λ column. option_map (λ columns. column ∷ columns) (columns_of texts)) (column_of text)
 
 -- whether all names differ
 abbrev pub are_distinct : List (List ℕ) → Bool
@@ -133,19 +135,22 @@ check_names checks = map (λ check. check.name) checks
 abbrev pub table_with : List ℕ → List Column → ℕ → List Check → Option TableDef
 table_with name columns key written =
     let checks = written ++ range_checks columns in
-    if are_distinct (check_names checks) then Some (record { name = name; columns = columns; key = key; checks = checks }) else None
+    if are_distinct (check_names checks)
+    then Some (record { name = name; columns = columns; key = key; checks = checks }) else None
 
 -- the table of these columns and this key, if its name, the columns and the CHECKs follow the rules
 abbrev pub table_of : CreateText → List Column → ℕ → Option TableDef
 table_of text columns key =
     if is_written_name text.table && are_columns columns key
-    then option_and_then (table_with text.table columns key) (checks_of (names_of (reservables columns)) (scales_of (reservables columns)) (checks_in text.items))
+    then option_and_then (table_with text.table columns key)
+    (checks_of (names_of (reservables columns)) (scales_of (reservables columns)) (checks_in text.items))
     else None
 
 -- the table that a CREATE TABLE defines, or nothing if it breaks a rule
 abbrev pub definition_of : CreateText → Option TableDef
 definition_of text =
-    option_and_then (λ columns. option_and_then (table_of text columns) (key_place text.items columns)) (columns_of (column_texts text.items))
+    option_and_then (λ columns. option_and_then (table_of text columns) (key_place text.items columns))
+    (columns_of (column_texts text.items))
 
 -- a table that some text defines
 abbrev pub IsTable : TableDef → Type 0

@@ -32,14 +32,16 @@ number_in (value.Text t) = pos 0
 abbrev pub amounts_of : List Column → List Value → List ℤ
 amounts_of [] values = []
 amounts_of (column ∷ columns) [] = []
-amounts_of (column ∷ columns) (v ∷ values) = if column.reservable then number_in v ∷ amounts_of columns values else amounts_of columns values
+amounts_of (column ∷ columns) (v ∷ values) =
+    if column.reservable then number_in v ∷ amounts_of columns values else amounts_of columns values
 
 -- the values of the columns that are neither RESERVABLE nor the key. The first of the columns has this place
 abbrev pub plain_of : List Column → List Value → ℕ → ℕ → List Value
 plain_of [] values place key = []
 plain_of (column ∷ columns) [] place key = []
 plain_of (column ∷ columns) (v ∷ values) place key =
-    if column.reservable || place == key then plain_of columns values (place + 1) key else v ∷ plain_of columns values (place + 1) key
+    if column.reservable || place == key then plain_of columns values (place + 1) key
+    else v ∷ plain_of columns values (place + 1) key
 
 -- the row of these values
 abbrev pub row_with : TableDef → List Value → Option Row
@@ -57,13 +59,15 @@ fitted table literals = option_and_then (row_with table) (values_in table.column
 abbrev pub literal_beside : List (List ℕ) → List Literal → List ℕ → Option Literal
 literal_beside [] literals name = None
 literal_beside (other ∷ names) [] name = None
-literal_beside (other ∷ names) (literal ∷ literals) name = if bytes_eq other name then Some literal else literal_beside names literals name
+literal_beside (other ∷ names) (literal ∷ literals) name =
+    if bytes_eq other name then Some literal else literal_beside names literals name
 
 -- the literals beside the names of columns, in the order of the columns, if each has one
 abbrev pub literals_beside : List (List ℕ) → List Literal → List Column → Option (List Literal)
 literals_beside names literals [] = Some []
 literals_beside names literals (column ∷ columns) =
-    option_and_then (λ literal. option_map (λ more. literal ∷ more) (literals_beside names literals columns)) (literal_beside names literals column.name)
+    option_and_then (λ literal. option_map (λ more. literal ∷ more) (literals_beside names literals columns))
+    (literal_beside names literals column.name)
 
 -- the literals in the order of the columns: as written if no columns are named. Otherwise each column must be named
 -- once, and has the literal beside its name
@@ -81,7 +85,8 @@ inserted_row table text = option_and_then (fitted table) (in_column_order table.
 abbrev pub plains : List Column → ℕ → ℕ → List Column
 plains [] place key = []
 plains (column ∷ columns) place key =
-    if column.reservable || place == key then plains columns (place + 1) key else column ∷ plains columns (place + 1) key
+    if column.reservable || place == key then plains columns (place + 1) key
+    else column ∷ plains columns (place + 1) key
 
 -- a row of a table: it has the table's name, a key and plain values that fit its columns' types, and an amount for each
 -- RESERVABLE column
@@ -96,7 +101,8 @@ pub record IsRowOf (table : TableDef) (row : Row) : Type 0 where
 abbrev pub values_from : List Column → ℕ → ℕ → Value → List ℤ → List Value → List Value
 values_from [] place at key amounts plain = []
 values_from (column ∷ columns) place at key amounts plain =
-    if column.reservable then map value.Number (take 1 amounts) ++ values_from columns (place + 1) at key (drop 1 amounts) plain
+    if column.reservable then map value.Number (take 1 amounts)
+    ++ values_from columns (place + 1) at key (drop 1 amounts) plain
     else (if place == at then key ∷ values_from columns (place + 1) at key amounts plain
     else take 1 plain ++ values_from columns (place + 1) at key amounts (drop 1 plain))
 

@@ -33,7 +33,8 @@ key_in table literal = option_and_then (λ column. value_in column.kind literal)
 -- the key that a WHERE names, or why it names none: WHERE names another column than the key (25), or the key's type
 -- doesn't hold the literal (23)
 abbrev pub key_named : TableDef → WhereText → Result Value Refusal
-key_named table row = if not (is_key table row.column) then Err refusal.NotTheKey else ok_or (key_in table row.literal) refusal.BadValue
+key_named table row =
+    if not (is_key table row.column) then Err refusal.NotTheKey else ok_or (key_in table row.literal) refusal.BadValue
 
 -- whether the value assigned to a column is the column itself plus or minus a number
 abbrev pub is_itself : List ℕ → Assigned → Bool
@@ -42,7 +43,9 @@ is_itself column (assigned.Change source change) = bytes_eq column source
 
 -- whether an assignment sets a RESERVABLE column to itself plus or minus a number
 abbrev pub is_change : List Column → Assign → Bool
-is_change columns assign = list_any (λ column. column.reservable && bytes_eq column.name assign.column) columns && is_itself assign.column assign.value
+is_change columns assign =
+    list_any (λ column. column.reservable && bytes_eq column.name assign.column) columns && is_itself assign.column
+    assign.value
 
 -- whether one of the columns has a name
 abbrev pub has_column : List Column → List ℕ → Bool
@@ -59,15 +62,18 @@ is_replacement table assign = has_column (plains table.columns 0 table.key) assi
 
 -- whether each assignment changes a RESERVABLE column, and no two the same one
 abbrev pub are_changes : List Column → List Assign → Bool
-are_changes columns assigns = are_distinct (map (λ assign. assign.column) assigns) && list_all (is_change columns) assigns
+are_changes columns assigns =
+    are_distinct (map (λ assign. assign.column) assigns) && list_all (is_change columns) assigns
 
 -- whether each assignment replaces a plain value, and no two the same one
 abbrev pub are_replacements : TableDef → List Assign → Bool
-are_replacements table assigns = are_distinct (map (λ assign. assign.column) assigns) && list_all (is_replacement table) assigns
+are_replacements table assigns =
+    are_distinct (map (λ assign. assign.column) assigns) && list_all (is_replacement table) assigns
 
 -- what is assigned to a column, if anything is
 abbrev pub assigned_to : List Assign → List ℕ → Option Assigned
-assigned_to assigns column = option_map (λ assign. assign.value) (find (λ assign. bytes_eq assign.column column) assigns)
+assigned_to assigns column =
+    option_map (λ assign. assign.value) (find (λ assign. bytes_eq assign.column column) assigns)
 
 -- the change that is assigned, if one is
 abbrev pub change_in : Assigned → Option ℤ
@@ -134,7 +140,11 @@ for_key plan (Err refusal) = Err refusal
 abbrev pub planned : TableDef → UpdateText → Result Plan Refusal
 planned table text =
     if are_changes table.columns text.assigns
-    then for_key (λ key. ok_or (option_map (λ changes. Reserve key changes) (changes_of table.columns text.assigns)) refusal.BadValue) (key_named table text.row)
+    then for_key (λ key. ok_or
+    (option_map (λ changes. Reserve key changes) (changes_of table.columns text.assigns)) refusal.BadValue)
+    (key_named table text.row)
     else (if are_replacements table text.assigns
-    then for_key (λ key. ok_or (option_map (λ values. Plain key values) (new_values table text.assigns)) refusal.BadValue) (key_named table text.row)
+    then for_key (λ key. ok_or
+    (option_map (λ values. Plain key values) (new_values table text.assigns)) refusal.BadValue)
+    (key_named table text.row)
     else Err refusal.BadAssignment)

@@ -66,7 +66,8 @@ limit_words scale None None = []
 -- the condition of a check over columns of these names and scales: its coefficients as written, in units of the
 -- columns' own scales, and its limits
 abbrev pub condition_words : List (List ℕ) → List ℕ → Check → List ℕ
-condition_words names scales check = form_words true names (written_of check scales) ++ limit_words check.scale check.span.lo check.span.hi
+condition_words names scales check =
+    form_words true names (written_of check scales) ++ limit_words check.scale check.span.lo check.span.hi
 
 -- a declared check, over the RESERVABLE columns of these names and scales
 unfoldable pub check_words : List (List ℕ) → List ℕ → Check → List ℕ
@@ -85,4 +86,5 @@ abbrev pub canonical : TableDef → List ℕ
 canonical table =
     table_words table.name
     (columns_words table.columns 0 table.key
-    ++ map (check_words (names_of (reservables table.columns)) (scales_of (reservables table.columns))) (declared_checks table))
+    ++ map (check_words (names_of (reservables table.columns)) (scales_of (reservables table.columns)))
+    (declared_checks table))

@@ -36,7 +36,9 @@ HasTable catalog row = IsSomeAnd (table_named catalog row.name.table) (λ table.
 
 -- a row meets each check of its table
 abbrev pub MeetsChecks : List TableDef → Row → Type 0
-MeetsChecks catalog row = IsSomeAnd (table_named catalog row.name.table) (λ table. AllByRecursion (λ check. Meets check row.amounts) table.checks)
+MeetsChecks catalog row =
+    IsSomeAnd (table_named catalog row.name.table)
+    (λ table. AllByRecursion (λ check. Meets check row.amounts) table.checks)
 
 -- rows are of tables in the catalog, in order of table and key, no two with the same; at most 65,536 are of one table
 pub record AreRowsOf (catalog : List TableDef) (rows : List Row) : Type 0 where
@@ -49,7 +51,8 @@ pub record AreRowsOf (catalog : List TableDef) (rows : List Row) : Type 0 where
 -- the rows with a row added, in their order
 abbrev pub with_row : Row → List Row → List Row
 with_row row [] = row ∷ []
-with_row row (other ∷ rest) = if is_lt (row_cmp row.name other.name) then row ∷ other ∷ rest else other ∷ with_row row rest
+with_row row (other ∷ rest) =
+    if is_lt (row_cmp row.name other.name) then row ∷ other ∷ rest else other ∷ with_row row rest
 
 -- the rows without the one of a name
 abbrev pub without_row : RowName → List Row → List Row

@@ -36,10 +36,12 @@ pub record FollowsRules (text : CreateText) (table : TableDef) : Type 0 where
   -- its checks are at most 32 declared ones, in order, with one check for each condition of a CHECK; after them the
   -- range of each RESERVABLE column; no two have the same name
   pub declared : List Check
-  pub of_text : checks_of (names_of (reservables table.columns)) (scales_of (reservables table.columns)) (checks_in text.items) ≡ Some declared
+  pub of_text : checks_of (names_of (reservables table.columns)) (scales_of (reservables table.columns))
+      (checks_in text.items) ≡ Some declared
   pub few_declared : length declared ≤ MAX_CHECKS
   -- each declared one is over the RESERVABLE columns, with coefficients, a scale, limits and a name that CHECKs may
   -- give
-  pub good_declared : AllByRecursion (IsDeclared (names_of (reservables table.columns)) (scales_of (reservables table.columns))) declared
+  pub good_declared : AllByRecursion
+      (IsDeclared (names_of (reservables table.columns)) (scales_of (reservables table.columns))) declared
   pub checks : table.checks ≡ declared ++ range_checks table.columns
   pub distinct_checks : IsDistinct bytes_eq (check_names table.checks)

@@ -41,7 +41,8 @@ defined_as table c = record c { stored = record c.stored { table = table } }
 
 -- the tables, with a definition given to the one of its name
 abbrev pub with_definition : TableDef → List CountedTable → List CountedTable
-with_definition table tables = map (λ c. if bytes_eq c.stored.table.name table.name then defined_as table c else c) tables
+with_definition table tables =
+    map (λ c. if bytes_eq c.stored.table.name table.name then defined_as table c else c) tables
 
 -- the tables, with the number of rows of the one at a place replaced
 abbrev pub recounted : List CountedTable → ℕ → ℕ → List CountedTable

@@ -22,7 +22,8 @@ pub fn alter(alloc: Global, table: &TableDef, change: &TableChange) -> Result<Ta
     ensures made { IfOk result (λ made. altered table.now change.now ≡ Ok made) }
     ensures table { IfOk result IsTable }
     ensures refused { IfErr (altered table.now change.now) (λ e. IsErr result) }
-    ensures missing { altered table.now change.now ≡ Err refusal.NoSuchConstraint → result ≡ Err refusal.NoSuchConstraint }
+    ensures missing { altered table.now change.now ≡ Err refusal.NoSuchConstraint
+        → result ≡ Err refusal.NoSuchConstraint }
     ensures only { IfErr result (λ e. (altered table.now change.now ≡ Err e) ⊎ (e ≡ Refusal.Memory)) }
 {
     match change {

@@ -29,7 +29,8 @@ pub(crate) fn place_by_name(tables: &[CountedTable], name: Name) -> Option<usize
 /// Takes no memory.
 pub(crate) fn place_in_order(tables: &[CountedTable], name: Name) -> usize
     ensures within { result ≤ length tables.now }
-    ensures place { result ≡ unwrap_or (position (λ c. is_lt (slice_cmp nat_cmp name c.stored.table.name)) tables.now) (length tables.now) }
+    ensures place { result ≡ unwrap_or (position (λ c. is_lt (slice_cmp nat_cmp name c.stored.table.name)) tables.now)
+        (length tables.now) }
 {
     first_after(tables, name).unwrap_or(tables.len())
 }

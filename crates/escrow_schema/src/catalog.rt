@@ -184,7 +184,8 @@ fn new_table(id: i64, table: TableDef) -> CountedTable
 /// Replaces the definition of the table at a place.
 fn define_at(tables: &mut Vec<CountedTable>, place: usize, table: TableDef)
     requires { place < length tables.old.items }
-    ensures { (c : Counted) → slice_get tables.old.items place ≡ Some c → tables.new.items ≡ slice_set tables.old.items place (defined_as table c) }
+    ensures { (c : Counted) → slice_get tables.old.items place ≡ Some c
+        → tables.new.items ≡ slice_set tables.old.items place (defined_as table c) }
 {
     tables[place].stored.table = table;
 }

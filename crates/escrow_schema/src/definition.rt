@@ -90,7 +90,8 @@ fn declared_checks(
     columns: &[Column],
 ) -> Result<Option<Seq<Check>>, AllocError>
     requires { CanRange columns.now }
-    ensures { IfOk result (λ checks. checks ≡ checks_of (names_of columns.now) (scales_of columns.now) (checks_in items.now)) }
+    ensures { IfOk result (λ checks.
+        checks ≡ checks_of (names_of columns.now) (scales_of columns.now) (checks_in items.now)) }
 {
     let texts = checks_in(alloc, items)?;
     checks_behind(alloc, &[], texts.as_slice(), columns)
@@ -106,7 +107,9 @@ pub(crate) fn checks_behind(
 ) -> Result<Option<Seq<Check>>, AllocError>
     requires declared { length declared.now ≤ MAX_CHECKS }
     requires range { CanRange columns.now }
-    ensures { IfOk result (λ checks. checks ≡ checks_behind (names_of columns.now) (scales_of columns.now) declared.now (map (λ text. text.now) texts.now)) }
+    ensures { IfOk result (λ checks.
+        checks ≡ checks_behind (names_of columns.now) (scales_of columns.now) declared.now
+        (map (λ text. text.now) texts.now)) }
 {
     let names = names_of(alloc, columns)?;
     let scales = scales_of(alloc, columns)?;

@@ -137,7 +137,9 @@ fn push_value(
     place: usize,
     text: &InsertText,
 ) -> Result<(), AllocError>
-    ensures { OnOk result (values.new.items ≡ values.old.items ++ option_to_list (option_and_then (value_at (scale_of column.now.kind)) (literal_for text.now.columns text.now.values place column.now.name))) }
+    ensures { OnOk result (values.new.items ≡ values.old.items
+        ++ option_to_list (option_and_then (value_at (scale_of column.now.kind))
+        (literal_for text.now.columns text.now.values place column.now.name))) }
 {
     if let Some(literal) = literal_for(text, place, &column.name) {
         if let Some(value) = value_at(alloc, column.scale(), literal)? {

@@ -117,7 +117,8 @@ pub(crate) fn checks_in<'a>(
 
 /// Adds the CHECKs of an item.
 fn push_checks<'a>(texts: &mut Vec<&'a CheckText>, item: &'a Item) -> Result<(), AllocError>
-    ensures { OnOk result (map (λ text. text.now) texts.new.items ≡ map (λ text. text.now) texts.old.items ++ checks_of_item item.now) }
+    ensures { OnOk result (map (λ text. text.now) texts.new.items ≡ map (λ text. text.now) texts.old.items
+        ++ checks_of_item item.now) }
 {
     match item {
         Item::Column(text) => push_check_marks(texts, text.marks.as_slice()),
@@ -131,7 +132,8 @@ fn push_check_marks<'a>(
     texts: &mut Vec<&'a CheckText>,
     marks: &'a [ColumnMark],
 ) -> Result<(), AllocError>
-    ensures { OnOk result (map (λ text. text.now) texts.new.items ≡ map (λ text. text.now) texts.old.items ++ flat_map check_of_mark marks.now) }
+    ensures { OnOk result (map (λ text. text.now) texts.new.items ≡ map (λ text. text.now) texts.old.items
+        ++ flat_map check_of_mark marks.now) }
 {
     for mark in marks {
         if let ColumnMark::Check(text) = mark {

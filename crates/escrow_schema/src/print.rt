@@ -50,7 +50,8 @@ fn push_items(
 ) -> Result<(), AllocError>
     requires { IsTable table.now }
     ensures { OnOk result (string_bytes text.new ≡ string_bytes text.old
-        ++ joined (columns_words table.now.columns 0 table.now.key ++ map (check_words names.now scales.now) (declared_checks table.now))) }
+        ++ joined (columns_words table.now.columns 0 table.now.key
+        ++ map (check_words names.now scales.now) (declared_checks table.now))) }
 {
     push_columns(alloc, text, table.columns.as_slice(), table.key)?;
     push_checks(alloc, text, names, scales, declared_checks(table))
@@ -163,7 +164,8 @@ fn push_check(
     scales: &[Scale],
     check: &Check,
 ) -> Result<(), AllocError>
-    ensures { OnOk result (string_bytes text.new ≡ string_bytes text.old ++ check_words names.now scales.now check.now) }
+    ensures { OnOk result (string_bytes text.new ≡ string_bytes text.old
+        ++ check_words names.now scales.now check.now) }
 {
     push_named(text, "CONSTRAINT ", &check.name)?;
     push(text, " CHECK (")?;
@@ -179,7 +181,8 @@ fn push_condition(
     scales: &[Scale],
     check: &Check,
 ) -> Result<(), AllocError>
-    ensures { OnOk result (string_bytes text.new ≡ string_bytes text.old ++ condition_words names.now scales.now check.now) }
+    ensures { OnOk result (string_bytes text.new ≡ string_bytes text.old
+        ++ condition_words names.now scales.now check.now) }
 {
     let written = check.written(scales);
     push_form(alloc, text, names, written.as_slice())?;

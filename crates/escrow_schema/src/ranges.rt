@@ -18,7 +18,8 @@ pub(crate) fn push_ranges(
     columns: &[Column],
 ) -> Result<(), AllocError>
     requires { CanRange columns.now }
-    ensures { OnOk result (checks.new.items ≡ checks.old.items ++ map (range_check (names_of columns.now)) columns.now) }
+    ensures { OnOk result (checks.new.items ≡ checks.old.items
+        ++ map (range_check (names_of columns.now)) columns.now) }
 {
     for place in 0..columns.len() {
         let name = range_name(alloc, &columns[place].name)?;

@@ -13,7 +13,9 @@ use std::alloc::{AllocError, Global};
 /// fit its column's type, or if there aren't as many as columns.
 pub fn row_of(alloc: Global, table: &TableDef, values: &[Value]) -> Result<Option<Row>, AllocError>
     requires { IsTable table.now }
-    ensures some { IfOk result (λ found. IfSome found (λ row. (row_with table.now values.now ≡ Some row) × FitColumns table.now.columns values.now × IsRowOf table.now row)) }
+    ensures some { IfOk result
+        (λ found. IfSome found (λ row. (row_with table.now values.now ≡ Some row)
+        × FitColumns table.now.columns values.now × IsRowOf table.now row)) }
     ensures none { result ≡ Ok None → ¬ FitColumns table.now.columns values.now }
 {
     if !fit_columns(table.typed_columns(), values) {
@@ -74,7 +76,8 @@ fn amounts_of(
 
 /// Adds the amount of a RESERVABLE column.
 fn push_amount(amounts: &mut Vec<Amount>, column: &Column, value: &Value) -> Result<(), AllocError>
-    ensures { OnOk result (amounts.new.items ≡ amounts.old.items ++ (if column.now.reservable then number_in value.now ∷ [] else [])) }
+    ensures { OnOk result (amounts.new.items ≡ amounts.old.items
+        ++ (if column.now.reservable then number_in value.now ∷ [] else [])) }
 {
     if column.reservable {
         amounts.push(number_in(value))?;
@@ -117,7 +120,8 @@ fn push_plain(
     value: &Value,
     is_key: bool,
 ) -> Result<(), AllocError>
-    ensures { OnOk result (plain.new.items ≡ plain.old.items ++ (if column.now.reservable || is_key then [] else value.now ∷ [])) }
+    ensures { OnOk result (plain.new.items ≡ plain.old.items
+        ++ (if column.now.reservable || is_key then [] else value.now ∷ [])) }
 {
     if column.reservable || is_key {
         return Ok(());

@@ -31,7 +31,8 @@ pub fn values_of(alloc: Global, table: &TableDef, row: &Row) -> Result<Seq<Value
 
 /// Adds the amount at a place, if there is one.
 fn push_amount(values: &mut Vec<Value>, row: &Row, place: usize) -> Result<(), AllocError>
-    ensures { OnOk result (values.new.items ≡ values.old.items ++ map value.Number (take 1 (drop place row.now.amounts))) }
+    ensures { OnOk result (values.new.items ≡ values.old.items
+        ++ map value.Number (take 1 (drop place row.now.amounts))) }
 {
     if let Some(amount) = row.amounts.get(place) {
         values.push(Value::Number(*amount))?;

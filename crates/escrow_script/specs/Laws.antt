@@ -6,7 +6,8 @@ use Rattle.escrow_script.specs.Line.{Reading, Reads}
 -- a line has at most one reading
 abbrev pub HasOneReading : Type 0
 HasOneReading =
-    (databases sessions : ℕ) (bytes : List ℕ) (one other : Reading) → databases ≤ MAX_DATABASES → Reads databases sessions bytes one → Reads databases sessions bytes other → one ≡ other
+    (databases sessions : ℕ) (bytes : List ℕ) (one other : Reading) → databases ≤ MAX_DATABASES
+    → Reads databases sessions bytes one → Reads databases sessions bytes other → one ≡ other
 
 -- the limits of scripts and of the program, as numbers
 pub record Limits : Type 0 where

@@ -82,7 +82,8 @@ abbrev pub IsMadeOf : ℕ → ℕ → List ℕ → Reading → Type 0
 IsMadeOf databases sessions content nothing = (content ≡ []) ⊎ IsComment content
 IsMadeOf databases sessions content join = IsJoin content
 IsMadeOf databases sessions content (restart place) = IsRestart databases content place
-IsMadeOf databases sessions content (statement place session text) = IsStatement databases sessions content place session text
+IsMadeOf databases sessions content (statement place session text) =
+    IsStatement databases sessions content place session text
 IsMadeOf databases sessions content no_line = ⊥
 
 -- the content is as the reading demands, or it is no line because it is as no reading demands
@@ -94,7 +95,9 @@ ReadsContent databases sessions content reading = IsMadeOf databases sessions co
 abbrev pub IsReadable : List ℕ → Type 0
 IsReadable bytes = (length bytes ≤ MAX_LINE) × IsUtf8 bytes
 
--- WHAT A LINE IS, with this many databases and sessions: a readable line is what its content is, and any other is no line
+-- WHAT A LINE IS, with this many databases and sessions: a readable line is what its content is, and any other is no
+-- line
 abbrev pub Reads : ℕ → ℕ → List ℕ → Reading → Type 0
 Reads databases sessions bytes reading =
-    (IsReadable bytes × ReadsContent databases sessions (content_of bytes) reading) ⊎ ((IsReadable bytes → ⊥) × (reading ≡ no_line))
+    (IsReadable bytes × ReadsContent databases sessions (content_of bytes) reading)
+    ⊎ ((IsReadable bytes → ⊥) × (reading ≡ no_line))

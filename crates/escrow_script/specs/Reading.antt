@@ -34,7 +34,8 @@ word_len bytes = prefix_len (λ c. not (is_blank c)) bytes
 -- the place of the database whose name is the only word, after at least one blank
 abbrev pub named_place : ℕ → List ℕ → Option ℕ
 named_place databases bytes =
-    if prefix_len is_blank bytes == 0 || not (list_all is_blank (drop (word_len (after_blanks bytes)) (after_blanks bytes))) then None
+    if prefix_len is_blank bytes == 0 || not
+    (list_all is_blank (drop (word_len (after_blanks bytes)) (after_blanks bytes))) then None
     else database_place databases (take (word_len (after_blanks bytes)) (after_blanks bytes))
 
 -- the place of the database to restart

@@ -40,7 +40,8 @@ Spends (Some bytes) (Some rest) old new = length bytes + new ≡ length rest + o
 abbrev pub TakesLine : Bool → Option (List ℕ) → Option (List ℕ) → List ℕ → Type 0
 TakesLine found None rest kept = ⊤
 TakesLine found (Some bytes) None kept = ⊥
-TakesLine true (Some bytes) (Some rest) kept = (line : List ℕ) × (lines_of bytes ≡ line ∷ lines_of rest) × (kept ≡ take (MAX_LINE + 1) line)
+TakesLine true (Some bytes) (Some rest) kept =
+    (line : List ℕ) × (lines_of bytes ≡ line ∷ lines_of rest) × (kept ≡ take (MAX_LINE + 1) line)
 TakesLine false (Some bytes) (Some rest) kept = (lines_of bytes ≡ []) × (rest ≡ [])
 
 -- The bytes up to the first line feed moved from what is unread to a line, and the line feed was taken; or all of them,

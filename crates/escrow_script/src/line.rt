@@ -179,7 +179,8 @@ fn word_len(bytes: &[u8]) -> usize
 fn statement_of(databases: usize, sessions: u16, content: &str) -> Option<Line<'_>>
     requires { databases ≤ MAX_DATABASES }
     ensures some { IfSome result (λ line. IsMadeOf databases sessions content.now (seen line)) }
-    ensures none { IfNone result ((place session : ℕ) (text : List ℕ) → IsStatement databases sessions content.now place session text → ⊥) }
+    ensures none { IfNone result ((place session : ℕ) (text : List ℕ)
+        → IsStatement databases sessions content.now place session text → ⊥) }
 {
     let (name, rest) = content.split_once('.')?;
     let (number, text) = rest.split_once(':')?;
@@ -225,7 +226,8 @@ fn number_of(digits: &[u8]) -> Option<u16>
 
 /// Returns the session of a number, if it is one of this many.
 fn session_among(sessions: u16, number: u16) -> Option<Session>
-    ensures { MatchOption result (IsSession number → number ≤ sessions → ⊥) (λ session. IsSession number × (number ≤ sessions) × (session ≡ number)) }
+    ensures { MatchOption result (IsSession number → number ≤ sessions → ⊥)
+        (λ session. IsSession number × (number ≤ sessions) × (session ≡ number)) }
 {
     if number <= sessions {
         Session::new(number)

@@ -93,10 +93,13 @@ impl Script {
             (left self.new.unread (R.remaining reader.new)) self.new.line.items) }
         ensures less { IfOk result (λ found. found ≡ true →
             self.new.bytes_left + length self.new.unread < self.old.bytes_left + length self.old.unread) }
-        ensures spent { OnOk result (Spends (R.remaining reader.old) (R.remaining reader.new) self.old.bytes_left self.new.bytes_left) }
+        ensures spent { OnOk result
+            (Spends (R.remaining reader.old) (R.remaining reader.new) self.old.bytes_left self.new.bytes_left) }
         ensures in_hand { IfOk result (λ found. has_line self.old.reads_left self.old.unread ≡ true → found ≡ true) }
-        ensures cause { IfErr result (λ fault. has_line self.old.reads_left self.old.unread ≡ true → fault ≡ ServeFault.Memory) }
-        ensures ended { IfOk result (λ _. self.new.has_ended ≡ true → HasEnded self.new.unread (R.remaining reader.new)) }
+        ensures cause { IfErr result
+            (λ fault. has_line self.old.reads_left self.old.unread ≡ true → fault ≡ ServeFault.Memory) }
+        ensures ended { IfOk result
+            (λ _. self.new.has_ended ≡ true → HasEnded self.new.unread (R.remaining reader.new)) }
         // No error is the writer's.
         ensures kind { IfErr result (λ fault. (cause : WriteFault) → fault ≢ ServeFault.Write cause) }
     {
@@ -141,8 +144,10 @@ impl Script {
 
     /// Moves the unread bytes up to a line feed into the line, and returns whether there was one.
     fn take_front(&mut self) -> Result<bool, AllocError>
-        ensures moved { IfOk result (λ found. Moves found self.old.unread self.new.unread self.old.line.items self.new.line.items) }
-        ensures less { IfOk result (λ found. vec_len self.new.line + length self.new.unread ≤ vec_len self.old.line + length self.old.unread) }
+        ensures moved { IfOk result
+            (λ found. Moves found self.old.unread self.new.unread self.old.line.items self.new.line.items) }
+        ensures less { IfOk result
+            (λ found. vec_len self.new.line + length self.new.unread ≤ vec_len self.old.line + length self.old.unread) }
         ensures fewer { IfOk result (λ found. found ≡ true →
             vec_len self.new.line + length self.new.unread < vec_len self.old.line + length self.old.unread) }
         ensures refused { OnErr result (self.new.unread ≡ self.old.unread) }

@@ -37,7 +37,8 @@ pub fn gather(replies: &mut Vec<u8>, reply: Vec<u8>) -> Result<(), AllocError>
 pub fn write_gathered<W: Write>(writer: &mut W, replies: &mut Vec<u8>) -> Result<(), ServeFault>
     ensures ok { OnOk result (Appends (W.contents writer.old) (W.contents writer.new) replies.old.items) }
     ensures none { OnOk result (replies.new.items ≡ []) }
-    ensures err { OnErr result ((len : ℕ) × (len < length replies.old.items) × Appends (W.contents writer.old) (W.contents writer.new) (take len replies.old.items)) }
+    ensures err { OnErr result ((len : ℕ) × (len < length replies.old.items)
+        × Appends (W.contents writer.old) (W.contents writer.new) (take len replies.old.items)) }
     ensures kind { IfErr result IsOfWriter }
 {
     write_whole(writer, replies.as_slice())?;
@@ -48,7 +49,8 @@ pub fn write_gathered<W: Write>(writer: &mut W, replies: &mut Vec<u8>) -> Result
 /// Writes what is gathered after memory was refused, and returns the fault: that of memory once
 /// everything is written, or the writer's.
 pub fn out_of_memory<W: Write>(writer: &mut W, replies: &mut Vec<u8>) -> ServeFault
-    ensures { (len : ℕ) × Appends (W.contents writer.old) (W.contents writer.new) (take len replies.old.items) × Leaves result (drop len replies.old.items) }
+    ensures { (len : ℕ) × Appends (W.contents writer.old) (W.contents writer.new) (take len replies.old.items)
+        × Leaves result (drop len replies.old.items) }
 {
     match write_gathered(writer, replies) {
         Ok(()) => ServeFault::Memory,
@@ -64,7 +66,8 @@ pub fn out_of_memory<W: Write>(writer: &mut W, replies: &mut Vec<u8>) -> ServeFa
 /// accepted before is a prefix of the bytes, and not all of them.
 pub fn write_whole<W: Write>(writer: &mut W, bytes: &[u8]) -> Result<(), WriteFault>
     ensures ok { OnOk result (Appends (W.contents writer.old) (W.contents writer.new) bytes.now) }
-    ensures err { OnErr result ((len : ℕ) × (len < length bytes.now) × Appends (W.contents writer.old) (W.contents writer.new) (take len bytes.now)) }
+    ensures err { OnErr result ((len : ℕ) × (len < length bytes.now)
+        × Appends (W.contents writer.old) (W.contents writer.new) (take len bytes.now)) }
 {
     let mut rest = bytes;
     while !rest.is_empty() {

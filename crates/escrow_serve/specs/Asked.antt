@@ -20,14 +20,17 @@ pub record Given : Type 0 where
   pub happened : Event
   pub answer : Reply
 
--- a text of a session is a statement, and the database's reply to it is written; or it is no statement, or memory to read it
--- is refused, and no database sees it; or it asks for totals
+-- a text of a session is a statement, and the database's reply to it is written; or it is no statement, or memory to
+-- read it is refused, and no database sees it; or it asks for totals
 abbrev pub GivesText : ℕ → ℕ → List ℕ → List Given → List ℕ → Type 0
 GivesText place session text given out =
     ((asked : Statement) × (answer : Reply) × Asks text (request.Statement asked)
-    × (given ≡ record { place = place; happened = event.Statement session asked; answer = answer } ∷ []) × (out ≡ rendered (database_name place) session answer))
-    ⊎ (((f : ParseFault) × IsFaultIn text f × (given ≡ []) × (out ≡ rendered (database_name place) session (reply.Refused (fault_refusal f))))
-    ⊎ ((totals : Tally) × Asks text request.Statistics × (given ≡ []) × (out ≡ rendered_totals (database_name place) session totals)))
+    × (given ≡ record { place = place; happened = event.Statement session asked; answer = answer } ∷ [])
+    × (out ≡ rendered (database_name place) session answer))
+    ⊎ (((f : ParseFault) × IsFaultIn text f × (given ≡ [])
+    × (out ≡ rendered (database_name place) session (reply.Refused (fault_refusal f))))
+    ⊎ ((totals : Tally) × Asks text request.Statistics × (given ≡ [])
+    × (out ≡ rendered_totals (database_name place) session totals)))
 
 -- what a line gives, and what it writes
 abbrev pub GivesLine : Reading → List Given → List ℕ → Type 0
@@ -35,7 +38,8 @@ GivesLine nothing given out = (given ≡ []) × (out ≡ [])
 GivesLine join given out = (given ≡ []) × (out ≡ [])
 GivesLine no_line given out = (given ≡ []) × (out ≡ no_line_text)
 GivesLine (restart place) given out =
-    (answer : Reply) × (given ≡ record { place = place; happened = event.Restart; answer = answer } ∷ []) × (out ≡ rendered_whole (database_name place) answer)
+    (answer : Reply) × (given ≡ record { place = place; happened = event.Restart; answer = answer } ∷ [])
+    × (out ≡ rendered_whole (database_name place) answer)
 GivesLine (statement place session text) given out = GivesText place session text given out
 
 -- WHAT LINES GIVE, with this many databases and sessions, one line after another, and what they write
@@ -43,7 +47,8 @@ abbrev pub GivesLines : ℕ → ℕ → List (List ℕ) → List Given → List 
 GivesLines databases sessions [] given out = (given ≡ []) × (out ≡ [])
 GivesLines databases sessions (line ∷ lines) given out =
     (reading : Reading) × Reads databases sessions line reading × (first rest : List Given) × (before behind : List ℕ)
-    × GivesLine reading first before × GivesLines databases sessions lines rest behind × (given ≡ first ++ rest) × (out ≡ before ++ behind)
+    × GivesLine reading first before × GivesLines databases sessions lines rest behind × (given ≡ first ++ rest)
+    × (out ≡ before ++ behind)
 
 -- what the database at a place was given
 abbrev pub given_at : ℕ → List Given → List Given

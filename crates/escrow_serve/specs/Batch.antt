@@ -60,10 +60,12 @@ IsItem sessions databases item = IsTask sessions databases item.bytes item.task 
 
 -- each part has the events that lines ask of its database
 abbrev pub AreAsked : List Part → List Item → Type 0
-AreAsked parts items = (place : ℕ) (part : Part) → slice_get parts place ≡ Some part → part.events.items ≡ events_at place items
+AreAsked parts items =
+    (place : ℕ) (part : Part) → slice_get parts place ≡ Some part → part.events.items ≡ events_at place items
 
 -- lines wait in a batch
-pub record Gathers (sessions : ℕ) (databases : ℕ) (held : List Waiting) (parts : List Part) (items : List Item) : Type 0 where
+pub record Gathers (sessions : ℕ) (databases : ℕ) (held : List Waiting) (parts : List Part)
+    (items : List Item) : Type 0 where
   pub count : length parts ≡ databases
   pub are : AllByRecursion (IsItem sessions databases) items
   pub waits : held ≡ map (λ item. waiting_of item.task) items
@@ -83,41 +85,50 @@ HasRun g old part new after =
 -- each part was run
 abbrev pub HaveRun : {S : Type 0} → Ghosts S → List (Database S) → List Part → List (Database S) → List Part → Type 0
 HaveRun {S} g olds parts news afters =
-    (place : ℕ) (old new : Database S) (part after : Part) → slice_get olds place ≡ Some old → slice_get news place ≡ Some new
+    (place : ℕ) (old new : Database S) (part after : Part) → slice_get olds place ≡ Some old
+    → slice_get news place ≡ Some new
     → slice_get parts place ≡ Some part → slice_get afters place ≡ Some after → HasRun g old part new after
 
 -- the replies that parts have left, from the last one on, answer what lines ask from these states on
 pub record Runs (states new : List State) (items : List Item) (parts : List Part) : Type 0 where
   pub count : length new ≡ length states
   pub parted : length parts ≡ length states
-  pub each : (place : ℕ) (before after : State) (part : Part) → slice_get states place ≡ Some before → slice_get new place ≡ Some after
+  pub each : (place : ℕ) (before after : State) (part : Part) → slice_get states place ≡ Some before
+      → slice_get new place ≡ Some after
       → slice_get parts place ≡ Some part → IsRun before (events_at place items) (reverse part.answers.items) after
 
 -- each part has as many replies as lines ask for
 abbrev pub AreReady : List Part → List Item → Type 0
-AreReady parts items = (place : ℕ) (part : Part) → slice_get parts place ≡ Some part → length part.answers.items ≡ length (events_at place items)
+AreReady parts items =
+    (place : ℕ) (part : Part) → slice_get parts place ≡ Some part
+    → length part.answers.items ≡ length (events_at place items)
 
 -- lines were given the next replies of parts
-pub record Gave (sessions : ℕ) (databases : ℕ) (items : List Item) (out : List ℕ) (parts lefts : List Part) : Type 0 where
+pub record Gave (sessions : ℕ) (databases : ℕ) (items : List Item) (out : List ℕ)
+    (parts lefts : List Part) : Type 0 where
   pub count : length lefts ≡ length parts
   pub given : List Given
   pub gives : GivesLines databases sessions (map (λ item. item.bytes) items) given out
   pub asked : (place : ℕ) → asked.events_at place given ≡ events_at place items
   pub told : (place : ℕ) (part left : Part) → slice_get parts place ≡ Some part → slice_get lefts place ≡ Some left
-      → (replies : List Reply) × (reverse part.answers.items ≡ replies ++ reverse left.answers.items) × AreShown replies (answers_at place given)
+      → (replies : List Reply) × (reverse part.answers.items ≡ replies ++ reverse left.answers.items)
+      × AreShown replies (answers_at place given)
 
 -- lines were taken, one after another; of each, no more bytes are kept than of any line
 abbrev pub TakesLines : List (List ℕ) → Option (List ℕ) → Option (List ℕ) → Type 0
 TakesLines [] bytes rest = rest ≡ bytes
-TakesLines (kept ∷ more) bytes rest = (mid : Option (List ℕ)) × (length kept ≤ MAX_LINE + 1) × TakesLine true bytes mid kept × TakesLines more mid rest
+TakesLines (kept ∷ more) bytes rest =
+    (mid : Option (List ℕ)) × (length kept ≤ MAX_LINE + 1) × TakesLine true bytes mid kept × TakesLines more mid rest
 
 -- the line that was taken last and may not wait, if there is one
 abbrev pub IsLast : ℕ → ℕ → Option Task → List (List ℕ) → Type 0
 IsLast sessions databases None last = last ≡ []
-IsLast sessions databases (Some asked) last = (bytes : List ℕ) × (last ≡ bytes ∷ []) × IsTask sessions databases bytes asked
+IsLast sessions databases (Some asked) last =
+    (bytes : List ℕ) × (last ≡ bytes ∷ []) × IsTask sessions databases bytes asked
 
 -- after a line that was taken, lines in hand were taken: they wait in a batch, except the last one if it may not wait
-pub record GathersLines (sessions : ℕ) (databases : ℕ) (first unread rest : List ℕ) (waits : List Waiting) (parts : List Part) (alone : Option Task) : Type 0 where
+pub record GathersLines (sessions : ℕ) (databases : ℕ) (first unread rest : List ℕ) (waits : List Waiting)
+    (parts : List Part) (alone : Option Task) : Type 0 where
   pub short : length first ≤ MAX_LINE + 1
   pub items : List Item
   pub lines : List (List ℕ)

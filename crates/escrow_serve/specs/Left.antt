@@ -9,4 +9,5 @@ use Rattle.escrow_core.specs.Serves.{AreHeldOf}
 -- what a crash leaves of a database whose store can be used: exactly the tables and the rows of its state
 abbrev pub LeavesItsRows : {S : Type 0} → Ghosts S → Database S → Type 0
 LeavesItsRows g database =
-    IsUsable (state g database.store) → (trees : Trees) → (state g database.store).may_leave trees → AreHeldOf database.state trees
+    IsUsable (state g database.store) → (trees : Trees) → (state g database.store).may_leave trees
+    → AreHeldOf database.state trees

@@ -44,7 +44,8 @@ IsServed s session text answer new =
 -- A text is no statement, and is refused with the column of its first fault. Or it is refused for memory, as any text
 -- may be, since reading it takes memory. Nothing changes.
 abbrev pub IsRefused : State → List ℕ → Reply → State → Type 0
-IsRefused s text answer new = (f : ParseFault) × IsFaultIn text f × (answer ≡ reply.Refused (fault_refusal f)) × (new ≡ s)
+IsRefused s text answer new =
+    (f : ParseFault) × IsFaultIn text f × (answer ≡ reply.Refused (fault_refusal f)) × (new ≡ s)
 
 -- the reply to a text of a session, and the state after it. If the text is a statement, it is the machine's step, or
 -- what may happen instead. If the text asks nothing, it is 11 with the column of its first fault. It is 51 if memory to
@@ -77,22 +78,26 @@ answered_after _ answered = answered
 abbrev pub Restarts : List ℕ → Sitting → List ℕ → Sitting → Type 0
 Restarts name sitting out new =
     (answer : Reply) × (after : State) × machine.IsServed sitting.state event.Restart answer after
-    × (out ≡ rendered_whole name answer) × (new ≡ record { state = after; answered = answered_after answer sitting.answered })
+    × (out ≡ rendered_whole name answer)
+    × (new ≡ record { state = after; answered = answered_after answer sitting.answered })
 
 -- the text of a session prints its reply, which is added to those of the session
 abbrev pub PrintsAnswer : List ℕ → Sitting → ℕ → List ℕ → List ℕ → Sitting → Type 0
 PrintsAnswer name sitting session text out new =
     (answer : Reply) × (after : State) × Answers sitting.state session text answer after
-    × (out ≡ rendered name session answer) × (new ≡ record { state = after; answered = sitting.answered ++ (session, answer) ∷ [] })
+    × (out ≡ rendered name session answer)
+    × (new ≡ record { state = after; answered = sitting.answered ++ (session, answer) ∷ [] })
 
 -- the text of a session asks for totals: it prints those of the replies to its session, and nothing changes
 abbrev pub PrintsTotals : List ℕ → Sitting → ℕ → List ℕ → List ℕ → Sitting → Type 0
 PrintsTotals name sitting session text out new =
-    Asks text request.Statistics × (out ≡ rendered_totals name session (tally_of (replies_to session sitting.answered))) × (new ≡ sitting)
+    Asks text request.Statistics × (out ≡ rendered_totals name session (tally_of (replies_to session sitting.answered)))
+    × (new ≡ sitting)
 
 -- what the text of a session prints
 abbrev pub PrintsText : List ℕ → Sitting → ℕ → List ℕ → List ℕ → Sitting → Type 0
-PrintsText name sitting session text out new = PrintsAnswer name sitting session text out new ⊎ PrintsTotals name sitting session text out new
+PrintsText name sitting session text out new =
+    PrintsAnswer name sitting session text out new ⊎ PrintsTotals name sitting session text out new
 
 -- what a line writes, and the sittings of the databases after it: a restart and a statement affect the database at
 -- their place, and the others stay as they are
@@ -101,15 +106,18 @@ ServesLine sittings nothing out new = (out ≡ []) × (new ≡ sittings)
 ServesLine sittings join out new = (out ≡ []) × (new ≡ sittings)
 ServesLine sittings no_line out new = (out ≡ no_line_text) × (new ≡ sittings)
 ServesLine sittings (restart place) out new =
-    IsSomeAnd (slice_get sittings place) (λ sitting. (after : Sitting) × Restarts (database_name place) sitting out after
+    IsSomeAnd (slice_get sittings place)
+    (λ sitting. (after : Sitting) × Restarts (database_name place) sitting out after
     × (new ≡ slice_set sittings place after))
 ServesLine sittings (statement place session text) out new =
-    IsSomeAnd (slice_get sittings place) (λ sitting. (after : Sitting) × PrintsText (database_name place) sitting session text out after
+    IsSomeAnd (slice_get sittings place)
+    (λ sitting. (after : Sitting) × PrintsText (database_name place) sitting session text out after
     × (new ≡ slice_set sittings place after))
 
 -- what the bytes of a line write, and the sittings after it
 abbrev pub ServesBytes : ℕ → List Sitting → List ℕ → List ℕ → List Sitting → Type 0
-ServesBytes sessions sittings bytes out new = (reading : Reading) × Reads (length sittings) sessions bytes reading × ServesLine sittings reading out new
+ServesBytes sessions sittings bytes out new =
+    (reading : Reading) × Reads (length sittings) sessions bytes reading × ServesLine sittings reading out new
 
 -- what lines write, one after another, and the sittings after them
 abbrev pub ServesLines : ℕ → List Sitting → List (List ℕ) → List ℕ → List Sitting → Type 0
@@ -121,7 +129,8 @@ ServesLines sessions sittings (line ∷ lines) out new =
 -- what a script's first lines write from the databases' states, and the states after them
 abbrev pub WritesLines : ℕ → List State → List (List ℕ) → List ℕ → List State → Type 0
 WritesLines sessions states lines out new =
-    (end : List Sitting) × ServesLines sessions (map begun states) lines out end × (new ≡ map (λ sitting. sitting.state) end)
+    (end : List Sitting) × ServesLines sessions (map begun states) lines out end
+    × (new ≡ map (λ sitting. sitting.state) end)
 
 -- THE OUTPUT OF A SCRIPT: what it writes from the databases' states, with no replies to any session yet, and the states
 -- after it
@@ -129,13 +138,15 @@ abbrev pub Output : ℕ → List ℕ → List State → List ℕ → List State 
 Output sessions script states out new = WritesLines sessions states (lines_of script) out new
 
 -- all of the lines were served, however many they are, and their output was written
-pub record ServesAll (sessions : ℕ) (script : List ℕ) (states new : List State) (old_bytes new_bytes : Option (List ℕ)) : Type 0 where
+pub record ServesAll (sessions : ℕ) (script : List ℕ) (states new : List State)
+    (old_bytes new_bytes : Option (List ℕ)) : Type 0 where
   pub out : List ℕ
   pub output : Output sessions script states out new
   pub appends : Appends old_bytes new_bytes out
 
 -- the whole script was served: it is no longer than a script may be, and its output was written
-pub record ServesWhole (sessions : ℕ) (script : List ℕ) (states new : List State) (old_bytes new_bytes : Option (List ℕ)) : Type 0 where
+pub record ServesWhole (sessions : ℕ) (script : List ℕ) (states new : List State)
+    (old_bytes new_bytes : Option (List ℕ)) : Type 0 where
   pub limit : length script ≤ MAX_SCRIPT
   pub out : List ℕ
   pub output : Output sessions script states out new
@@ -143,7 +154,8 @@ pub record ServesWhole (sessions : ℕ) (script : List ℕ) (states new : List S
 
 -- What a fault leaves: some lines of the script from its first on were served, and a prefix of their
 -- output was written.
-pub record StopsWithin (sessions : ℕ) (fault : ServeFault) (script : List ℕ) (states new : List State) (old_bytes new_bytes : Option (List ℕ)) : Type 0 where
+pub record StopsWithin (sessions : ℕ) (fault : ServeFault) (script : List ℕ) (states new : List State)
+    (old_bytes new_bytes : Option (List ℕ)) : Type 0 where
   pub served : List (List ℕ)
   pub unserved : List (List ℕ)
   pub written : List ℕ

@@ -35,7 +35,8 @@ pub record Sits (state : State) (totals : Totals) (sitting : Sitting) (most : �
 -- the states and the totals of all databases are too
 abbrev pub AllSit : List State → List Totals → List Sitting → ℕ → Type 0
 AllSit [] [] [] most = Unit {0}
-AllSit (state ∷ states) (totals ∷ others) (sitting ∷ sittings) most = Sits state totals sitting most × AllSit states others sittings most
+AllSit (state ∷ states) (totals ∷ others) (sitting ∷ sittings) most =
+    Sits state totals sitting most × AllSit states others sittings most
 AllSit _ _ _ most = ⊥
 
 -- what a text prints and leaves of a database, whichever sitting it had, as long as fewer replies were given than a
@@ -49,10 +50,12 @@ TextServed name state totals session text out new_state new_totals =
 abbrev pub LineServed : ℕ → List State → List Totals → List ℕ → List ℕ → List State → List Totals → Type 0
 LineServed sessions states totals bytes out new_states new_totals =
     (sittings : List Sitting) (most : ℕ) → AllSit states totals sittings most → most < 2 ^ 64 - 1
-    → (after : List Sitting) × ServesBytes sessions sittings bytes out after × AllSit new_states new_totals after (most + 1)
+    → (after : List Sitting) × ServesBytes sessions sittings bytes out after
+    × AllSit new_states new_totals after (most + 1)
 
 -- what lines write and leave of all databases, one after another
 abbrev pub LinesServed : ℕ → List State → List Totals → List (List ℕ) → List ℕ → List State → List Totals → Type 0
 LinesServed sessions states totals lines out new_states new_totals =
     (sittings : List Sitting) (most : ℕ) → AllSit states totals sittings most → most + length lines ≤ 2 ^ 64 - 1
-    → (after : List Sitting) × ServesLines sessions sittings lines out after × AllSit new_states new_totals after (most + length lines)
+    → (after : List Sitting) × ServesLines sessions sittings lines out after
+    × AllSit new_states new_totals after (most + length lines)

@@ -40,10 +40,14 @@ pub(crate) fn serve_task<S: Alter>(
     requires each { vec_len totals.old ≡ vec_len databases.old }
     requires asked { (sessions : ℕ) × (bytes : List ℕ) × IsTask sessions (vec_len databases.old) bytes task }
     requires room { vec_len replies.old + MAX_SHORT ≤ vec_capacity replies.old }
-    ensures served { (out : List ℕ) × (replies.new.items ≡ replies.old.items ++ out) × (HaveCleanDisks S.Store databases.new.items → (sessions : ℕ) (bytes : List ℕ)
-        → IsTask sessions (vec_len databases.old) bytes task → LineServed sessions (states_of databases.old.items) totals.old.items bytes out (states_of databases.new.items) totals.new.items) }
+    ensures served { (out : List ℕ) × (replies.new.items ≡ replies.old.items ++ out)
+        × (HaveCleanDisks S.Store databases.new.items → (sessions : ℕ) (bytes : List ℕ)
+        → IsTask sessions (vec_len databases.old) bytes task
+        → LineServed sessions (states_of databases.old.items) totals.old.items bytes out
+        (states_of databases.new.items) totals.new.items) }
     ensures ran { (out : List ℕ) × (replies.new.items ≡ replies.old.items ++ out) × ((sessions : ℕ) (bytes : List ℕ)
-        → IsTask sessions (vec_len databases.old) bytes task → LineRan S.Store sessions databases.old.items bytes out databases.new.items) }
+        → IsTask sessions (vec_len databases.old) bytes task
+        → LineRan S.Store sessions databases.old.items bytes out databases.new.items) }
     ensures len { vec_len databases.new ≡ vec_len databases.old }
     ensures each { vec_len totals.new ≡ vec_len totals.old }
     ensures clean { HaveCleanDisks S.Store databases.new.items → HaveCleanDisks S.Store databases.old.items }
@@ -90,7 +94,8 @@ pub(crate) fn serve_task<S: Alter>(
 
 /// Restarts a database, and returns its reply.
 fn restart<S: Alter>(alloc: Global, database: &mut Database<S>, totals: &mut Totals) -> Reply
-    ensures served { HasCleanDisk (state S.Store database.new.store) → IsServed database.old.state Event.Restart result database.new.state }
+    ensures served { HasCleanDisk (state S.Store database.new.store)
+        → IsServed database.old.state Event.Restart result database.new.state }
     ensures totals { AreLeft result totals.old totals.new }
     ensures short { holds_memory result ≡ false }
     ensures clean { HasCleanDisk (state S.Store database.new.store) → HasCleanDisk (state S.Store database.old.store) }
@@ -115,8 +120,10 @@ fn serve_statement<S: Alter>(
 )
     requires front { length name.now ≤ MAX_FRONT }
     requires room { vec_len replies.old + MAX_SHORT ≤ vec_capacity replies.old }
-    ensures served { (out : List ℕ) × (replies.new.items ≡ replies.old.items ++ out) × (HasCleanDisk (state S.Store database.new.store) → (text : List ℕ)
-        → Asks text (Request.Statement statement.now) → TextServed name.now database.old.state totals.old session text out database.new.state totals.new) }
+    ensures served { (out : List ℕ) × (replies.new.items ≡ replies.old.items ++ out)
+        × (HasCleanDisk (state S.Store database.new.store) → (text : List ℕ)
+        → Asks text (Request.Statement statement.now)
+        → TextServed name.now database.old.state totals.old session text out database.new.state totals.new) }
     ensures clean { HasCleanDisk (state S.Store database.new.store) → HasCleanDisk (state S.Store database.old.store) }
     ensures ran { (answer : Reply) × (replies.new.items ≡ replies.old.items ++ rendered name.now session answer)
         × Ran S.Store database.old (Event.Statement session statement.now ∷ []) (answer ∷ []) database.new }
@@ -139,7 +146,8 @@ fn show_totals(
     requires room { vec_len replies.old + MAX_SHORT ≤ vec_capacity replies.old }
     ensures served { (out : List ℕ) × (replies.new.items ≡ replies.old.items ++ out) × ((kept : State) (text : List ℕ)
         → Asks text Request.Statistics → TextServed name.now kept totals.old session text out kept totals.new) }
-    ensures shown { ((tally : Tally) × (replies.new.items ≡ replies.old.items ++ rendered_totals name.now session tally))
+    ensures shown { ((tally : Tally)
+        × (replies.new.items ≡ replies.old.items ++ rendered_totals name.now session tally))
         ⊎ (replies.new.items ≡ replies.old.items ++ rendered name.now session (Reply.Refused Refusal.Memory)) }
 {
     match gather_totals(alloc, name, session, totals.of(session), replies) {

@@ -27,7 +27,8 @@ pub(crate) struct Batch {
 impl Batch {
     /// Returns a batch without lines, for this many databases.
     pub(crate) fn new(alloc: Global, databases: usize) -> Result<Batch, AllocError>
-        ensures { IfOk result (λ batch. (sessions : ℕ) → Gathers sessions databases batch.waiting.items batch.parts.items []) }
+        ensures { IfOk result (λ batch. (sessions : ℕ)
+            → Gathers sessions databases batch.waiting.items batch.parts.items []) }
     {
         let mut parts = Vec::with_capacity(alloc, databases)?;
         while parts.len() < databases {
@@ -50,13 +51,15 @@ impl Batch {
     /// returns the task.
     pub(crate) fn admit(&mut self, task: Task) -> Option<Task>
         requires { (sessions : ℕ) × (bytes : List ℕ) × IsTask sessions (vec_len self.old.parts) bytes task }
-        ensures waits { IfNone result ((sessions databases : ℕ) (bytes : List ℕ) (items : List Item) → IsTask sessions databases bytes task
+        ensures waits { IfNone result ((sessions databases : ℕ) (bytes : List ℕ) (items : List Item)
+            → IsTask sessions databases bytes task
             → Gathers sessions databases self.old.waiting.items self.old.parts.items items
             → Gathers sessions databases self.new.waiting.items self.new.parts.items (behind items bytes task)) }
         ensures alone { IfSome result (λ back. (back ≡ task) × ((sessions databases : ℕ) (items : List Item)
             → Gathers sessions databases self.old.waiting.items self.old.parts.items items
             → Gathers sessions databases self.new.waiting.items self.new.parts.items items)) }
-        ensures len { MatchOption result (vec_len self.new.waiting ≡ vec_len self.old.waiting + 1) (λ _. vec_len self.new.waiting ≡ vec_len self.old.waiting) }
+        ensures len { MatchOption result (vec_len self.new.waiting ≡ vec_len self.old.waiting + 1)
+            (λ _. vec_len self.new.waiting ≡ vec_len self.old.waiting) }
         ensures parts { vec_len self.new.parts ≡ vec_len self.old.parts }
     {
         if self.waiting.reserve(1).is_err() {
@@ -75,7 +78,8 @@ impl Batch {
     /// returns the task.
     fn ask(&mut self, task: Task) -> Result<Waiting, Task>
         requires { (sessions : ℕ) × (bytes : List ℕ) × IsTask sessions (vec_len self.old.parts) bytes task }
-        ensures waits { IfOk result (λ waiting. (waiting ≡ waiting_of task) × MayWait task × ((bytes : List ℕ) (items : List Item)
+        ensures waits { IfOk result
+            (λ waiting. (waiting ≡ waiting_of task) × MayWait task × ((bytes : List ℕ) (items : List Item)
             → AreAsked self.old.parts.items items → AreAsked self.new.parts.items (behind items bytes task))) }
         ensures alone { IfErr result (λ back. (back ≡ task) × ((items : List Item)
             → AreAsked self.old.parts.items items → AreAsked self.new.parts.items items)) }
@@ -121,15 +125,21 @@ impl Batch {
     )
         requires few { vec_len databases.old ≤ MAX_DATABASES }
         requires each { vec_len totals.old ≡ vec_len databases.old }
-        requires gathered { (sessions : ℕ) × (items : List Item) × Gathers sessions (vec_len databases.old) self.old.waiting.items self.old.parts.items items }
+        requires gathered { (sessions : ℕ) × (items : List Item)
+            × Gathers sessions (vec_len databases.old) self.old.waiting.items self.old.parts.items items }
         requires room { vec_len replies.old + MAX_SHORT * vec_len self.old.waiting ≤ vec_capacity replies.old }
-        ensures served { (out : List ℕ) × (replies.new.items ≡ replies.old.items ++ out) × ((sessions : ℕ) (items : List Item)
-            → Gathers sessions (vec_len databases.old) self.old.waiting.items self.old.parts.items items → HaveCleanDisks S.Store databases.new.items
-            → LinesServed sessions (states_of databases.old.items) totals.old.items (map (λ item. item.bytes) items) out (states_of databases.new.items) totals.new.items) }
-        ensures ran { (out : List ℕ) × (replies.new.items ≡ replies.old.items ++ out) × ((sessions : ℕ) (items : List Item)
+        ensures served { (out : List ℕ) × (replies.new.items ≡ replies.old.items ++ out)
+            × ((sessions : ℕ) (items : List Item)
+            → Gathers sessions (vec_len databases.old) self.old.waiting.items self.old.parts.items items
+            → HaveCleanDisks S.Store databases.new.items
+            → LinesServed sessions (states_of databases.old.items) totals.old.items (map (λ item. item.bytes) items) out
+            (states_of databases.new.items) totals.new.items) }
+        ensures ran { (out : List ℕ) × (replies.new.items ≡ replies.old.items ++ out)
+            × ((sessions : ℕ) (items : List Item)
             → Gathers sessions (vec_len databases.old) self.old.waiting.items self.old.parts.items items
             → LinesRan S.Store sessions databases.old.items (map (λ item. item.bytes) items) out databases.new.items) }
-        ensures empty { (sessions : ℕ) → Gathers sessions (vec_len databases.new) self.new.waiting.items self.new.parts.items [] }
+        ensures empty { (sessions : ℕ)
+            → Gathers sessions (vec_len databases.new) self.new.waiting.items self.new.parts.items [] }
         ensures grown { vec_len replies.new ≤ vec_len replies.old + MAX_SHORT * vec_len self.old.waiting }
         ensures capacity { vec_capacity replies.old ≤ vec_capacity replies.new }
         ensures len { vec_len databases.new ≡ vec_len databases.old }

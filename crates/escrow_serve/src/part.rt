@@ -34,7 +34,8 @@ impl Part {
     /// Adds a statement to those that wait, if it may wait and there is memory for it and its
     /// reply; else returns the statement.
     pub(crate) fn ask(&mut self, session: Session, statement: Statement) -> Result<(), Statement>
-        ensures asked { OnOk result (self.new.events.items ≡ self.old.events.items ++ Event.Statement session statement ∷ []) }
+        ensures asked { OnOk result
+            (self.new.events.items ≡ self.old.events.items ++ Event.Statement session statement ∷ []) }
         ensures same { OnErr result (self.new.events.items ≡ self.old.events.items) }
         ensures back { IfErr result (λ back. back ≡ statement) }
     {
@@ -50,7 +51,8 @@ impl Part {
     fn make_room(&mut self) -> Result<(), AllocError>
         ensures same { self.new.events.items ≡ self.old.events.items }
         ensures event { OnOk result (vec_len self.new.events + 1 ≤ vec_capacity self.new.events) }
-        ensures reply { OnOk result (vec_len self.new.answers + vec_len self.new.events + 1 ≤ vec_capacity self.new.answers) }
+        ensures reply { OnOk result
+            (vec_len self.new.answers + vec_len self.new.events + 1 ≤ vec_capacity self.new.answers) }
     {
         self.events.reserve(1)?;
         self.answers.reserve(self.events.len() + 1)
@@ -59,7 +61,8 @@ impl Part {
     /// Has the database serve the statements that wait.
     pub(crate) fn run<S: Alter>(&mut self, alloc: Global, database: &mut Database<S>)
         ensures ran { HasRun S.Store database.old self.old database.new self.new }
-        ensures clean { HasCleanDisk (state S.Store database.new.store) → HasCleanDisk (state S.Store database.old.store) }
+        ensures clean { HasCleanDisk (state S.Store database.new.store)
+            → HasCleanDisk (state S.Store database.old.store) }
     {
         self.answers.clear();
         if self.events.is_empty() {

@@ -49,14 +49,18 @@ pub fn serve_script<S: Alter, R: Read, W: Write>(
 
     // If each disk returned what was written, the output and the states after it are those of the
     // script, all of which was read. This holds even if a fault has shut a store.
-    ensures output { HaveCleanDisks S.Store databases.new.items → OnOk result (IfSome (R.remaining reader.old) (λ script.
-        ServesWhole MAX_SHARED script (states_of databases.old.items) (states_of databases.new.items) (W.contents writer.old) (W.contents writer.new))) }
+    ensures output { HaveCleanDisks S.Store databases.new.items
+        → OnOk result (IfSome (R.remaining reader.old) (λ script.
+        ServesWhole MAX_SHARED script (states_of databases.old.items) (states_of databases.new.items)
+        (W.contents writer.old) (W.contents writer.new))) }
     ensures end { OnOk result (IfSome (R.remaining reader.old) (λ script. IsAtEnd (R.remaining reader.new))) }
 
     // After a fault some lines were served, and their output was written, or a prefix of it if the
     // writer failed.
-    ensures fault { HaveCleanDisks S.Store databases.new.items → IfErr result (λ fault. IfSome (R.remaining reader.old) (λ script.
-        StopsWithin MAX_SHARED fault script (states_of databases.old.items) (states_of databases.new.items) (W.contents writer.old) (W.contents writer.new))) }
+    ensures fault { HaveCleanDisks S.Store databases.new.items
+        → IfErr result (λ fault. IfSome (R.remaining reader.old) (λ script.
+        StopsWithin MAX_SHARED fault script (states_of databases.old.items) (states_of databases.new.items)
+        (W.contents writer.old) (W.contents writer.new))) }
 
     // If each disk has returned what was written by the end of the call, it had before the call
     // too.
@@ -69,7 +73,9 @@ pub fn serve_script<S: Alter, R: Read, W: Write>(
     // However the call ends, each database by itself served what its lines gave it, if its own disk
     // returned what was written. After a crash no write that was answered is missing, also if a
     // fault has shut the store.
-    ensures ran { IfSome (R.remaining reader.old) (λ script. ScriptRan S.Store MAX_SHARED script databases.old.items databases.new.items (W.contents writer.old) (W.contents writer.new) (LeftBy result)) }
+    ensures ran { IfSome (R.remaining reader.old)
+        (λ script. ScriptRan S.Store MAX_SHARED script databases.old.items databases.new.items (W.contents writer.old)
+        (W.contents writer.new) (LeftBy result)) }
 {
     let served = serve_from(
         alloc,
@@ -97,14 +103,18 @@ pub fn serve_lines<S: Alter, R: Read, W: Write>(
 
     // If each disk returned what was written, the output and the states after it are those of all
     // lines, all of which were read. This holds even if a fault has shut a store.
-    ensures output { HaveCleanDisks S.Store databases.new.items → OnOk result (IfSome (R.remaining reader.old) (λ script.
-        ServesAll sessions script (states_of databases.old.items) (states_of databases.new.items) (W.contents writer.old) (W.contents writer.new))) }
+    ensures output { HaveCleanDisks S.Store databases.new.items
+        → OnOk result (IfSome (R.remaining reader.old) (λ script.
+        ServesAll sessions script (states_of databases.old.items) (states_of databases.new.items)
+        (W.contents writer.old) (W.contents writer.new))) }
     ensures end { OnOk result (IfSome (R.remaining reader.old) (λ script. IsAtEnd (R.remaining reader.new))) }
 
     // After a fault some lines were served, and their output was written, or a prefix of it if the
     // writer failed.
-    ensures fault { HaveCleanDisks S.Store databases.new.items → IfErr result (λ fault. IfSome (R.remaining reader.old) (λ script.
-        StopsWithin sessions fault script (states_of databases.old.items) (states_of databases.new.items) (W.contents writer.old) (W.contents writer.new))) }
+    ensures fault { HaveCleanDisks S.Store databases.new.items
+        → IfErr result (λ fault. IfSome (R.remaining reader.old) (λ script.
+        StopsWithin sessions fault script (states_of databases.old.items) (states_of databases.new.items)
+        (W.contents writer.old) (W.contents writer.new))) }
 
     // If each disk has returned what was written by the end of the call, it had before the call
     // too.
@@ -117,7 +127,9 @@ pub fn serve_lines<S: Alter, R: Read, W: Write>(
     // However the call ends, each database by itself served what its lines gave it, if its own disk
     // returned what was written. After a crash no write that was answered is missing, also if a
     // fault has shut the store.
-    ensures ran { IfSome (R.remaining reader.old) (λ script. ScriptRan S.Store sessions script databases.old.items databases.new.items (W.contents writer.old) (W.contents writer.new) (LeftBy result)) }
+    ensures ran { IfSome (R.remaining reader.old)
+        (λ script. ScriptRan S.Store sessions script databases.old.items databases.new.items (W.contents writer.old)
+        (W.contents writer.new) (LeftBy result)) }
 {
     let served = serve_from(alloc, Limit::Stream, sessions, databases, reader, writer);
     see_left(databases.as_slice());
@@ -134,13 +146,19 @@ fn serve_from<S: Alter, R: Read, W: Write>(
     writer: &mut W,
 ) -> Result<(), ServeFault>
     requires few { vec_len databases.old ≤ MAX_DATABASES }
-    ensures output { HaveCleanDisks S.Store databases.new.items → OnOk result (IfSome (R.remaining reader.old) (λ script. (length script ≤ most_bytes limit)
-        × ServesAll sessions script (states_of databases.old.items) (states_of databases.new.items) (W.contents writer.old) (W.contents writer.new))) }
+    ensures output { HaveCleanDisks S.Store databases.new.items
+        → OnOk result (IfSome (R.remaining reader.old) (λ script. (length script ≤ most_bytes limit)
+        × ServesAll sessions script (states_of databases.old.items) (states_of databases.new.items)
+        (W.contents writer.old) (W.contents writer.new))) }
     ensures end { OnOk result (IfSome (R.remaining reader.old) (λ script. IsAtEnd (R.remaining reader.new))) }
-    ensures fault { HaveCleanDisks S.Store databases.new.items → IfErr result (λ fault. IfSome (R.remaining reader.old) (λ script.
-        StopsWithin sessions fault script (states_of databases.old.items) (states_of databases.new.items) (W.contents writer.old) (W.contents writer.new))) }
+    ensures fault { HaveCleanDisks S.Store databases.new.items
+        → IfErr result (λ fault. IfSome (R.remaining reader.old) (λ script.
+        StopsWithin sessions fault script (states_of databases.old.items) (states_of databases.new.items)
+        (W.contents writer.old) (W.contents writer.new))) }
     ensures clean { HaveCleanDisks S.Store databases.new.items → HaveCleanDisks S.Store databases.old.items }
-    ensures ran { IfSome (R.remaining reader.old) (λ script. ScriptRan S.Store sessions script databases.old.items databases.new.items (W.contents writer.old) (W.contents writer.new) (LeftBy result)) }
+    ensures ran { IfSome (R.remaining reader.old)
+        (λ script. ScriptRan S.Store sessions script databases.old.items databases.new.items (W.contents writer.old)
+        (W.contents writer.new) (LeftBy result)) }
 {
     let mut script = Script::up_to(alloc, limit)?;
     let mut totals = Totals::of_databases(alloc, databases.len())?;
@@ -189,13 +207,16 @@ fn take_line<R: Read, W: Write>(
         (left script.new.unread (R.remaining reader.new)) script.new.line.items) }
     ensures less { IfOk result (λ found. found ≡ true →
         script.new.bytes_left + length script.new.unread < script.old.bytes_left + length script.old.unread) }
-    ensures spent { OnOk result (Spends (R.remaining reader.old) (R.remaining reader.new) script.old.bytes_left script.new.bytes_left) }
+    ensures spent { OnOk result
+        (Spends (R.remaining reader.old) (R.remaining reader.new) script.old.bytes_left script.new.bytes_left) }
     ensures in_hand { IfOk result (λ found. has_line script.old.reads_left script.old.unread ≡ true → found ≡ true) }
-    ensures ended { IfOk result (λ _. script.new.has_ended ≡ true → HasEnded script.new.unread (R.remaining reader.new)) }
+    ensures ended { IfOk result
+        (λ _. script.new.has_ended ≡ true → HasEnded script.new.unread (R.remaining reader.new)) }
     ensures room { IfOk result (λ found. found ≡ true → vec_len replies.new + MAX_SHORT ≤ vec_capacity replies.new) }
     ensures gathered { OnOk result (replies.new.items ≡ replies.old.items) }
     ensures unwritten { OnOk result (W.contents writer.new ≡ W.contents writer.old) }
-    ensures fault { IfErr result (λ why. (len : ℕ) × Appends (W.contents writer.old) (W.contents writer.new) (take len replies.old.items)
+    ensures fault { IfErr result
+        (λ why. (len : ℕ) × Appends (W.contents writer.old) (W.contents writer.new) (take len replies.old.items)
         × Leaves why (drop len replies.old.items)) }
 {
     match script.next_line(reader) {
@@ -228,7 +249,8 @@ fn serve_in_hand<S: Alter>(
         × ((rem : Option (List ℕ)) → TakesLines lines (left script.old.unread rem) (left script.new.unread rem))
         × (length lines + length script.new.unread ≤ length script.old.unread)
         × (replies.new.items ≡ replies.old.items ++ out) × (HaveCleanDisks S.Store databases.new.items →
-        LinesServed sessions (states_of databases.old.items) totals.old.items (script.old.line.items ∷ lines) out (states_of databases.new.items) totals.new.items) }
+        LinesServed sessions (states_of databases.old.items) totals.old.items (script.old.line.items ∷ lines) out
+        (states_of databases.new.items) totals.new.items) }
     ensures ran { (lines : List (List ℕ)) × (out : List ℕ)
         × ((rem : Option (List ℕ)) → TakesLines lines (left script.old.unread rem) (left script.new.unread rem))
         × (length lines + length script.new.unread ≤ length script.old.unread)
@@ -266,9 +288,12 @@ fn serve_line<S: Alter>(
     requires few { vec_len databases.old ≤ MAX_DATABASES }
     requires each { vec_len totals.old ≡ vec_len databases.old }
     requires room { vec_len replies.old + MAX_SHORT ≤ vec_capacity replies.old }
-    ensures served { (out : List ℕ) × (replies.new.items ≡ replies.old.items ++ out) × (HaveCleanDisks S.Store databases.new.items →
-        LineServed sessions (states_of databases.old.items) totals.old.items line.now out (states_of databases.new.items) totals.new.items) }
-    ensures ran { (out : List ℕ) × (replies.new.items ≡ replies.old.items ++ out) × LineRan S.Store sessions databases.old.items line.now out databases.new.items }
+    ensures served { (out : List ℕ) × (replies.new.items ≡ replies.old.items ++ out)
+        × (HaveCleanDisks S.Store databases.new.items →
+        LineServed sessions (states_of databases.old.items) totals.old.items line.now out
+        (states_of databases.new.items) totals.new.items) }
+    ensures ran { (out : List ℕ) × (replies.new.items ≡ replies.old.items ++ out)
+        × LineRan S.Store sessions databases.old.items line.now out databases.new.items }
     ensures len { vec_len databases.new ≡ vec_len databases.old }
     ensures each { vec_len totals.new ≡ vec_len totals.old }
     ensures clean { HaveCleanDisks S.Store databases.new.items → HaveCleanDisks S.Store databases.old.items }
@@ -291,7 +316,8 @@ fn gather_lines(
     requires few { databases ≤ MAX_DATABASES }
     requires empty { Gathers sessions databases batch.old.waiting.items batch.old.parts.items [] }
     requires room { vec_len replies.old + MAX_SHORT ≤ vec_capacity replies.old }
-    ensures gathered { GathersLines sessions databases script.old.line.items script.old.unread script.new.unread batch.new.waiting.items batch.new.parts.items result }
+    ensures gathered { GathersLines sessions databases script.old.line.items script.old.unread script.new.unread
+        batch.new.waiting.items batch.new.parts.items result }
     ensures room { HasRoom result (vec_len batch.new.waiting) (vec_len replies.new) (vec_capacity replies.new) }
     ensures same { replies.new.items ≡ replies.old.items }
     ensures bytes { script.new.bytes_left ≡ script.old.bytes_left }

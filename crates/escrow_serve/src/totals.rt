@@ -59,7 +59,8 @@ impl Totals {
 
     /// Returns the totals of a session.
     pub(crate) fn of(&self, session: Session) -> Tally
-        ensures { (answered : List (ℕ × Reply)) (most : ℕ) → AreTotals self.now answered most → result ≡ tally_of (replies_to session answered) }
+        ensures { (answered : List (ℕ × Reply)) (most : ℕ) → AreTotals self.now answered most
+            → result ≡ tally_of (replies_to session answered) }
     {
         let place = place_of(session);
         if place < self.tallies.len() {
@@ -83,7 +84,8 @@ impl Totals {
     /// Adds totals of no replies, until there are some at a place.
     fn reach(&mut self, place: usize)
         requires { place < SESSIONS }
-        ensures same { (answered : List (ℕ × Reply)) (most : ℕ) → AreTotals self.old answered most → AreTotals self.new answered most }
+        ensures same { (answered : List (ℕ × Reply)) (most : ℕ) → AreTotals self.old answered most
+            → AreTotals self.new answered most }
         ensures within { place < vec_len self.new.tallies }
     {
         while self.tallies.len() <= place {

@@ -46,11 +46,14 @@ pub(crate) fn give_all(
     requires within { AllByRecursion (IsWithin (vec_len parts.old)) waiting.now }
     requires room { vec_len replies.old + MAX_SHORT * length waiting.now ≤ vec_capacity replies.old }
     ensures given { (out : List ℕ) × (replies.new.items ≡ replies.old.items ++ out)
-        × ((sessions : ℕ) (states new : List State) (items : List Item) → waiting.now ≡ map (λ item. waiting_of item.task) items
+        × ((sessions : ℕ) (states new : List State) (items : List Item)
+        → waiting.now ≡ map (λ item. waiting_of item.task) items
         → AllByRecursion (IsItem sessions (vec_len parts.old)) items → Runs states new items parts.old.items
         → LinesServed sessions states totals.old.items (map (λ item. item.bytes) items) out new totals.new.items) }
-    ensures gave { (out : List ℕ) × (replies.new.items ≡ replies.old.items ++ out) × ((sessions : ℕ) (items : List Item) → waiting.now ≡ map (λ item. waiting_of item.task) items
-        → AllByRecursion (IsItem sessions (vec_len parts.old)) items → AreReady parts.old.items items → Gave sessions (vec_len parts.old) items out parts.old.items parts.new.items × AreReady parts.new.items []) }
+    ensures gave { (out : List ℕ) × (replies.new.items ≡ replies.old.items ++ out)
+        × ((sessions : ℕ) (items : List Item) → waiting.now ≡ map (λ item. waiting_of item.task) items
+        → AllByRecursion (IsItem sessions (vec_len parts.old)) items → AreReady parts.old.items items
+        → Gave sessions (vec_len parts.old) items out parts.old.items parts.new.items × AreReady parts.new.items []) }
     ensures len { vec_len replies.new ≤ vec_len replies.old + MAX_SHORT * length waiting.now }
     ensures capacity { vec_capacity replies.old ≤ vec_capacity replies.new }
     ensures each { vec_len totals.new ≡ vec_len totals.old }
@@ -69,12 +72,16 @@ fn give(waiting: Waiting, parts: &mut Vec<Part>, totals: &mut Vec<Totals>, repli
     requires within { IsWithin (vec_len parts.old) waiting }
     requires room { vec_len replies.old + MAX_SHORT ≤ vec_capacity replies.old }
     ensures given { (out : List ℕ) × (replies.new.items ≡ replies.old.items ++ out)
-        × ((sessions : ℕ) (states new : List State) (item : Item) (items : List Item) → waiting ≡ waiting_of item.task → IsItem sessions (vec_len parts.old) item
+        × ((sessions : ℕ) (states new : List State) (item : Item) (items : List Item) → waiting ≡ waiting_of item.task
+        → IsItem sessions (vec_len parts.old) item
         → Runs states new (item ∷ items) parts.old.items
-        → (mid : List State) × LineServed sessions states totals.old.items item.bytes out mid totals.new.items × Runs mid new items parts.new.items) }
-    ensures gave { (out : List ℕ) × (replies.new.items ≡ replies.old.items ++ out) × ((sessions : ℕ) (item : Item) (items : List Item) → waiting ≡ waiting_of item.task
+        → (mid : List State) × LineServed sessions states totals.old.items item.bytes out mid totals.new.items
+        × Runs mid new items parts.new.items) }
+    ensures gave { (out : List ℕ) × (replies.new.items ≡ replies.old.items ++ out)
+        × ((sessions : ℕ) (item : Item) (items : List Item) → waiting ≡ waiting_of item.task
         → IsItem sessions (vec_len parts.old) item → AreReady parts.old.items (item ∷ items)
-        → Gave sessions (vec_len parts.old) (item ∷ []) out parts.old.items parts.new.items × AreReady parts.new.items items) }
+        → Gave sessions (vec_len parts.old) (item ∷ []) out parts.old.items parts.new.items
+        × AreReady parts.new.items items) }
     ensures len { vec_len replies.new ≤ vec_len replies.old + MAX_SHORT }
     ensures capacity { vec_capacity replies.old ≤ vec_capacity replies.new }
     ensures each { vec_len totals.new ≡ vec_len totals.old }
@@ -124,9 +131,11 @@ pub(crate) fn give_short(
 )
     requires front { length name.now ≤ MAX_FRONT }
     requires room { vec_len replies.old + MAX_SHORT ≤ vec_capacity replies.old }
-    ensures given { (out : List ℕ) × (replies.new.items ≡ replies.old.items ++ out) × ((old new : State) (text : List ℕ) →
+    ensures given { (out : List ℕ) × (replies.new.items ≡ replies.old.items ++ out)
+        × ((old new : State) (text : List ℕ) →
         Answers old session text reply.now new → TextServed name.now old totals.old session text out new totals.new) }
-    ensures shown { (answer : Reply) × (replies.new.items ≡ replies.old.items ++ rendered name.now session answer) × IsShown reply.now answer }
+    ensures shown { (answer : Reply) × (replies.new.items ≡ replies.old.items ++ rendered name.now session answer)
+        × IsShown reply.now answer }
     ensures len { vec_len replies.new ≤ vec_len replies.old + MAX_SHORT }
     ensures capacity { vec_capacity replies.old ≤ vec_capacity replies.new }
 {

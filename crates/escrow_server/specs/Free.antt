@@ -23,7 +23,8 @@ RunsFrom s entries = (end : State) × AreSteps s entries end × AreNumbered 0 en
 -- as many histories as states, each a run from the state at its place
 pub record AreRuns (states : List State) (histories : List (List Entry)) : Type 0 where
   pub count : length histories ≡ length states
-  pub each : (place : ℕ) (s : State) (entries : List Entry) → slice_get states place ≡ Some s → slice_get histories place ≡ Some entries → RunsFrom s entries
+  pub each : (place : ℕ) (s : State) (entries : List Entry) → slice_get states place ≡ Some s
+      → slice_get histories place ≡ Some entries → RunsFrom s entries
 
 -- THE OUTPUT OF A SCRIPT whose sessions run at the same time. There are histories, each a run of the machine from the
 -- state of its database, and the output is what the script's lines write according to them.
@@ -37,4 +38,5 @@ ended_of c = record { store = c.history.store; state = c.history.state }
 
 -- Databases were handed back, each at the place where it was handed in, as its history ends.
 abbrev pub AreEnded : {S : Type 0} → Ghosts S → List (Database S) → List (Database S) → Type 0
-AreEnded {S} g old new = (parts : List (Part S)) × (closed : List (Closed S)) × AreHistories g old parts closed × (new ≡ map ended_of closed)
+AreEnded {S} g old new =
+    (parts : List (Part S)) × (closed : List (Closed S)) × AreHistories g old parts closed × (new ≡ map ended_of closed)

@@ -66,7 +66,8 @@ nameless_line = migrated_line (codes "a store")
 -- memory
 abbrev pub TellsOfMigrated : Option (List ℕ) → Option (List ℕ) → Option (List ℕ) → Type 0
 TellsOfMigrated None old_bytes new_bytes = WritesNothing old_bytes new_bytes
-TellsOfMigrated (Some path) old_bytes new_bytes = (text : List ℕ) × (AreLinesOf path text ⊎ (text ≡ nameless_line)) × WritesPrefix old_bytes new_bytes text
+TellsOfMigrated (Some path) old_bytes new_bytes =
+    (text : List ℕ) × (AreLinesOf path text ⊎ (text ≡ nameless_line)) × WritesPrefix old_bytes new_bytes text
 
 -- a reason was written: the program's name, a colon and a text, as far as the writer took them
 abbrev pub SaysReason : Option (List ℕ) → Option (List ℕ) → Type 0
@@ -74,7 +75,8 @@ SaysReason old_bytes new_bytes = (text : List ℕ) × WritesPrefix old_bytes new
 
 -- the reason why the program ends was written, after the lines about the migrated stores of a path
 abbrev pub SaysWhy : Option (List ℕ) → Option (List ℕ) → Option (List ℕ) → Type 0
-SaysWhy path old_bytes new_bytes = (told_bytes : Option (List ℕ)) × TellsOfMigrated path old_bytes told_bytes × SaysReason told_bytes new_bytes
+SaysWhy path old_bytes new_bytes =
+    (told_bytes : Option (List ℕ)) × TellsOfMigrated path old_bytes told_bytes × SaysReason told_bytes new_bytes
 
 -- lines about stores that can't be closed were written, as far as the writer took them
 abbrev pub TellsOfStores : Option (List ℕ) → Option (List ℕ) → Type 0
@@ -86,7 +88,8 @@ TellsOfStoresAlone old_bytes new_bytes = WritesNothing old_bytes new_bytes ⊎ T
 
 -- only lines about the migrated stores of a path were written, and after them lines about stores that can't be closed
 abbrev pub IsQuiet : Option (List ℕ) → Option (List ℕ) → Option (List ℕ) → Type 0
-IsQuiet path old_bytes new_bytes = (told_bytes : Option (List ℕ)) × TellsOfMigrated path old_bytes told_bytes × TellsOfStoresAlone told_bytes new_bytes
+IsQuiet path old_bytes new_bytes =
+    (told_bytes : Option (List ℕ)) × TellsOfMigrated path old_bytes told_bytes × TellsOfStoresAlone told_bytes new_bytes
 
 -- the exit status if the words of the command line can't be read: 2 if one isn't UTF-8, otherwise 1
 abbrev pub unread_status : ErrorKind → ℕ
@@ -101,9 +104,12 @@ run_status (run_fault.Unjoined fault) = 1
 
 -- what is true if a script of so many sessions isn't served to its end, line by line, from states of which `starts` is
 -- true to `new`. If a store can't be opened, nothing was read or written. No fault is one of sessions at the same time
-abbrev pub Stops : ℕ → RunFault → (List State → Type 0) → List State → List ℕ → Option (List ℕ) → Option (List ℕ) → Option (List ℕ) → Type 0
-Stops sessions (run_fault.Unopened database place cause) starts new script rest old_bytes new_bytes = Keeps (Some script) rest × WritesNothing old_bytes new_bytes
-Stops sessions (run_fault.Unserved fault) starts new script rest old_bytes new_bytes = (old : List State) × starts old × StopsWithin sessions fault script old new old_bytes new_bytes
+abbrev pub Stops : ℕ → RunFault → (List State → Type 0) → List State → List ℕ → Option (List ℕ) → Option (List ℕ)
+    → Option (List ℕ) → Type 0
+Stops sessions (run_fault.Unopened database place cause) starts new script rest old_bytes new_bytes =
+    Keeps (Some script) rest × WritesNothing old_bytes new_bytes
+Stops sessions (run_fault.Unserved fault) starts new script rest old_bytes new_bytes =
+    (old : List State) × starts old × StopsWithin sessions fault script old new old_bytes new_bytes
 Stops sessions (run_fault.Unjoined fault) starts new script rest old_bytes new_bytes = ⊥
 
 -- what is left of lines and of their output, if all stores were opened: nothing, or what a fault leaves
@@ -119,7 +125,8 @@ abbrev pub EndsInTurn : (ℕ → List ℕ → List State → List State → Opti
     → ℕ → ℕ → ℕ → List ℕ → Option (List ℕ) → Option (List ℕ) → Option (List ℕ) → Type 0
 EndsInTurn Serves sessions count status script rest old_bytes new_bytes =
     ((status ≡ 0) × (new : List State) × Serves sessions script (empty_states count) new old_bytes new_bytes)
-    ⊎ ((status ≡ 1) × (fault : ServeFault) × (new : List State) × StopsWithin sessions fault script (empty_states count) new old_bytes new_bytes)
+    ⊎ ((status ≡ 1) × (fault : ServeFault) × (new : List State)
+    × StopsWithin sessions fault script (empty_states count) new old_bytes new_bytes)
     ⊎ ((status ≡ 3) × Keeps (Some script) rest × WritesNothing old_bytes new_bytes)
 
 -- The sessions of each phase at the same time, in `count` databases that were empty: the script was served, with status
@@ -133,12 +140,16 @@ EndsFree count status script rest old_bytes new_bytes =
 
 -- In memory: as the mode says. `serve` has as many sessions as it is asked for.
 abbrev pub EndsInMemory : Mode → ℕ → ℕ → ℕ → List ℕ → Option (List ℕ) → Option (List ℕ) → Option (List ℕ) → Type 0
-EndsInMemory mode.Run sessions count status script rest old_bytes new_bytes = EndsInTurn ServesWhole MAX_SHARED count status script rest old_bytes new_bytes
-EndsInMemory mode.Free sessions count status script rest old_bytes new_bytes = EndsFree count status script rest old_bytes new_bytes
-EndsInMemory mode.Serve sessions count status script rest old_bytes new_bytes = EndsInTurn ServesAll sessions count status script rest old_bytes new_bytes
+EndsInMemory mode.Run sessions count status script rest old_bytes new_bytes =
+    EndsInTurn ServesWhole MAX_SHARED count status script rest old_bytes new_bytes
+EndsInMemory mode.Free sessions count status script rest old_bytes new_bytes =
+    EndsFree count status script rest old_bytes new_bytes
+EndsInMemory mode.Serve sessions count status script rest old_bytes new_bytes =
+    EndsInTurn ServesAll sessions count status script rest old_bytes new_bytes
 
 -- Over files, of which no contract says what they hold: with status 0 the script was read to its end; with status 3 a
 -- store couldn't be opened, and nothing was read or written.
 abbrev pub EndsOverFiles : ℕ → List ℕ → Option (List ℕ) → Option (List ℕ) → Option (List ℕ) → Type 0
 EndsOverFiles status script rest old_bytes new_bytes =
-    ((status ≡ 0) × IsAtEnd rest) ⊎ (status ≡ 1) ⊎ ((status ≡ 3) × Keeps (Some script) rest × WritesNothing old_bytes new_bytes)
+    ((status ≡ 0) × IsAtEnd rest) ⊎ (status ≡ 1)
+    ⊎ ((status ≡ 3) × Keeps (Some script) rest × WritesNothing old_bytes new_bytes)

@@ -26,7 +26,8 @@ pub(crate) fn open_databases<S: Alter + Drop, O: OpenStore<S>>(
     requires some { 1 ≤ count }
     requires few { count ≤ MAX_DATABASES }
     requires none { databases.old.items ≡ [] }
-    ensures found { HaveCleanDisks S.Store databases.new.items → OnOk result (AreFound (O.may_hold stores.now) count (states_of databases.new.items)) }
+    ensures found { HaveCleanDisks S.Store databases.new.items
+        → OnOk result (AreFound (O.may_hold stores.now) count (states_of databases.new.items)) }
     ensures least { OnOk result (1 ≤ vec_len databases.new) }
     ensures most { OnOk result (vec_len databases.new ≤ MAX_DATABASES) }
     ensures kind { IfErr result (λ fault. run_status fault ≡ 3) }
@@ -103,7 +104,8 @@ fn over<S: Alter + Drop>(
     alloc: Global,
     connection: Connection<S>,
 ) -> Result<(Database<S>, bool), (OpenFault, Connection<S>)>
-    ensures found { IfOk result (λ d. HasCleanDisk (state S.Store d.0.store) → StartsAs (state S.Store connection).now d.0.state) }
+    ensures found { IfOk result
+        (λ d. HasCleanDisk (state S.Store d.0.store) → StartsAs (state S.Store connection).now d.0.state) }
     ensures usable { IfOk result (λ d. HasCleanDisk (state S.Store d.0.store) → IsUsable (state S.Store connection)) }
 {
     match migrate(alloc, connection) {

@@ -155,7 +155,8 @@ fn push_line(
     place: usize,
 ) -> Result<(), AllocError>
     requires { place < MAX_DATABASES }
-    ensures { OnOk result (string_bytes text.new ≡ string_bytes text.old ++ shown_text place (slice_get tallies.now place)) }
+    ensures { OnOk result (string_bytes text.new ≡ string_bytes text.old
+        ++ shown_text place (slice_get tallies.now place)) }
 {
     if let Some(tally) = tallies.get(place) {
         let line = line(alloc, place, tally)?;

@@ -73,7 +73,8 @@ fn serve_before<
     requires few { vec_len databases ≤ MAX_DATABASES }
     ensures legal { IfOk result (λ audit. AreHistories S.Store databases.items audit.parts.items audit.closed.items) }
     ensures output { IfOk result (λ audit. IfSome (R.remaining reader.old) (λ script.
-        ServesFree script (histories audit.parts.items audit.closed.items) (W.contents writer.old) (W.contents writer.new))) }
+        ServesFree script (histories audit.parts.items audit.closed.items) (W.contents writer.old)
+        (W.contents writer.new))) }
     ensures end { OnOk result (IfSome (R.remaining reader.old) (λ script. IsAtEnd (R.remaining reader.new))) }
 {
     match start(rt, alloc, screen) {

@@ -37,29 +37,44 @@ pub(crate) fn serve_in_turn<S: Alter, R: Read, W: Write>(
     requires kind { IfErr opened (λ fault. run_status fault ≡ 3) }
     // If each disk returned what was written, the script was served from the states of the
     // databases.
-    ensures served { args.now.mode ≡ Mode.Run → HaveCleanDisks S.Store databases.new.items → OnOk result (IfSome (R.remaining input.old) (λ script. (old : List State)
-        × IsOpened S.Store opened databases.old.items old × ServesWhole MAX_SHARED script old (states_of databases.new.items) (W.contents output.old) (W.contents output.new))) }
-    ensures stopped { args.now.mode ≡ Mode.Run → HaveCleanDisks S.Store databases.new.items → IfErr result (λ fault. IfSome (R.remaining input.old) (λ script.
-        Stops MAX_SHARED fault (IsOpened S.Store opened databases.old.items) (states_of databases.new.items) script (R.remaining input.new) (W.contents output.old) (W.contents output.new))) }
+    ensures served { args.now.mode ≡ Mode.Run → HaveCleanDisks S.Store databases.new.items
+        → OnOk result (IfSome (R.remaining input.old) (λ script. (old : List State)
+        × IsOpened S.Store opened databases.old.items old
+        × ServesWhole MAX_SHARED script old (states_of databases.new.items) (W.contents output.old)
+        (W.contents output.new))) }
+    ensures stopped { args.now.mode ≡ Mode.Run → HaveCleanDisks S.Store databases.new.items
+        → IfErr result (λ fault. IfSome (R.remaining input.old) (λ script.
+        Stops MAX_SHARED fault (IsOpened S.Store opened databases.old.items) (states_of databases.new.items) script
+        (R.remaining input.new) (W.contents output.old) (W.contents output.new))) }
 
     // The same, for lines that are served until they end, of as many sessions as are asked for.
-    ensures lines { args.now.mode ≡ Mode.Serve → HaveCleanDisks S.Store databases.new.items → OnOk result (IfSome (R.remaining input.old) (λ script. (old : List State)
-        × IsOpened S.Store opened databases.old.items old × ServesAll args.now.sessions script old (states_of databases.new.items) (W.contents output.old) (W.contents output.new))) }
-    ensures cut { args.now.mode ≡ Mode.Serve → HaveCleanDisks S.Store databases.new.items → IfErr result (λ fault. IfSome (R.remaining input.old) (λ script.
-        Stops args.now.sessions fault (IsOpened S.Store opened databases.old.items) (states_of databases.new.items) script (R.remaining input.new) (W.contents output.old) (W.contents output.new))) }
+    ensures lines { args.now.mode ≡ Mode.Serve → HaveCleanDisks S.Store databases.new.items
+        → OnOk result (IfSome (R.remaining input.old) (λ script. (old : List State)
+        × IsOpened S.Store opened databases.old.items old
+        × ServesAll args.now.sessions script old (states_of databases.new.items) (W.contents output.old)
+        (W.contents output.new))) }
+    ensures cut { args.now.mode ≡ Mode.Serve → HaveCleanDisks S.Store databases.new.items
+        → IfErr result (λ fault. IfSome (R.remaining input.old) (λ script.
+        Stops args.now.sessions fault (IsOpened S.Store opened databases.old.items)
+        (states_of databases.new.items) script (R.remaining input.new) (W.contents output.old)
+        (W.contents output.new))) }
 
     // However that ends, each database by itself served what its lines gave it, if its own disk
     // returned what was written. After a crash no write that was answered is missing, also if a
     // fault has shut the store.
     ensures ran { args.now.mode ≡ Mode.Run → OnOk opened (IfSome (R.remaining input.old) (λ script.
-        ScriptRan S.Store MAX_SHARED script databases.old.items databases.new.items (W.contents output.old) (W.contents output.new) (LeftBy result))) }
+        ScriptRan S.Store MAX_SHARED script databases.old.items databases.new.items (W.contents output.old)
+        (W.contents output.new) (LeftBy result))) }
     ensures lines_ran { args.now.mode ≡ Mode.Serve → OnOk opened (IfSome (R.remaining input.old) (λ script.
-        ScriptRan S.Store args.now.sessions script databases.old.items databases.new.items (W.contents output.old) (W.contents output.new) (LeftBy result))) }
+        ScriptRan S.Store args.now.sessions script databases.old.items databases.new.items (W.contents output.old)
+        (W.contents output.new) (LeftBy result))) }
 
     // Whatever the stores do, all of the script was read; or, if a store can't be opened, nothing
     // was.
     ensures end { OnOk result (IfSome (R.remaining input.old) (λ script. IsAtEnd (R.remaining input.new))) }
-    ensures unopened { IfErr result (λ fault. run_status fault ≡ 3 → Keeps (R.remaining input.old) (R.remaining input.new) × WritesNothing (W.contents output.old) (W.contents output.new)) }
+    ensures unopened { IfErr result
+        (λ fault. run_status fault ≡ 3 → Keeps (R.remaining input.old) (R.remaining input.new)
+        × WritesNothing (W.contents output.old) (W.contents output.new)) }
 {
     opened?;
     match args.mode {
@@ -92,12 +107,15 @@ pub(crate) fn serve_at_once<
     requires kind { IfErr opened (λ fault. run_status fault ≡ 3) }
     // The script was served like this if disks always return what was written.
     ensures free { HoldCleanDisks S.Store → OnOk result (IfSome (R.remaining input.old) (λ script. (old : List State)
-        × IsOpened S.Store opened databases.old.items old × RunsFree script old (W.contents output.old) (W.contents output.new))) }
+        × IsOpened S.Store opened databases.old.items old
+        × RunsFree script old (W.contents output.old) (W.contents output.new))) }
 
     // Whatever the stores do, all of the script was read; or, if a store can't be opened, nothing
     // was.
     ensures end { OnOk result (IfSome (R.remaining input.old) (λ script. IsAtEnd (R.remaining input.new))) }
-    ensures unopened { IfErr result (λ fault. run_status fault ≡ 3 → Keeps (R.remaining input.old) (R.remaining input.new) × WritesNothing (W.contents output.old) (W.contents output.new)) }
+    ensures unopened { IfErr result
+        (λ fault. run_status fault ≡ 3 → Keeps (R.remaining input.old) (R.remaining input.new)
+        × WritesNothing (W.contents output.old) (W.contents output.new)) }
 {
     opened?;
     serve_phases(threads, alloc, databases, input, output, screen)?;

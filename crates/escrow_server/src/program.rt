@@ -44,12 +44,15 @@ pub fn read_line<E: Env, W: Write, F: Write>(
     errors: &mut F,
 ) -> Result<Args, ExitCode>
     ensures databases { IfOk result (λ args. (1 ≤ args.databases) × (args.databases ≤ MAX_DATABASES)) }
-    ensures same { OnOk result ((W.contents output.new ≡ W.contents output.old) × (F.contents errors.new ≡ F.contents errors.old)) }
+    ensures same { OnOk result ((W.contents output.new ≡ W.contents output.old)
+        × (F.contents errors.new ≡ F.contents errors.old)) }
 
     // With status 0, nothing is written to `errors`. With any other status, a line says why, as far
     // as the writer takes it.
-    ensures quiet { IfErr result (λ code. exit_status code ≡ 0 → WritesNothing (F.contents errors.old) (F.contents errors.new)) }
-    ensures said { IfErr result (λ code. exit_status code ≢ 0 → SaysReason (F.contents errors.old) (F.contents errors.new)) }
+    ensures quiet { IfErr result
+        (λ code. exit_status code ≡ 0 → WritesNothing (F.contents errors.old) (F.contents errors.new)) }
+    ensures said { IfErr result
+        (λ code. exit_status code ≢ 0 → SaysReason (F.contents errors.old) (F.contents errors.new)) }
 {
     let found = match words(alloc, line) {
         Ok(found) => found,
@@ -95,13 +98,19 @@ fn read_words<S: AsStr, W: Write, F: Write>(
     // Words that ask for a script to be served fail only if memory is refused. Other words end with
     // the status of what is wrong with them, or with 1 if memory is refused or help can't be
     // written. Nothing but help is written.
-    ensures asked { (args : Args) → asked_by (map S.text words.now) ≡ Some args → MatchResult result (λ read. read ≡ args) (λ status. status ≡ 1) }
-    ensures refused { asked_by (map S.text words.now) ≡ None → IsErrAnd result (λ status. (status ≡ 1) ⊎ (status ≡ refused_status (map S.text words.now))) }
+    ensures asked { (args : Args) → asked_by (map S.text words.now) ≡ Some args
+        → MatchResult result (λ read. read ≡ args) (λ status. status ≡ 1) }
+    ensures refused { asked_by (map S.text words.now) ≡ None
+        → IsErrAnd result (λ status. (status ≡ 1) ⊎ (status ≡ refused_status (map S.text words.now))) }
     ensures databases { IfOk result (λ args. (1 ≤ args.databases) × (args.databases ≤ MAX_DATABASES)) }
-    ensures same { OnOk result ((W.contents output.new ≡ W.contents output.old) × (F.contents errors.new ≡ F.contents errors.old)) }
-    ensures unasked { (args : Args) → asked_by (map S.text words.now) ≡ Some args → WritesNothing (W.contents output.old) (W.contents output.new) }
-    ensures unserved { asked_by (map S.text words.now) ≡ None → refused_status (map S.text words.now) ≢ 0 → WritesNothing (W.contents output.old) (W.contents output.new) }
-    ensures silent { IfErr result (λ status. status ≡ 0 → WritesNothing (F.contents errors.old) (F.contents errors.new)) }
+    ensures same { OnOk result ((W.contents output.new ≡ W.contents output.old)
+        × (F.contents errors.new ≡ F.contents errors.old)) }
+    ensures unasked { (args : Args) → asked_by (map S.text words.now) ≡ Some args
+        → WritesNothing (W.contents output.old) (W.contents output.new) }
+    ensures unserved { asked_by (map S.text words.now) ≡ None → refused_status (map S.text words.now) ≢ 0
+        → WritesNothing (W.contents output.old) (W.contents output.new) }
+    ensures silent { IfErr result
+        (λ status. status ≡ 0 → WritesNothing (F.contents errors.old) (F.contents errors.new)) }
     ensures said { IfErr result (λ status. status ≢ 0 → SaysReason (F.contents errors.old) (F.contents errors.new)) }
 {
     match read_args(alloc, words) {
@@ -135,14 +144,17 @@ pub fn run_in_turn<R: Read, W: Write, F: Write>(
     // The script is served in as many databases as the arguments ask for, in their mode: in memory,
     // or in files.
     ensures memory { args.now.path ≡ None → IfSome (R.remaining input.old) (λ script.
-        EndsInMemory args.now.mode args.now.sessions args.now.databases (exit_status result) script (R.remaining input.new) (W.contents output.old) (W.contents output.new)) }
+        EndsInMemory args.now.mode args.now.sessions args.now.databases (exit_status result) script
+        (R.remaining input.new) (W.contents output.old) (W.contents output.new)) }
     ensures files { IfSome (R.remaining input.old) (λ script.
-        EndsOverFiles (exit_status result) script (R.remaining input.new) (W.contents output.old) (W.contents output.new)) }
+        EndsOverFiles (exit_status result) script (R.remaining input.new) (W.contents output.old)
+        (W.contents output.new)) }
 
     // With status 0, nothing is written to `errors` but lines about the stores of a path: those
     // that were migrated, and those that can't be closed. With any other status, a line says why,
     // as far as the writer takes it.
-    ensures silent { args.now.path ≡ None → exit_status result ≡ 0 → WritesNothing (F.contents errors.old) (F.contents errors.new) }
+    ensures silent { args.now.path ≡ None → exit_status result ≡ 0
+        → WritesNothing (F.contents errors.old) (F.contents errors.new) }
     ensures quiet { exit_status result ≡ 0 → IsQuiet args.now.path (F.contents errors.old) (F.contents errors.new) }
     ensures said { exit_status result ≢ 0 → SaysWhy args.now.path (F.contents errors.old) (F.contents errors.new) }
 {
@@ -181,10 +193,13 @@ pub fn run_at_once<
     requires least { 1 ≤ args.now.databases }
     requires most { args.now.databases ≤ MAX_DATABASES }
     ensures memory { args.now.path ≡ None → IfSome (R.remaining input.old) (λ script.
-        EndsInMemory args.now.mode args.now.sessions args.now.databases (exit_status result) script (R.remaining input.new) (W.contents output.old) (W.contents output.new)) }
+        EndsInMemory args.now.mode args.now.sessions args.now.databases (exit_status result) script
+        (R.remaining input.new) (W.contents output.old) (W.contents output.new)) }
     ensures files { IfSome (R.remaining input.old) (λ script.
-        EndsOverFiles (exit_status result) script (R.remaining input.new) (W.contents output.old) (W.contents output.new)) }
-    ensures silent { args.now.path ≡ None → exit_status result ≡ 0 → WritesNothing (F.contents errors.old) (F.contents errors.new) }
+        EndsOverFiles (exit_status result) script (R.remaining input.new) (W.contents output.old)
+        (W.contents output.new)) }
+    ensures silent { args.now.path ≡ None → exit_status result ≡ 0
+        → WritesNothing (F.contents errors.old) (F.contents errors.new) }
     ensures quiet { exit_status result ≡ 0 → IsQuiet args.now.path (F.contents errors.old) (F.contents errors.new) }
     ensures said { exit_status result ≢ 0 → SaysWhy args.now.path (F.contents errors.old) (F.contents errors.new) }
 {
@@ -210,7 +225,8 @@ fn in_turn_in_memory<R: Read, W: Write, F: Write>(
     requires least { 1 ≤ args.now.databases }
     requires most { args.now.databases ≤ MAX_DATABASES }
     ensures memory { IfSome (R.remaining input.old) (λ script.
-        EndsInMemory args.now.mode args.now.sessions args.now.databases result script (R.remaining input.new) (W.contents output.old) (W.contents output.new)) }
+        EndsInMemory args.now.mode args.now.sessions args.now.databases result script (R.remaining input.new)
+        (W.contents output.old) (W.contents output.new)) }
     ensures files { IfSome (R.remaining input.old) (λ script.
         EndsOverFiles result script (R.remaining input.new) (W.contents output.old) (W.contents output.new)) }
     ensures silent { result ≡ 0 → WritesNothing (F.contents errors.old) (F.contents errors.new) }
@@ -269,7 +285,8 @@ fn at_once_in_memory<
     requires least { 1 ≤ args.now.databases }
     requires most { args.now.databases ≤ MAX_DATABASES }
     ensures memory { IfSome (R.remaining input.old) (λ script.
-        EndsInMemory args.now.mode args.now.sessions args.now.databases result script (R.remaining input.new) (W.contents output.old) (W.contents output.new)) }
+        EndsInMemory args.now.mode args.now.sessions args.now.databases result script (R.remaining input.new)
+        (W.contents output.old) (W.contents output.new)) }
     ensures files { IfSome (R.remaining input.old) (λ script.
         EndsOverFiles result script (R.remaining input.new) (W.contents output.old) (W.contents output.new)) }
     ensures silent { result ≡ 0 → WritesNothing (F.contents errors.old) (F.contents errors.new) }
@@ -339,7 +356,8 @@ fn open_in_memory(
     requires some { 1 ≤ count }
     requires few { count ≤ MAX_DATABASES }
     requires none { databases.old.items ≡ [] }
-    ensures found { HaveCleanDisks over_blocks databases.new.items → OnOk result (AreFound (λ _ db. db.schema ≡ no_schema) count (states_of databases.new.items)) }
+    ensures found { HaveCleanDisks over_blocks databases.new.items
+        → OnOk result (AreFound (λ _ db. db.schema ≡ no_schema) count (states_of databases.new.items)) }
     ensures least { OnOk result (1 ≤ vec_len databases.new) }
     ensures most { OnOk result (vec_len databases.new ≤ MAX_DATABASES) }
     ensures kind { IfErr result (λ fault. run_status fault ≡ 3) }

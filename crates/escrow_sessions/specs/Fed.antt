@@ -13,4 +13,5 @@ of place (item ∷ items) = if item.0 == place then item.1 ∷ of place items el
 -- FED WORKERS. Each did what a worker does with the requests of the items that name its place.
 pub record AreFed (passes : List Pass) (items : List (ℕ × Request)) (done : List Done) : Type 0 where
   pub count : length done ≡ length passes
-  pub each : (place : ℕ) (pass : Pass) (d : Done) → slice_get passes place ≡ Some pass → slice_get done place ≡ Some d → IsDone pass (of place items) d
+  pub each : (place : ℕ) (pass : Pass) (d : Done) → slice_get passes place ≡ Some pass → slice_get done place ≡ Some d
+      → IsDone pass (of place items) d

@@ -36,4 +36,6 @@ pub record Gained (old new : Pass) (served : List (Statement × Reply)) : Type 0
 
 -- if requests have answers (Serves), the pass gains exactly the receipts of those that were served
 abbrev pub ReceiptsAreServed : Type 0
-ReceiptsAreServed = (old new : Pass) (requests : List Request) (answers : List Given) → Serves old requests answers new → Gained old new (served_in requests answers)
+ReceiptsAreServed =
+    (old new : Pass) (requests : List Request) (answers : List Given) → Serves old requests answers new
+    → Gained old new (served_in requests answers)

@@ -32,7 +32,8 @@ to_the_end requests = messages requests ++ End ∷ []
 
 -- what a slot returns, whatever was sent to it up to the end
 abbrev pub JoinsAs : Slot → Done → Type 0
-JoinsAs slot d = (seat : Pass) (requests : List Request) → IsSlot seat (to_the_end requests) slot → IsDone seat requests d
+JoinsAs slot d =
+    (seat : Pass) (requests : List Request) → IsSlot seat (to_the_end requests) slot → IsDone seat requests d
 
 -- a worker to which nothing was sent yet
 abbrev pub IsNewSlot : Pass → Slot → Type 0
@@ -41,7 +42,8 @@ IsNewSlot seat slot = IsSlot seat [] slot
 -- the requests of items were sent, each to the worker at its place
 pub record AreFurther (items : List (ℕ × Request)) (old new : List Slot) : Type 0 where
   pub count : length new ≡ length old
-  pub each : (place : ℕ) (before after : Slot) (seat : Pass) (sent : List Item) → slice_get old place ≡ Some before → slice_get new place ≡ Some after
+  pub each : (place : ℕ) (before after : Slot) (seat : Pass) (sent : List Item) → slice_get old place ≡ Some before
+      → slice_get new place ≡ Some after
       → IsSlot seat sent before → IsSlot seat (sent ++ messages (of place items)) after
 
 -- the end was sent to a worker
@@ -50,10 +52,13 @@ IsEnded before after = (seat : Pass) (sent : List Item) → IsSlot seat sent bef
 
 pub record AreEnded (old new : List Slot) : Type 0 where
   pub count : length new ≡ length old
-  pub each : (place : ℕ) (before after : Slot) → slice_get old place ≡ Some before → slice_get new place ≡ Some after → IsEnded before after
+  pub each : (place : ℕ) (before after : Slot) → slice_get old place ≡ Some before → slice_get new place ≡ Some after
+      → IsEnded before after
 
 -- the end was sent to the workers before a place, and the others are unchanged
 pub record AreEndedBefore (n : ℕ) (old new : List Slot) : Type 0 where
   pub count : length new ≡ length old
-  pub ended : (place : ℕ) (before after : Slot) → place < n → slice_get old place ≡ Some before → slice_get new place ≡ Some after → IsEnded before after
-  pub others : (place : ℕ) (before after : Slot) → n ≤ place → slice_get old place ≡ Some before → slice_get new place ≡ Some after → after ≡ before
+  pub ended : (place : ℕ) (before after : Slot) → place < n → slice_get old place ≡ Some before
+      → slice_get new place ≡ Some after → IsEnded before after
+  pub others : (place : ℕ) (before after : Slot) → n ≤ place → slice_get old place ≡ Some before
+      → slice_get new place ≡ Some after → after ≡ before

@@ -49,7 +49,8 @@ module _ {Q : Type 0} (gives : Q → Option Request → Q → Type 0) where
 
 -- the worker of a feed
 abbrev pub IsWorkerOf : Feed → Worker Listed → Type 0
-IsWorkerOf f w = (source : Listed) × (into_iter_items source.left ≡ f.requests.items) × IsWorker gives_listed f.pass source w
+IsWorkerOf f w =
+    (source : Listed) × (into_iter_items source.left ≡ f.requests.items) × IsWorker gives_listed f.pass source w
 
 -- what a worker did, whichever feed it had
 abbrev pub CameOf : Worker Listed → Done → Type 0

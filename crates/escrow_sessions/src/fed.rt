@@ -53,7 +53,8 @@ pub fn run_fed<
     requires can { I.can_next items }
     requires ends { IsFinite (I.remaining items) }
     requires places { HoldsAlong I.next_gives items (All (λ x. x.0 < length passes.items)) }
-    ensures done { IfOk result (λ done. (xs : List (ℕ × Request)) × Drains I.next_gives items xs × AreFed passes.items xs done.items) }
+    ensures done { IfOk result
+        (λ done. (xs : List (ℕ × Request)) × Drains I.next_gives items xs × AreFed passes.items xs done.items) }
     ensures within { OnOk result (length passes.items ≤ MAX_WORKERS) }
     ensures back { IfErr result (λ e. (e.passes ≡ passes) × (e.items ≡ items)) }
     ensures cause { IfErr result (λ e. (e.cause ≡ Cause.TooMany) ↔ (MAX_WORKERS < length passes.items)) }
@@ -79,7 +80,8 @@ fn serve_fed<
     requires can { I.can_next items }
     requires ends { IsFinite (I.remaining items) }
     requires places { HoldsAlong I.next_gives items (All (λ x. x.0 < length passes.items)) }
-    ensures done { IfOk result (λ done. (xs : List (ℕ × Request)) × Drains I.next_gives items xs × AreFed passes.items xs done.items) }
+    ensures done { IfOk result
+        (λ done. (xs : List (ℕ × Request)) × Drains I.next_gives items xs × AreFed passes.items xs done.items) }
     ensures within { OnOk result (length passes.items ≤ MAX_WORKERS) }
     ensures back { IfErr result (λ e. (e.passes ≡ passes) × (e.items ≡ items)) }
     ensures cause { IfErr result (λ e. (e.cause ≡ Cause.TooMany) ↔ (MAX_WORKERS < length passes.items)) }

@@ -53,7 +53,8 @@ impl Slot {
 
     /// Sends a message to the worker, if it was started. May wait until there is room.
     pub(crate) fn send<R: Wait>(&mut self, rt: &R, item: Item)
-        ensures { (seat : Pass) (sent : List Item) → IsSlot seat sent self.old → IsSlot seat (sent ++ item ∷ []) self.new }
+        ensures { (seat : Pass) (sent : List Item) → IsSlot seat sent self.old
+            → IsSlot seat (sent ++ item ∷ []) self.new }
     {
         match self {
             Slot::Fed(fed) => fed.send(rt, item),
@@ -98,7 +99,8 @@ impl FedWorker {
 
     /// Waits for the worker's thread to end, and returns what the worker did.
     pub(crate) fn join<R: Threads>(self, rt: &R) -> Done
-        ensures { (requests : List Request) → sent_on self.sender ≡ to_the_end requests → IsDone self.thread.promise.pass.value requests result }
+        ensures { (requests : List Request) → sent_on self.sender ≡ to_the_end requests
+            → IsDone self.thread.promise.pass.value requests result }
     {
         let FedWorker { sender, thread } = self;
         let Worked { done, source } = thread.join(rt);

@@ -107,7 +107,8 @@ pub(crate) fn give<H: Service, R: Wait, G: Gate>(
 
 /// Counts a reply that was served in the totals, if they are kept.
 fn count(totals: &mut Option<Tally>, answer: &Answer)
-    ensures { (replies : List Reply) → length replies < 2 ^ 64 - 1 → AreKept totals.old replies → AreKept totals.new (replies ++ reply_of answer.now) }
+    ensures { (replies : List Reply) → length replies < 2 ^ 64 - 1 → AreKept totals.old replies
+        → AreKept totals.new (replies ++ reply_of answer.now) }
 {
     if let (Some(tally), Answer::Served(reply)) = (*totals, answer) {
         *totals = Some(tally.with(reply));

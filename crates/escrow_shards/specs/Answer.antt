@@ -17,5 +17,6 @@ IsUnserved r = (r ≡ refusal.TranscriptFull) ⊎ IsFailed r
 abbrev pub IsAnswered : Answer → Statement → Pass → Pass → Type 0
 IsAnswered (Served reply) asked old new =
     IsAnswer reply
-    × ((number : ℕ) × (new ≡ record old { receipts = old.receipts ++ (record { number = number; statement = asked; reply = reply }) ∷ [] }))
+    × ((number : ℕ) × (new ≡ record old
+    { receipts = old.receipts ++ (record { number = number; statement = asked; reply = reply }) ∷ [] }))
 IsAnswered (Unserved r) asked old new = IsUnserved r × (new ≡ old)

@@ -32,7 +32,8 @@ opening_of c = c.opening
 -- begins where the one before it ends. The last of all has number `count`, and ends at base `last`.
 abbrev pub Follow : {S : Type 0} → ℕ → Base → List (Part S) → ℕ → Base → Type 0
 Follow number base [] count last = (number ≡ count) × (base ≡ last)
-Follow number base (p ∷ ps) count last = (p.number ≡ number + 1) × ((p.base ≡ base) × Follow (number + 1) p.end ps count last)
+Follow number base (p ∷ ps) count last =
+    (p.number ≡ number + 1) × ((p.base ≡ base) × Follow (number + 1) p.end ps count last)
 
 -- all parts of a database are there, in order: the first begins at its opening, and its last transcript begins where
 -- the last part ends

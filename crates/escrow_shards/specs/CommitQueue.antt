@@ -28,8 +28,8 @@ waits_in place.Asked = 1
 waits_in place.Leads = 0
 waits_in (place.Answered outcome) = 0
 
--- WHAT ALWAYS HOLDS. There is a place for each session, and each COMMIT that was served is in that of its session. Those
--- that wait are counted.
+-- WHAT ALWAYS HOLDS. There is a place for each session, and each COMMIT that was served is in that of its session.
+-- Those that wait are counted.
 pub record AreInPlaces (places : List CommitState) (waiting : ℕ) : Type 0 where
   pub count : length places ≡ COUNT
   pub counted : waiting ≡ sum_by waits_in places
@@ -37,7 +37,8 @@ pub record AreInPlaces (places : List CommitState) (waiting : ℕ) : Type 0 wher
 
 -- no COMMIT waits in these places: from one on, and before another one
 abbrev pub NoneWaitsIn : ℕ → ℕ → List CommitState → Type 0
-NoneWaitsIn from end places = (before : ℕ) → from ≤ before → before < end → ¬ (get_or places before place.Free ≡ place.Asked)
+NoneWaitsIn from end places =
+    (before : ℕ) → from ≤ before → before < end → ¬ (get_or places before place.Free ≡ place.Asked)
 
 -- no COMMIT waits
 abbrev pub NoneWaits : List CommitState → Type 0
@@ -45,7 +46,9 @@ NoneWaits places = (before : ℕ) → ¬ (get_or places before place.Free ≡ pl
 
 -- the lead passes on: if COMMITs wait, the call of one of them leads, else none does; the other places stay
 abbrev pub IsPassedOn : List CommitState → List CommitState → Type 0
-IsPassedOn old new = ((new ≡ old) × NoneWaits old) ⊎ ((before : ℕ) × (get_or old before place.Free ≡ place.Asked) × (new ≡ slice_set old before place.Leads))
+IsPassedOn old new =
+    ((new ≡ old) × NoneWaits old)
+    ⊎ ((before : ℕ) × (get_or old before place.Free ≡ place.Asked) × (new ≡ slice_set old before place.Leads))
 
 -- if the COMMIT of a session was served, it names the session
 abbrev pub IsTurnOf : ℕ → Turn → Type 0
@@ -69,6 +72,7 @@ asking before (place.Answered outcome ∷ places) = asking (before + 1) places
 
 -- places, after outcomes were left in the places of their sessions
 abbrev pub answered : List ℕ → List (Result Committed Failure) → List CommitState → List CommitState
-answered (session ∷ sessions) (outcome ∷ outcomes) places = answered sessions outcomes (with_place places session (place.Answered outcome))
+answered (session ∷ sessions) (outcome ∷ outcomes) places =
+    answered sessions outcomes (with_place places session (place.Answered outcome))
 answered [] outcomes places = places
 answered (session ∷ sessions) [] places = places

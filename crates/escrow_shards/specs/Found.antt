@@ -34,7 +34,8 @@ IsOfNoPass sessions parts closed (cause.Parts d) = ⊥
 IsOfNoPass sessions parts closed cause.Memory = ⊥
 
 -- everything that a close finds, except which databases they are
-pub record AreFound {S : Type 0} (g : Ghosts S) (sessions : ℕ) (passes : List Pass) (parts : List (Part S)) (closed : List (Closed S)) : Type 0 where
+pub record AreFound {S : Type 0} (g : Ghosts S) (sessions : ℕ) (passes : List Pass) (parts : List (Part S))
+    (closed : List (Closed S)) : Type 0 where
   pub all_seats : AreAllPasses (length closed) sessions passes
   pub each : (d : ℕ) (c : Closed S) → slice_get closed d ≡ Some c → IsWhole g d parts c
   pub receipts : AllByRecursion (HasItsReceipts parts closed) passes

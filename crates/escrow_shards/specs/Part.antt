@@ -25,9 +25,18 @@ pub record Part (S : Type 0) : Type 0 where
 abbrev pub part_code : {S : Type 0} → Coded S → Coded (Part S)
 part_code {S} store =
     code_by (ℕ × (ℕ × (Base × (List Entry × (Base × Held S)))))
-    (coded× coded_ℕ (coded× coded_ℕ (coded× base.the_row.coded (coded× (coded_list entry.the_row.coded) (coded× base.the_row.coded (held_code store))))))
+    (coded× coded_ℕ (coded× coded_ℕ
+    (coded× base.the_row.coded
+    (coded× (coded_list entry.the_row.coded) (coded× base.the_row.coded (held_code store))))))
     (λ p. (p.database, (p.number, (p.base, (p.entries, (p.end, p.store))))))
-    (λ p. record { database = p.0; number = p.1.0; base = p.1.1.0; entries = p.1.1.1.0; end = p.1.1.1.1.0; store = p.1.1.1.1.1 })
+    (λ p. record {
+      database = p.0;
+      number = p.1.0;
+      base = p.1.1.0;
+      entries = p.1.1.1.0;
+      end = p.1.1.1.1.0;
+      store = p.1.1.1.1.1;
+    })
     (λ _. refl)
 
 -- What always holds of a part. If the disk had returned what was written when the part was handed out, its transcript

@@ -15,7 +15,9 @@ new_board o = record { base = o.base; entries = []; shown = []; doubts = 0 }
 abbrev pub AreNewWatchers : {S : Type 0} → ℕ → List (Opening S) → List Watcher → Type 0
 AreNewWatchers count [] watchers = watchers ≡ []
 AreNewWatchers count (o ∷ openings) watchers =
-    (mine : List Watcher) × ((others : List Watcher) × ((watchers ≡ mine ++ others) × ((length mine ≡ count) × (All (IsNewWatcher o.base) mine × AreNewWatchers count openings others))))
+    (mine : List Watcher) × ((others : List Watcher)
+    × ((watchers ≡ mine ++ others)
+    × ((length mine ≡ count) × (All (IsNewWatcher o.base) mine × AreNewWatchers count openings others))))
 
 -- why there are no boards and watchers: memory, or no place to read at
 abbrev pub IsUnwatched : Unshared → Type 0

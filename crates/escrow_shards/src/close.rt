@@ -162,7 +162,8 @@ impl<S: Alter> Closed<S> {
 
     /// Returns whether the receipts of a pass are exactly the entries of its session, in order.
     pub(crate) fn matches(&self, parts: &[Part<S>], pass: &Pass) -> bool
-        ensures { IsTrue result ↔ (pass.now.receipts ≡ receipts_of pass.now.session (all_entries pass.now.database parts.now self.now)) }
+        ensures { IsTrue result ↔ (pass.now.receipts
+            ≡ receipts_of pass.now.session (all_entries pass.now.database parts.now self.now)) }
     {
         all_matched(
             pass.database(),
@@ -181,8 +182,10 @@ impl<S: Alter> Closed<S> {
         sessions: u16,
         parts: &[Part<S>],
     ) -> Option<Session>
-        ensures none { IfNone result (AllByRecursion (IsOfSessions sessions) (all_entries database parts.now self.now)) }
-        ensures some { IfSome result (λ k. (sessions < k) × (receipts_of k (all_entries database parts.now self.now) ≡ [] → ⊥)) }
+        ensures none { IfNone result
+            (AllByRecursion (IsOfSessions sessions) (all_entries database parts.now self.now)) }
+        ensures some { IfSome result
+            (λ k. (sessions < k) × (receipts_of k (all_entries database parts.now self.now) ≡ [] → ⊥)) }
     {
         beyond_in_all(database, sessions, parts, self.audited.entries())
     }

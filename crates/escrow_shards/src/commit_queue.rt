@@ -78,7 +78,8 @@ impl CommitQueue {
     /// Enters the COMMIT of a session: its call leads if none does, or else waits.
     pub(crate) fn ask(&mut self, session: Session) -> Turn
         ensures turn { (result ≡ Turn.Leads) ⊎ (result ≡ Turn.Waits) ⊎ (result ≡ Turn.Alone) }
-        ensures waits { result ≡ Turn.Waits → (at self.old session ≡ CommitState.Free) × (self.new ≡ with_place self.old session CommitState.Asked) }
+        ensures waits { result ≡ Turn.Waits → (at self.old session ≡ CommitState.Free)
+            × (self.new ≡ with_place self.old session CommitState.Asked) }
         ensures same { (result ≡ Turn.Leads) ⊎ (result ≡ Turn.Alone) → self.new ≡ self.old }
     {
         let place = usize::from(session.get()) - 1;

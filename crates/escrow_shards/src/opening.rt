@@ -22,7 +22,8 @@ impl<S: Alter> Model for Opening<S> {
 
     ghost view = { λ o. record { base = o.base; store = o.was.value.store; state = o.was.value.state } };
 
-    ghost invariant = { λ o. IsOpening S.Store (record { base = o.base; store = o.was.value.store; state = o.was.value.state }) };
+    ghost invariant = { λ o. IsOpening S.Store
+        (record { base = o.base; store = o.was.value.store; state = o.was.value.state }) };
 }
 
 impl<S: Alter> Opening<S> {

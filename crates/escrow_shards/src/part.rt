@@ -23,9 +23,24 @@ impl<S: Alter> Model for Part<S> {
 
     ghost coded = { part_code S.code };
 
-    ghost view = { λ p. record { database = p.database; number = p.number; base = p.transcript.base; entries = p.transcript.entries; end = p.end; store = p.was.value.store } };
+    ghost view = { λ p. record {
+      database = p.database;
+      number = p.number;
+      base = p.transcript.base;
+      entries = p.transcript.entries;
+      end = p.end;
+      store = p.was.value.store;
+    } };
 
-    ghost invariant = { λ p. IsSound S.Store (record { database = p.database; number = p.number; base = p.transcript.base; entries = p.transcript.entries; end = p.end; store = p.was.value.store }) };
+    ghost invariant = { λ p. IsSound S.Store
+        (record {
+          database = p.database;
+          number = p.number;
+          base = p.transcript.base;
+          entries = p.transcript.entries;
+          end = p.end;
+          store = p.was.value.store;
+        }) };
 }
 
 impl<S: Alter> Part<S> {
@@ -44,9 +59,17 @@ impl<S: Alter> Part<S> {
         end: Base,
         from: &Audited<S>,
     ) -> Self
-        requires legal { HasCleanDisk (state S.Store from.now.store) → IsLegal transcript.base transcript.entries (started end.image) }
+        requires legal { HasCleanDisk (state S.Store from.now.store)
+            → IsLegal transcript.base transcript.entries (started end.image) }
         requires counts { end.before ≡ transcript.base.before + length transcript.entries }
-        ensures { result ≡ record { database = database; number = number; base = transcript.base; entries = transcript.entries; end = end; store = from.now.store } }
+        ensures { result ≡ record {
+          database = database;
+          number = number;
+          base = transcript.base;
+          entries = transcript.entries;
+          end = end;
+          store = from.now.store;
+        } }
     {
         Part {
             database,

@@ -218,7 +218,8 @@ impl<S: Alter, L: UnderLock<S>> Shard<S, L> {
 
 /// Returns the answer to a COMMIT, by its outcome.
 fn served(outcome: Result<Committed, Failure>) -> Result<Served, Unserved>
-    ensures served { IfOk outcome (λ c. IsOkAnd result (λ r. (r.number ≡ c.number) × (r.reply ≡ Reply.Committed c.count))) }
+    ensures served { IfOk outcome
+        (λ c. IsOkAnd result (λ r. (r.number ≡ c.number) × (r.reply ≡ Reply.Committed c.count))) }
     ensures failed { IfErr outcome (λ f. result ≡ Err (Unserved.Failed f)) }
     ensures named { IfOk result (λ r. IsOkAnd outcome (λ c. r.session ≡ c.session)) }
     ensures kept { IfOk result (λ r. r.kept ≡ r.reply) }

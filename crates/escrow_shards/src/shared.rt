@@ -77,7 +77,8 @@ impl<S: Alter + Drop> Shared<S> {
         ensures closed { OnOk result (any_open databases.items ≡ false) }
         ensures back { IfErr result (λ f. AreRead S.Store databases.items f.databases.items) }
         ensures only { IfErr result (λ f. IsRefused f.cause) }
-        ensures open { IfErr result (λ f. (f.cause ≡ Unshared.Refused Refusal.TransactionOpen) ↔ (any_open databases.items ≡ true)) }
+        ensures open { IfErr result
+            (λ f. (f.cause ≡ Unshared.Refused Refusal.TransactionOpen) ↔ (any_open databases.items ≡ true)) }
     {
         match prepare(alloc, &mut databases, sessions) {
             Ok(ready) => {
@@ -137,7 +138,9 @@ impl<S: Alter + Drop, R: Wait + Copy + Drop> Shared<S, Watched<S, R>> {
         ensures only { IfErr result (λ f. IsUnshared f.cause) }
         ensures many { IfErr result (λ f. (f.cause ≡ Unshared.TooManyWatchers) ↔ (MAX_WATCHERS < watchers)) }
         ensures within { OnOk result (watchers ≤ MAX_WATCHERS) }
-        ensures open { IfErr result (λ f. watchers ≤ MAX_WATCHERS → (f.cause ≡ Unshared.Refused Refusal.TransactionOpen) ↔ (any_open databases.items ≡ true)) }
+        ensures open { IfErr result
+            (λ f. watchers ≤ MAX_WATCHERS → (f.cause ≡ Unshared.Refused Refusal.TransactionOpen)
+            ↔ (any_open databases.items ≡ true)) }
     {
         if watchers > MAX_WATCHERS {
             let cause = Unshared::TooManyWatchers;

@@ -40,14 +40,20 @@ pub trait UnderLock<S: Alter> {
         session: Session,
         statement: &Statement,
     ) -> Result<Served, Unserved>
-        ensures served { IfOk result (λ r. Appends S.Store (history self.old) session statement.now r.number r.reply (history self.new)) }
+        ensures served { IfOk result
+            (λ r. Appends S.Store (history self.old) session statement.now r.number r.reply (history self.new)) }
         ensures named { IfOk result (λ r. r.session ≡ session) }
         ensures unserved { OnErr result (Stays S.Store (history self.old) (history self.new)) }
         ensures full { IsErrOf result Unserved.Full ↔ (length (history self.old).entries ≡ MAX_ENTRIES) }
-        ensures apart { IsApart (history self.old).state session statement.now → ¬ (IsErrOf result (Unserved.Failed Failure.Store)) }
-        ensures cause { HasCleanDisk (state S.Store (history self.new).store) → IsErrOf result (Unserved.Failed Failure.Store) → IsTrue (may_fail (history self.old).state session statement.now Failure.Store) }
-        ensures promised { 0 < (history self.old).room → NeedsAnEntry (history self.old).state session statement.now → IsOk result }
-        ensures room { MatchResult result (λ _. (history self.old).room ≤ (history self.new).room + 1) (λ _. (history self.old).room ≤ (history self.new).room) }
+        ensures apart { IsApart (history self.old).state session statement.now
+            → ¬ (IsErrOf result (Unserved.Failed Failure.Store)) }
+        ensures cause { HasCleanDisk (state S.Store (history self.new).store)
+            → IsErrOf result (Unserved.Failed Failure.Store)
+            → IsTrue (may_fail (history self.old).state session statement.now Failure.Store) }
+        ensures promised { 0 < (history self.old).room → NeedsAnEntry (history self.old).state session statement.now
+            → IsOk result }
+        ensures room { MatchResult result (λ _. (history self.old).room ≤ (history self.new).room + 1)
+            (λ _. (history self.old).room ≤ (history self.new).room) }
         ensures counts { parts self.new ≡ parts self.old }
         ensures kept { IfOk result (λ r. r.kept ≡ r.reply) }
         ensures succeeds { IfOk result (λ r. failure_of r.reply ≡ None) }
@@ -61,11 +67,16 @@ pub trait UnderLock<S: Alter> {
         alloc: Global,
         sessions: &[Session],
     ) -> Result<Vec<Result<Committed, Failure>>, Unserved>
-        ensures served { IfOk result (λ outcomes. Commits S.Store (history self.old) sessions.now outcomes.items (history self.new)) }
+        ensures served { IfOk result
+            (λ outcomes. Commits S.Store (history self.old) sessions.now outcomes.items (history self.new)) }
         ensures unserved { OnErr result (Stays S.Store (history self.old) (history self.new)) }
-        ensures full { IsErrOf result Unserved.Full ↔ (MAX_ENTRIES < length (history self.old).entries + length sessions.now) }
+        ensures full { IsErrOf result Unserved.Full
+            ↔ (MAX_ENTRIES < length (history self.old).entries + length sessions.now) }
         ensures apart { ¬ (IsErrOf result (Unserved.Failed Failure.Store)) }
-        ensures room { MatchResult result (λ outcomes. (history self.old).room ≤ (history self.new).room + length (commits_of sessions.now outcomes.items)) (λ _. (history self.old).room ≤ (history self.new).room) }
+        ensures room { MatchResult result
+            (λ outcomes. (history self.old).room
+            ≤ (history self.new).room + length (commits_of sessions.now outcomes.items))
+            (λ _. (history self.old).room ≤ (history self.new).room) }
         ensures counts { parts self.new ≡ parts self.old }
         ensures each { IfOk result (λ outcomes. length outcomes.items ≡ length sessions.now) };
 
@@ -73,13 +84,17 @@ pub trait UnderLock<S: Alter> {
     fn drain_locked(&mut self, alloc: Global, database: usize) -> Result<Part<S>, Refusal>
         ensures part { IfOk result (λ p. p.database ≡ database) }
         ensures number { IfOk result (λ p. (p.number ≡ parts self.old + 1) × (parts self.new ≡ p.number)) }
-        ensures entries { IfOk result (λ p. (p.base ≡ (history self.old).base) × (p.entries ≡ (history self.old).entries)) }
+        ensures entries { IfOk result
+            (λ p. (p.base ≡ (history self.old).base) × (p.entries ≡ (history self.old).entries)) }
         ensures begun { IfOk result (λ p. ((history self.new).base ≡ p.end) × ((history self.new).entries ≡ [])) }
-        ensures undrained { OnErr result (Stays S.Store (history self.old) (history self.new) × (parts self.new ≡ parts self.old)) }
+        ensures undrained { OnErr result (Stays S.Store (history self.old) (history self.new)
+            × (parts self.new ≡ parts self.old)) }
         ensures only { IfErr result IsNotDrained }
         ensures last { MAX_NUMBER ≤ parts self.old → IsErrOf result Refusal.TranscriptFull }
-        ensures open { parts self.old < MAX_NUMBER → (IsErrOf result Refusal.TransactionOpen ↔ (has_open (history self.old).state ≡ true)) }
-        ensures full { IsErrOf result Refusal.TranscriptFull → (MAX_NUMBER ≤ parts self.old) ⊎ (MAX_NUMBER < (history self.old).base.before + length (history self.old).entries + MAX_ENTRIES) };
+        ensures open { parts self.old < MAX_NUMBER
+            → (IsErrOf result Refusal.TransactionOpen ↔ (has_open (history self.old).state ≡ true)) }
+        ensures full { IsErrOf result Refusal.TranscriptFull → (MAX_NUMBER ≤ parts self.old)
+            ⊎ (MAX_NUMBER < (history self.old).base.before + length (history self.old).entries + MAX_ENTRIES) };
 
     /// Returns the database and its transcript out of their lock.
     fn into_locked(self) -> Locked<S>
@@ -119,17 +134,24 @@ impl<S: Alter> Locked<S> {
         session: Session,
         statement: &Statement,
     ) -> Result<Served, Unserved>
-        ensures served { IfOk result (λ r. Appends S.Store self.old.audited session statement.now r.number r.reply self.new.audited) }
+        ensures served { IfOk result
+            (λ r. Appends S.Store self.old.audited session statement.now r.number r.reply self.new.audited) }
         ensures named { IfOk result (λ r. r.session ≡ session) }
         ensures kept { IfOk result (λ r. r.kept ≡ r.reply) }
         ensures unserved { OnErr result (Stays S.Store self.old.audited self.new.audited) }
         ensures full { IsErrOf result Unserved.Full ↔ (length self.old.audited.entries ≡ MAX_ENTRIES) }
-        ensures apart { IsApart self.old.audited.state session statement.now → ¬ (IsErrOf result (Unserved.Failed Failure.Store)) }
-        ensures cause { HasCleanDisk (state S.Store self.new.audited.store) → IsErrOf result (Unserved.Failed Failure.Store) → IsTrue (may_fail self.old.audited.state session statement.now Failure.Store) }
-        ensures promised { 0 < self.old.audited.room → NeedsAnEntry self.old.audited.state session statement.now → IsOk result }
-        ensures room { MatchResult result (λ _. self.old.audited.room ≤ self.new.audited.room + 1) (λ _. self.old.audited.room ≤ self.new.audited.room) }
+        ensures apart { IsApart self.old.audited.state session statement.now
+            → ¬ (IsErrOf result (Unserved.Failed Failure.Store)) }
+        ensures cause { HasCleanDisk (state S.Store self.new.audited.store)
+            → IsErrOf result (Unserved.Failed Failure.Store)
+            → IsTrue (may_fail self.old.audited.state session statement.now Failure.Store) }
+        ensures promised { 0 < self.old.audited.room → NeedsAnEntry self.old.audited.state session statement.now
+            → IsOk result }
+        ensures room { MatchResult result (λ _. self.old.audited.room ≤ self.new.audited.room + 1)
+            (λ _. self.old.audited.room ≤ self.new.audited.room) }
         ensures parts { self.new.parts ≡ self.old.parts }
-        ensures clean { HasCleanDisk (state S.Store self.new.audited.store) → HasCleanDisk (state S.Store self.old.audited.store) }
+        ensures clean { HasCleanDisk (state S.Store self.new.audited.store)
+            → HasCleanDisk (state S.Store self.old.audited.store) }
     {
         self.audited.serve(alloc, session, statement)
     }
@@ -140,13 +162,19 @@ impl<S: Alter> Locked<S> {
         alloc: Global,
         sessions: &[Session],
     ) -> Result<Vec<Result<Committed, Failure>>, Unserved>
-        ensures served { IfOk result (λ outcomes. Commits S.Store self.old.audited sessions.now outcomes.items self.new.audited) }
+        ensures served { IfOk result
+            (λ outcomes. Commits S.Store self.old.audited sessions.now outcomes.items self.new.audited) }
         ensures unserved { OnErr result (Stays S.Store self.old.audited self.new.audited) }
-        ensures full { IsErrOf result Unserved.Full ↔ (MAX_ENTRIES < length self.old.audited.entries + length sessions.now) }
+        ensures full { IsErrOf result Unserved.Full
+            ↔ (MAX_ENTRIES < length self.old.audited.entries + length sessions.now) }
         ensures apart { ¬ (IsErrOf result (Unserved.Failed Failure.Store)) }
-        ensures room { MatchResult result (λ outcomes. self.old.audited.room ≤ self.new.audited.room + length (commits_of sessions.now outcomes.items)) (λ _. self.old.audited.room ≤ self.new.audited.room) }
+        ensures room { MatchResult result
+            (λ outcomes. self.old.audited.room
+            ≤ self.new.audited.room + length (commits_of sessions.now outcomes.items))
+            (λ _. self.old.audited.room ≤ self.new.audited.room) }
         ensures parts { self.new.parts ≡ self.old.parts }
-        ensures clean { HasCleanDisk (state S.Store self.new.audited.store) → HasCleanDisk (state S.Store self.old.audited.store) }
+        ensures clean { HasCleanDisk (state S.Store self.new.audited.store)
+            → HasCleanDisk (state S.Store self.old.audited.store) }
     {
         self.audited.commit_all(alloc, sessions)
     }
@@ -160,16 +188,25 @@ impl<S: Alter> Locked<S> {
     /// fails as [`Audited::drain`] does: with [`Refusal::TransactionOpen`] exactly if something is
     /// open. After an error nothing has changed.
     pub(crate) fn drain(&mut self, alloc: Global, database: usize) -> Result<Part<S>, Refusal>
-        ensures part { IfOk result (λ p. (p.database ≡ database) × ((p.number ≡ self.old.parts + 1) × ((p.base ≡ self.old.audited.base) × (p.entries ≡ self.old.audited.entries)))) }
-        ensures begun { IfOk result (λ p. (self.new.audited.base ≡ p.end) × ((self.new.audited.entries ≡ []) × (self.new.parts ≡ p.number))) }
-        ensures counts { IfOk result (λ p. p.end.before ≡ self.old.audited.base.before + length self.old.audited.entries) }
+        ensures part { IfOk result
+            (λ p. (p.database ≡ database)
+            × ((p.number ≡ self.old.parts + 1)
+            × ((p.base ≡ self.old.audited.base) × (p.entries ≡ self.old.audited.entries)))) }
+        ensures begun { IfOk result
+            (λ p. (self.new.audited.base ≡ p.end) × ((self.new.audited.entries ≡ []) × (self.new.parts ≡ p.number))) }
+        ensures counts { IfOk result
+            (λ p. p.end.before ≡ self.old.audited.base.before + length self.old.audited.entries) }
         ensures state { self.new.audited.state ≡ self.old.audited.state }
-        ensures refused { OnErr result (Stays S.Store self.old.audited self.new.audited × (self.new.parts ≡ self.old.parts)) }
+        ensures refused { OnErr result (Stays S.Store self.old.audited self.new.audited
+            × (self.new.parts ≡ self.old.parts)) }
         ensures only { IfErr result IsNotDrained }
         ensures last { MAX_NUMBER ≤ self.old.parts → IsErrOf result Refusal.TranscriptFull }
-        ensures open { self.old.parts < MAX_NUMBER → (IsErrOf result Refusal.TransactionOpen ↔ (has_open self.old.audited.state ≡ true)) }
-        ensures full { IsErrOf result Refusal.TranscriptFull → (MAX_NUMBER ≤ self.old.parts) ⊎ (MAX_NUMBER < self.old.audited.base.before + length self.old.audited.entries + MAX_ENTRIES) }
-        ensures clean { HasCleanDisk (state S.Store self.new.audited.store) → HasCleanDisk (state S.Store self.old.audited.store) }
+        ensures open { self.old.parts < MAX_NUMBER
+            → (IsErrOf result Refusal.TransactionOpen ↔ (has_open self.old.audited.state ≡ true)) }
+        ensures full { IsErrOf result Refusal.TranscriptFull → (MAX_NUMBER ≤ self.old.parts)
+            ⊎ (MAX_NUMBER < self.old.audited.base.before + length self.old.audited.entries + MAX_ENTRIES) }
+        ensures clean { HasCleanDisk (state S.Store self.new.audited.store)
+            → HasCleanDisk (state S.Store self.old.audited.store) }
     {
         if self.parts >= Transcript::MAX_NUMBER {
             return Err(Refusal::TranscriptFull);

@@ -118,7 +118,8 @@ fn show_all<S: Alter, R: Wait + Drop, T: Wait>(
 )
     requires numbered { AreNumbered (length board.old.entries) entries.now }
     requires few { length board.old.entries + length entries.now ≤ MAX_NUMBER }
-    requires legal { HasCleanDisk (state S.Store audited.now.store) → IsLegal board.old.base (board.old.entries ++ entries.now) audited.now.state }
+    requires legal { HasCleanDisk (state S.Store audited.now.store)
+        → IsLegal board.old.base (board.old.entries ++ entries.now) audited.now.state }
     requires more { board.old.doubts ≤ doubts_of S.Store audited.now.store }
     requires begins { IsPrefix board.old.shown board.old.entries }
     ensures base { board.new.base ≡ board.old.base }
@@ -139,7 +140,8 @@ fn show<S: Alter, R: Wait + Drop, T: Wait>(
     audited: &Audited<S>,
 )
     requires number { (entry.now.number ≡ length board.old.entries + 1) × (entry.now.number ≤ MAX_NUMBER) }
-    requires legal { HasCleanDisk (state S.Store audited.now.store) → IsLegalFrom board.old.base (board.old.entries ++ entry.now ∷ []) }
+    requires legal { HasCleanDisk (state S.Store audited.now.store)
+        → IsLegalFrom board.old.base (board.old.entries ++ entry.now ∷ []) }
     requires more { board.old.doubts ≤ doubts_of S.Store audited.now.store }
     ensures base { board.new.base ≡ board.old.base }
     ensures entries { board.new.entries ≡ board.old.entries ++ entry.now ∷ [] }
@@ -159,7 +161,8 @@ fn show_as<S: Alter, R: Wait + Drop, T: Wait>(
     ghost doubts: { ℕ }
     requires picked { doubts ≡ doubts_of S.Store audited.now.store }
     requires number { (entry.now.number ≡ length board.old.entries + 1) × (entry.now.number ≤ MAX_NUMBER) }
-    requires legal { HasCleanDisk (state S.Store audited.now.store) → IsLegalFrom board.old.base (board.old.entries ++ entry.now ∷ []) }
+    requires legal { HasCleanDisk (state S.Store audited.now.store)
+        → IsLegalFrom board.old.base (board.old.entries ++ entry.now ∷ []) }
     requires more { board.old.doubts ≤ doubts }
     ensures base { board.new.base ≡ board.old.base }
     ensures entries { board.new.entries ≡ board.old.entries ++ entry.now ∷ [] }

@@ -14,7 +14,8 @@ unfoldable pub factored_show : Grammar Request
 factored_show =
     word words.Show
     then (meaning requests.Statement (meaning statements.ShowTable (word words.Table then name))
-    or meaning requests.Statement (meaning statements.ShowJournal (word words.Journal then optional None (meaning (λ n. Some n) name)))
+    or meaning requests.Statement
+    (meaning statements.ShowJournal (word words.Journal then optional None (meaning (λ n. Some n) name)))
     or meaning requests.Statement (meaning statements.ShowBounds (word words.Bounds then row))
     or meaning (λ k. requests.Statistics) (word words.Statistics))
 

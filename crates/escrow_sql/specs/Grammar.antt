@@ -23,7 +23,8 @@ abbrev pub Sentence : {V : Type 0} → Grammar V → List Token → V → Type 0
 Sentence (token like f) tokens v = (t : Token) × (tokens ≡ t ∷ []) × (class_of t.kind ≡ class_of like) × (v ≡ f t.kind)
 Sentence (nothing d) tokens v = (tokens ≡ []) × (v ≡ d)
 Sentence (sequence {A} {B} a b f) tokens v =
-    (s : List Token) × (t : List Token) × (x : A) × (y : B) × (tokens ≡ s ++ t) × Sentence a s x × Sentence b t y × (v ≡ f x y)
+    (s : List Token) × (t : List Token) × (x : A) × (y : B) × (tokens ≡ s ++ t) × Sentence a s x × Sentence b t y
+    × (v ≡ f x y)
 Sentence (either a b) tokens v = Sentence a tokens v ⊎ Sentence b tokens v
 Sentence (many {A} a f) tokens v = (xs : List A) × Repeats (Sentence a) tokens xs × (v ≡ f xs)
 

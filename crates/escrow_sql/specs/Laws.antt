@@ -18,13 +18,15 @@ pub record EachIsLexedOnce : Type 0 where
 
 -- a text alone is a number that means the millionths that it spells. If it spells none, its fault is at its first byte
 pub record IsReadAsSpelled (text : List ℕ) : Type 0 where
-  pub read : (millionths : ℤ) → decimal_spelled text ≡ Some millionths → (tokens : List Token) × IsLexed text (Ok tokens) × Sentence number tokens millionths
+  pub read : (millionths : ℤ) → decimal_spelled text ≡ Some millionths → (tokens : List Token)
+      × IsLexed text (Ok tokens) × Sentence number tokens millionths
   pub fault : decimal_spelled text ≡ None → IsLexed text (Err 1)
 
 -- this holds for digits, and for digits, a point and digits
 pub record NumbersAreReadAsSpelled : Type 0 where
   pub whole : (digits : List ℕ) → is_numeral digits ≡ true → length digits ≤ MAX_TEXT → IsReadAsSpelled digits
-  pub pointed : (front behind : List ℕ) → is_numeral front ≡ true → is_numeral behind ≡ true → length (front ++ 46 ∷ behind) ≤ MAX_TEXT → IsReadAsSpelled (front ++ 46 ∷ behind)
+  pub pointed : (front behind : List ℕ) → is_numeral front ≡ true → is_numeral behind ≡ true
+      → length (front ++ 46 ∷ behind) ≤ MAX_TEXT → IsReadAsSpelled (front ++ 46 ∷ behind)
 
 -- each text asks one thing, or has its fault at one column, and never both
 pub record EachIsAnsweredOnce : Type 0 where

@@ -62,7 +62,9 @@ behind_digits bytes = point_digits (drop (length (front_digits bytes)) bytes)
 
 -- a number without a point; one that is no amount is a fault at its first digit
 abbrev pub whole_piece : List ℕ → Piece
-whole_piece digits = if is_amount (pos (number_of digits)) then piece.Token (kind.Number (pos (number_of digits))) (length digits) else piece.Fault 0
+whole_piece digits =
+    if is_amount (pos (number_of digits)) then piece.Token (kind.Number (pos (number_of digits))) (length digits)
+    else piece.Fault 0
 
 -- a number with a point, of `len` bytes; one that is no decimal is a fault at its first digit too
 abbrev pub point_piece : ℕ → Option ℤ → Piece
@@ -97,7 +99,8 @@ quoted_piece text (Some place) = piece.Fault (1 + place)
 -- what an opening quote before the bytes begins: the text in quotes, or a fault at the quote if there is none
 abbrev pub IsTextPiece : List ℕ → Piece → Type 0
 IsTextPiece bytes p =
-    ((text : List ℕ) × (rest : List ℕ) × IsQuoted bytes text rest × (p ≡ quoted_piece text (position is_forbidden (doubled text))))
+    ((text : List ℕ) × (rest : List ℕ) × IsQuoted bytes text rest
+    × (p ≡ quoted_piece text (position is_forbidden (doubled text))))
     ⊎ (((text rest : List ℕ) → IsQuoted bytes text rest → ⊥) × (p ≡ piece.Fault 0))
 
 -- the longest symbol that begins with c and continues with these bytes: ( ) , ; * + - = <= < >= >
@@ -111,8 +114,10 @@ symbol_piece c next =
     else if c == 43 then piece.Token (kind.Symbol symbol.Plus) 1
     else if c == 45 then piece.Token (kind.Symbol symbol.Minus) 1
     else if c == 61 then piece.Token (kind.Symbol symbol.Equal) 1
-    else if c == 60 then (if begins 61 next then piece.Token (kind.Symbol symbol.AtMost) 2 else piece.Token (kind.Symbol symbol.Below) 1)
-    else if c == 62 then (if begins 61 next then piece.Token (kind.Symbol symbol.AtLeast) 2 else piece.Token (kind.Symbol symbol.Above) 1)
+    else if c == 60 then (if begins 61 next then piece.Token (kind.Symbol symbol.AtMost) 2
+    else piece.Token (kind.Symbol symbol.Below) 1)
+    else if c == 62 then (if begins 61 next then piece.Token (kind.Symbol symbol.AtLeast) 2
+    else piece.Token (kind.Symbol symbol.Above) 1)
     else piece.Fault 0
 
 -- what bytes begin with, if their first is no quote: a blank, a comment up to the end of the line, or a token
@@ -145,17 +150,21 @@ with_token t (Err column) = Err column
 abbrev pub tokens_at : ℕ → List Piece → Result (List Token) ℕ
 tokens_at at [] = Ok []
 tokens_at at (piece.Blank len ∷ ps) = tokens_at (at + len) ps
-tokens_at at (piece.Token k len ∷ ps) = with_token (record { kind = k; start = at; end = at + len }) (tokens_at (at + len) ps)
+tokens_at at (piece.Token k len ∷ ps) =
+    with_token (record { kind = k; start = at; end = at + len }) (tokens_at (at + len) ps)
 tokens_at at (piece.Fault place ∷ ps) = Err (at + place + 1)
 
 -- a text has these tokens, or its leftmost fault at this column. A text that is too long isn't read: its fault is after
 -- the most bytes that are
 abbrev pub IsLexed : List ℕ → Result (List Token) ℕ → Type 0
-IsLexed text r = MatchBool (nat_lt MAX_TEXT (length text)) (r ≡ Err (MAX_TEXT + 1)) ((ps : List Piece) × ArePieces text ps × (r ≡ tokens_at 0 ps))
+IsLexed text r =
+    MatchBool (nat_lt MAX_TEXT (length text)) (r ≡ Err (MAX_TEXT + 1)) ((ps : List Piece) × ArePieces text ps
+    × (r ≡ tokens_at 0 ps))
 
 -- a token is what its bytes, from its start to its end, are by themselves
 abbrev pub IsItsSlice : List ℕ → Token → Type 0
-IsItsSlice text t = IsLexed (slice_range text t.start t.end) (Ok (record { kind = t.kind; start = 0; end = t.end - t.start } ∷ []))
+IsItsSlice text t =
+    IsLexed (slice_range text t.start t.end) (Ok (record { kind = t.kind; start = 0; end = t.end - t.start } ∷ []))
 
 -- the fault of a text: its column, unless memory was refused
 abbrev pub IsLexFault : List ℕ → ParseFault → Type 0

@@ -18,7 +18,8 @@ Asks text r = (tokens : List Token) × IsLexed text (Ok tokens) × Sentence requ
 abbrev pub IsFaultColumn : List ℕ → ℕ → Type 0
 IsFaultColumn text column =
     IsLexed text (Err column)
-    ⊎ ((tokens : List Token) × (k : ℕ) × IsLexed text (Ok tokens) × IsFirstFault request tokens k × (column ≡ column_at (drop k tokens) (length text)))
+    ⊎ ((tokens : List Token) × (k : ℕ) × IsLexed text (Ok tokens) × IsFirstFault request tokens k
+    × (column ≡ column_at (drop k tokens) (length text)))
 
 -- the fault of the text: its column, unless memory was refused
 abbrev pub IsFaultIn : List ℕ → ParseFault → Type 0

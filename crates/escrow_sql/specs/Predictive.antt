@@ -53,12 +53,14 @@ is_predictive (either a b) = is_predictive a && (is_predictive b && (not (may_be
 is_predictive (many a f) = is_predictive a && (not (may_be_empty a) && apart (more a) (first a))
 
 -- what was read, and then what more is read
-abbrev pub and_then : {A B : Type 0} → Result (A × List Token) (List Token) → (A → List Token → Result (B × List Token) (List Token)) → Result (B × List Token) (List Token)
+abbrev pub and_then : {A B : Type 0} → Result (A × List Token) (List Token)
+    → (A → List Token → Result (B × List Token) (List Token)) → Result (B × List Token) (List Token)
 and_then (Ok read) f = f read.0 read.1
 and_then (Err rest) f = Err rest
 
 -- reads one as long as one comes next
-abbrev pub run_many : {A : Type 0} → List ℕ → (List Token → Result (A × List Token) (List Token)) → ℕ → List Token → Result (List A × List Token) (List Token)
+abbrev pub run_many : {A : Type 0} → List ℕ → (List Token → Result (A × List Token) (List Token)) → ℕ → List Token
+    → Result (List A × List Token) (List Token)
 run_many classes read zero tokens = Ok ([], tokens)
 run_many classes read (suc n) tokens =
     if starts classes tokens

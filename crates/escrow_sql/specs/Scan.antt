@@ -56,6 +56,7 @@ tokens_from skip at [] = Ok []
 tokens_from (suc skip) at (c ∷ next) = tokens_from skip (at + 1) next
 tokens_from zero at (c ∷ next) = elim (piece_of c next) [
   | piece.Blank len ↦ tokens_from (len - 1) (at + 1) next
-  | piece.Token k len ↦ with_token (record { kind = k; start = at; end = at + len }) (tokens_from (len - 1) (at + 1) next)
+  | piece.Token k len ↦ with_token (record { kind = k; start = at; end = at + len })
+      (tokens_from (len - 1) (at + 1) next)
   | piece.Fault k ↦ Err (at + k + 1)
 ]

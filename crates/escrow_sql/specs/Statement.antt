@@ -151,7 +151,8 @@ literal = meaning literals.Number signed_number or meaning literals.Text text
 
 -- where = WHERE name "=" literal
 unfoldable pub where_part : Grammar WhereText
-where_part = word words.Where then sequence name (symbol symbols.Equal then literal) (λ c l. record { column = c; literal = l })
+where_part =
+    word words.Where then sequence name (symbol symbols.Equal then literal) (λ c l. record { column = c; literal = l })
 
 -- change = sign number
 unfoldable pub change : Grammar ℤ
@@ -167,7 +168,9 @@ assign = sequence name (symbol symbols.Equal then assigned) (λ c v. record { co
 
 -- update = UPDATE name SET assign { "," assign } where
 unfoldable pub update : Grammar UpdateText
-update = word words.Update then sequence (both name (word words.Set then list assign)) where_part (λ p w. record { table = p.0; assigns = p.1; row = w })
+update =
+    word words.Update then sequence (both name (word words.Set then list assign)) where_part
+    (λ p w. record { table = p.0; assigns = p.1; row = w })
 
 -- columns = [ "(" name { "," name } ")" ]
 unfoldable pub columns : Grammar (Option (List (List ℕ)))
@@ -175,7 +178,10 @@ columns = optional None (meaning (λ ns. Some ns) (in_parentheses (list name)))
 
 -- insert = INSERT INTO name columns VALUES "(" literal { "," literal } ")"
 unfoldable pub insert : Grammar InsertText
-insert = word words.Insert then word words.Into then sequence (both name columns) (word words.Values then in_parentheses (list literal)) (λ p vs. record { table = p.0; columns = p.1; values = vs })
+insert =
+    word words.Insert then word words.Into
+    then sequence (both name columns) (word words.Values then in_parentheses (list literal))
+    (λ p vs. record { table = p.0; columns = p.1; values = vs })
 
 -- row = name where
 unfoldable pub row : Grammar RowText
@@ -187,7 +193,9 @@ delete = word words.Delete then word words.From then row
 
 -- select = SELECT "*" FROM name [ where ]
 unfoldable pub select : Grammar SelectText
-select = word words.Select then symbol symbols.Star then word words.From then sequence name (optional None (meaning (λ w. Some w) where_part)) (λ t w. record { table = t; row = w })
+select =
+    word words.Select then symbol symbols.Star then word words.From
+    then sequence name (optional None (meaning (λ w. Some w) where_part)) (λ t w. record { table = t; row = w })
 
 -- comparison = "<" | "<=" | ">" | ">=" | "="
 unfoldable pub comparison : Grammar Comparison
@@ -239,7 +247,9 @@ constraint = optional None (meaning (λ n. Some n) (word words.Constraint then n
 
 -- check = constraint CHECK "(" condition { AND condition } ")"
 unfoldable pub check : Grammar CheckText
-check = sequence constraint (word words.Check then in_parentheses (separated (word words.And) condition)) (λ n cs. record { name = n; conditions = cs })
+check =
+    sequence constraint (word words.Check then in_parentheses (separated (word words.And) condition))
+    (λ n cs. record { name = n; conditions = cs })
 
 -- mark = PRIMARY KEY | RESERVABLE | NOT NULL | check
 unfoldable pub mark : Grammar ColumnMark
@@ -251,7 +261,9 @@ mark =
 
 -- size = whole [ "," whole ], the digits of a NUMBER and how many of them are after the point
 unfoldable pub size : Grammar NumberSize
-size = sequence whole (optional None (meaning (λ s. Some s) (symbol symbols.Comma then whole))) (λ p s. record { digits = p; scale = s })
+size =
+    sequence whole (optional None (meaning (λ s. Some s) (symbol symbols.Comma then whole)))
+    (λ p s. record { digits = p; scale = s })
 
 -- digits = [ "(" size ")" ]
 unfoldable pub digits : Grammar (Option NumberSize)
@@ -277,7 +289,9 @@ item =
 
 -- create = CREATE TABLE name "(" item { "," item } ")"
 unfoldable pub create : Grammar CreateText
-create = word words.Create then word words.Table then sequence name (in_parentheses (list item)) (λ t is. record { table = t; items = is })
+create =
+    word words.Create then word words.Table
+    then sequence name (in_parentheses (list item)) (λ t is. record { table = t; items = is })
 
 -- drop = DROP TABLE name
 unfoldable pub drop : Grammar (List ℕ)
@@ -314,7 +328,9 @@ work = optional tt (word words.Work)
 
 -- back = [ TO [ SAVEPOINT ] name ]
 unfoldable pub back : Grammar Statement
-back = optional statements.Rollback (meaning statements.RollbackTo (word words.To then optional tt (word words.Savepoint) then name))
+back =
+    optional statements.Rollback
+    (meaning statements.RollbackTo (word words.To then optional tt (word words.Savepoint) then name))
 
 -- ending = COMMIT work | ROLLBACK work back | SAVEPOINT name
 unfoldable pub ending : Grammar Statement
@@ -327,7 +343,8 @@ ending =
 unfoldable pub show : Grammar Request
 show =
     word words.Show then meaning requests.Statement (meaning statements.ShowTable (word words.Table then name))
-    or word words.Show then meaning requests.Statement (meaning statements.ShowJournal (word words.Journal then optional None (meaning (λ n. Some n) name)))
+    or word words.Show then meaning requests.Statement
+    (meaning statements.ShowJournal (word words.Journal then optional None (meaning (λ n. Some n) name)))
     or word words.Show then meaning requests.Statement (meaning statements.ShowBounds (word words.Bounds then row))
     or word words.Show then meaning (λ k. requests.Statistics) (word words.Statistics)
 

@@ -77,7 +77,8 @@ impl<'a> Cursor<'a> {
     /// Skips a token of the class of `expected` if one comes next. Returns whether it did.
     pub(crate) fn takes(&mut self, expected: &Kind) -> bool
         ensures { MatchBool result (run (bare expected.now) self.old.tokens.now ≡ Ok (tt, self.new.tokens.now))
-            ((starts (class_number expected.now ∷ []) self.old.tokens.now ≡ false) × (self.new.tokens.now ≡ self.old.tokens.now)) }
+            ((starts (class_number expected.now ∷ []) self.old.tokens.now ≡ false)
+            × (self.new.tokens.now ≡ self.old.tokens.now)) }
     {
         match self.tokens {
             [token, rest @ ..] if token.class() == expected.class() => {
@@ -91,7 +92,8 @@ impl<'a> Cursor<'a> {
     /// [`Cursor::takes`] of a reserved word.
     pub(crate) fn takes_word(&mut self, expected: Word) -> bool
         ensures { MatchBool result (run (word expected) self.old.tokens.now ≡ Ok (tt, self.new.tokens.now))
-            ((starts (class_number (kind.Word expected) ∷ []) self.old.tokens.now ≡ false) × (self.new.tokens.now ≡ self.old.tokens.now)) }
+            ((starts (class_number (kind.Word expected) ∷ []) self.old.tokens.now ≡ false)
+            × (self.new.tokens.now ≡ self.old.tokens.now)) }
     {
         self.takes(&Kind::Word(expected))
     }
@@ -99,7 +101,8 @@ impl<'a> Cursor<'a> {
     /// [`Cursor::takes`] of a symbol.
     pub(crate) fn takes_symbol(&mut self, expected: Symbol) -> bool
         ensures { MatchBool result (run (symbol expected) self.old.tokens.now ≡ Ok (tt, self.new.tokens.now))
-            ((starts (class_number (kind.Symbol expected) ∷ []) self.old.tokens.now ≡ false) × (self.new.tokens.now ≡ self.old.tokens.now)) }
+            ((starts (class_number (kind.Symbol expected) ∷ []) self.old.tokens.now ≡ false)
+            × (self.new.tokens.now ≡ self.old.tokens.now)) }
     {
         self.takes(&Kind::Symbol(expected))
     }

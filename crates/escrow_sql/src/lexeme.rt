@@ -172,7 +172,8 @@ impl<'a> Lexeme<'a> {
 
     /// Returns a copy of its text, if it is a text.
     pub(crate) fn text(&self, alloc: Global) -> Result<Option<Text>, AllocError>
-        ensures { IfOk result (λ o. MatchOption o ((class_number self.now.kind == 3) ≡ false) (λ t. self.now.kind ≡ kind.Text t)) }
+        ensures { IfOk result (λ o.
+            MatchOption o ((class_number self.now.kind == 3) ≡ false) (λ t. self.now.kind ≡ kind.Text t)) }
     {
         if self.sort.class != Kind::TEXT {
             return Ok(None);

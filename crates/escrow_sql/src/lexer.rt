@@ -81,7 +81,8 @@ pub(crate) fn lexemes(alloc: Global, text: &str) -> Result<Seq<Lexeme<'_>>, Pars
     ensures spans { IfOk result (AreInOrder 0 (length text.now)) }
     ensures slices { IfOk result (AllByRecursion (IsItsSlice text.now)) }
     ensures fault { IfErr result (IsLexFault text.now) }
-    ensures only { (tokens : List Token) → IsLexed text.now (Ok tokens) → MatchResult result (λ x. x ≡ tokens) (λ e. e ≡ Memory) }
+    ensures only { (tokens : List Token) → IsLexed text.now (Ok tokens)
+        → MatchResult result (λ x. x ≡ tokens) (λ e. e ≡ Memory) }
 {
     if MAX_TEXT < text.len() {
         return Err(ParseFault::Syntax {
@@ -130,7 +131,8 @@ pub fn lex(alloc: Global, text: &str) -> Result<Seq<Token>, ParseFault>
     ensures fault { IfErr result (IsLexFault text.now) }
 
     // If a text has tokens, they are returned, unless memory runs out.
-    ensures only { (tokens : List Token) → IsLexed text.now (Ok tokens) → MatchResult result (λ x. x ≡ tokens) (λ e. e ≡ Memory) }
+    ensures only { (tokens : List Token) → IsLexed text.now (Ok tokens)
+        → MatchResult result (λ x. x ≡ tokens) (λ e. e ≡ Memory) }
 {
     let lexemes = lexemes(alloc, text)?;
     let tokens = tokens_of(alloc, lexemes.as_slice())?;

@@ -38,7 +38,8 @@ impl Cursor<'_> {
 
     /// `[ name ]`
     fn optional_name(&mut self) -> Result<Option<Name>, Halt>
-        ensures { Advances self.new.tokens.now result (run (optional None (meaning (λ n. Some n) name)) self.old.tokens.now) }
+        ensures { Advances self.new.tokens.now result
+            (run (optional None (meaning (λ n. Some n) name)) self.old.tokens.now) }
     {
         if !self.is_at_name() {
             return Ok(None);

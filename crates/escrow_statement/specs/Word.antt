@@ -44,7 +44,12 @@ spelling word.Work = codes "WORK"
 
 -- the reserved words, in alphabetical order
 abbrev pub reserved_words : List Word
-reserved_words = word.Add ∷ word.Alter ∷ word.And ∷ word.Between ∷ word.Bounds ∷ word.Check ∷ word.Commit ∷ word.Constraint ∷ word.Create ∷ word.Delete ∷ word.Drop ∷ word.From ∷ word.Insert ∷ word.Integer ∷ word.Into ∷ word.Journal ∷ word.Key ∷ word.Not ∷ word.Null ∷ word.Number ∷ word.Primary ∷ word.Reservable ∷ word.Rollback ∷ word.Savepoint ∷ word.Select ∷ word.Set ∷ word.Show ∷ word.Statistics ∷ word.Table ∷ word.To ∷ word.Update ∷ word.Values ∷ word.Varchar2 ∷ word.Where ∷ word.Work ∷ []
+reserved_words =
+    word.Add ∷ word.Alter ∷ word.And ∷ word.Between ∷ word.Bounds ∷ word.Check ∷ word.Commit ∷ word.Constraint
+    ∷ word.Create ∷ word.Delete ∷ word.Drop ∷ word.From ∷ word.Insert ∷ word.Integer ∷ word.Into ∷ word.Journal
+    ∷ word.Key ∷ word.Not ∷ word.Null ∷ word.Number ∷ word.Primary ∷ word.Reservable ∷ word.Rollback ∷ word.Savepoint
+    ∷ word.Select ∷ word.Set ∷ word.Show ∷ word.Statistics ∷ word.Table ∷ word.To ∷ word.Update ∷ word.Values
+    ∷ word.Varchar2 ∷ word.Where ∷ word.Work ∷ []
 
 -- the reserved word that a text spells, if it spells one
 abbrev pub reserved : List ℕ → Option Word

@@ -41,11 +41,13 @@ of_session session entries = filter (λ e. e.session == session) entries
 -- the totals of the first sessions of a history, added up
 abbrev pub totals_by : ℕ → List Entry → Tally
 totals_by zero entries = tally_of []
-totals_by (suc earlier) entries = sum_of (totals_by earlier entries) (tally_of (replies_of (of_session (earlier + 1) entries)))
+totals_by (suc earlier) entries =
+    sum_of (totals_by earlier entries) (tally_of (replies_of (of_session (earlier + 1) entries)))
 
 -- the totals of a history are the sum of its sessions' totals
 abbrev pub SessionsAdd : Type 0
-SessionsAdd = (sessions : ℕ) (entries : List Entry) → AllByRecursion (λ e. (1 ≤ e.session) × (e.session ≤ sessions)) entries
+SessionsAdd =
+    (sessions : ℕ) (entries : List Entry) → AllByRecursion (λ e. (1 ≤ e.session) × (e.session ≤ sessions)) entries
     → tally_of (replies_of entries) ≡ totals_by sessions entries
 
 -- the sum of all totals but served is at most served, which is at most the number of replies

@@ -48,7 +48,8 @@ pub record Keeps {S : Type 0} (g : Ghosts S) (x : Shown) (views : List Known) : 
 
 -- from now on it is known where the history begins
 abbrev pub IsNamed : Known → Shown → Shown → Known → Type 0
-IsNamed v x y w = w ≡ record { base = Some y.post.value.base.value.value; shown = v.shown; doubts = v.doubts; entries = v.entries }
+IsNamed v x y w =
+    w ≡ record { base = Some y.post.value.base.value.value; shown = v.shown; doubts = v.doubts; entries = v.entries }
 
 -- the end that writes knows one more entry, and a prefix of all is shown
 pub record IsPublished (more : Entry) (doubts : ℕ) (v : Known) (x y : Shown) (w : Known) : Type 0 where

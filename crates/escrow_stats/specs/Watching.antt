@@ -37,7 +37,8 @@ pub record Watcher : Type 0 where
 
 abbrev pub watcher_code : Coded Watcher
 watcher_code =
-    code_by (Base × (List Entry × ℕ)) (coded× base_row.the_row.coded (coded× (coded_list entry_row.the_row.coded) coded_ℕ))
+    code_by (Base × (List Entry × ℕ))
+    (coded× base_row.the_row.coded (coded× (coded_list entry_row.the_row.coded) coded_ℕ))
     (λ w. (w.base, (w.entries, w.doubts))) (λ p. record { base = p.0; entries = p.1.0; doubts = p.1.1 }) (λ _. refl)
 
 -- What always holds of a watcher: if the disk returned what was written, its entries are a legal transcript from the
@@ -63,8 +64,10 @@ pub record Board : Type 0 where
 abbrev pub board_code : Coded Board
 board_code =
     code_by (Base × (List Entry × (List Entry × ℕ)))
-    (coded× base_row.the_row.coded (coded× (coded_list entry_row.the_row.coded) (coded× (coded_list entry_row.the_row.coded) coded_ℕ)))
-    (λ b. (b.base, (b.entries, (b.shown, b.doubts)))) (λ p. record { base = p.0; entries = p.1.0; shown = p.1.1.0; doubts = p.1.1.1 }) (λ _. refl)
+    (coded× base_row.the_row.coded
+    (coded× (coded_list entry_row.the_row.coded) (coded× (coded_list entry_row.the_row.coded) coded_ℕ)))
+    (λ b. (b.base, (b.entries, (b.shown, b.doubts))))
+    (λ p. record { base = p.0; entries = p.1.0; shown = p.1.1.0; doubts = p.1.1.1 }) (λ _. refl)
 
 -- a board of a history from a base, with nothing served yet
 pub record IsNewBoard (start : Base) (b : Board) : Type 0 where

@@ -51,9 +51,15 @@ impl<S: Alter, R: Wait + Drop> Model for Board<S, R> {
 
     ghost coded = { board_code };
 
-    ghost view = { λ b. record { base = b.base.value; entries = (seen b.writer.desk.place).entries; shown = (seen b.writer.desk.place).shown; doubts = (seen b.writer.desk.place).doubts } };
+    ghost view = { λ b. record {
+      base = b.base.value;
+      entries = (seen b.writer.desk.place).entries;
+      shown = (seen b.writer.desk.place).shown;
+      doubts = (seen b.writer.desk.place).doubts;
+    } };
 
-    ghost invariant = { λ b. IsBoard b.base.value b.totals b.writer.desk.shown.value (drop b.writer.behind b.writer.log.items) (seen b.writer.desk.place) };
+    ghost invariant = { λ b. IsBoard b.base.value b.totals b.writer.desk.shown.value
+        (drop b.writer.behind b.writer.log.items) (seen b.writer.desk.place) };
 }
 
 impl<S: Alter, R: Wait + Drop> Board<S, R> {
@@ -177,11 +183,17 @@ impl<S: Alter, R: Wait + Drop> Board<S, R> {
             &mut self.writer,
             (),
             |writer: Writing<S>, _: ()| -> (Writing<S>, ())
-                requires writes { Writes writer.desk.shown.value.post.value.base.value.value writer.desk.shown.value (seen writer.desk.place) }
-                requires posted { IsPosted writer.desk.shown.value.post.value.base.value.value ((seen writer.desk.place).entries ++ N.more ∷ []) (drop writer.behind writer.log.items) }
-                requires may { MayShow S.Store writer.desk.shown.value.post.value.base.value.value ((seen writer.desk.place).entries ++ N.more ∷ []) N.doubts (seen writer.desk.place) }
-                ensures published { IsPublished N.more N.doubts (seen writer.desk.place) writer.desk.shown.value result.0.desk.shown.value (seen result.0.desk.place) }
-                ensures same_base { result.0.desk.shown.value.post.value.base.value.value ≡ writer.desk.shown.value.post.value.base.value.value }
+                requires writes { Writes writer.desk.shown.value.post.value.base.value.value writer.desk.shown.value
+                    (seen writer.desk.place) }
+                requires posted { IsPosted writer.desk.shown.value.post.value.base.value.value
+                    ((seen writer.desk.place).entries ++ N.more ∷ []) (drop writer.behind writer.log.items) }
+                requires may { MayShow S.Store writer.desk.shown.value.post.value.base.value.value
+                    ((seen writer.desk.place).entries ++ N.more ∷ []) N.doubts (seen writer.desk.place) }
+                ensures published { IsPublished N.more N.doubts
+                    (seen writer.desk.place) writer.desk.shown.value result.0.desk.shown.value
+                    (seen result.0.desk.place) }
+                ensures same_base { result.0.desk.shown.value.post.value.base.value.value
+                    ≡ writer.desk.shown.value.post.value.base.value.value }
                 ensures idle { drop result.0.behind result.0.log.items ≡ [] }
             {
                 let (writer, _) = writer.publish_as::<Publishes<N>, T>(rt);

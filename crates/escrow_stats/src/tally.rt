@@ -48,7 +48,8 @@ impl Tally {
         ensures one_more { result ≡ with_one self (kind_of reply.now) }
 
         // If the tally is that of a list of replies, it becomes that of the list with this one.
-        ensures tally { (replies : List Reply) → self ≡ tally_of replies → length replies < 2 ^ 64 - 1 → result ≡ tally_of (replies ++ reply.now ∷ []) }
+        ensures tally { (replies : List Reply) → self ≡ tally_of replies → length replies < 2 ^ 64 - 1
+            → result ≡ tally_of (replies ++ reply.now ∷ []) }
     {
         self.with_kind(Kind::of(reply))
     }

@@ -33,7 +33,8 @@ impl<S: Alter> Model for Watcher<S> {
 
     ghost coded = { watcher_code };
 
-    ghost view = { λ w. record { base = w.base.value.value; entries = (seen w.reader.place).shown; doubts = (seen w.reader.place).doubts } };
+    ghost view = { λ w. record
+        { base = w.base.value.value; entries = (seen w.reader.place).shown; doubts = (seen w.reader.place).doubts } };
 
     ghost invariant = { λ w. IsWatcher S.Store w.base.value.value w.totals (seen w.reader.place) };
 }
@@ -77,7 +78,8 @@ impl<S: Alter> Watcher<S> {
 
 /// Reads what the board shows, if it still exists.
 fn look<S: Alter>(reader: Reading<S>, _: ()) -> (Reading<S>, Option<Tally>)
-    ensures seen { IfSome result.1 (λ totals. (y : Shown) × (IsRead S.Store (view reader.place) y y (view result.0.place) × (y.totals ≡ totals))) }
+    ensures seen { IfSome result.1
+        (λ totals. (y : Shown) × (IsRead S.Store (view reader.place) y y (view result.0.place) × (y.totals ≡ totals))) }
     ensures gone { IfNone result.1 (view result.0.place ≡ view reader.place) }
 {
     match reader.enter_as::<Reads<S>>() {

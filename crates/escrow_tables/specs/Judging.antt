@@ -12,10 +12,14 @@ use Rattle.escrow_tables.specs.Judged.{first_violation}
 
 -- what a row of a table breaks, computed from its cells in a span of columns
 abbrev pub by_cells : (RowName → List ℤ → Option Violation) → TableDef → Span → KeyedRow → Option Violation
-by_cells violation table span row = violation (record { table = table.name; key = row.key }) (amounts_of (take span.len (drop span.start table.columns)) row.values)
+by_cells violation table span row =
+    violation (record { table = table.name; key = row.key })
+    (amounts_of (take span.len (drop span.start table.columns)) row.values)
 
 -- rows have been judged: the result is what was found before, or else what the first of them breaks that breaks
 -- something
-pub record HasJudged {J : Type 0} (table : J → TableDef) (violation : J → RowName → List ℤ → Option Violation) (first now : RowsJudged J) (taken : List KeyedRow) : Type 0 where
+pub record HasJudged {J : Type 0} (table : J → TableDef) (violation : J → RowName → List ℤ → Option Violation)
+    (first now : RowsJudged J) (taken : List KeyedRow) : Type 0 where
   pub same : now.judged ≡ first.judged
-  pub found : now.found ≡ first_of_two first.found (first_violation (by_cells (violation first.judged.0) (table first.judged.0) first.judged.1) taken)
+  pub found : now.found ≡ first_of_two first.found
+      (first_violation (by_cells (violation first.judged.0) (table first.judged.0) first.judged.1) taken)

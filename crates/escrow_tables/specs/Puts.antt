@@ -31,4 +31,6 @@ changed_by reservations name before = all_changed before (map (changes_at name) 
 
 -- new amounts are those that reservations give to their row
 abbrev pub TellsPut : List Row → List Reservation → NewAmounts → Type 0
-TellsPut rows reservations new = (row : Row) → row_named rows (row_put new) ≡ Some row → replaced new.amounts row.amounts ≡ (row_after reservations row).amounts
+TellsPut rows reservations new =
+    (row : Row) → row_named rows (row_put new) ≡ Some row
+    → replaced new.amounts row.amounts ≡ (row_after reservations row).amounts

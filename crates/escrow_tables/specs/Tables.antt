@@ -17,5 +17,6 @@ pub record Tables (S : Type 0) : Type 0 where
 
 abbrev pub tables_code : {S : Type 0} → Coded S → Coded (Tables S)
 tables_code {S} store =
-    code_by (Held S × (List TableDef × List Row)) (coded× (held_code store) (coded× (coded_list table.the_row.coded) (coded_list row.the_row.coded)))
+    code_by (Held S × (List TableDef × List Row))
+    (coded× (held_code store) (coded× (coded_list table.the_row.coded) (coded_list row.the_row.coded)))
     (λ c. (c.store, (c.catalog, c.rows))) (λ p. record { store = p.0; catalog = p.1.0; rows = p.1.1 }) (λ _. refl)

@@ -31,8 +31,10 @@ impl<S: Alter> Tables<S> {
         before: &[&[Amount]],
     ) -> Result<(), Failure>
         requires many { length before.now ≡ length reservations.now }
-        requires given { HasCleanDisk (state S.Store self.old.store) → AreGiven self.old.rows (map (λ r. r.now) reservations.now) (map (λ amounts. amounts.now) before.now) }
-        ensures { Writes S.Store self.old self.new (is_ok result) self.old.catalog (applied self.old.rows (map (λ r. r.now) reservations.now)) }
+        requires given { HasCleanDisk (state S.Store self.old.store)
+            → AreGiven self.old.rows (map (λ r. r.now) reservations.now) (map (λ amounts. amounts.now) before.now) }
+        ensures { Writes S.Store self.old self.new (is_ok result) self.old.catalog
+            (applied self.old.rows (map (λ r. r.now) reservations.now)) }
     {
         let news = news_by(alloc, self.catalog.tables(), reservations, before)?;
         self.store.put_amounts(alloc, news.as_slice())?;
@@ -52,7 +54,9 @@ fn news_by<'a>(
 ) -> Result<Vec<NewAmounts<'a>>, Failure>
     requires { length before.now ≡ length reservations.now }
     ensures puts { IfOk result (λ news. ArePuts (stored_of tables.now) (map (λ r. r.now) reservations.now) news.items) }
-    ensures told { IfOk result (λ news. (rows : List Row) → AreGiven rows (map (λ r. r.now) reservations.now) (map (λ amounts. amounts.now) before.now)
+    ensures told { IfOk result
+        (λ news. (rows : List Row)
+        → AreGiven rows (map (λ r. r.now) reservations.now) (map (λ amounts. amounts.now) before.now)
         → AllByRecursion (TellsPut rows (map (λ r. r.now) reservations.now)) news.items) }
 {
     let mut news = Vec::new(alloc);
@@ -76,7 +80,8 @@ fn new_of<'a>(
 ) -> Result<NewAmounts<'a>, Failure>
     ensures stands { IfOk result (λ new. Stands (stored_of tables.now) new.table.now) }
     ensures row { IfOk result (λ new. row_put new ≡ name.now) }
-    ensures amounts { IfOk result (λ new. replaced new.amounts before.now ≡ changed_by (map (λ r. r.now) reservations.now) name.now before.now) }
+    ensures amounts { IfOk result
+        (λ new. replaced new.amounts before.now ≡ changed_by (map (λ r. r.now) reservations.now) name.now before.now) }
 {
     let Some(counted) = find_by_name(tables, name.table) else {
         return Err(Failure::Store);
@@ -103,7 +108,8 @@ fn new_amounts(
     before: &[Amount],
     reservations: &[&Reservation],
 ) -> Result<Changes, Failure>
-    ensures { IfOk result (λ news. replaced news before.now ≡ changed_by (map (λ r. r.now) reservations.now) name.now before.now) }
+    ensures { IfOk result (λ news.
+        replaced news before.now ≡ changed_by (map (λ r. r.now) reservations.now) name.now before.now) }
 {
     let mut after = copied(alloc, before)?;
     for r in reservations {

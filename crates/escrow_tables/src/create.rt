@@ -45,7 +45,9 @@ impl<S: Alter> Tables<S> {
     /// DROP TABLE: deletes the table at a place, and its rows. Takes no memory of its own.
     pub fn drop_table(&mut self, place: usize) -> Result<(), Failure>
         requires { (name : List ℕ) × (place_named self.old.catalog name ≡ Some place) }
-        ensures { (name : List ℕ) → place_named self.old.catalog name ≡ Some place → Writes S.Store self.old self.new (is_ok result) (without_table name self.old.catalog) (without_rows_of name self.old.rows) }
+        ensures { (name : List ℕ) → place_named self.old.catalog name ≡ Some place
+            → Writes S.Store self.old self.new (is_ok result) (without_table name self.old.catalog)
+            (without_rows_of name self.old.rows) }
     {
         let counted = self.catalog.at(place);
         self.store.drop_table(&counted.stored)?;
@@ -59,7 +61,8 @@ impl<S: Alter> Tables<S> {
 /// Returns the least number from 1 on that no table has. One of the first 33 is free, since there
 /// are at most 32 tables.
 fn free_number(tables: &[CountedTable]) -> Option<i64>
-    ensures { IfSome result (λ id. IsTrue (int_le (pos 1) id) × AllByRecursion (λ (c : Kept). c.stored.id ≢ id) tables.now) }
+    ensures { IfSome result (λ id. IsTrue (int_le (pos 1) id)
+        × AllByRecursion (λ (c : Kept). c.stored.id ≢ id) tables.now) }
 {
     (1..=33).find(|id| !has_number(tables, *id))
 }

@@ -35,9 +35,12 @@ impl<S: Alter> Tables<S> {
     ) -> Result<Option<Violation>, Failure>
         requires place { place_named self.old.catalog name ≡ Some place }
         requires table { table_named self.old.catalog name ≡ Some (J.table judge.now) }
-        ensures told { HasCleanDisk (state S.Store self.new.store) → IfOk result (λ found. found ≡ first_violation (by_amounts (J.violation judge.now)) (rows_of self.old.rows name)) }
+        ensures told { HasCleanDisk (state S.Store self.new.store)
+            → IfOk result (λ found. found
+            ≡ first_violation (by_amounts (J.violation judge.now)) (rows_of self.old.rows name)) }
         ensures reads { Reads S.Store self.old self.new }
-        ensures open { HasCleanDisk (state S.Store self.new.store) → OnOk result (IsTrue (state S.Store self.new.store).is_open) }
+        ensures open { HasCleanDisk (state S.Store self.new.store)
+            → OnOk result (IsTrue (state S.Store self.new.store).is_open) }
     {
         let stored = &self.catalog.at(place).stored;
         let span = columns_to_read(stored.table.columns.as_slice());
@@ -91,7 +94,8 @@ impl<'a, J: RowJudge> Model for JudgedTable<'a, J> {
 
     ghost view = { λ t. (t.judge.now, t.span) };
 
-    ghost invariant = { λ t. IsTable t.table.now × (t.table.now ≡ J.table t.judge.now) × HasReservables t.table.now.columns t.span };
+    ghost invariant = { λ t. IsTable t.table.now × (t.table.now ≡ J.table t.judge.now)
+        × HasReservables t.table.now.columns t.span };
 }
 
 impl<'a, J: RowJudge> JudgedTable<'a, J> {

@@ -22,10 +22,15 @@ impl<S: Alter> Tables<S> {
         name: &RowName,
     ) -> Result<Option<Seq<Amount>>, Failure>
         requires { place_named self.old.catalog name.now.table ≡ Some place }
-        ensures told { HasCleanDisk (state S.Store self.new.store) → IfOk result (λ found. found ≡ option_map (λ row. row.amounts) (row_named self.old.rows name.now)) }
-        ensures many { IfOk result (λ found. IfSome found (λ amounts. IsSomeAnd (table_named self.old.catalog name.now.table) (λ table. length amounts ≡ length (reservables table.columns)))) }
+        ensures told { HasCleanDisk (state S.Store self.new.store)
+            → IfOk result (λ found. found ≡ option_map (λ row. row.amounts) (row_named self.old.rows name.now)) }
+        ensures many { IfOk result
+            (λ found. IfSome found (λ amounts.
+            IsSomeAnd (table_named self.old.catalog name.now.table)
+            (λ table. length amounts ≡ length (reservables table.columns)))) }
         ensures reads { Reads S.Store self.old self.new }
-        ensures open { HasCleanDisk (state S.Store self.new.store) → OnOk result (IsTrue (state S.Store self.new.store).is_open) }
+        ensures open { HasCleanDisk (state S.Store self.new.store)
+            → OnOk result (IsTrue (state S.Store self.new.store).is_open) }
     {
         self.store
             .amounts(alloc, &self.catalog.at(place).stored, &name.key)
@@ -40,9 +45,12 @@ impl<S: Alter> Tables<S> {
         name: &RowName,
     ) -> Result<Option<Seq<Value>>, Failure>
         requires { place_named self.old.catalog name.now.table ≡ Some place }
-        ensures told { HasCleanDisk (state S.Store self.new.store) → IfOk result (λ found. IsSomeAnd (table_named self.old.catalog name.now.table) (λ table. found ≡ option_map (values_of table) (row_named self.old.rows name.now))) }
+        ensures told { HasCleanDisk (state S.Store self.new.store)
+            → IfOk result (λ found. IsSomeAnd (table_named self.old.catalog name.now.table)
+            (λ table. found ≡ option_map (values_of table) (row_named self.old.rows name.now))) }
         ensures reads { Reads S.Store self.old self.new }
-        ensures open { HasCleanDisk (state S.Store self.new.store) → OnOk result (IsTrue (state S.Store self.new.store).is_open) }
+        ensures open { HasCleanDisk (state S.Store self.new.store)
+            → OnOk result (IsTrue (state S.Store self.new.store).is_open) }
     {
         self.store
             .values(alloc, &self.catalog.at(place).stored, &name.key)
@@ -52,9 +60,11 @@ impl<S: Alter> Tables<S> {
     /// memory of its own.
     pub fn stands(&mut self, place: usize, name: &RowName) -> Result<bool, Failure>
         requires { place_named self.old.catalog name.now.table ≡ Some place }
-        ensures told { HasCleanDisk (state S.Store self.new.store) → IfOk result (λ stands. stands ≡ is_some (row_named self.old.rows name.now)) }
+        ensures told { HasCleanDisk (state S.Store self.new.store)
+            → IfOk result (λ stands. stands ≡ is_some (row_named self.old.rows name.now)) }
         ensures reads { Reads S.Store self.old self.new }
-        ensures open { HasCleanDisk (state S.Store self.new.store) → OnOk result (IsTrue (state S.Store self.new.store).is_open) }
+        ensures open { HasCleanDisk (state S.Store self.new.store)
+            → OnOk result (IsTrue (state S.Store self.new.store).is_open) }
     {
         self.store.stands(&self.catalog.at(place).stored, &name.key)
     }
@@ -63,7 +73,8 @@ impl<S: Alter> Tables<S> {
     /// shut it, it doesn't. Takes no memory of its own.
     pub fn answers(&mut self, name: &RowName) -> bool
         ensures reads { Reads S.Store self.old self.new }
-        ensures open { HasCleanDisk (state S.Store self.new.store) → IsTrue result → IsTrue (state S.Store self.new.store).is_open }
+        ensures open { HasCleanDisk (state S.Store self.new.store) → IsTrue result
+            → IsTrue (state S.Store self.new.store).is_open }
     {
         match self.place(name.table) {
             Some(place) => self.stands(place, name).is_ok(),
@@ -80,9 +91,12 @@ impl<S: Alter> Tables<S> {
         name: Name,
     ) -> Result<Seq<Seq<Value>>, Failure>
         requires { place_named self.old.catalog name ≡ Some place }
-        ensures told { HasCleanDisk (state S.Store self.new.store) → IfOk result (λ rows. IsSomeAnd (table_named self.old.catalog name) (λ table. rows ≡ map (values_of table) (rows_of self.old.rows name))) }
+        ensures told { HasCleanDisk (state S.Store self.new.store)
+            → IfOk result (λ rows. IsSomeAnd (table_named self.old.catalog name)
+            (λ table. rows ≡ map (values_of table) (rows_of self.old.rows name))) }
         ensures reads { Reads S.Store self.old self.new }
-        ensures open { HasCleanDisk (state S.Store self.new.store) → OnOk result (IsTrue (state S.Store self.new.store).is_open) }
+        ensures open { HasCleanDisk (state S.Store self.new.store)
+            → OnOk result (IsTrue (state S.Store self.new.store).is_open) }
     {
         self.store.all_values(alloc, &self.catalog.at(place).stored)
     }

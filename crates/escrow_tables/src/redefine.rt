@@ -18,7 +18,8 @@ impl<S: Alter> Tables<S> {
     pub fn redefine(&mut self, alloc: Global, place: usize, table: TableDef) -> Result<(), Failure>
         requires table { IsTable table }
         requires place { place_named self.old.catalog table.name ≡ Some place }
-        requires alike { IsSomeAnd (table_named self.old.catalog table.name) (λ (old : Table). table ≡ record old { checks = table.checks }) }
+        requires alike { IsSomeAnd (table_named self.old.catalog table.name)
+            (λ (old : Table). table ≡ record old { checks = table.checks }) }
         ensures { Writes S.Store self.old self.new (is_ok result) (with_altered table self.old.catalog) self.old.rows }
     {
         let stored = &self.catalog.at(place).stored;

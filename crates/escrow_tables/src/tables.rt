@@ -28,7 +28,11 @@ impl<S: Alter> Model for Tables<S> {
 
     ghost coded = { tables_code S.code };
 
-    ghost view = { λ t. record { store = t.store; catalog = catalog_of t.catalog; rows = rows_in (stored_of t.catalog) (state S.Store t.last.value).now } };
+    ghost view = { λ t. record {
+      store = t.store;
+      catalog = catalog_of t.catalog;
+      rows = rows_in (stored_of t.catalog) (state S.Store t.last.value).now;
+    } };
 
     ghost invariant = { λ t. Keeps (state S.Store t.store) (state S.Store t.last.value) t.catalog };
 }
@@ -52,7 +56,8 @@ impl<S: Alter> Tables<S> {
         requires { HasCleanDisk (state S.Store opened.store) → IsOpened (state S.Store opened.store) opened.catalog }
         ensures store { result.store ≡ opened.store }
         ensures catalog { result.catalog ≡ catalog_of opened.catalog }
-        ensures rows { (rows : List Row) → Stores (state S.Store opened.store) opened.catalog rows → result.rows ≡ rows }
+        ensures rows { (rows : List Row) → Stores (state S.Store opened.store) opened.catalog rows
+            → result.rows ≡ rows }
         ensures valid { IsCatalog result.catalog }
         ensures are_rows { HasCleanDisk (state S.Store result.store) → AreRowsOf result.catalog result.rows }
     {
@@ -81,7 +86,8 @@ impl<S: Alter> Tables<S> {
     /// the store can be used, a crash leaves exactly these tables and rows. Makes no store call.
     pub fn is_at_rest(&self) -> bool
         ensures always { IsTrue result }
-        ensures left { IsUsable (state S.Store self.now.store) → (trees : Trees) → (state S.Store self.now.store).may_leave trees → AreHeld self.now.catalog self.now.rows trees }
+        ensures left { IsUsable (state S.Store self.now.store) → (trees : Trees)
+            → (state S.Store self.now.store).may_leave trees → AreHeld self.now.catalog self.now.rows trees }
     {
         self.store.is_at_rest()
     }
@@ -114,7 +120,8 @@ impl<S: Alter> Tables<S> {
     /// Returns the table at a place. Makes no store call.
     pub fn table(&self, place: usize) -> &TableDef
         requires { place < length self.now.catalog }
-        ensures named { (name : List ℕ) → place_named self.now.catalog name ≡ Some place → table_named self.now.catalog name ≡ Some result.now }
+        ensures named { (name : List ℕ) → place_named self.now.catalog name ≡ Some place
+            → table_named self.now.catalog name ≡ Some result.now }
         ensures table { IsTable result.now }
         ensures catalog { IsCatalog self.now.catalog }
     {
@@ -132,7 +139,8 @@ impl<S: Alter> Tables<S> {
     /// Returns how many rows the table at a place has. Makes no store call.
     pub fn count(&self, place: usize) -> usize
         requires { place < length self.now.catalog }
-        ensures { HasCleanDisk (state S.Store self.now.store) → (name : List ℕ) → place_named self.now.catalog name ≡ Some place → result ≡ length (rows_of self.now.rows name) }
+        ensures { HasCleanDisk (state S.Store self.now.store) → (name : List ℕ)
+            → place_named self.now.catalog name ≡ Some place → result ≡ length (rows_of self.now.rows name) }
     {
         self.catalog.at(place).rows
     }

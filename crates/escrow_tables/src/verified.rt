@@ -21,9 +21,11 @@ impl<S: Alter> Tables<S> {
     /// Fails with [`Failure::Memory`] if memory is refused. Fails with [`Failure::Store`] if the
     /// store refuses a call or holds anything else.
     pub fn verify(&mut self, alloc: Global) -> Result<(), Failure>
-        ensures meet { HasCleanDisk (state S.Store self.new.store) → OnOk result (AllByRecursion (MeetsChecks self.new.catalog) self.new.rows) }
+        ensures meet { HasCleanDisk (state S.Store self.new.store)
+            → OnOk result (AllByRecursion (MeetsChecks self.new.catalog) self.new.rows) }
         ensures reads { Reads S.Store self.old self.new }
-        ensures open { HasCleanDisk (state S.Store self.new.store) → OnOk result (IsTrue (state S.Store self.new.store).is_open) }
+        ensures open { HasCleanDisk (state S.Store self.new.store)
+            → OnOk result (IsTrue (state S.Store self.new.store).is_open) }
     {
         match verify(alloc, &mut self.store) {
             Ok(_) => Ok(()),

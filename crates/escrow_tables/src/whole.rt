@@ -40,7 +40,10 @@ impl<S: Alter> Tables<S> {
     /// Adds the committed rows of the table at a place to those of the tables before it.
     fn add_rows(&mut self, alloc: Global, place: usize, rows: &mut Vec<Row>) -> Result<(), Failure>
         requires { place < length self.old.catalog }
-        ensures told { HasCleanDisk (state S.Store self.new.store) → OnOk result (rows.new.items ++ rows_by_table self.old.rows (drop (place + 1) self.old.catalog) ≡ rows.old.items ++ rows_by_table self.old.rows (drop place self.old.catalog)) }
+        ensures told { HasCleanDisk (state S.Store self.new.store)
+            → OnOk result (rows.new.items
+            ++ rows_by_table self.old.rows (drop (place + 1) self.old.catalog) ≡ rows.old.items
+            ++ rows_by_table self.old.rows (drop place self.old.catalog)) }
         ensures reads { Reads S.Store self.old self.new }
     {
         let name = self.table(place).name;
@@ -52,7 +55,8 @@ impl<S: Alter> Tables<S> {
     /// Returns the committed rows of the table of a name, which is at this place, in order of key.
     fn rows_at(&mut self, alloc: Global, place: usize, name: Name) -> Result<Seq<Row>, Failure>
         requires { place_named self.old.catalog name ≡ Some place }
-        ensures told { HasCleanDisk (state S.Store self.new.store) → IfOk result (λ rows. rows ≡ rows_of self.old.rows name) }
+        ensures told { HasCleanDisk (state S.Store self.new.store)
+            → IfOk result (λ rows. rows ≡ rows_of self.old.rows name) }
         ensures reads { Reads S.Store self.old self.new }
     {
         self.store.rows(alloc, &self.catalog.at(place).stored)

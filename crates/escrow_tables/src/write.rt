@@ -21,9 +21,12 @@ impl<S: Alter> Tables<S> {
     pub fn insert(&mut self, alloc: Global, place: usize, row: &Row) -> Result<bool, Failure>
         requires place { place_named self.old.catalog row.now.name.table ≡ Some place }
         requires fits { HasTable self.old.catalog row.now }
-        requires room { HasCleanDisk (state S.Store self.old.store) → length (rows_of self.old.rows row.now.name.table) < MAX_ROWS }
-        ensures writes { Writes S.Store self.old self.new (was_done result) self.old.catalog (with_new row.now self.old.rows) }
-        ensures told { HasCleanDisk (state S.Store self.new.store) → IfOk result (λ put. IsTrue put → row_named self.old.rows row.now.name ≡ None) }
+        requires room { HasCleanDisk (state S.Store self.old.store)
+            → length (rows_of self.old.rows row.now.name.table) < MAX_ROWS }
+        ensures writes { Writes S.Store self.old self.new (was_done result) self.old.catalog
+            (with_new row.now self.old.rows) }
+        ensures told { HasCleanDisk (state S.Store self.new.store)
+            → IfOk result (λ put. IsTrue put → row_named self.old.rows row.now.name ≡ None) }
     {
         let counted = self.catalog.at(place);
         if !self.store.insert(alloc, &counted.stored, row)? {
@@ -45,9 +48,12 @@ impl<S: Alter> Tables<S> {
         values: &[Option<Value>],
     ) -> Result<bool, Failure>
         requires place { place_named self.old.catalog name.now.table ≡ Some place }
-        requires fits { HasCleanDisk (state S.Store self.old.store) → AllByRecursion (HasTable self.old.catalog) (with_plain name.now values.now self.old.rows) }
-        ensures writes { Writes S.Store self.old self.new (was_done result) self.old.catalog (with_plain name.now values.now self.old.rows) }
-        ensures told { HasCleanDisk (state S.Store self.new.store) → IfOk result (λ stands. stands ≡ is_some (row_named self.old.rows name.now)) }
+        requires fits { HasCleanDisk (state S.Store self.old.store)
+            → AllByRecursion (HasTable self.old.catalog) (with_plain name.now values.now self.old.rows) }
+        ensures writes { Writes S.Store self.old self.new (was_done result) self.old.catalog
+            (with_plain name.now values.now self.old.rows) }
+        ensures told { HasCleanDisk (state S.Store self.new.store)
+            → IfOk result (λ stands. stands ≡ is_some (row_named self.old.rows name.now)) }
     {
         if !self
             .store
@@ -63,8 +69,10 @@ impl<S: Alter> Tables<S> {
     /// whether it did. Takes no memory of its own.
     pub fn delete(&mut self, place: usize, name: &RowName) -> Result<bool, Failure>
         requires { place_named self.old.catalog name.now.table ≡ Some place }
-        ensures writes { Writes S.Store self.old self.new (was_done result) self.old.catalog (without_row name.now self.old.rows) }
-        ensures told { HasCleanDisk (state S.Store self.new.store) → IfOk result (λ stood. stood ≡ is_some (row_named self.old.rows name.now)) }
+        ensures writes { Writes S.Store self.old self.new (was_done result) self.old.catalog
+            (without_row name.now self.old.rows) }
+        ensures told { HasCleanDisk (state S.Store self.new.store)
+            → IfOk result (λ stood. stood ≡ is_some (row_named self.old.rows name.now)) }
     {
         let counted = self.catalog.at(place);
         if !self.store.delete(&counted.stored, &name.key)? {

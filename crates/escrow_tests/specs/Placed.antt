@@ -7,4 +7,5 @@ use Rattle.escrow_bounds.specs.Bounds.{Bounds, place_at}
 
 -- a row has a place, with a check, which counts these reservations
 abbrev pub IsPlaced : Bounds → RowName → List (List ℤ) → Type 0
-IsPlaced places row reservations = (place : Place) × (place_at places row ≡ Some place) × (0 < length place.checks) × Counts place reservations
+IsPlaced places row reservations =
+    (place : Place) × (place_at places row ≡ Some place) × (0 < length place.checks) × Counts place reservations

@@ -9,4 +9,5 @@ image_of s = record { catalog = s.catalog; rows = s.rows; next_id = s.next_id }
 
 -- the state of a database that holds this, in which nothing is open
 abbrev pub started : Image → State
-started image = record { catalog = image.catalog; rows = image.rows; reservations = []; savepoints = []; next_id = image.next_id }
+started image =
+    record { catalog = image.catalog; rows = image.rows; reservations = []; savepoints = []; next_id = image.next_id }

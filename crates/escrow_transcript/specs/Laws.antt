@@ -37,7 +37,8 @@ NothingIsLegal = (base : Base) → IsLegal base [] (started base.image)
 -- a legal transcript stays legal with one more entry, which is a step of the machine and has the next number
 abbrev pub OneMoreIsLegal : Type 0
 OneMoreIsLegal = (base : Base) (entries : List Entry) (mid end : State) (e : Entry) → IsLegal base entries mid
-    → failure_of e.reply ≡ None → IsStep mid e.session e.statement e.reply end → e.number ≡ base.before + length entries + 1
+    → failure_of e.reply ≡ None → IsStep mid e.session e.statement e.reply end
+    → e.number ≡ base.before + length entries + 1
     → IsLegal base (entries ++ e ∷ []) end
 
 -- two legal transcripts are one, if the second begins at the state and the number where the first ends
@@ -80,5 +81,7 @@ call_of e = (e.session, e.statement)
 -- the calls determine the rest. Two legal transcripts with equal bases and equal calls have equal entries, with replies
 -- and numbers, and end in equal states
 abbrev pub CallsTellAll : Type 0
-CallsTellAll = (base : Base) (entries others : List Entry) (end other : State) → IsLegal base entries end → IsLegal base others other
+CallsTellAll =
+    (base : Base) (entries others : List Entry) (end other : State) → IsLegal base entries end
+    → IsLegal base others other
     → map call_of entries ≡ map call_of others → (entries ≡ others) × (end ≡ other)

@@ -11,7 +11,8 @@ use Rattle.escrow_transcript.specs.Image.{started}
 -- machine's reply, which is no failure
 abbrev pub AreSteps : State → List Entry → State → Type 0
 AreSteps s [] t = s ≡ t
-AreSteps s (e ∷ es) t = (failure_of e.reply ≡ None) × ((mid : State) × (IsStep s e.session e.statement e.reply mid × AreSteps mid es t))
+AreSteps s (e ∷ es) t =
+    (failure_of e.reply ≡ None) × ((mid : State) × (IsStep s e.session e.statement e.reply mid × AreSteps mid es t))
 
 -- the numbers rise by one, from the number of entries before them
 abbrev pub AreNumbered : ℕ → List Entry → Type 0

@@ -43,7 +43,8 @@ other_at others session = unwrap_or (get nat_cmp others session) (empty_journal 
 
 -- after a change, others have this for a session, and for each further one what they had
 abbrev pub Puts : ℕ → Option Journal → BTreeMap ℕ Journal → BTreeMap ℕ Journal → Type 0
-Puts session journal old new = (number : ℕ) → get nat_cmp new number ≡ cond (is_at (nat_cmp session) number) journal (get nat_cmp old number)
+Puts session journal old new =
+    (number : ℕ) → get nat_cmp new number ≡ cond (is_at (nat_cmp session) number) journal (get nat_cmp old number)
 
 -- a journal for each session: those that are kept, and those of the others
 abbrev pub all_of : List Journal → BTreeMap ℕ Journal → List Journal
@@ -61,4 +62,5 @@ pub record AreKept (first : List Journal) (others : BTreeMap ℕ Journal) : Type
   pub count : length first ≡ KEPT
   pub numbered : AreNumbered 1 first
   pub each : AllByRecursion IsJournal first
-  pub others_are : (session : ℕ) (journal : Journal) → get nat_cmp others session ≡ Some journal → IsOther session journal
+  pub others_are : (session : ℕ) (journal : Journal) → get nat_cmp others session ≡ Some journal
+      → IsOther session journal

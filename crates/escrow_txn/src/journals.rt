@@ -80,8 +80,10 @@ impl Journals {
 
     /// Adds a reservation to the journal of its session, as [`Journal::push`] does.
     pub(crate) fn push(&mut self, r: Reservation) -> Result<(), Refusal>
-        requires { AllByRecursion (λ earlier. IsTrue (reservation_before earlier r)) (journal_at self.old r.session).reservations }
-        ensures pushed { OnOk result (self.new ≡ with_journal self.old r.session (pushed r (journal_at self.old r.session))) }
+        requires { AllByRecursion
+            (λ earlier. IsTrue (reservation_before earlier r)) (journal_at self.old r.session).reservations }
+        ensures pushed { OnOk result
+            (self.new ≡ with_journal self.old r.session (pushed r (journal_at self.old r.session))) }
         ensures unchanged { OnErr result (self.new ≡ self.old) }
         ensures only { IfErr result (λ e. (e ≡ Refusal.TooManyReservations) ⊎ (e ≡ Refusal.Memory)) }
         ensures room { IsErrOf result Refusal.TooManyReservations → IsTrue (is_full (journal_at self.old r.session)) }
@@ -97,11 +99,14 @@ impl Journals {
 
     /// Makes a savepoint in the journal of a session, as [`Journal::mark`] does.
     pub(crate) fn mark(&mut self, session: Session, name: Name, id: u64) -> Result<(), Refusal>
-        ensures marked { OnOk result (self.new ≡ with_journal self.old session (marked name id (journal_at self.old session))) }
+        ensures marked { OnOk result
+            (self.new ≡ with_journal self.old session (marked name id (journal_at self.old session))) }
         ensures unchanged { OnErr result (self.new ≡ self.old) }
-        ensures refused { IsTrue (is_full_beside name (journal_at self.old session)) → result ≡ Err Refusal.TooManySavepoints }
+        ensures refused { IsTrue (is_full_beside name (journal_at self.old session))
+            → result ≡ Err Refusal.TooManySavepoints }
         ensures only { IfErr result (λ e. (e ≡ Refusal.TooManySavepoints) ⊎ (e ≡ Refusal.Memory)) }
-        ensures room { IsErrOf result Refusal.TooManySavepoints → IsTrue (is_full_beside name (journal_at self.old session)) }
+        ensures room { IsErrOf result Refusal.TooManySavepoints
+            → IsTrue (is_full_beside name (journal_at self.old session)) }
         ensures within { IsSession session }
         ensures valid { AreSessions self.new }
     {
@@ -161,7 +166,9 @@ impl Journals {
     /// Returns the journals of all sessions that hold anything, and some that hold nothing, in order
     /// of their sessions. Fails only if memory is refused.
     pub(crate) fn all(&self, alloc: Global) -> Result<Vec<&Journal>, AllocError>
-        ensures reservations { IfOk result (λ all. flat_map (λ log. log.reservations) (map (λ log. log.now) all.items) ≡ flat_map (λ log. log.reservations) self.now) }
+        ensures reservations { IfOk result
+            (λ all. flat_map (λ log. log.reservations) (map (λ log. log.now) all.items) ≡ flat_map
+            (λ log. log.reservations) self.now) }
         ensures valid { IfOk result (λ all. AllByRecursion IsJournal (map (λ log. log.now) all.items)) }
     {
         let mut all = references(alloc, &self.first)?;
@@ -184,9 +191,12 @@ fn push_other(
     alloc: Global,
     r: Reservation,
 ) -> Result<(), Refusal>
-    requires own { (session : ℕ) (journal : Log) → get nat_cmp others.old session ≡ Some journal → journal.session ≡ session }
-    requires above { AllByRecursion (λ earlier. IsTrue (reservation_before earlier r)) (other_at others.old r.session).reservations }
-    ensures pushed { OnOk result (Puts r.session (Some (pushed r (other_at others.old r.session))) others.old others.new) }
+    requires own { (session : ℕ) (journal : Log) → get nat_cmp others.old session ≡ Some journal
+        → journal.session ≡ session }
+    requires above { AllByRecursion
+        (λ earlier. IsTrue (reservation_before earlier r)) (other_at others.old r.session).reservations }
+    ensures pushed { OnOk result
+        (Puts r.session (Some (pushed r (other_at others.old r.session))) others.old others.new) }
     ensures valid { OnOk result (IsJournal (pushed r (other_at others.old r.session))) }
     ensures unchanged { OnErr result ((session : ℕ) → get nat_cmp others.new session ≡ get nat_cmp others.old session) }
     ensures only { IfErr result (λ e. (e ≡ Refusal.TooManyReservations) ⊎ (e ≡ Refusal.Memory)) }
@@ -210,12 +220,15 @@ fn mark_other(
     id: u64,
 ) -> Result<(), Refusal>
     requires { (number : ℕ) (journal : Log) → get nat_cmp others.old number ≡ Some journal → journal.session ≡ number }
-    ensures marked { OnOk result (Puts session (Some (marked name id (other_at others.old session))) others.old others.new) }
+    ensures marked { OnOk result
+        (Puts session (Some (marked name id (other_at others.old session))) others.old others.new) }
     ensures valid { OnOk result (IsJournal (marked name id (other_at others.old session))) }
     ensures unchanged { OnErr result ((number : ℕ) → get nat_cmp others.new number ≡ get nat_cmp others.old number) }
-    ensures refused { IsTrue (is_full_beside name (other_at others.old session)) → result ≡ Err Refusal.TooManySavepoints }
+    ensures refused { IsTrue (is_full_beside name (other_at others.old session))
+        → result ≡ Err Refusal.TooManySavepoints }
     ensures only { IfErr result (λ e. (e ≡ Refusal.TooManySavepoints) ⊎ (e ≡ Refusal.Memory)) }
-    ensures room { IsErrOf result Refusal.TooManySavepoints → IsTrue (is_full_beside name (other_at others.old session)) }
+    ensures room { IsErrOf result Refusal.TooManySavepoints
+        → IsTrue (is_full_beside name (other_at others.old session)) }
 {
     if let Some(journal) = others.get_mut(&session.get()) {
         return journal.mark(name, id);

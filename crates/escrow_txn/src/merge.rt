@@ -16,7 +16,8 @@ pub(crate) fn merged<'a>(
     journals: &[&'a Journal],
 ) -> Result<Vec<&'a Reservation>, AllocError>
     requires { AllByRecursion IsJournal (map (λ log. log.now) journals.now) }
-    ensures { IfOk result (λ all. map (λ r. r.now) all.items ≡ by_id (flat_map (λ log. log.reservations) (map (λ log. log.now) journals.now))) }
+    ensures { IfOk result (λ all.
+        map (λ r. r.now) all.items ≡ by_id (flat_map (λ log. log.reservations) (map (λ log. log.now) journals.now))) }
 {
     match journals {
         [] => Ok(Vec::new(alloc)),
@@ -43,7 +44,8 @@ fn merge<'a>(
 ) -> Result<Vec<&'a Reservation>, AllocError>
     requires front { IsAscending in_order (map (λ r. r.now) front.now) }
     requires back { IsAscending in_order (map (λ r. r.now) back.now) }
-    ensures { IfOk result (λ all. map (λ r. r.now) all.items ≡ by_id (map (λ r. r.now) front.now ++ map (λ r. r.now) back.now)) }
+    ensures { IfOk result (λ all.
+        map (λ r. r.now) all.items ≡ by_id (map (λ r. r.now) front.now ++ map (λ r. r.now) back.now)) }
 {
     let mut all = Vec::with_capacity(alloc, front.len() + back.len())?;
     let (mut i, mut j) = (0, 0);

@@ -78,8 +78,10 @@ impl TxnTable {
     /// `None` only if nothing is.
     pub fn journal(&self, session: Session) -> Option<&Journal>
         ensures session { IfSome result (λ journal. journal.now.session ≡ session) }
-        ensures reservations { unwrap_or (option_map (λ journal. journal.now.reservations) result) [] ≡ own session self.now.reservations }
-        ensures savepoints { unwrap_or (option_map (λ journal. journal.now.savepoints) result) [] ≡ own_savepoints session self.now.savepoints }
+        ensures reservations { unwrap_or (option_map (λ journal. journal.now.reservations) result) []
+            ≡ own session self.now.reservations }
+        ensures savepoints { unwrap_or (option_map (λ journal. journal.now.savepoints) result) []
+            ≡ own_savepoints session self.now.savepoints }
         ensures valid { IfSome result (λ journal. IsJournal journal.now) }
         ensures within { IsSession session }
     {
@@ -183,7 +185,8 @@ impl TxnTable {
     /// those that [`TxnTable::cut`] would drop. Returns `None` exactly if there is no such
     /// savepoint.
     pub fn after(&self, session: Session, name: Name) -> Option<&[Reservation]>
-        ensures { option_copied result ≡ option_map (λ p. after p self.now.reservations) (savepoint_of session name self.now.savepoints) }
+        ensures { option_copied result ≡ option_map
+            (λ p. after p self.now.reservations) (savepoint_of session name self.now.savepoints) }
     {
         self.journals.get(session)?.after(name)
     }

@@ -53,8 +53,10 @@ impl Addition {
     /// and `count` is their number.
     pub fn violation(&self, row: &RowName, first: usize, count: usize) -> Option<Violation>
         requires placed { IsSome (place_at self.now row.now) }
-        requires checks { (place : Place) → place_at self.now row.now ≡ Some place → first + count ≤ length place.checks }
-        ensures { (place : Place) (reservations : List (List ℤ)) → place_at self.now row.now ≡ Some place → Counts place reservations
+        requires checks { (place : Place) → place_at self.now row.now ≡ Some place
+            → first + count ≤ length place.checks }
+        ensures { (place : Place) (reservations : List (List ℤ)) → place_at self.now row.now ≡ Some place
+            → Counts place reservations
             → result ≡ broken (take count (drop first (checks_of place.checks))) place.amounts [] reservations }
     {
         self.bounds.place(row).violation(first, count)

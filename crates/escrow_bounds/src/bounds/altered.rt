@@ -34,11 +34,14 @@ impl Bounds {
         requires counting { AllCount self.now }
         requires short { AllByRecursion (λ r. length r.now.changes ≤ MAX_LEN) reservations.now }
         requires many { (row : RowName) → length (of_row row (map (λ r. r.now) reservations.now)) ≤ MAX_OPEN }
-        requires few { (row : RowName) (place : Place) → bytes_eq row.table table ≡ true → place_at self.now row ≡ Some place
+        requires few { (row : RowName) (place : Place) → bytes_eq row.table table ≡ true
+            → place_at self.now row ≡ Some place
             → length place.amounts ≤ MAX_LEN }
-        requires covered { (row : RowName) (place : Place) → bytes_eq row.table table ≡ true → place_at self.now row ≡ Some place
+        requires covered { (row : RowName) (place : Place) → bytes_eq row.table table ≡ true
+            → place_at self.now row ≡ Some place
             → AllByRecursion (λ check. IsCovered check.coeffs place.amounts) checks.now }
-        ensures prepared { IfOk result (λ addition. ArePrepared table checks.now (map (λ r. r.now) reservations.now) self.now addition) }
+        ensures prepared { IfOk result
+            (λ addition. ArePrepared table checks.now (map (λ r. r.now) reservations.now) self.now addition) }
         ensures only { IfErr result (λ e. e ≡ Refusal.Memory) }
     {
         let mut filled = Bounds::new(*self.places.allocator());
@@ -79,9 +82,11 @@ impl Bounds {
         r: &Reservation,
     ) -> Result<(), AllocError>
         requires placed { IsSome (place_at placed.now r.now.row) }
-        requires few { (row : RowName) (place : Place) → bytes_eq row.table table ≡ true → place_at placed.now row ≡ Some place
+        requires few { (row : RowName) (place : Place) → bytes_eq row.table table ≡ true
+            → place_at placed.now row ≡ Some place
             → length place.amounts ≤ MAX_LEN }
-        requires covered { (row : RowName) (place : Place) → bytes_eq row.table table ≡ true → place_at placed.now row ≡ Some place
+        requires covered { (row : RowName) (place : Place) → bytes_eq row.table table ≡ true
+            → place_at placed.now row ≡ Some place
             → AllByRecursion (λ check. IsCovered check.coeffs place.amounts) checks.now }
         requires short { length r.now.changes ≤ MAX_LEN }
         requires room { (place : Place) → place_at self.old r.now.row ≡ Some place → place.count < MAX_OPEN }

@@ -12,7 +12,8 @@ use escrow_statement::{Comparison, Condition, Test};
 /// Returns the limits of a condition, in units of a scale. Returns `None` if one isn't a whole
 /// number of units or has more than 15 digits, or if the low one is greater than the high one.
 pub(super) fn limits_of(condition: &Condition, scale: Scale) -> Option<Span>
-    ensures { result ≡ (if has_good_limits scale condition.now then Some (condition_limits scale condition.now) else None) }
+    ensures { result ≡ (if has_good_limits scale condition.now then Some (condition_limits scale condition.now)
+        else None) }
 {
     let left = number_sum(condition.sum.as_slice());
     match &condition.test {
@@ -45,7 +46,8 @@ fn span_of(comparison: Comparison, units: i128) -> Option<Span>
 
 /// Returns the span of two limits, if they are good.
 fn good_span(lo: Option<i128>, hi: Option<i128>) -> Option<Span>
-    ensures { result ≡ (if is_limit lo && is_limit hi && in_order lo hi then Some (record { lo = lo; hi = hi }) else None) }
+    ensures { result ≡ (if is_limit lo && is_limit hi && in_order lo hi then Some (record { lo = lo; hi = hi })
+        else None) }
 {
     if is_limit(lo) && is_limit(hi) && in_order(lo, hi) {
         Some(Span {

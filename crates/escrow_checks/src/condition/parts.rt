@@ -138,7 +138,8 @@ fn together(whole: i128, rest: i128) -> i128
 /// amounts.
 fn units_of(number: i128, scale: Scale) -> Option<i128>
     requires { IsJoined number }
-    ensures { result ≡ (if is_whole scale number && is_near (units_in scale number) then Some (units_in scale number) else None) }
+    ensures { result ≡ (if is_whole scale number && is_near (units_in scale number) then Some (units_in scale number)
+        else None) }
 {
     if is_whole(number, scale) {
         near(quotient(number, scale))

@@ -63,7 +63,8 @@ impl<'a> Model for AddedJudge<'a> {
 
     ghost Value = { AddedJudge };
 
-    ghost view = { λ j. record { added = j.added.now; reservations = j.reserved.now.txns.reservations; addition = j.addition.now } };
+    ghost view = { λ j. record
+        { added = j.added.now; reservations = j.reserved.now.txns.reservations; addition = j.addition.now } };
 
     ghost invariant = { λ j. CanJudge j.added.now j.reserved.now j.addition.now };
 }
@@ -79,7 +80,8 @@ impl<'a> AddedJudge<'a> {
         addition: &'a Addition,
     ) -> Self
         requires { CanJudge added.now reserved.now addition.now }
-        ensures { result ≡ record { added = added.now; reservations = reserved.now.txns.reservations; addition = addition.now } }
+        ensures { result ≡ record
+            { added = added.now; reservations = reserved.now.txns.reservations; addition = addition.now } }
     {
         AddedJudge {
             added,

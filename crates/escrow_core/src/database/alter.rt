@@ -73,7 +73,8 @@ impl<S: Alter> Database<S> {
         text: &CheckText,
     ) -> Result<(usize, AddedChecks), Refusal>
         ensures place { IfOk result (λ planned. place_named self.now.state.catalog table ≡ Some planned.0) }
-        ensures added { IfOk result (λ planned. IsSomeAnd (table_named self.now.state.catalog table) (λ old. Adds old text.now planned.1)) }
+        ensures added { IfOk result
+            (λ planned. IsSomeAnd (table_named self.now.state.catalog table) (λ old. Adds old text.now planned.1)) }
         ensures early { OnOk result (PassesEarly self.now.state session (adds table text.now)) }
         ensures refused { IfErr result (IsRefusal self.now.state session (adds table text.now)) }
     {
@@ -95,7 +96,9 @@ impl<S: Alter> Database<S> {
         name: Name,
     ) -> Result<(usize, usize), Refusal>
         ensures place { IfOk result (λ planned. place_named self.now.state.catalog table ≡ Some planned.0) }
-        ensures index { IfOk result (λ planned. IsSomeAnd (table_named self.now.state.catalog table) (λ old. declared_place old name ≡ Some planned.1)) }
+        ensures index { IfOk result
+            (λ planned. IsSomeAnd (table_named self.now.state.catalog table)
+            (λ old. declared_place old name ≡ Some planned.1)) }
         ensures early { IsEarly self.now.state session (drops table name) result }
     {
         let place = self.check_alter(session, table)?;

@@ -35,10 +35,13 @@ impl<S: Alter> Database<S> {
         held: &mut HeldBack,
         place: usize,
     ) -> Option<Reply>
-        ensures joins { IfSome result (λ reply. Joins (HasCleanDisk (state S.Store self.new.store)) event.now place held.old self.old.state reply held.new self.new.state) }
+        ensures joins { IfSome result
+            (λ reply. Joins (HasCleanDisk (state S.Store self.new.store)) event.now place held.old self.old.state reply
+            held.new self.new.state) }
         ensures refused { IfNone result ((self.new.state ≡ self.old.state) × (held.new ≡ held.old)) }
         ensures usable { IsUsable (state S.Store self.new.store) → IsUsable (state S.Store self.old.store) }
-        ensures survives { Survives (state S.Store self.old.store) (state S.Store self.new.store) (λ trees. IsTrue (state S.Store self.old.store).is_open × AreHeldOf self.old.state trees) }
+        ensures survives { Survives (state S.Store self.old.store) (state S.Store self.new.store)
+            (λ trees. IsTrue (state S.Store self.old.store).is_open × AreHeldOf self.old.state trees) }
     {
         let Event::Statement { session, statement } = event else {
             return None;
@@ -72,10 +75,12 @@ impl<S: Alter> Database<S> {
     /// statement isn't known to, or is refused, and then nothing has changed.
     fn pass(&mut self, alloc: Global, session: Session, statement: &Statement) -> Option<Reply>
         requires { statement.now ≡ Statement.Commit → holds self.old.state session ≡ false }
-        ensures beside { HasCleanDisk (state S.Store self.new.store) → IfSome result (λ reply. IsServedBeside session statement.now reply self.old.state self.new.state) }
+        ensures beside { HasCleanDisk (state S.Store self.new.store)
+            → IfSome result (λ reply. IsServedBeside session statement.now reply self.old.state self.new.state) }
         ensures refused { IfNone result (self.new.state ≡ self.old.state) }
         ensures usable { IsUsable (state S.Store self.new.store) → IsUsable (state S.Store self.old.store) }
-        ensures survives { Survives (state S.Store self.old.store) (state S.Store self.new.store) (λ trees. IsTrue (state S.Store self.old.store).is_open × AreHeldOf self.old.state trees) }
+        ensures survives { Survives (state S.Store self.old.store) (state S.Store self.new.store)
+            (λ trees. IsTrue (state S.Store self.old.store).is_open × AreHeldOf self.old.state trees) }
     {
         if !may_pass(statement) {
             return None;
@@ -97,7 +102,9 @@ impl<S: Alter> Database<S> {
     )
         requires pairs { length plan.now ≡ length places.now }
         requires places { AllByRecursion (λ place. place < vec_len replies.old) places.now }
-        ensures settled { AreAllSettled (state S.Store self.old.store) (state S.Store self.new.store) plan.now places.now self.old.state replies.old.items self.new.state replies.new.items }
+        ensures settled { AreAllSettled (state S.Store self.old.store)
+            (state S.Store self.new.store) plan.now places.now self.old.state replies.old.items self.new.state
+            replies.new.items }
         ensures usable { IsUsable (state S.Store self.new.store) → IsUsable (state S.Store self.old.store) }
         ensures len { vec_len replies.new ≡ vec_len replies.old }
         ensures capacity { vec_capacity replies.new ≡ vec_capacity replies.old }

@@ -26,14 +26,21 @@ impl<S: Alter> Database<S> {
         plan: &[(Session, End)],
     ) -> Result<u32, Failure>
         requires { AreCommits plan.now }
-        ensures done { HasCleanDisk (state S.Store self.new.store) → OnOk result (self.new.state ≡ after_ends self.old.state plan.now) }
+        ensures done { HasCleanDisk (state S.Store self.new.store)
+            → OnOk result (self.new.state ≡ after_ends self.old.state plan.now) }
         ensures failed { OnErr result (self.new.state ≡ self.old.state) }
-        ensures count { IfOk result (λ count. count + length self.new.state.reservations ≡ length self.old.state.reservations) }
+        ensures count { IfOk result
+            (λ count. count + length self.new.state.reservations ≡ length self.old.state.reservations) }
         ensures left { OnOk result (self.new.state.reservations ≡ left_after plan.now self.old.state.reservations) }
-        ensures open { HasCleanDisk (state S.Store self.new.store) → OnOk result (IsTrue (state S.Store self.new.store).is_open) }
-        ensures durable { HasCleanDisk (state S.Store self.new.store) → OnOk result ((trees : Trees) → (state S.Store self.new.store).may_leave trees → AreHeldOf self.new.state trees) }
+        ensures open { HasCleanDisk (state S.Store self.new.store)
+            → OnOk result (IsTrue (state S.Store self.new.store).is_open) }
+        ensures durable { HasCleanDisk (state S.Store self.new.store)
+            → OnOk result ((trees : Trees) → (state S.Store self.new.store).may_leave trees
+            → AreHeldOf self.new.state trees) }
         ensures usable { IsUsable (state S.Store self.new.store) → IsUsable (state S.Store self.old.store) }
-        ensures crash { Survives (state S.Store self.old.store) (state S.Store self.new.store) (λ trees. IsTrue (state S.Store self.old.store).is_open × AreHeldOf (after_ends self.old.state plan.now) trees) }
+        ensures crash { Survives (state S.Store self.old.store) (state S.Store self.new.store)
+            (λ trees. IsTrue (state S.Store self.old.store).is_open
+            × AreHeldOf (after_ends self.old.state plan.now) trees) }
     {
         let reservations = self.reserved.all_of(alloc, plan)?;
         let amounts = self.reserved.amounts_of(alloc, &reservations)?;
@@ -53,7 +60,8 @@ impl<S: Alter> Database<S> {
     /// row that a session reserved.
     pub(crate) fn store_answers(&mut self, session: Session) -> bool
         ensures reads { OnlyReads S.Store self.old self.new }
-        ensures open { HasCleanDisk (state S.Store self.new.store) → IsTrue result → IsTrue (state S.Store self.new.store).is_open }
+        ensures open { HasCleanDisk (state S.Store self.new.store) → IsTrue result
+            → IsTrue (state S.Store self.new.store).is_open }
     {
         match self.reserved.txns().reservations(session).first() {
             Some(reservation) => self.tables.answers(&reservation.row),

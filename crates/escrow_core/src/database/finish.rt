@@ -37,16 +37,22 @@ impl<S: Alter> Database<S> {
         session: Session,
         end: End,
     ) -> Result<u32, Failure>
-        ensures done { HasCleanDisk (state S.Store self.new.store) → OnOk result (self.new.state ≡ after_end self.old.state session end) }
+        ensures done { HasCleanDisk (state S.Store self.new.store)
+            → OnOk result (self.new.state ≡ after_end self.old.state session end) }
         ensures failed { OnErr result (self.new.state ≡ self.old.state) }
         ensures count { IfOk result (λ count. count ≡ length (own session self.old.state.reservations)) }
         ensures left { OnOk result (self.new.state.reservations ≡ others session self.old.state.reservations) }
         ensures commit { OnErr result (end ≡ End.Commit) }
         ensures held { OnErr result (0 < length (own session self.old.state.reservations)) }
-        ensures stays { HasCleanDisk (state S.Store self.new.store) → OnOk result (IsTrue (state S.Store self.old.store).is_open → IsTrue (state S.Store self.new.store).is_open) }
+        ensures stays { HasCleanDisk (state S.Store self.new.store)
+            → OnOk result (IsTrue (state S.Store self.old.store).is_open
+            → IsTrue (state S.Store self.new.store).is_open) }
         ensures usable { IsUsable (state S.Store self.new.store) → IsUsable (state S.Store self.old.store) }
-        ensures crash { Survives (state S.Store self.old.store) (state S.Store self.new.store) (λ trees. IsTrue (state S.Store self.old.store).is_open × AreAfterEnd self.old.state session end trees) }
-        ensures durable { OnOk result (Lasts (state S.Store self.old.store) (state S.Store self.new.store) (committed_by ((session, end) ∷ []) self.old.state.reservations ≡ []) (AreHeldOf self.new.state)) }
+        ensures crash { Survives (state S.Store self.old.store) (state S.Store self.new.store)
+            (λ trees. IsTrue (state S.Store self.old.store).is_open × AreAfterEnd self.old.state session end trees) }
+        ensures durable { OnOk result
+            (Lasts (state S.Store self.old.store) (state S.Store self.new.store)
+            (committed_by ((session, end) ∷ []) self.old.state.reservations ≡ []) (AreHeldOf self.new.state)) }
     {
         match end {
             End::Commit => self.apply(alloc, session),
@@ -57,12 +63,16 @@ impl<S: Alter> Database<S> {
     /// Ends a session's transaction by COMMIT, in one write ([`Database::commit_all`]). Returns how
     /// many reservations it held. If there are none, the store isn't asked.
     fn apply(&mut self, alloc: Global, session: Session) -> Result<u32, Failure>
-        ensures done { IfOk result (λ count. Serves S.Store session Statement.Commit self.old (Reply.Committed count) self.new) }
-        ensures failed { IfErr result (λ f. Serves S.Store session Statement.Commit self.old (Reply.Refused (refusal_for f)) self.new) }
+        ensures done { IfOk result
+            (λ count. Serves S.Store session Statement.Commit self.old (Reply.Committed count) self.new) }
+        ensures failed { IfErr result
+            (λ f. Serves S.Store session Statement.Commit self.old (Reply.Refused (refusal_for f)) self.new) }
         ensures count { IfOk result (λ count. count ≡ length (own session self.old.state.reservations)) }
         ensures left { OnOk result (self.new.state.reservations ≡ others session self.old.state.reservations) }
         ensures held { OnErr result (0 < length (own session self.old.state.reservations)) }
-        ensures stays { HasCleanDisk (state S.Store self.new.store) → OnOk result (IsTrue (state S.Store self.old.store).is_open → IsTrue (state S.Store self.new.store).is_open) }
+        ensures stays { HasCleanDisk (state S.Store self.new.store)
+            → OnOk result (IsTrue (state S.Store self.old.store).is_open
+            → IsTrue (state S.Store self.new.store).is_open) }
     {
         if self.reserved.txns().reservations(session).is_empty() {
             return Ok(self.reserved.end(session, End::Rollback));

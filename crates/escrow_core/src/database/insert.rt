@@ -52,8 +52,10 @@ impl<S: Alter> Database<S> {
     /// Keeps the amounts of a row that was inserted, if it has any and there is room, so that its first
     /// reservation reads nothing. No other row is forgotten for it.
     fn remember_new(&mut self, row: &Row)
-        requires many { IsSomeAnd (table_named self.old.state.catalog row.now.name.table) (λ table. length row.now.amounts ≡ length (reservables table.columns)) }
-        requires inserted { HasCleanDisk (state S.Store self.old.store) → row_named self.old.state.rows row.now.name ≡ Some row.now }
+        requires many { IsSomeAnd (table_named self.old.state.catalog row.now.name.table)
+            (λ table. length row.now.amounts ≡ length (reservables table.columns)) }
+        requires inserted { HasCleanDisk (state S.Store self.old.store)
+            → row_named self.old.state.rows row.now.name ≡ Some row.now }
         ensures { self.new ≡ self.old }
     {
         if !row.amounts.is_empty() && self.recent.len() < Recent::MAX_ROWS {
@@ -73,7 +75,9 @@ impl<S: Alter> Database<S> {
         other: Refusal,
     ) -> Refusal
         requires { place_named self.old.state.catalog name.now.table ≡ Some place }
-        ensures told { IsFailure result ⊎ (HasCleanDisk (state S.Store self.new.store) → result ≡ unless_stands (row_named self.old.state.rows name.now) other) }
+        ensures told { IsFailure result
+            ⊎ (HasCleanDisk (state S.Store self.new.store)
+            → result ≡ unless_stands (row_named self.old.state.rows name.now) other) }
         ensures only_reads { OnlyReads S.Store self.old self.new }
     {
         match self.amounts(alloc, place, name) {

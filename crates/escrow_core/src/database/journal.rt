@@ -45,7 +45,8 @@ fn journal_entries<S: Alter>(
     reserved: &Reserved,
     table: Option<Name>,
 ) -> Result<Seq<JournalEntry>, AllocError>
-    ensures { IfOk result (λ entries. entries ≡ map (entry_of tables.now.catalog) (of_table table reserved.now.txns.reservations)) }
+    ensures { IfOk result (λ entries.
+        entries ≡ map (entry_of tables.now.catalog) (of_table table reserved.now.txns.reservations)) }
 {
     let mut entries = Seq::new(alloc);
     for r in &reserved.txns().all_in_order(alloc)? {
@@ -63,7 +64,8 @@ fn push_entry<S: Alter>(
     table: Option<Name>,
     r: &Reservation,
 ) -> Result<(), AllocError>
-    ensures { OnOk result (entries.new ≡ entries.old ++ map (entry_of tables.now.catalog) (of_table table (r.now ∷ []))) }
+    ensures { OnOk result (entries.new ≡ entries.old
+        ++ map (entry_of tables.now.catalog) (of_table table (r.now ∷ []))) }
 {
     if table.is_none_or(|name| r.row.table == name) {
         entries.push(journal_entry(alloc, tables.find(r.row.table), r)?)?;

@@ -64,10 +64,16 @@ impl<S: Alter> Database<S> {
         name: &RowName,
     ) -> Result<Option<Seq<Amount>>, Failure>
         requires { place_named self.old.state.catalog name.now.table ≡ Some place }
-        ensures told { HasCleanDisk (state S.Store self.new.store) → IfOk result (λ found. found ≡ option_map (λ row. row.amounts) (row_named self.old.state.rows name.now)) }
-        ensures many { IfOk result (λ found. IfSome found (λ amounts. IsSomeAnd (table_named self.old.state.catalog name.now.table) (λ table. length amounts ≡ length (reservables table.columns)))) }
+        ensures told { HasCleanDisk (state S.Store self.new.store)
+            → IfOk result (λ found. found ≡ option_map (λ row. row.amounts) (row_named self.old.state.rows name.now)) }
+        ensures many { IfOk result
+            (λ found. IfSome found (λ amounts.
+            IsSomeAnd (table_named self.old.state.catalog name.now.table)
+            (λ table. length amounts ≡ length (reservables table.columns)))) }
         ensures only_reads { OnlyReads S.Store self.old self.new }
-        ensures stays { HasCleanDisk (state S.Store self.new.store) → OnOk result (IsTrue (state S.Store self.old.store).is_open → IsTrue (state S.Store self.new.store).is_open) }
+        ensures stays { HasCleanDisk (state S.Store self.new.store)
+            → OnOk result (IsTrue (state S.Store self.old.store).is_open
+            → IsTrue (state S.Store self.new.store).is_open) }
     {
         if let Some(amounts) = self.recent.amounts(name) {
             return Ok(Some(copied(alloc, amounts)?));
@@ -83,7 +89,8 @@ impl<S: Alter> Database<S> {
     /// Returns whether the amounts of the row of a name are kept. Such a row exists. Makes no store
     /// call.
     pub(crate) fn is_remembered(&self, name: &RowName) -> bool
-        ensures { HasCleanDisk (state S.Store self.now.store) → IsTrue result → IsTrue (is_some (row_named self.now.state.rows name.now)) }
+        ensures { HasCleanDisk (state S.Store self.now.store) → IsTrue result
+            → IsTrue (is_some (row_named self.now.state.rows name.now)) }
     {
         self.recent.amounts(name).is_some()
     }
@@ -97,10 +104,13 @@ impl<S: Alter> Database<S> {
         name: &RowName,
     ) -> Result<Option<Seq<Value>>, Failure>
         requires { place_named self.old.state.catalog name.now.table ≡ Some place }
-        ensures told { HasCleanDisk (state S.Store self.new.store) → IfOk result (λ found. IsSomeAnd (table_named self.old.state.catalog name.now.table) (λ table. found ≡ option_map (values_of table) (row_named self.old.state.rows name.now))) }
+        ensures told { HasCleanDisk (state S.Store self.new.store)
+            → IfOk result (λ found. IsSomeAnd (table_named self.old.state.catalog name.now.table)
+            (λ table. found ≡ option_map (values_of table) (row_named self.old.state.rows name.now))) }
         ensures order { HasCleanDisk (state S.Store self.new.store) → IsAscending row_before self.old.state.rows }
         ensures only_reads { OnlyReads S.Store self.old self.new }
-        ensures open { HasCleanDisk (state S.Store self.new.store) → OnOk result (IsTrue (state S.Store self.new.store).is_open) }
+        ensures open { HasCleanDisk (state S.Store self.new.store)
+            → OnOk result (IsTrue (state S.Store self.new.store).is_open) }
     {
         self.tables.values(alloc, place, name)
     }
@@ -114,9 +124,12 @@ impl<S: Alter> Database<S> {
         table: Name,
     ) -> Result<Seq<Seq<Value>>, Failure>
         requires { place_named self.old.state.catalog table ≡ Some place }
-        ensures told { HasCleanDisk (state S.Store self.new.store) → IfOk result (λ rows. IsSomeAnd (table_named self.old.state.catalog table) (λ definition. rows ≡ map (values_of definition) (rows_of self.old.state.rows table))) }
+        ensures told { HasCleanDisk (state S.Store self.new.store)
+            → IfOk result (λ rows. IsSomeAnd (table_named self.old.state.catalog table)
+            (λ definition. rows ≡ map (values_of definition) (rows_of self.old.state.rows table))) }
         ensures only_reads { OnlyReads S.Store self.old self.new }
-        ensures open { HasCleanDisk (state S.Store self.new.store) → OnOk result (IsTrue (state S.Store self.new.store).is_open) }
+        ensures open { HasCleanDisk (state S.Store self.new.store)
+            → OnOk result (IsTrue (state S.Store self.new.store).is_open) }
     {
         self.tables.all_values(alloc, place, table)
     }

@@ -18,8 +18,10 @@ impl<S: Alter> Database<S> {
     /// refused, and with 60 if the store refuses or no longer holds the tables. After an error
     /// nothing has changed.
     pub fn restart(&mut self, alloc: Global) -> Result<(), Refusal>
-        ensures event { HasCleanDisk (state S.Store self.new.store) → IsServed self.old.state event.Restart (restart_reply result) self.new.state }
-        ensures open { HasCleanDisk (state S.Store self.new.store) → OnOk result (IsTrue (state S.Store self.new.store).is_open) }
+        ensures event { HasCleanDisk (state S.Store self.new.store)
+            → IsServed self.old.state event.Restart (restart_reply result) self.new.state }
+        ensures open { HasCleanDisk (state S.Store self.new.store)
+            → OnOk result (IsTrue (state S.Store self.new.store).is_open) }
         ensures usable { IsUsable (state S.Store self.new.store) → IsUsable (state S.Store self.old.store) }
 
         // Whatever the store is like, either nothing is open after the call, or all that was.

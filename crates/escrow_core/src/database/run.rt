@@ -25,7 +25,8 @@ impl<S: Alter> Database<S> {
     /// Serves events, one after another, and returns their replies. Takes room for the replies
     /// first. If this is refused, no event was served.
     pub fn run(&mut self, alloc: Global, events: &[Event]) -> Result<Vec<Reply>, AllocError>
-        ensures served { HasCleanDisk (state S.Store self.new.store) → IfOk result (λ replies. IsRun self.old.state events.now replies.items self.new.state) }
+        ensures served { HasCleanDisk (state S.Store self.new.store)
+            → IfOk result (λ replies. IsRun self.old.state events.now replies.items self.new.state) }
         ensures clean { HasCleanDisk (state S.Store self.new.store) → HasCleanDisk (state S.Store self.old.store) }
         ensures refused { OnErr result (self.new ≡ self.old) }
 
@@ -33,8 +34,13 @@ impl<S: Alter> Database<S> {
         // some first events, if the store was open. Once a write was answered, it has the latter,
         // and no event behind them was answered as written. This holds over a fault of the store.
         ensures usable { IsUsable (state S.Store self.new.store) → IsUsable (state S.Store self.old.store) }
-        ensures crash { IfOk result (λ replies. Survives (state S.Store self.old.store) (state S.Store self.new.store) (λ trees. IsTrue (state S.Store self.old.store).is_open × AreAfterSome self.old.state events.now replies.items trees)) }
-        ensures durable { IfOk result (λ replies. Lasts (state S.Store self.old.store) (state S.Store self.new.store) (TellNoWrite replies.items) (AreAfterAnswered self.old.state events.now replies.items)) }
+        ensures crash { IfOk result
+            (λ replies. Survives (state S.Store self.old.store) (state S.Store self.new.store)
+            (λ trees. IsTrue (state S.Store self.old.store).is_open
+            × AreAfterSome self.old.state events.now replies.items trees)) }
+        ensures durable { IfOk result
+            (λ replies. Lasts (state S.Store self.old.store) (state S.Store self.new.store) (TellNoWrite replies.items)
+            (AreAfterAnswered self.old.state events.now replies.items)) }
     {
         let mut replies = Vec::with_capacity(alloc, events.len())?;
         self.run_into(alloc, events, &mut replies);
@@ -46,7 +52,9 @@ impl<S: Alter> Database<S> {
     /// are held back are then written together.
     pub fn run_into(&mut self, alloc: Global, events: &[Event], replies: &mut Vec<Reply>)
         requires room { vec_len replies.old + length events.now ≤ vec_capacity replies.old }
-        ensures served { (answers : List Reply) × (length answers ≡ length events.now) × (replies.new.items ≡ replies.old.items ++ answers) × (HasCleanDisk (state S.Store self.new.store) → IsRun self.old.state events.now answers self.new.state) }
+        ensures served { (answers : List Reply) × (length answers ≡ length events.now)
+            × (replies.new.items ≡ replies.old.items ++ answers)
+            × (HasCleanDisk (state S.Store self.new.store) → IsRun self.old.state events.now answers self.new.state) }
         ensures clean { HasCleanDisk (state S.Store self.new.store) → HasCleanDisk (state S.Store self.old.store) }
         ensures capacity { vec_capacity replies.new ≡ vec_capacity replies.old }
 
@@ -56,10 +64,15 @@ impl<S: Alter> Database<S> {
         // that failed may count as served. Once a write was answered, it has the latter, and no
         // event behind them was answered as written. A store that a fault has shut stays shut, and
         // is not written again. The limit of steps stays as it is.
-        ensures left { IsUsable (state S.Store self.new.store) → (trees : Trees) → (state S.Store self.new.store).may_leave trees → AreHeldOf self.new.state trees }
+        ensures left { IsUsable (state S.Store self.new.store) → (trees : Trees)
+            → (state S.Store self.new.store).may_leave trees → AreHeldOf self.new.state trees }
         ensures usable { IsUsable (state S.Store self.new.store) → IsUsable (state S.Store self.old.store) }
-        ensures crash { Survives (state S.Store self.old.store) (state S.Store self.new.store) (λ trees. IsTrue (state S.Store self.old.store).is_open × AreAfterSome self.old.state events.now (drop (length replies.old.items) replies.new.items) trees) }
-        ensures durable { Lasts (state S.Store self.old.store) (state S.Store self.new.store) (TellNoWrite (drop (length replies.old.items) replies.new.items)) (AreAfterAnswered self.old.state events.now (drop (length replies.old.items) replies.new.items)) }
+        ensures crash { Survives (state S.Store self.old.store) (state S.Store self.new.store)
+            (λ trees. IsTrue (state S.Store self.old.store).is_open
+            × AreAfterSome self.old.state events.now (drop (length replies.old.items) replies.new.items) trees) }
+        ensures durable { Lasts (state S.Store self.old.store) (state S.Store self.new.store)
+            (TellNoWrite (drop (length replies.old.items) replies.new.items))
+            (AreAfterAnswered self.old.state events.now (drop (length replies.old.items) replies.new.items)) }
     {
         let mut held = HeldBack::new();
         let are_shared = are_shared(events);
@@ -82,7 +95,11 @@ impl<S: Alter> Database<S> {
     )
         requires room { vec_len replies.old < vec_capacity replies.old }
         requires places { AllByRecursion (λ place. place < vec_len replies.old) held.old.places }
-        ensures batch { (first : Shown S) → (s : State) → (events : List Event) → (before : List Reply) → IsLeftBatch (state S.Store first) (state S.Store self.old.store) s events before replies.old.items held.old self.old.state → IsLeftBatch (state S.Store first) (state S.Store self.new.store) s (events ++ event.now ∷ []) before replies.new.items held.new self.new.state }
+        ensures batch { (first : Shown S) → (s : State) → (events : List Event) → (before : List Reply)
+            → IsLeftBatch (state S.Store first)
+            (state S.Store self.old.store) s events before replies.old.items held.old self.old.state
+            → IsLeftBatch (state S.Store first) (state S.Store self.new.store) s
+            (events ++ event.now ∷ []) before replies.new.items held.new self.new.state }
         ensures len { vec_len replies.new ≡ vec_len replies.old + 1 }
         ensures capacity { vec_capacity replies.new ≡ vec_capacity replies.old }
     {
@@ -99,10 +116,13 @@ impl<S: Alter> Database<S> {
 
     /// Serves one event.
     fn serve(&mut self, alloc: Global, event: &Event) -> Reply
-        ensures served { HasCleanDisk (state S.Store self.new.store) → IsServed self.old.state event.now result self.new.state }
+        ensures served { HasCleanDisk (state S.Store self.new.store)
+            → IsServed self.old.state event.now result self.new.state }
         ensures usable { IsUsable (state S.Store self.new.store) → IsUsable (state S.Store self.old.store) }
-        ensures crash { Survives (state S.Store self.old.store) (state S.Store self.new.store) (λ trees. IsTrue (state S.Store self.old.store).is_open × AreAfterEvent self.old.state event.now trees) }
-        ensures durable { Lasts (state S.Store self.old.store) (state S.Store self.new.store) (tells_write result ≡ false) (AreAfterEvent self.old.state event.now) }
+        ensures crash { Survives (state S.Store self.old.store) (state S.Store self.new.store)
+            (λ trees. IsTrue (state S.Store self.old.store).is_open × AreAfterEvent self.old.state event.now trees) }
+        ensures durable { Lasts (state S.Store self.old.store) (state S.Store self.new.store)
+            (tells_write result ≡ false) (AreAfterEvent self.old.state event.now) }
     {
         match event {
             Event::Statement { session, statement } => self.step(alloc, *session, statement),

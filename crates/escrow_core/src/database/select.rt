@@ -64,9 +64,13 @@ impl<S: Alter> Database<S> {
     ) -> Result<Seq<Seq<Value>>, Failure>
         requires place { place_named self.old.state.catalog text.now.table ≡ Some place }
         requires row { select_refusal_of self.old.state text.now ≡ None }
-        ensures told { HasCleanDisk (state S.Store self.new.store) → IfOk result (λ rows. IsSomeAnd (table_named self.old.state.catalog text.now.table) (λ table. rows ≡ map (values_of table) (filter (is_shown self.old.state.catalog text.now.table text.now.row) self.old.state.rows))) }
+        ensures told { HasCleanDisk (state S.Store self.new.store)
+            → IfOk result (λ rows. IsSomeAnd (table_named self.old.state.catalog text.now.table)
+            (λ table. rows ≡ map (values_of table)
+            (filter (is_shown self.old.state.catalog text.now.table text.now.row) self.old.state.rows))) }
         ensures only_reads { OnlyReads S.Store self.old self.new }
-        ensures open { HasCleanDisk (state S.Store self.new.store) → OnOk result (IsTrue (state S.Store self.new.store).is_open) }
+        ensures open { HasCleanDisk (state S.Store self.new.store)
+            → OnOk result (IsTrue (state S.Store self.new.store).is_open) }
     {
         match &text.row {
             Some(row) => self.keyed(alloc, place, text, row),
@@ -84,9 +88,13 @@ impl<S: Alter> Database<S> {
     ) -> Result<Seq<Seq<Value>>, Failure>
         requires place { place_named self.old.state.catalog text.now.table ≡ Some place }
         requires row { key_refusal_of self.old.state text.now.table row.now ≡ None }
-        ensures told { HasCleanDisk (state S.Store self.new.store) → IfOk result (λ rows. IsSomeAnd (table_named self.old.state.catalog text.now.table) (λ table. rows ≡ map (values_of table) (filter (is_shown self.old.state.catalog text.now.table (Some row.now)) self.old.state.rows))) }
+        ensures told { HasCleanDisk (state S.Store self.new.store)
+            → IfOk result (λ rows. IsSomeAnd (table_named self.old.state.catalog text.now.table)
+            (λ table. rows ≡ map (values_of table)
+            (filter (is_shown self.old.state.catalog text.now.table (Some row.now)) self.old.state.rows))) }
         ensures only_reads { OnlyReads S.Store self.old self.new }
-        ensures open { HasCleanDisk (state S.Store self.new.store) → OnOk result (IsTrue (state S.Store self.new.store).is_open) }
+        ensures open { HasCleanDisk (state S.Store self.new.store)
+            → OnOk result (IsTrue (state S.Store self.new.store).is_open) }
     {
         let name = self.named_by(alloc, place, text.table, row)?;
         let found = self.values(alloc, place, &name)?;

@@ -24,17 +24,22 @@ impl<S: Alter> Database<S> {
     /// Stops at the first COMMIT that fails, because memory is refused or the store refuses. The
     /// entries before it in the plan are done. Its session and those after it are unchanged.
     pub fn settle(&mut self, alloc: Global, plan: &[(Session, End)]) -> Result<Settled, Stop>
-        ensures ok { HasCleanDisk (state S.Store self.new.store) → OnOk result (self.new.state ≡ settled plan.now self.old.state) }
+        ensures ok { HasCleanDisk (state S.Store self.new.store)
+            → OnOk result (self.new.state ≡ settled plan.now self.old.state) }
         ensures counts { IfOk result (λ done. AreCounts plan.now self.old.state.reservations done) }
-        ensures stop { HasCleanDisk (state S.Store self.new.store) → IfErr result (λ stop. IsStop plan.now self.old.state stop self.new.state) }
+        ensures stop { HasCleanDisk (state S.Store self.new.store)
+            → IfErr result (λ stop. IsStop plan.now self.old.state stop self.new.state) }
 
         // After a crash the disk has what it might have had before, or what some first entries of
         // the plan make, if the store was open. Once a reservation was committed, it has what at
         // least the entries that were done make. A store that a fault has shut stays shut, and is
         // not written again. The limit of steps stays as it is.
         ensures usable { IsUsable (state S.Store self.new.store) → IsUsable (state S.Store self.old.store) }
-        ensures crash { Survives (state S.Store self.old.store) (state S.Store self.new.store) (λ trees. IsTrue (state S.Store self.old.store).is_open × AreAfterEnds plan.now self.old.state trees) }
-        ensures durable { Lasts (state S.Store self.old.store) (state S.Store self.new.store) (committed_by (done_of plan.now result) self.old.state.reservations ≡ []) (AreAfterAtLeast (length (done_of plan.now result)) plan.now self.old.state) }
+        ensures crash { Survives (state S.Store self.old.store) (state S.Store self.new.store)
+            (λ trees. IsTrue (state S.Store self.old.store).is_open × AreAfterEnds plan.now self.old.state trees) }
+        ensures durable { Lasts (state S.Store self.old.store) (state S.Store self.new.store)
+            (committed_by (done_of plan.now result) self.old.state.reservations ≡ [])
+            (AreAfterAtLeast (length (done_of plan.now result)) plan.now self.old.state) }
     {
         // The contract of `next_id` says that no more reservations are open than can be counted.
         prove!(self.next_id() != Some(0));

@@ -19,7 +19,8 @@ impl<S: Alter> Database<S> {
     /// UPDATE: reserves changes of RESERVABLE columns, or replaces plain values, by its plan.
     pub(crate) fn update(&mut self, alloc: Global, session: Session, text: &UpdateText) -> Answer
         ensures answers { Answers S.Store session (Statement.Update text.now) self.old result self.new }
-        ensures against { IsTrue (is_judged_first self.old.state (Statement.Update text.now)) → TellsRefusal S.Store session (Statement.Update text.now) self.old result self.new }
+        ensures against { IsTrue (is_judged_first self.old.state (Statement.Update text.now))
+            → TellsRefusal S.Store session (Statement.Update text.now) self.old result self.new }
     {
         let (place, plan) = self.plan(alloc, text)?;
         match plan {
@@ -35,8 +36,10 @@ impl<S: Alter> Database<S> {
     fn plan(&self, alloc: Global, text: &UpdateText) -> Result<(usize, Plan), Refusal>
         ensures place { IfOk result (λ planned. place_named self.now.state.catalog text.now.table ≡ Some planned.0) }
         ensures plan { IfOk result (λ planned. plan_of self.now.state text.now ≡ Some planned.1) }
-        ensures refused { IfErr result (λ refusal. (session : ℕ) → IsRefusal self.now.state session (Statement.Update text.now) refusal) }
-        ensures in_place { (asked : Plan) → plan_of self.now.state text.now ≡ Some asked → IsTrue (is_in_place asked) → IsOk result }
+        ensures refused { IfErr result
+            (λ refusal. (session : ℕ) → IsRefusal self.now.state session (Statement.Update text.now) refusal) }
+        ensures in_place { (asked : Plan) → plan_of self.now.state text.now ≡ Some asked → IsTrue (is_in_place asked)
+            → IsOk result }
     {
         let Some(place) = self.tables.place(text.table) else {
             return Err(Refusal::NoSuchTable);
@@ -62,7 +65,8 @@ impl<S: Alter> Database<S> {
         requires place { place_named self.old.state.catalog text.now.table ≡ Some place }
         requires plan { plan_of self.old.state text.now ≡ Some (Plan.Reserve key changes) }
         ensures answers { Answers S.Store session (Statement.Update text.now) self.old result self.new }
-        ensures against { reserves_beside self.old.state text.now ≡ true → TellsRefusal S.Store session (Statement.Update text.now) self.old result self.new }
+        ensures against { reserves_beside self.old.state text.now ≡ true
+            → TellsRefusal S.Store session (Statement.Update text.now) self.old result self.new }
     {
         let name = RowName {
             table: text.table,

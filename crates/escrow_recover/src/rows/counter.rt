@@ -28,8 +28,11 @@ pub(crate) struct RowCounter<'a> {
 impl RowCounter<'_> {
     /// Counts a row, if the table may have it. Returns whether it may.
     fn count(&mut self, row: &KeyedRow) -> Result<bool, AllocError>
-        ensures done { IfOk result (λ done. IsTrue done → (self.old.rows < MAX_ROWS) × (made : HeldRow) × IsRowWith self.old.table row.now made × (self.new ≡ record self.old { rows = self.old.rows + 1 })) }
-        ensures other { result ≡ Ok false → (self.new ≡ self.old) × (self.old.rows < MAX_ROWS → (made : HeldRow) → IsRowWith self.old.table row.now made → ⊥) }
+        ensures done { IfOk result
+            (λ done. IsTrue done → (self.old.rows < MAX_ROWS) × (made : HeldRow) × IsRowWith self.old.table row.now made
+            × (self.new ≡ record self.old { rows = self.old.rows + 1 })) }
+        ensures other { result ≡ Ok false → (self.new ≡ self.old)
+            × (self.old.rows < MAX_ROWS → (made : HeldRow) → IsRowWith self.old.table row.now made → ⊥) }
     {
         if self.rows >= TableDef::MAX_ROWS {
             return Ok(false);

@@ -47,7 +47,8 @@ pub(super) fn table_of(alloc: Global, row: &Row) -> Result<StoredTable, PartFaul
 /// Returns the columns of a row of TAB, or `None` if a column has a value that TAB never has there.
 fn tab_of(row: &Row) -> Option<Tab<'_>>
     ensures some { IfSome result (λ tab. row.now ≡ tab_with tab.id tab.name.now tab.text.now) }
-    ensures none { result ≡ None → (id : ℤ) (name text : List ℕ) → IsUtf8 name → IsUtf8 text → row.now ≢ tab_with id name text }
+    ensures none { result ≡ None → (id : ℤ) (name text : List ℕ) → IsUtf8 name → IsUtf8 text
+        → row.now ≢ tab_with id name text }
 {
     if row.column_count() != 3 {
         return None;
@@ -111,8 +112,11 @@ fn created_by(alloc: Global, text: &str) -> Result<TableDef, PartFault>
 
 /// Returns the table that a request defines.
 fn defined_in(alloc: Global, request: &Request) -> Result<TableDef, PartFault>
-    ensures table { IfOk result (λ table. (create : Create) × (request.now ≡ requests.Statement (statements.Create create)) × (definition_of create ≡ Some table)) }
-    ensures foreign { result ≡ Err Foreign → (create : Create) → request.now ≡ requests.Statement (statements.Create create) → definition_of create ≡ None }
+    ensures table { IfOk result
+        (λ table. (create : Create) × (request.now ≡ requests.Statement (statements.Create create))
+        × (definition_of create ≡ Some table)) }
+    ensures foreign { result ≡ Err Foreign → (create : Create)
+        → request.now ≡ requests.Statement (statements.Create create) → definition_of create ≡ None }
 {
     let Request::Statement(Statement::Create(create)) = request else {
         return Err(PartFault::Foreign);

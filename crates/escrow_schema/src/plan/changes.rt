@@ -80,7 +80,9 @@ fn changes_of(
     assigns: &[Assign],
 ) -> Result<Option<Changes>, AllocError>
     ensures changes { IfOk result (λ changes. changes ≡ changes_of columns.now assigns.now) }
-    ensures many { IfErr result (λ _. IfSome (changes_of columns.now assigns.now) (λ changes. nat_le (length changes) Changes.IN_PLACE ≡ false)) }
+    ensures many { IfErr result
+        (λ _. IfSome (changes_of columns.now assigns.now)
+        (λ changes. nat_le (length changes) Changes.IN_PLACE ≡ false)) }
 {
     let mut changes = Changes::new(alloc);
     for column in columns {
@@ -110,7 +112,8 @@ fn are_whole(columns: &[Column], assigns: &[Assign]) -> bool
 /// Returns the change of a column, in units of its scale, or `Some(None)` if no change is assigned
 /// to it. Returns `None` if the change isn't a whole number of units, or these are no amount.
 fn change_of(column: &Column, assigns: &[Assign]) -> Option<Option<Amount>>
-    ensures { result ≡ change_at (scale_of column.now.kind) (option_and_then change_in (assigned_to assigns.now column.now.name)) }
+    ensures { result ≡ change_at (scale_of column.now.kind)
+        (option_and_then change_in (assigned_to assigns.now column.now.name)) }
 {
     match change_to(assigns, column.name) {
         Some(change) => Some(Some(change.at_scale(column.scale().get())?)),

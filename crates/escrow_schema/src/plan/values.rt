@@ -78,7 +78,8 @@ pub(crate) fn all_fit(columns: &[Column], key: usize, assigns: &[Assign]) -> boo
 /// Returns whether the literal that is assigned to a column, if one is, fits its type.
 fn fits_assigned(column: &Column, assigns: &[Assign]) -> bool
     requires { IsType column.now.kind }
-    ensures { result ≡ is_some (new_value column.now.kind (option_and_then literal_in (assigned_to assigns.now column.now.name))) }
+    ensures { result ≡ is_some
+        (new_value column.now.kind (option_and_then literal_in (assigned_to assigns.now column.now.name))) }
 {
     match literal_to(assigns, column.name) {
         Some(literal) => column.kind.fits(literal),

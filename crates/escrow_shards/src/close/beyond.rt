@@ -29,7 +29,8 @@ fn beyond(sessions: u16, entries: &[Entry]) -> Option<Session>
 /// Returns what [`beyond`] does, for the entries in the parts of a database.
 fn beyond_in_parts<S: Alter>(database: usize, sessions: u16, parts: &[Part<S>]) -> Option<Session>
     ensures none { IfNone result (AllByRecursion (IsOfSessions sessions) (entries_of (parts_of database parts.now))) }
-    ensures some { IfSome result (λ k. (sessions < k) × (receipts_of k (entries_of (parts_of database parts.now)) ≡ [] → ⊥)) }
+    ensures some { IfSome result
+        (λ k. (sessions < k) × (receipts_of k (entries_of (parts_of database parts.now)) ≡ [] → ⊥)) }
 {
     for part in parts {
         if !part.is_of(database) {
@@ -50,8 +51,10 @@ pub(crate) fn beyond_in_all<S: Alter>(
     parts: &[Part<S>],
     last: &[Entry],
 ) -> Option<Session>
-    ensures none { IfNone result (AllByRecursion (IsOfSessions sessions) (entries_of (parts_of database parts.now) ++ last.now)) }
-    ensures some { IfSome result (λ k. (sessions < k) × (receipts_of k (entries_of (parts_of database parts.now) ++ last.now) ≡ [] → ⊥)) }
+    ensures none { IfNone result
+        (AllByRecursion (IsOfSessions sessions) (entries_of (parts_of database parts.now) ++ last.now)) }
+    ensures some { IfSome result
+        (λ k. (sessions < k) × (receipts_of k (entries_of (parts_of database parts.now) ++ last.now) ≡ [] → ⊥)) }
 {
     if let Some(session) = beyond_in_parts(database, sessions, parts) {
         return Some(session);

@@ -58,7 +58,8 @@ fn lacks_receipts<'a, S: Alter>(
 ) -> Option<&'a Pass>
     requires { AllByRecursion (IsAmong (length closed.now)) passes.now }
     ensures none { IfNone result (AllByRecursion (HasItsReceipts parts.now closed.now) passes.now) }
-    ensures some { IfSome result (λ pass. LacksReceipts pass.now.database pass.now.session passes.now parts.now closed.now) }
+    ensures some { IfSome result
+        (λ pass. LacksReceipts pass.now.database pass.now.session passes.now parts.now closed.now) }
 {
     for pass in passes {
         if !has_its_receipts(closed, parts, pass) {

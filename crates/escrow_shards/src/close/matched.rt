@@ -26,8 +26,11 @@ pub(crate) fn matched(
     entries: &[Entry],
 ) -> Option<usize>
     requires { from ≤ length receipts.now }
-    ensures some { IfSome result (λ end. (end ≤ length receipts.now) × (drop from receipts.now ≡ receipts_of session entries.now ++ drop end receipts.now)) }
-    ensures none { IfNone result ((rest : List Kept) → drop from receipts.now ≡ receipts_of session entries.now ++ rest → ⊥) }
+    ensures some { IfSome result
+        (λ end. (end ≤ length receipts.now)
+        × (drop from receipts.now ≡ receipts_of session entries.now ++ drop end receipts.now)) }
+    ensures none { IfNone result ((rest : List Kept) → drop from receipts.now ≡ receipts_of session entries.now ++ rest
+        → ⊥) }
 {
     let mut next = from;
     for entry in entries {
@@ -53,8 +56,11 @@ fn matched_parts<S: Alter>(
     receipts: &[Receipt],
     parts: &[Part<S>],
 ) -> Option<usize>
-    ensures some { IfSome result (λ end. (end ≤ length receipts.now) × (receipts.now ≡ receipts_of session (entries_of (parts_of database parts.now)) ++ drop end receipts.now)) }
-    ensures none { IfNone result ((rest : List Kept) → receipts.now ≡ receipts_of session (entries_of (parts_of database parts.now)) ++ rest → ⊥) }
+    ensures some { IfSome result
+        (λ end. (end ≤ length receipts.now)
+        × (receipts.now ≡ receipts_of session (entries_of (parts_of database parts.now)) ++ drop end receipts.now)) }
+    ensures none { IfNone result ((rest : List Kept)
+        → receipts.now ≡ receipts_of session (entries_of (parts_of database parts.now)) ++ rest → ⊥) }
 {
     let mut next = 0;
     for part in parts {
@@ -75,7 +81,8 @@ pub(crate) fn all_matched<S: Alter>(
     parts: &[Part<S>],
     last: &[Entry],
 ) -> bool
-    ensures { IsTrue result ↔ (receipts.now ≡ receipts_of session (entries_of (parts_of database parts.now) ++ last.now)) }
+    ensures { IsTrue result ↔ (receipts.now
+        ≡ receipts_of session (entries_of (parts_of database parts.now) ++ last.now)) }
 {
     let Some(next) = matched_parts(database, session, receipts, parts) else {
         return false;

@@ -48,7 +48,9 @@ fn apply_sign(minus: bool, term: Term) -> Term
 impl Cursor<'_> {
     /// `whole [ "*" name ]`
     fn whole_term(&mut self) -> Result<Term, Halt>
-        ensures { Advances self.new.tokens.now result (run (sequence whole (optional None (meaning (λ c. Some c) (symbol symbols.Star then name))) times) self.old.tokens.now) }
+        ensures { Advances self.new.tokens.now result
+            (run (sequence whole (optional None (meaning (λ c. Some c) (symbol symbols.Star then name))) times)
+            self.old.tokens.now) }
     {
         let number = self.whole_number()?;
         if !self.takes_symbol(Symbol::Star) {
@@ -63,7 +65,9 @@ impl Cursor<'_> {
 
     /// `name [ "*" whole ]`
     fn column_term(&mut self) -> Result<Term, Halt>
-        ensures { Advances self.new.tokens.now result (run (sequence name (optional (pos 1) (symbol symbols.Star then whole)) (λ c n. terms.Column n c)) self.old.tokens.now) }
+        ensures { Advances self.new.tokens.now result
+            (run (sequence name (optional (pos 1) (symbol symbols.Star then whole))
+            (λ c n. terms.Column n c)) self.old.tokens.now) }
     {
         let column = self.name()?;
         if !self.takes_symbol(Symbol::Star) {
@@ -95,7 +99,8 @@ impl Cursor<'_> {
 
     /// `[ sign ] term`
     fn first_term(&mut self) -> Result<Term, Halt>
-        ensures { Advances self.new.tokens.now result (run (sequence (optional false sign) term signed) self.old.tokens.now) }
+        ensures { Advances self.new.tokens.now result
+            (run (sequence (optional false sign) term signed) self.old.tokens.now) }
     {
         let minus = self.optional_sign()?;
         let term = self.term()?;
@@ -116,8 +121,10 @@ impl Cursor<'_> {
     /// `"<" | "<=" | ">" | ">=" | "="`, if one comes next.
     #[tactic(auto, unfolding(crate::specs::Statement::comparison))]
     fn takes_comparison(&mut self) -> Option<Comparison>
-        ensures { MatchOption result ((starts (first comparison) self.old.tokens.now ≡ false) × (self.new.tokens.now ≡ self.old.tokens.now))
-            (λ c. (starts (first comparison) self.old.tokens.now ≡ true) × (run comparison self.old.tokens.now ≡ Ok (c, self.new.tokens.now))) }
+        ensures { MatchOption result ((starts (first comparison) self.old.tokens.now ≡ false)
+            × (self.new.tokens.now ≡ self.old.tokens.now))
+            (λ c. (starts (first comparison) self.old.tokens.now ≡ true)
+            × (run comparison self.old.tokens.now ≡ Ok (c, self.new.tokens.now))) }
     {
         if self.takes_symbol(Symbol::Below) {
             Some(Comparison::Below)
@@ -136,7 +143,9 @@ impl Cursor<'_> {
 
     /// `BETWEEN signed_number AND signed_number`
     fn between(&mut self) -> Result<Test, Halt>
-        ensures { Advances self.new.tokens.now result (run (word words.Between then sequence signed_number (word words.And then signed_number) (λ l h. tests.Between l h)) self.old.tokens.now) }
+        ensures { Advances self.new.tokens.now result
+            (run (word words.Between then sequence signed_number (word words.And then signed_number)
+            (λ l h. tests.Between l h)) self.old.tokens.now) }
     {
         self.word(Word::Between)?;
         let low = self.signed_number()?;

@@ -87,7 +87,8 @@ impl Cursor<'_> {
 
     /// `PRIMARY KEY "(" name ")"`
     fn key(&mut self) -> Result<Name, Halt>
-        ensures { Advances self.new.tokens.now result (run (word words.Primary then word words.Key then in_parentheses name) self.old.tokens.now) }
+        ensures { Advances self.new.tokens.now result
+            (run (word words.Primary then word words.Key then in_parentheses name) self.old.tokens.now) }
     {
         self.word(Word::Primary)?;
         self.word(Word::Key)?;

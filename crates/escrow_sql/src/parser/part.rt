@@ -35,7 +35,8 @@ pub(crate) fn read_separated<P: Part>(
     cursor: &mut Cursor,
     separator: &Kind,
 ) -> Result<Seq<P>, Halt>
-    ensures { Advances cursor.new.tokens.now result (run (separated (bare separator.now) P.grammar) cursor.old.tokens.now) }
+    ensures { Advances cursor.new.tokens.now result
+        (run (separated (bare separator.now) P.grammar) cursor.old.tokens.now) }
 {
     let mut parts = Seq::new(alloc);
     'parts: loop {

@@ -65,7 +65,8 @@ impl Cursor<'_> {
     /// `[ where_part ]`
     #[tactic(auto, unfolding(crate::specs::Statement::where_part))]
     fn optional_where(&mut self, alloc: Global) -> Result<Option<WhereText>, Halt>
-        ensures { Advances self.new.tokens.now result (run (optional None (meaning (λ w. Some w) where_part)) self.old.tokens.now) }
+        ensures { Advances self.new.tokens.now result
+            (run (optional None (meaning (λ w. Some w) where_part)) self.old.tokens.now) }
     {
         if !self.is_at_word(Word::Where) {
             return Ok(None);

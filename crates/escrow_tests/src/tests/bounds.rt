@@ -70,7 +70,8 @@ fn reserve(rt: &impl Abort, bounds: &mut Bounds, row: &RowName, values: &[Amount
 /// Counts a reservation.
 fn add(bounds: &mut Bounds, row: &RowName, changes: &[Amount])
     requires { (held : List (List ℤ)) × IsPlaced bounds.old row.now held × (length held < MAX_OPEN) }
-    ensures { (held : List (List ℤ)) → IsPlaced bounds.old row.now held → IsPlaced bounds.new row.now (changes.now ∷ held) }
+    ensures { (held : List (List ℤ)) → IsPlaced bounds.old row.now held
+        → IsPlaced bounds.new row.now (changes.now ∷ held) }
 {
     bounds.add(row, changes);
 }
