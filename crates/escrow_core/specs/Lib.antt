@@ -3,6 +3,7 @@ pub mod Beside
 pub mod Database
 pub mod Ends
 pub mod Inside
+pub mod Laws
 pub mod Left
 pub mod Serves
 pub mod Serving

@@ -72,7 +72,7 @@ impl<S: Alter> Model for Database<S> {
 }
 
 impl<S: Alter> Database<S> {
-    ghost use Rattle.std.specs.Prelude.{◌≡◌, false, IfOk, IfErr, IsTrue, List};
+    ghost use Rattle.std.specs.Prelude.{◌≡◌, false, Some, IfOk, IfErr, IsTrue, List};
     ghost use Rattle.sqlite.specs.Held.{state};
     ghost use Rattle.sqlite.specs.State.{HasCleanDisk, Survives};
     ghost use Rattle.sqlite_trees.specs.Tree.{Trees};
@@ -80,6 +80,7 @@ impl<S: Alter> Database<S> {
     ghost use Rattle.escrow_num.specs.declared.row.Row.{Row};
     ghost use Rattle.escrow_rows.specs.Answers.{IsUsable};
     ghost use Rattle.escrow_num.specs.declared.failure.Failure.TheVariants.{Store};
+    ghost use Rattle.escrow_num.specs.Refusal.{first_refusal};
     ghost use Rattle.escrow_machine.specs.Promised.{asks_store, is_judged_first, is_promised, reads_rows};
     ghost use Rattle.escrow_machine.specs.Reply.{failure_of, is_refused, tells_write};
     ghost use Rattle.escrow_core.specs.Database.{IsKept};
@@ -87,6 +88,7 @@ impl<S: Alter> Database<S> {
     ghost use Rattle.escrow_core.specs.Serving.{Answers, TellsRefusal};
     ghost use Rattle.escrow_machine.specs.State.{has_open, is_open, opened};
     ghost use Rattle.escrow_machine.specs.Step.{step, IsStep, StepOrRefusal};
+    ghost use Rattle.escrow_machine.specs.Transition.{transition_of};
     ghost use Rattle.escrow_machine.specs.Valid.{IsValid};
     ghost use Rattle.escrow_schema.specs.Stored.{catalog_of};
     ghost use Rattle.escrow_recover.specs.Opened.{IsOpened, Stores};
@@ -196,6 +198,12 @@ impl<S: Alter> Database<S> {
             → IsTrue (is_judged_first self.old.state statement.now)
             → (r : Refusal) → (step self.old.state session statement.now).0 ≡ Reply.Refused r
             → result ≡ Reply.Refused r }
+
+        // A statement that a rule without rows refuses meets that refusal, whatever the disk did and
+        // however little memory there is. The store stays as it is.
+        ensures early { (r : Refusal)
+            → first_refusal (transition_of self.old.state session statement.now).early ≡ Some r
+            → (result ≡ Reply.Refused r) × (self.new ≡ self.old) }
 
         // A refusal changes nothing, whatever the store is like.
         ensures refused { IsTrue (is_refused result) → self.new.state ≡ self.old.state }

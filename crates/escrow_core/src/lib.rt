@@ -9,6 +9,7 @@
 #![tactic(auto)]
 
 mod database;
+pub mod laws;
 
 pub use database::Database;
 pub use escrow_machine::{

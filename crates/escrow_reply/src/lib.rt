@@ -10,6 +10,7 @@
 
 mod bounds;
 mod journal;
+pub mod laws;
 mod line;
 mod lines;
 mod push;
