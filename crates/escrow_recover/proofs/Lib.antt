@@ -8,6 +8,10 @@ pub mod OpenedLemmas
 pub mod Opening
 pub mod Owners
 pub mod Parts
+pub mod PrintLength
+pub mod PrintText
+pub mod PrintWrites
+pub mod ReadBack
 pub mod RowOrder
 pub mod RowsMade
 pub mod Split

@@ -12,7 +12,7 @@ use Rattle.escrow_statement.specs.declared.statement.Statement.TheVariants as st
 use Rattle.escrow_schema.specs.declared.table.TableDef.{TableDef}
 use Rattle.escrow_schema.specs.Definition.{IsTable, definition_of}
 use Rattle.escrow_schema.specs.Print.{canonical}
-use Rattle.escrow_readback.proofs.ReadBack.{read_back}
+use Rattle.escrow_recover.proofs.ReadBack.{read_back}
 use Rattle.escrow_schema.specs.declared.stored.StoredTable.{StoredTable}
 use Rattle.escrow_rows.specs.Image.{tab_row}
 use Rattle.escrow_recover.specs.Inside.{AreTablesIn}

@@ -22,7 +22,7 @@ use Rattle.escrow_schema.specs.Definition.{IsTable, definition_of}
 use Rattle.escrow_schema.specs.Print.{canonical}
 use Rattle.escrow_schema.specs.declared.stored.StoredTable.{StoredTable}
 use Rattle.escrow_schema.specs.declared.table.TableDef.{TableDef}
-use Rattle.escrow_readback.proofs.ReadBack.{read_back}
+use Rattle.escrow_recover.proofs.ReadBack.{read_back}
 use Rattle.escrow_rows.specs.Image.{AreTables, tab_row}
 use Rattle.escrow_rows.proofs.Order.{sorted_permutation}
 

@@ -11,7 +11,7 @@ use Rattle.escrow_schema.specs.declared.table.TableDef.{TableDef}
 use Rattle.escrow_schema.specs.Definition.{IsTable}
 use Rattle.escrow_schema.specs.Print.{canonical}
 use Rattle.escrow_schema.proofs.PrintBack.{sound_of}
-use Rattle.escrow_readback.proofs.PrintText.{canonical_text, name_text}
+use Rattle.escrow_recover.proofs.PrintText.{canonical_text, name_text}
 use Rattle.escrow_rows.specs.Image.{tab_row}
 use Rattle.escrow_recover.specs.Tabs.{Defines, IsTab, tab_with}
 use Rattle.escrow_recover.proofs.Only.{defined_by, one_definition}

@@ -6,5 +6,6 @@ pub mod Inside
 pub mod Laws
 pub mod Migrated
 pub mod Opened
+pub mod ReadBack
 pub mod Stored
 pub mod Tabs

@@ -1,5 +1,6 @@
 //! Laws of the tables that a store holds. Each is the contract of a function that does nothing.
 ghost use Rattle.escrow_recover.specs.Laws.{OneIsHeld, HeldIsAStore};
+ghost use Rattle.escrow_recover.specs.ReadBack.{TablesAreReadBack};
 
 /// The contents of a disk hold one catalog, and one list of rows. So what a crash leaves determines
 /// what is found when the store is opened again.
@@ -12,4 +13,10 @@ pub fn one_is_held()
 /// and not refused as no store or as one of another format.
 pub fn held_is_a_store()
     ensures { HeldIsAStore }
+{}
+
+/// The canonical text of a table, which `print_table` writes, asks for a CREATE TABLE that defines
+/// the same table.
+pub fn tables_are_read_back()
+    ensures { TablesAreReadBack }
 {}

@@ -12,7 +12,7 @@
 //! - [`fit_row`] and [`plan_update`] refuse exactly what doesn't fit the table, before they take
 //!   memory.
 //! - [`values_of`] and [`row_of`] turn a row into its values and back.
-//! - [`print_table`] writes the canonical text of a table. By the law of `escrow_readback`, the
+//! - [`print_table`] writes the canonical text of a table. By the law of `escrow_recover`, the
 //!   text is read back as the same table.
 //!
 //! A column's number is a whole number of units of 10^-scale, where the scale is that of the

@@ -15,16 +15,16 @@ use Rattle.escrow_schema.specs.declared.column.Column.{Column}
 use Rattle.escrow_schema.specs.declared.table.TableDef.{TableDef}
 use Rattle.escrow_schema.specs.Column.{names_of, reservables, scales_of}
 use Rattle.escrow_schema.specs.Definition.{IsTable}
-use Rattle.escrow_readback.specs.ReadBack.{ReadsBack}
+use Rattle.escrow_recover.specs.ReadBack.{ReadsBack}
 use Rattle.escrow_schema.specs.Print.{canonical, check_words, columns_words, declared_checks}
 use Rattle.escrow_schema.proofs.ColumnsLemmas.{reservable_types, reservables_written, scales_typed}
 use Rattle.escrow_schema.proofs.DefinedLemmas.{defined}
 use Rattle.escrow_schema.proofs.ListLemmas.{both_parts}
 use Rattle.escrow_schema.proofs.RuleLemmas.{follows_rules}
-use Rattle.escrow_readback.proofs.PrintLength.{IsShort, checks_short, columns_short, length-columns_words, table_length}
+use Rattle.escrow_recover.proofs.PrintLength.{IsShort, checks_short, columns_short, length-columns_words, table_length}
 use Rattle.escrow_schema.proofs.PrintBack.{Sound, follows_tree, sound}
 use Rattle.escrow_schema.proofs.PrintTree.{check_item, columns_tree, items_tree, tree_of}
-use Rattle.escrow_readback.proofs.PrintWrites.{writes_checks, writes_columns, writes_table}
+use Rattle.escrow_recover.proofs.PrintWrites.{writes_checks, writes_columns, writes_table}
 
 -- there is an item if there is a column
 some_item : (columns : List Column) (key : ℕ) (rest : List Item) → 1 ≤ length columns → 1 ≤ length (columns_tree columns 0 key ++ rest)

@@ -1,4 +1,0 @@
-pub mod PrintLength
-pub mod PrintText
-pub mod PrintWrites
-pub mod ReadBack
