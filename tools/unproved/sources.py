@@ -12,7 +12,7 @@ PROGRAM = "escrowd"
 # What `rt` reads at the top beside the crates.
 CRATES, HANDLES = "crates.txt", "HANDLES"
 # Where the version of the program is, and what stands behind it in a program without a proof.
-VERSION_FILE = "crates/escrow_args/src/args.rt"
+VERSION_FILE = "crates/escrow_server/src/args.rt"
 VERSION = re.compile(r'(?m)^(const VERSION: &str = "[0-9.]+)(";)$')
 MARK = "(unproved)"
 

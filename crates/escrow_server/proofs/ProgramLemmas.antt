@@ -10,15 +10,15 @@ use Rattle.std.proofs.lemmas.Bool.{true≢false}
 use Rattle.std.proofs.lemmas.Option.{IfSome_then}
 use Rattle.escrow_num.specs.declared.session.TheConstants.Session.{MAX_SHARED}
 use Rattle.escrow_machine.specs.State.{State}
-use Rattle.escrow_args.specs.declared.args.ArgFault.{ArgFault}
-use Rattle.escrow_args.specs.declared.args.Mode.{Mode}
-use Rattle.escrow_args.specs.declared.args.Mode.TheVariants as mode
+use Rattle.escrow_server.specs.declared.args.ArgFault.{ArgFault}
+use Rattle.escrow_server.specs.declared.args.Mode.{Mode}
+use Rattle.escrow_server.specs.declared.args.Mode.TheVariants as mode
 use Rattle.escrow_server.specs.declared.fault.RunFault.{RunFault}
 use Rattle.escrow_server.specs.declared.fault.RunFault.TheVariants as run_fault
-use Rattle.escrow_args.specs.Args.{no_memory}
+use Rattle.escrow_server.specs.Args.{no_memory}
 use Rattle.escrow_server.specs.Free.{RunsFree}
 use Rattle.escrow_serve.specs.Output.{ServesAll, ServesWhole, StopsWithin}
-use Rattle.escrow_files.specs.Files.{file_of}
+use Rattle.escrow_server.specs.Files.{file_of}
 use Rattle.escrow_server.specs.Program.{empty_states, migrated_line, run_status, AreLinesOf, EndsFree, EndsInMemory, EndsInTurn, EndsOverFiles, IsQuiet, SaysReason, SaysWhy, Stops, TellsOfMigrated, TellsOfStoresAlone, WritesPrefix, WritesNothing}
 use Rattle.escrow_script.proofs.WrittenLemmas.{appends_more, appends_none}
 

@@ -10,9 +10,9 @@ use Rattle.escrow_recover.specs.Holds.{Holds}
 use Rattle.escrow_recover.specs.Migrated.{HoldsInFormat1}
 use Rattle.escrow_num.specs.declared.session.TheConstants.Session.{MAX_SHARED}
 use Rattle.escrow_machine.specs.State.{State, empty, opened}
-use Rattle.escrow_args.specs.declared.args.Mode.{Mode}
-use Rattle.escrow_args.specs.declared.args.Mode.TheVariants as mode
-use Rattle.escrow_files.specs.Files.{file_of}
+use Rattle.escrow_server.specs.declared.args.Mode.{Mode}
+use Rattle.escrow_server.specs.declared.args.Mode.TheVariants as mode
+use Rattle.escrow_server.specs.Files.{file_of}
 use Rattle.escrow_server.specs.declared.fault.RunFault.{RunFault}
 use Rattle.escrow_server.specs.declared.fault.RunFault.TheVariants as run_fault
 use Rattle.escrow_script.specs.declared.fault.ServeFault.{ServeFault}

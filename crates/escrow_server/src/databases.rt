@@ -7,8 +7,9 @@ ghost use Rattle.escrow_serve.specs.Output.{states_of, HaveCleanDisks};
 ghost use Rattle.escrow_server.specs.Program.{run_status, AreFound, IsFound, StartsAs};
 
 use crate::fault::RunFault;
+use crate::site::Site;
+use crate::stores::{CloseFault, OpenFault, OpenStore, Opened, close};
 use escrow_core::Database;
-use escrow_files::{CloseFault, OpenFault, OpenStore, Opened, Site, close};
 use escrow_recover::migrate;
 use escrow_script::{MAX_DATABASES, database_name};
 use sqlite::{Alter, Connection, File, FileStore};

@@ -1,4 +1,4 @@
-use escrow_files::OpenFault;
+use crate::stores::OpenFault;
 use escrow_free::FreeFault;
 use escrow_script::ServeFault;
 

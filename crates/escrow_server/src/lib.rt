@@ -9,6 +9,7 @@
 //! which shows the progress of a script.
 #![tactic(auto)]
 
+mod args;
 mod databases;
 mod drawing;
 mod fault;
@@ -17,11 +18,10 @@ mod monitor;
 mod opened;
 mod program;
 mod screen;
+mod site;
+mod stores;
 
-pub use escrow_args::{ArgFault, Args, Mode, read_args};
-pub use escrow_files::{
-    CloseFault, InFiles, InMemory, OpenFault, OpenStore, Opened, Outlook, Site,
-};
+pub use args::{ArgFault, Args, Mode, read_args};
 pub use escrow_free::{FreeFault, serve_free};
 pub use escrow_script::{
     MAX_DATABASES, MAX_LINE, MAX_READS, MAX_SCRIPT, MAX_STREAM, ReadFault, ServeFault, WriteFault,
@@ -30,3 +30,5 @@ pub use escrow_serve::{serve_lines, serve_script};
 pub use monitor::Monitor;
 pub use program::{read_line, run_at_once, run_in_turn};
 pub use screen::{NO_SCREEN, NoScreen, Screen, Terminal};
+pub use site::{Outlook, Site};
+pub use stores::{CloseFault, InFiles, InMemory, OpenFault, OpenStore, Opened};

@@ -9,10 +9,10 @@ ghost use Rattle.escrow_server.specs.Opened.{IsOpened};
 ghost use Rattle.escrow_serve.specs.Ran.{ScriptRan};
 ghost use Rattle.escrow_server.specs.Program.{run_status, LeftBy, Stops, WritesNothing};
 
+use crate::args::{Args, Mode};
 use crate::fault::RunFault;
 use crate::free::serve_phases;
 use crate::screen::Screen;
-use escrow_args::{Args, Mode};
 use escrow_core::Database;
 use escrow_script::MAX_DATABASES;
 use escrow_serve::{serve_lines, serve_script};

@@ -1,21 +1,22 @@
 ghost use Rattle.std.specs.Prelude.{◌≡◌, ◌≢◌, ◌⊎◌, ◌≤◌, ◌<◌, ◌++◌, [], List, Some, None, map, codes, string_bytes, vec_len, IfErr, IfOk, IfSome, IsErrAnd, IsSome, MatchResult, OnOk};
 ghost use Rattle.std.specs.Io.KnownBytes.{Appends};
 ghost use Rattle.std.specs.Process.{exit_status};
-ghost use Rattle.escrow_args.specs.declared.args.Args.{Args};
-ghost use Rattle.escrow_args.specs.Args.{asked_by, refused_status};
+ghost use Rattle.escrow_server.specs.declared.args.Args.{Args};
+ghost use Rattle.escrow_server.specs.Args.{asked_by, refused_status};
 ghost use Rattle.escrow_cells.specs.Tables.{no_schema};
-ghost use Rattle.escrow_files.specs.Files.{file_of};
+ghost use Rattle.escrow_server.specs.Files.{file_of};
 ghost use Rattle.escrow_memory.specs.Store.{over_blocks};
 ghost use Rattle.escrow_serve.specs.Output.{states_of, HaveCleanDisks};
 ghost use Rattle.escrow_server.specs.Program.{migrated_line, run_status, unread_status, AreFound, AreLinesOf, EndsInMemory, EndsOverFiles, IsQuiet, SaysReason, SaysWhy, TellsOfMigrated, TellsOfStoresAlone, WritesPrefix, WritesNothing};
 
+use crate::args::{ArgFault, Args, Mode, read_args};
 use crate::databases::{Unclosed, close_databases, open_databases};
 use crate::fault::RunFault;
 use crate::opened::{serve_at_once, serve_in_turn};
 use crate::screen::Screen;
-use escrow_args::{ArgFault, Args, Mode, read_args};
+use crate::site::Site;
+use crate::stores::{CloseFault, InFiles, InMemory, file_of};
 use escrow_core::Database;
-use escrow_files::{CloseFault, InFiles, InMemory, Site, file_of};
 use escrow_memory::BlockStore;
 use escrow_script::{MAX_DATABASES, database_name, write_whole};
 use sqlite::{File, FileStore};

@@ -1,7 +1,7 @@
 use Rattle.std.proofs.Common.{◌≡◌, ap, ◌∙◌}
 use Rattle.std.specs.Prelude.{string_bytes}
 use Rattle.std.proofs.lemmas.Result.{IfOk-weaker}
-use Rattle.escrow_files.specs.Files.{file_of}
+use Rattle.escrow_server.specs.Files.{file_of}
 use Rattle.escrow_server.specs.Program.{migrated_line}
 use Rattle.escrow_server.proofs.program.migrated_line.Goals as goal
 

@@ -1,6 +1,6 @@
 use Rattle.std.proofs.Common.{◌≡◌, map, ap, inl, inr, ◌∙◌, arith}
-use Rattle.escrow_args.specs.Args.{refused_status}
-use Rattle.escrow_args.specs.declared.args.ArgFault.{ArgFault}
+use Rattle.escrow_server.specs.Args.{refused_status}
+use Rattle.escrow_server.specs.declared.args.ArgFault.{ArgFault}
 use Rattle.escrow_script.proofs.WrittenLemmas.{appends_none}
 use Rattle.escrow_server.proofs.ProgramLemmas.{not_helped, status_refused}
 use Rattle.escrow_server.proofs.program.read_words.Goals as goal

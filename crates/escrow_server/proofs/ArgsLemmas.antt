@@ -12,11 +12,11 @@ use Rattle.clap.specs.declared.error.kind.ErrorKind.{ErrorKind}
 use Rattle.clap.specs.declared.error.kind.ErrorKind.TheVariants as kind
 use Rattle.std.specs.Prelude.{codes, nat_le}
 use Rattle.std.proofs.lemmas.Bool.Decides.{nat_tests}
-use Rattle.escrow_args.specs.declared.args.ArgFault.{ArgFault}
-use Rattle.escrow_args.specs.declared.args.Mode.{Mode}
-use Rattle.escrow_args.proofs.ArgsFaults.{IsOne}
+use Rattle.escrow_server.specs.declared.args.ArgFault.{ArgFault}
+use Rattle.escrow_server.specs.declared.args.Mode.{Mode}
+use Rattle.escrow_server.proofs.ArgsFaults.{IsOne}
 use Rattle.escrow_script.specs.declared.limits.TheConstants.{MAX_DATABASES}
-use Rattle.escrow_args.specs.Args.{status_at, allowed, databases_of, mode_of, no_memory, number_or_zero, sessions_of, status_of, values_ask}
+use Rattle.escrow_server.specs.Args.{status_at, allowed, databases_of, mode_of, no_memory, number_or_zero, sessions_of, status_of, values_ask}
 
 -- values without a mode ask for nothing
 pub no_mode : (rows : List Row) → mode_of (first_of (codes "mode") rows) ≡ None → values_ask rows ≡ None

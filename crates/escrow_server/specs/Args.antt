@@ -10,10 +10,10 @@ use Rattle.clap.specs.Faults.{fault_of}
 use Rattle.clap.specs.declared.builder.action.ArgAction.TheVariants.{Set}
 use Rattle.clap.specs.declared.error.kind.ErrorKind.{ErrorKind}
 use Rattle.clap.specs.declared.error.kind.ErrorKind.TheVariants as kind
-use Rattle.escrow_args.specs.declared.args.ArgFault.{ArgFault}
-use Rattle.escrow_args.specs.declared.args.Args.{Args}
-use Rattle.escrow_args.specs.declared.args.Mode.{Mode}
-use Rattle.escrow_args.specs.declared.args.Mode.TheVariants as mode
+use Rattle.escrow_server.specs.declared.args.ArgFault.{ArgFault}
+use Rattle.escrow_server.specs.declared.args.Args.{Args}
+use Rattle.escrow_server.specs.declared.args.Mode.{Mode}
+use Rattle.escrow_server.specs.declared.args.Mode.TheVariants as mode
 use Rattle.escrow_num.specs.declared.session.TheConstants.Session.{MAX_SHARED}
 use Rattle.escrow_script.specs.declared.limits.TheConstants.{MAX_DATABASES}
 

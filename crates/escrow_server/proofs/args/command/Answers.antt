@@ -2,8 +2,8 @@ use Rattle.std.proofs.Common.{◌≡◌, ◌∙◌, ap, ap₂}
 use Rattle.std.proofs.lemmas.Result.{IfOk-weaker}
 use Rattle.clap.specs.Words.{app_of, with_rule}
 use Rattle.clap.specs.Simple.{app_of_fields}
-use Rattle.escrow_args.specs.Args.{with_version}
-use Rattle.escrow_args.proofs.args.command.Goals as goal
+use Rattle.escrow_server.specs.Args.{with_version}
+use Rattle.escrow_server.proofs.args.command.Goals as goal
 
 pub returns : goal.returns
 returns c =

@@ -3,9 +3,9 @@ use Rattle.std.specs.Prelude.{codes}
 use Rattle.clap.specs.Walk.{first_of}
 use Rattle.clap.specs.Words.{found_of, rows_of}
 use Rattle.clap.proofs.WalkLemmas.{first_value-rows}
-use Rattle.escrow_args.specs.Args.{databases_of, mode_of, sessions_of, values_ask}
-use Rattle.escrow_args.proofs.ArgsLemmas.{all_asked, no_mode, no_number, no_sessions, wrong_value}
-use Rattle.escrow_args.proofs.args.asked.Goals as goal
+use Rattle.escrow_server.specs.Args.{databases_of, mode_of, sessions_of, values_ask}
+use Rattle.escrow_server.proofs.ArgsLemmas.{all_asked, no_mode, no_number, no_sessions, wrong_value}
+use Rattle.escrow_server.proofs.args.asked.Goals as goal
 
 pub returns-in_default-clause-values : goal.returns-in_default-clause-values
 returns-in_default-clause-values c =

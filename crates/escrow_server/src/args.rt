@@ -1,7 +1,8 @@
+//! The arguments of the program, by clap's definition of a simple command.
 ghost use Rattle.std.specs.Prelude.{◌≡◌, ◌≤◌, ◌⊎◌, false, Some, None, map, option_map, IfOk, IfSome, IsErrAnd, MatchResult};
 ghost use Rattle.clap.specs.Words.{FailsBy, app_of, found_of, kind_of, matches_of, rows_of, rule_of};
-ghost use Rattle.escrow_args.specs.declared.args.Args.{Args};
-ghost use Rattle.escrow_args.specs.Args.{app, asked_by, databases_of, databases_rule, faults_of, mode_of, mode_rule, no_memory, refused_status, sessions_of, sessions_rule, some_sessions, status_of, store_rule, values_ask};
+ghost use Rattle.escrow_server.specs.declared.args.Args.{Args};
+ghost use Rattle.escrow_server.specs.Args.{app, asked_by, databases_of, databases_rule, faults_of, mode_of, mode_rule, no_memory, refused_status, sessions_of, sessions_rule, some_sessions, status_of, store_rule, values_ask};
 
 use clap::error::ErrorKind;
 use clap::{Arg, ArgAction, ArgMatches, Command, Error};

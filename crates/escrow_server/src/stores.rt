@@ -4,7 +4,7 @@ ghost use Rattle.sqlite.specs.Effect.{Database};
 ghost use Rattle.sqlite.specs.Held.{state};
 ghost use Rattle.escrow_cells.specs.Tables.{no_schema};
 ghost use Rattle.escrow_rows.specs.Answers.{IsUsable};
-ghost use Rattle.escrow_files.specs.Files.{file_of};
+ghost use Rattle.escrow_server.specs.Files.{file_of};
 
 use crate::site::{Outlook, Site};
 use escrow_memory::BlockStore;

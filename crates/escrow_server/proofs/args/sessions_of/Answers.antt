@@ -1,7 +1,7 @@
 use Rattle.std.proofs.Common.{◌≡◌, ◌∙◌, ap, ap₂, sym, option_map}
-use Rattle.escrow_args.specs.Args.{number_or_zero, sessions_of, some_sessions}
-use Rattle.escrow_args.proofs.ArgsLemmas.{number_read}
-use Rattle.escrow_args.proofs.args.sessions_of.Goals as goal
+use Rattle.escrow_server.specs.Args.{number_or_zero, sessions_of, some_sessions}
+use Rattle.escrow_server.proofs.ArgsLemmas.{number_read}
+use Rattle.escrow_server.proofs.args.sessions_of.Goals as goal
 
 pub returns-in-Serve : goal.returns-in-Serve
 returns-in-Serve c =

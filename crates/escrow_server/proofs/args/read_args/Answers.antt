@@ -1,9 +1,9 @@
 use Rattle.std.proofs.Common.{map}
 use Rattle.clap.specs.Words.{kind_of}
-use Rattle.escrow_args.specs.Args.{faults_of}
-use Rattle.escrow_args.proofs.ArgsFaults.{one_fault}
-use Rattle.escrow_args.proofs.ArgsLemmas.{status_among}
-use Rattle.escrow_args.proofs.args.read_args.Goals as goal
+use Rattle.escrow_server.specs.Args.{faults_of}
+use Rattle.escrow_server.proofs.ArgsFaults.{one_fault}
+use Rattle.escrow_server.proofs.ArgsLemmas.{status_among}
+use Rattle.escrow_server.proofs.args.read_args.Goals as goal
 
 pub returns-in-Err-clause-refused : goal.returns-in-Err-clause-refused
 returns-in-Err-clause-refused g c none =

@@ -2,8 +2,8 @@ use Rattle.std.proofs.Common.{◌≡◌, ◌==◌, ◌+◌, ℕ, Bool, false, �
 use Rattle.std.specs.Prelude.{codes, decimal, string_bytes}
 use Rattle.std.proofs.lemmas.Bool.{ne_eqb}
 use Rattle.std.proofs.lemmas.Result.{IfOk-weaker}
-use Rattle.escrow_files.specs.Files.{file_of}
-use Rattle.escrow_files.proofs.stores.file_of.Goals as goal
+use Rattle.escrow_server.specs.Files.{file_of}
+use Rattle.escrow_server.proofs.stores.file_of.Goals as goal
 
 pub returns-else-place-eq0 : goal.returns-else-place-eq0
 returns-else-place-eq0 c =

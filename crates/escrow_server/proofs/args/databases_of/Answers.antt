@@ -1,10 +1,10 @@
 use Rattle.std.proofs.Common.{rules, ◌≡◌, ◌∙◌, ap, sym, option_map}
 use Rattle.clap.specs.Walk.{byte_or_zero}
 use Rattle.clap.proofs.WalkLemmas.{byte_read}
-use Rattle.escrow_args.specs.Args.{allowed, databases_of}
-use Rattle.escrow_args.proofs.ArgsLemmas.{above, below, within}
-use Rattle.escrow_args.proofs.args.databases_of.Goals.{else-count-ge1-via-then-count-ge1+else-count-le-MAX_DATABASES, else-count-ge1-via-else-count-ge1}
-use Rattle.escrow_args.proofs.args.databases_of.Goals as goal
+use Rattle.escrow_server.specs.Args.{allowed, databases_of}
+use Rattle.escrow_server.proofs.ArgsLemmas.{above, below, within}
+use Rattle.escrow_server.proofs.args.databases_of.Goals.{else-count-ge1-via-then-count-ge1+else-count-le-MAX_DATABASES, else-count-ge1-via-else-count-ge1}
+use Rattle.escrow_server.proofs.args.databases_of.Goals as goal
 
 pub returns-then-count-le-MAX_DATABASES-clause-value : goal.returns-then-count-le-MAX_DATABASES-clause-value
 returns-then-count-le-MAX_DATABASES-clause-value c =

@@ -15,7 +15,7 @@ use Rattle.clap.specs.declared.builder.action.ArgAction.{ArgAction}
 use Rattle.clap.specs.declared.builder.action.ArgAction.TheVariants.{Set, Append, SetTrue, SetFalse, Count, Help, HelpShort, HelpLong, Version}
 use Rattle.clap.specs.declared.builder.value_parser.ValueParser.{ValueParser}
 use Rattle.clap.specs.declared.error.kind.ErrorKind.TheVariants as kind
-use Rattle.escrow_args.specs.Args.{app, faults_of}
+use Rattle.escrow_server.specs.Args.{app, faults_of}
 
 -- no kind, or one
 abbrev pub IsOne : Kinds → Type 0

@@ -1,2 +1,0 @@
-pub mod ArgsFaults
-pub mod ArgsLemmas
