@@ -8,7 +8,13 @@ unit_form columns place = slice_set (replicate columns (pos 0)) place (pos 1)
 
 -- a check that a row always meets, whose form is a column
 abbrev pub column_check : ℕ → ℕ → Check
-column_check columns place = record { name = codes "COLUMN"; coeffs = unit_form columns place; scale = 0; span = record { lo = None; hi = None } }
+column_check columns place =
+    record {
+      name = codes "COLUMN";
+      coeffs = unit_form columns place;
+      scale = 0;
+      span = record { lo = None; hi = None };
+    }
 
 -- those of the first columns
 abbrev pub column_checks : ℕ → ℕ → List Check

@@ -21,7 +21,8 @@ tab_text = codes "CREATE TABLE TAB(ID INTEGER PRIMARY KEY, NAME TEXT NOT NULL UN
 
 -- the text that makes CELL: values, each with the number of its table, the key of its row and the place of its column
 abbrev pub cell_text : List ℕ
-cell_text = codes "CREATE TABLE CELL(TAB INTEGER NOT NULL, K ANY NOT NULL, C INTEGER NOT NULL, V ANY NOT NULL, PRIMARY KEY(TAB, K, C)) STRICT"
+cell_text =
+    codes "CREATE TABLE CELL(TAB INTEGER NOT NULL, K ANY NOT NULL, C INTEGER NOT NULL, V ANY NOT NULL, PRIMARY KEY(TAB, K, C)) STRICT"
 
 -- a column that is NOT NULL
 abbrev pub filled : List ℕ → Kind → Column
@@ -60,17 +61,25 @@ cell_tree = 4
 
 -- META as SQLite understands its text: no column is NULL, and no two rows have the same K
 abbrev pub meta : Table
-meta = table_of (codes "META") meta_tree (filled (codes "K") kind.Text ∷ filled (codes "V") kind.Integer ∷ []) None (1 ∷ []) ((1 ∷ []) ∷ [])
+meta =
+    table_of (codes "META") meta_tree (filled (codes "K") kind.Text ∷ filled (codes "V") kind.Integer ∷ []) None
+    (1 ∷ []) ((1 ∷ []) ∷ [])
 
 -- TAB as SQLite understands its text: the ID is SQLite's own number of the row, NAME and DDL aren't NULL, and no two
 -- rows have the same NAME
 abbrev pub tab : Table
-tab = table_of (codes "TAB") tab_tree (record (filled (codes "ID") kind.Integer) { not_null = false } ∷ filled (codes "NAME") kind.Text ∷ filled (codes "DDL") kind.Text ∷ []) (Some 0) (0 ∷ []) ((2 ∷ []) ∷ [])
+tab =
+    table_of (codes "TAB") tab_tree
+    (record (filled (codes "ID") kind.Integer) { not_null = false } ∷ filled (codes "NAME") kind.Text
+    ∷ filled (codes "DDL") kind.Text ∷ []) (Some 0) (0 ∷ []) ((2 ∷ []) ∷ [])
 
 -- CELL as SQLite understands its text: no column is NULL, K and V take values of any type, and no two rows have the
 -- same TAB, K and C
 abbrev pub cell : Table
-cell = table_of (codes "CELL") cell_tree (filled (codes "TAB") kind.Integer ∷ filled (codes "K") kind.Any ∷ filled (codes "C") kind.Integer ∷ filled (codes "V") kind.Any ∷ []) None (1 ∷ 2 ∷ 3 ∷ []) ((1 ∷ 2 ∷ 3 ∷ []) ∷ [])
+cell =
+    table_of (codes "CELL") cell_tree
+    (filled (codes "TAB") kind.Integer ∷ filled (codes "K") kind.Any ∷ filled (codes "C") kind.Integer
+    ∷ filled (codes "V") kind.Any ∷ []) None (1 ∷ 2 ∷ 3 ∷ []) ((1 ∷ 2 ∷ 3 ∷ []) ∷ [])
 
 -- the schema of a store: the three tables, and any objects that were made after them
 abbrev pub beside : List Table → List Index → List View → Schema

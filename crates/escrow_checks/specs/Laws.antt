@@ -101,7 +101,8 @@ pub record AreNamed (texts : List CheckText) (names : List (List ℕ)) : Type 0 
   -- a condition of a CHECK without a name is called CHECK_ and its place among all conditions, counted from 1
   pub unnamed : (i j : ℕ) (text : CheckText) → slice_get texts i ≡ Some text → text.name ≡ None
       → j < length text.conditions
-      → slice_get names (conditions_before texts i + j) ≡ Some (codes "CHECK_" ++ decimal (conditions_before texts i + j + 1))
+      → slice_get names (conditions_before texts i + j)
+      ≡ Some (codes "CHECK_" ++ decimal (conditions_before texts i + j + 1))
 
 -- the checks that CHECKs declare have these names
 abbrev pub ChecksAreNamed : Type 0

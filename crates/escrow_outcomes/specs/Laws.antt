@@ -41,9 +41,11 @@ OutputIsAFunction =
 
 -- a restart that is done shows no failure, and one that fails does. Both may be written
 pub record FailuresShow (s : State) : Type 0 where
-  pub served : WritesLines 1 (s ∷ []) (codes "@restart bank" ∷ []) (rendered_whole (codes "bank") reply.Restarted) (opened s.catalog s.rows ∷ [])
+  pub served : WritesLines 1 (s ∷ []) (codes "@restart bank" ∷ []) (rendered_whole (codes "bank") reply.Restarted)
+      (opened s.catalog s.rows ∷ [])
   pub shows_none : ¬ (ShowsFailure (rendered_whole (codes "bank") reply.Restarted))
-  pub failed : WritesLines 1 (s ∷ []) (codes "@restart bank" ∷ []) (rendered_whole (codes "bank") (reply.Refused refusal.Memory)) (s ∷ [])
+  pub failed : WritesLines 1 (s ∷ []) (codes "@restart bank" ∷ [])
+      (rendered_whole (codes "bank") (reply.Refused refusal.Memory)) (s ∷ [])
   pub shows : ShowsFailure (rendered_whole (codes "bank") (reply.Refused refusal.Memory))
 
 abbrev pub RestartsShow : Type 0

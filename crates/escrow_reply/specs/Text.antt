@@ -62,7 +62,9 @@ side_text side.High = codes "high"
 
 -- a limit that could be broken: the check, the side, the worst value, the limit, both with the check's scale
 abbrev pub violation_text : Violation → List ℕ
-violation_text b = b.check ++ codes " " ++ side_text b.side ++ codes " " ++ scaled_text b.scale b.worst ++ codes " limit " ++ scaled_text b.scale b.limit
+violation_text b =
+    b.check ++ codes " " ++ side_text b.side ++ codes " " ++ scaled_text b.scale b.worst ++ codes " limit "
+    ++ scaled_text b.scale b.limit
 
 -- the words for a refusal
 abbrev pub refusal_text : Refusal → List ℕ
@@ -98,7 +100,8 @@ refusal_text refusal.UnknownVersion = codes "unknown version"
 -- a column's bounds, with its scale: its committed value, and the least and the greatest value that it can have
 unfoldable pub column_text : ColumnBounds → List ℕ
 column_text b =
-    b.column ++ codes " value " ++ scaled_text b.scale b.value ++ codes " inf " ++ scaled_text b.scale b.inf ++ codes " sup " ++ scaled_text b.scale b.sup
+    b.column ++ codes " value " ++ scaled_text b.scale b.value ++ codes " inf " ++ scaled_text b.scale b.inf
+    ++ codes " sup " ++ scaled_text b.scale b.sup
 
 -- a limit in units of a scale, if there is one
 abbrev pub limit_text : ℕ → Option ℤ → List ℕ
@@ -108,14 +111,16 @@ limit_text scale (Some limit) = scaled_text scale limit
 -- a check's bounds, with its scale: the least and the greatest value of its form, and its limits
 unfoldable pub check_text : CheckBounds → List ℕ
 check_text b =
-    codes "CHECK " ++ b.check ++ codes " least " ++ scaled_text b.scale b.least ++ codes " greatest " ++ scaled_text b.scale b.greatest
+    codes "CHECK " ++ b.check ++ codes " least " ++ scaled_text b.scale b.least ++ codes " greatest "
+    ++ scaled_text b.scale b.greatest
     ++ codes " low " ++ limit_text b.scale b.limits.lo ++ codes " high " ++ limit_text b.scale b.limits.hi
 
 -- OPEN RESERVATIONS
 
 -- a change in units of a scale, with its sign: a plus if it isn't negative
 abbrev pub signed_text : ℕ → ℤ → List ℕ
-signed_text scale change = if is_negative change then scaled_text scale change else codes "+" ++ scaled_text scale change
+signed_text scale change =
+    if is_negative change then scaled_text scale change else codes "+" ++ scaled_text scale change
 
 -- the change of a column, with its scale
 abbrev pub change_text : ColumnChange → List ℕ
@@ -125,7 +130,8 @@ change_text c = codes " " ++ c.column ++ codes " " ++ signed_text c.scale c.chan
 -- key has the scale of the key's column
 unfoldable pub entry_text : JournalEntry → List ℕ
 entry_text e =
-    decimal e.id ++ codes " session " ++ decimal e.session ++ codes " " ++ e.row.table ++ codes " " ++ value_text e.key_scale e.row.key
+    decimal e.id ++ codes " session " ++ decimal e.session ++ codes " " ++ e.row.table ++ codes " "
+    ++ value_text e.key_scale e.row.key
     ++ flat_map change_text e.changes
 
 -- REPLIES

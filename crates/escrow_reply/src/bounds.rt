@@ -42,7 +42,8 @@ impl Shown for CheckBounds {
 
 /// Adds the limits of a check, in units of its scale.
 fn push_limits(line: &mut Vec<u8>, limits: Span, scale: Scale) -> Result<(), AllocError>
-    ensures { OnOk result (line.new.items ≡ line.old.items ++ (codes " low " ++ limit_text scale limits.lo ++ codes " high " ++ limit_text scale limits.hi)) }
+    ensures { OnOk result (line.new.items ≡ line.old.items
+        ++ (codes " low " ++ limit_text scale limits.lo ++ codes " high " ++ limit_text scale limits.hi)) }
 {
     push_limit(line, " low ", limits.lo, scale)?;
     push_limit(line, " high ", limits.hi, scale)

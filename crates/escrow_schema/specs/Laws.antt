@@ -170,7 +170,8 @@ ValuesFit =
 pub record HasCheckNames (text : CreateText) (table : TableDef) : Type 0 where
   pub declared : List (List ℕ)
   pub of_text : AreNamed (checks_in text.items) declared
-  pub names : check_names table.checks ≡ declared ++ map (λ (column : Column). codes "RANGE_" ++ column.name) (reservables table.columns)
+  pub names : check_names table.checks ≡ declared ++ map
+      (λ (column : Column). codes "RANGE_" ++ column.name) (reservables table.columns)
   pub apart : (i k : ℕ) (name : List ℕ) → slice_get (check_names table.checks) i ≡ Some name
       → slice_get (check_names table.checks) k ≡ Some name → i ≡ k
 

@@ -27,7 +27,8 @@ marks_words is_key reservable = if is_key then codes " PRIMARY KEY" else if rese
 
 -- a column: its name, its type, its mark
 abbrev pub column_words : Bool → Column → List ℕ
-column_words is_key column = (column.name ++ (codes " " ++ type_words column.kind)) ++ marks_words is_key column.reservable
+column_words is_key column =
+    (column.name ++ (codes " " ++ type_words column.kind)) ++ marks_words is_key column.reservable
 
 -- columns in order; the first has this place
 abbrev pub columns_words : List Column → ℕ → ℕ → List (List ℕ)
@@ -71,7 +72,8 @@ condition_words names scales check =
 
 -- a declared check, over the RESERVABLE columns of these names and scales
 unfoldable pub check_words : List (List ℕ) → List ℕ → Check → List ℕ
-check_words names scales check = (codes "CONSTRAINT " ++ check.name) ++ (codes " CHECK (" ++ (condition_words names scales check ++ codes ")"))
+check_words names scales check =
+    (codes "CONSTRAINT " ++ check.name) ++ (codes " CHECK (" ++ (condition_words names scales check ++ codes ")"))
 
 -- the declared checks of a table: those before the ranges of its RESERVABLE columns
 abbrev pub declared_checks : TableDef → List Check

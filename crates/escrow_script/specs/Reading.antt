@@ -40,7 +40,8 @@ named_place databases bytes =
 
 -- the place of the database to restart
 abbrev pub restart_of : ℕ → List ℕ → Option ℕ
-restart_of databases content = if starts_with nat_eq content (codes "@restart") then named_place databases (drop 8 content) else None
+restart_of databases content =
+    if starts_with nat_eq content (codes "@restart") then named_place databases (drop 8 content) else None
 
 -- digits spell one of this many sessions, without a leading zero
 abbrev pub Spells : ℕ → List ℕ → ℕ → Type 0

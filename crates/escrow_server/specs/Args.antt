@@ -29,11 +29,13 @@ store_rule = record (new_rule (codes "store")) { long = Some (codes "store"); ac
 
 -- an option that may be left out: `--databases N`
 abbrev pub databases_rule : Rule
-databases_rule = record (new_rule (codes "databases")) { long = Some (codes "databases"); action = Some Set; value_names = 1 }
+databases_rule =
+    record (new_rule (codes "databases")) { long = Some (codes "databases"); action = Some Set; value_names = 1 }
 
 -- an option that may be left out: `--sessions N`
 abbrev pub sessions_rule : Rule
-sessions_rule = record (new_rule (codes "sessions")) { long = Some (codes "sessions"); action = Some Set; value_names = 1 }
+sessions_rule =
+    record (new_rule (codes "sessions")) { long = Some (codes "sessions"); action = Some Set; value_names = 1 }
 
 -- a command that has a version
 abbrev pub with_version : App → App
@@ -41,7 +43,9 @@ with_version a = on_top (λ s. record s { has_version = true }) a
 
 -- the command with these four, to which clap adds `--help` and `--version`
 abbrev pub app : App
-app = with_rule (with_rule (with_rule (with_rule (with_version (new_app (codes "escrowd"))) mode_rule) store_rule) databases_rule) sessions_rule
+app =
+    with_rule (with_rule (with_rule (with_rule (with_version (new_app (codes "escrowd"))) mode_rule) store_rule)
+    databases_rule) sessions_rule
 
 -- what is wrong with words before their values are read, or that they ask for help or the version: nothing, or
 -- one kind of error
@@ -92,7 +96,9 @@ sessions_of mode.Free (Some value) = None
 abbrev pub values_ask : List Row → Option Args
 values_ask rows =
     option_and_then (λ asked. option_and_then (λ count.
-    option_map (λ sessions. record { mode = asked; path = first_of (codes "store") rows; databases = count; sessions = sessions }) (sessions_of asked (first_of (codes "sessions") rows)))
+    option_map (λ sessions. record
+    { mode = asked; path = first_of (codes "store") rows; databases = count; sessions = sessions })
+    (sessions_of asked (first_of (codes "sessions") rows)))
     (databases_of (first_of (codes "databases") rows)))
     (mode_of (first_of (codes "mode") rows))
 

@@ -80,7 +80,8 @@ SaysWhy path old_bytes new_bytes =
 
 -- lines about stores that can't be closed were written, as far as the writer took them
 abbrev pub TellsOfStores : Option (List ℕ) → Option (List ℕ) → Type 0
-TellsOfStores old_bytes new_bytes = (text : List ℕ) × WritesPrefix old_bytes new_bytes (codes "escrowd: the store of " ++ text)
+TellsOfStores old_bytes new_bytes =
+    (text : List ℕ) × WritesPrefix old_bytes new_bytes (codes "escrowd: the store of " ++ text)
 
 -- nothing was written, or only lines about stores that can't be closed
 abbrev pub TellsOfStoresAlone : Option (List ℕ) → Option (List ℕ) → Type 0
