@@ -37,7 +37,7 @@ pub fn migrate<S: Alter>(
     connection: Connection<S>,
 ) -> Result<Opened<S>, StoreFault<S>>
     // The store has these tables, with their numbers of rows, and each row meets its checks. It is
-    // what was there, or an empty one.
+    // what was there, in either format, or an empty one.
     ensures store { IfOk result
         (λ o. HasCleanDisk (state S.Store o.store) → IsOpened (state S.Store o.store) o.catalog) }
     ensures found { IfOk result
@@ -53,7 +53,9 @@ pub fn migrate<S: Alter>(
         (λ o. (state S.Store connection).now.schema ≡ no_schema → (o.catalog ≡ [])
         × (HasCleanDisk (state S.Store o.store) → Stores (state S.Store o.store) [] [])) }
 
-    // Why a store isn't opened: each reason is returned exactly if it is true.
+    // Why a store isn't opened: 51 or 60 if there was no object. If the store can be used, 61 is
+    // returned only if it is no store of either format and names no third one, and 62 only if it
+    // names one.
     ensures bare { (state S.Store connection).now.schema ≡ no_schema
         → IfErr result (λ f. (why : Why) × (f.cause ≡ refusal_for why)) }
     ensures foreign { IfErr result
@@ -67,7 +69,7 @@ pub fn migrate<S: Alter>(
         → HasUnknownFormat (state S.Store connection).now → ⊥) }
     ensures only { IfErr result (λ f. IsOpening f.cause) }
 
-    // The connection is then as it was.
+    // A store that isn't opened and can be used holds what it held.
     ensures kept { IfErr result
         (λ f. IsUsable (state S.Store f.connection)
         → (state S.Store f.connection).now ≡ (state S.Store connection).now) }
@@ -75,7 +77,7 @@ pub fn migrate<S: Alter>(
 
     // If the store is usable, it was before. After a crash the disk has what it might have had
     // before; an empty store, if there was no object; or the tables and rows of a store in the
-    // previous format.
+    // previous format, in the known one.
     ensures usable_opened { IfOk result (λ o. IsUsable (state S.Store o.store) → IsUsable (state S.Store connection)) }
     ensures usable_refused { IfErr result
         (λ f. IsUsable (state S.Store f.connection) → IsUsable (state S.Store connection)) }

@@ -65,7 +65,8 @@ pub fn open_store<S: Alter>(
         × (HasCleanDisk (state S.Store o.store) → Stores (state S.Store o.store) [] [])) }
     ensures same { IfOk result (λ o. o.migrated ≡ false) }
 
-    // Why a store isn't opened: each reason is returned exactly if it is true.
+    // Why a store isn't opened: 51 or 60 if there was no object. If the store can be used, 61 is
+    // returned only if it is no store and names no other format, and 62 only if it names one.
     ensures bare { (state S.Store connection).now.schema ≡ no_schema
         → IfErr result (λ f. (why : Why) × (f.cause ≡ refusal_for why)) }
     ensures foreign { IfErr result
@@ -79,7 +80,7 @@ pub fn open_store<S: Alter>(
         → HasOtherFormat (state S.Store connection).now → ⊥) }
     ensures only { IfErr result (λ f. IsOpening f.cause) }
 
-    // The connection is then as it was.
+    // A store that isn't opened and can be used holds what it held.
     ensures kept { IfErr result
         (λ f. IsUsable (state S.Store f.connection)
         → (state S.Store f.connection).now ≡ (state S.Store connection).now) }
