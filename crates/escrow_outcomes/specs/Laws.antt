@@ -129,7 +129,7 @@ pub record IsOpenedAs (catalog : List TableDef) (rows : List Row) (trees : Trees
   pub no_other : (others : List TableDef) (more : List Row) → IsCatalog others → AreHeld others more trees
       → (others ≡ catalog) × (more ≡ rows)
 
--- whatever a crash leaves of a database whose store can be used is opened again, as the tables and rows of its state
+-- so is whatever a crash leaves of a database whose store can be used, if its state is valid and its texts are in UTF-8
 abbrev pub WhatIsLeftIsOpened : {S : Type 0} → Ghosts S → Type 0
 WhatIsLeftIsOpened {S} g = (database : Database S) → LeavesItsRows g database → IsUsable (state g database.store)
     → IsValid database.state → AllByRecursion HasReadableTexts database.state.rows

@@ -50,8 +50,9 @@ pub fn readable_can_be_held()
     ensures { ReadableCanBeHeld }
 {}
 
-/// Whatever a crash leaves of a database whose store can be used is a store of the known format, of
-/// the tables and rows of the database's state, and of no others.
+/// If a database's store can be used, its state is valid and its texts are in UTF-8, whatever a crash
+/// leaves of it is a store of the known format, of the tables and rows of its state, and of no
+/// others.
 pub fn what_is_left_is_opened<S: Alter>()
     ensures { WhatIsLeftIsOpened S.Store }
 {}

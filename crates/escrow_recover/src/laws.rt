@@ -9,8 +9,8 @@ pub fn one_is_held()
 {}
 
 /// A database that holds a catalog and rows that meet their checks, each value an amount or a text
-/// in UTF-8, is a store of the known format. So what a crash leaves of such rows is opened again,
-/// and not refused as no store or as one of another format.
+/// in UTF-8, is a store of the known format. So what a crash leaves of such rows isn't refused as
+/// no store (61) or as one of another format (62).
 pub fn held_is_a_store()
     ensures { HeldIsAStore }
 {}
