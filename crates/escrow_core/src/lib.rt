@@ -5,7 +5,7 @@
 //! machine's step. Or the statement fails, if it may fail, and the state is equal. The machine
 //! keeps committed rows and a list of open reservations, and tries every choice of that list.
 //!
-//! Begin with [`Database`]. What contracts see of it is in specs/Seen.antt.
+//! Begin with [`Database`]. What contracts see of it is in specs/Database.antt.
 #![tactic(auto)]
 
 mod database;

@@ -1,8 +1,9 @@
 //! Opens a store: reads it and finds out what it is. Makes an empty store from a database without
 //! objects, and migrates a store of the previous format.
 //!
-//! Its main contract is that of [`open_store`]: a store is read completely and left as it is, and
-//! anything else is refused. A database without objects becomes an empty store, in one transaction.
+//! Its main contract is that of [`open_store`]: what is opened is the store of the tables that it
+//! returns, with rows that meet their checks, and is left as it is. Anything else is refused. A
+//! database without objects becomes an empty store, in one transaction.
 //!
 //! Begin with [`open_store`]. [`migrate`] also turns a store in the previous format into one in the
 //! known format, with the same tables and rows, in one transaction. [`verify`] reads a store again.

@@ -1,9 +1,10 @@
 //! The program: its arguments, the files of its stores, and how it serves a script.
 //!
-//! Its main contracts are those of [`run_in_turn`] and [`run_at_once`]: they serve the script as the
-//! words of the command line ask, and return the exit status. The first serves one line after
-//! another, by [`serve_lines`] or [`serve_script`], and waits for no thread. The second serves the
-//! sessions of a phase at the same time, by [`serve_free`].
+//! Its main contracts are those of [`run_in_turn`] and [`run_at_once`]: in memory they serve the
+//! script as the words of the command line ask, and return the exit status. Over files they only say
+//! how it ended. The first serves one line after another, by [`serve_lines`] or [`serve_script`],
+//! and waits for no thread. The second serves the sessions of a phase at the same time, by
+//! [`serve_free`].
 //!
 //! Begin with [`read_line`], which reads these words, and [`run_in_turn`]. Then read [`Screen`],
 //! which shows the progress of a script.
