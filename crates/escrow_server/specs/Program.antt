@@ -69,11 +69,11 @@ TellsOfMigrated None old_bytes new_bytes = WritesNothing old_bytes new_bytes
 TellsOfMigrated (Some path) old_bytes new_bytes =
     (text : List ℕ) × (AreLinesOf path text ⊎ (text ≡ nameless_line)) × WritesPrefix old_bytes new_bytes text
 
--- a reason was written: the program's name, a colon and a text, as far as the writer took them
+-- the program's name, a colon and a text were written, as far as the writer took them. It is meant to be a reason
 abbrev pub SaysReason : Option (List ℕ) → Option (List ℕ) → Type 0
 SaysReason old_bytes new_bytes = (text : List ℕ) × WritesPrefix old_bytes new_bytes (codes "escrowd: " ++ text)
 
--- the reason why the program ends was written, after the lines about the migrated stores of a path
+-- the same, after the lines about the migrated stores of a path
 abbrev pub SaysWhy : Option (List ℕ) → Option (List ℕ) → Option (List ℕ) → Type 0
 SaysWhy path old_bytes new_bytes =
     (told_bytes : Option (List ℕ)) × TellsOfMigrated path old_bytes told_bytes × SaysReason told_bytes new_bytes

@@ -69,8 +69,8 @@ pub(crate) fn serve_in_turn<S: Alter, R: Read, W: Write>(
         ScriptRan S.Store args.now.sessions script databases.old.items databases.new.items (W.contents output.old)
         (W.contents output.new) (LeftBy result))) }
 
-    // Whatever the stores do, all of the script was read; or, if a store can't be opened, nothing
-    // was.
+    // Whatever the stores do, all of the script was read if the call succeeds, and nothing if a store
+    // can't be opened.
     ensures end { OnOk result (IfSome (R.remaining input.old) (λ script. IsAtEnd (R.remaining input.new))) }
     ensures unopened { IfErr result
         (λ fault. run_status fault ≡ 3 → Keeps (R.remaining input.old) (R.remaining input.new)
@@ -110,8 +110,8 @@ pub(crate) fn serve_at_once<
         × IsOpened S.Store opened databases.old.items old
         × RunsFree script old (W.contents output.old) (W.contents output.new))) }
 
-    // Whatever the stores do, all of the script was read; or, if a store can't be opened, nothing
-    // was.
+    // Whatever the stores do, all of the script was read if the call succeeds, and nothing if a store
+    // can't be opened.
     ensures end { OnOk result (IfSome (R.remaining input.old) (λ script. IsAtEnd (R.remaining input.new))) }
     ensures unopened { IfErr result
         (λ fault. run_status fault ≡ 3 → Keeps (R.remaining input.old) (R.remaining input.new)

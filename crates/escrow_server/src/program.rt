@@ -48,8 +48,8 @@ pub fn read_line<E: Env, W: Write, F: Write>(
     ensures same { OnOk result ((W.contents output.new ≡ W.contents output.old)
         × (F.contents errors.new ≡ F.contents errors.old)) }
 
-    // With status 0, nothing is written to `errors`. With any other status, a line says why, as far
-    // as the writer takes it.
+    // With status 0, nothing is written to `errors`. With any other status, the program's name and a
+    // text are, as far as the writer takes them.
     ensures quiet { IfErr result
         (λ code. exit_status code ≡ 0 → WritesNothing (F.contents errors.old) (F.contents errors.new)) }
     ensures said { IfErr result
@@ -142,8 +142,9 @@ pub fn run_in_turn<R: Read, W: Write, F: Write>(
     requires mode { args.now.mode ≢ Mode.Free }
     requires least { 1 ≤ args.now.databases }
     requires most { args.now.databases ≤ MAX_DATABASES }
-    // The script is served in as many databases as the arguments ask for, in their mode: in memory,
-    // or in files.
+    // In memory the script is served in as many databases as the arguments ask for, in their mode.
+    // Of files no contract says what they hold: with status 0 all of the script was read, and with 3
+    // nothing was read or written.
     ensures memory { args.now.path ≡ None → IfSome (R.remaining input.old) (λ script.
         EndsInMemory args.now.mode args.now.sessions args.now.databases (exit_status result) script
         (R.remaining input.new) (W.contents output.old) (W.contents output.new)) }
@@ -152,8 +153,8 @@ pub fn run_in_turn<R: Read, W: Write, F: Write>(
         (W.contents output.new)) }
 
     // With status 0, nothing is written to `errors` but lines about the stores of a path: those
-    // that were migrated, and those that can't be closed. With any other status, a line says why,
-    // as far as the writer takes it.
+    // that were migrated, and those that can't be closed. With any other status, the program's name
+    // and a text are, as far as the writer takes them.
     ensures silent { args.now.path ≡ None → exit_status result ≡ 0
         → WritesNothing (F.contents errors.old) (F.contents errors.new) }
     ensures quiet { exit_status result ≡ 0 → IsQuiet args.now.path (F.contents errors.old) (F.contents errors.new) }
