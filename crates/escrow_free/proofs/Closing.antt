@@ -1,8 +1,10 @@
 -- What a close finds, and the output of a script.
 use Rattle.std.proofs.Common.{◌≡◌, ℕ, zero, suc, ◌+◌, ◌<◌, Some, List, [], ◌∷◌, length, map, slice_get, refl, sym, ap, subst, ◌∙◌, arith}
 use Rattle.std.specs.Prelude.{Option, None, IfSome}
+use Rattle.std.specs.List.{AllByRecursion}
 use Rattle.std.proofs.lemmas.List.{length-map}
 use Rattle.sqlite_trees.specs.declared.store.Store.{Ghosts}
+use Rattle.escrow_num.specs.declared.session.TheConstants.Session.{MAX_SHARED}
 use Rattle.escrow_num.specs.Session.{IsShared}
 use Rattle.escrow_transcript.specs.declared.entry.Entry.{Entry}
 use Rattle.escrow_core.specs.Database.{Database}
@@ -13,7 +15,7 @@ use Rattle.escrow_shards.specs.Part.{Part}
 use Rattle.escrow_shards.specs.Receipts.{receipts_of}
 use Rattle.escrow_shards.specs.Pass.{Pass}
 use Rattle.escrow_shards.specs.Shared.{Shared}
-use Rattle.escrow_shards.specs.Whole.{AreWhole, HasItsReceipts}
+use Rattle.escrow_shards.specs.Whole.{AreWhole, HasItsReceipts, IsOfSessions}
 use Rattle.escrow_script.specs.Line.{lines_of}
 use Rattle.escrow_free.specs.Desks.{desk_of, pass_of, answers_of, seat_after}
 use Rattle.escrow_free.specs.FreeOutput.{taken_by, DoLines, ServesFree}
@@ -93,20 +95,30 @@ history_at place parts (c ∷ closed) (suc i) entries at =
 -- THE OUTPUT
 
 pub serves_free : {S : Type 0} (g : Ghosts S) (sharing : Shared S) (parts : List (Part S)) (closed : List (Closed S)) (script : List ℕ) (desks : List Desk) (old_bytes new_bytes : Option (List ℕ))
-    → AreWhole g sharing (map pass_of desks) parts closed → IsServed (length sharing.openings) script desks old_bytes new_bytes
+    → sharing.sessions ≡ MAX_SHARED → AreWhole g sharing (map pass_of desks) parts closed → IsServed (length sharing.openings) script desks old_bytes new_bytes
     → ServesFree script (histories parts closed) old_bytes new_bytes
-serves_free {S} g sharing parts closed script desks old_bytes new_bytes whole served = record {
+serves_free {S} g sharing parts closed script desks old_bytes new_bytes sessions whole served = record {
   limit = served.limit;
   out = served.out;
   output = record {
     taken = served.taken;
     lines = subst (λ n. DoLines n [] (lines_of script) served.out served.taken) (sym count) served.lines;
     all = all;
+    named = named;
   };
   appends = served.appends;
 } where
   count : length (histories parts closed) ≡ length sharing.openings
   count = long_histories 0 parts closed ∙ closed_long closed sharing.openings whole.openings
+
+  entries_of : (place : ℕ) (entries : List Entry) (history : HistoryAt 0 parts closed place entries) → all_entries place parts history.closing ≡ entries
+  entries_of place entries history = ap (λ n. all_entries n parts history.closing) (let e : place ≡ 0 + place = omega arith in e) ∙ sym history.same
+
+  named : (place : ℕ) (entries : List Entry) → slice_get (histories parts closed) place ≡ Some entries → AllByRecursion (IsOfSessions MAX_SHARED) entries
+  named place entries at =
+      let history = history_at 0 parts closed place entries at in
+      subst (AllByRecursion (IsOfSessions MAX_SHARED)) (entries_of place entries history)
+      (subst (λ n. AllByRecursion (IsOfSessions n) (all_entries place parts history.closing)) sessions (whole.asked place history.closing history.there))
 
   all : (place session : ℕ) (entries : List Entry) → slice_get (histories parts closed) place ≡ Some entries → IsShared session → taken_by place session served.taken ≡ receipts_of session entries
   all place session entries at is =
@@ -116,14 +128,12 @@ serves_free {S} g sharing parts closed script desks old_bytes new_bytes whole se
       let was = nothing_served (seat_after place session served.taken) (answers_of desk.0) (desk.0).pass (served.fits place session desk.0 is desk.1) in
       let found : HasItsReceipts parts closed (desk.0).pass = all_at (HasItsReceipts parts closed) (map pass_of desks) (desk_of place session) (desk.0).pass whole.receipts (map_at pass_of desks (desk_of place session) desk.0 desk.1) in
       let its : HasItsReceipts parts closed (seat_after place session served.taken) = subst (HasItsReceipts parts closed) was.same found in
-      let entry : all_entries place parts history.closing ≡ entries =
-      ap (λ n. all_entries n parts history.closing) (let e : place ≡ 0 + place = omega arith in e) ∙ sym history.same in
-      its history.closing history.there ∙ ap (receipts_of session) entry
+      its history.closing history.there ∙ ap (receipts_of session) (entries_of place entries history)
 
 -- the bytes of the script are known
 pub serves_each : {S : Type 0} (g : Ghosts S) (sharing : Shared S) (parts : List (Part S)) (closed : List (Closed S)) (script : Option (List ℕ)) (desks : List Desk) (passes : List Pass)
-    (old_bytes new_bytes : Option (List ℕ)) → passes ≡ map pass_of desks → AreWhole g sharing passes parts closed
+    (old_bytes new_bytes : Option (List ℕ)) → sharing.sessions ≡ MAX_SHARED → passes ≡ map pass_of desks → AreWhole g sharing passes parts closed
     → IfSome script (λ bytes. IsServed (length sharing.openings) bytes desks old_bytes new_bytes) → IfSome script (λ bytes. ServesFree bytes (histories parts closed) old_bytes new_bytes)
-serves_each g sharing parts closed None desks passes old_bytes new_bytes same whole served = tt
-serves_each g sharing parts closed (Some bytes) desks passes old_bytes new_bytes same whole served =
-    serves_free g sharing parts closed bytes desks old_bytes new_bytes (subst (λ (s : List Pass). AreWhole g sharing s parts closed) same whole) served
+serves_each g sharing parts closed None desks passes old_bytes new_bytes sessions same whole served = tt
+serves_each g sharing parts closed (Some bytes) desks passes old_bytes new_bytes sessions same whole served =
+    serves_free g sharing parts closed bytes desks old_bytes new_bytes sessions (subst (λ (s : List Pass). AreWhole g sharing s parts closed) same whole) served

@@ -1,5 +1,6 @@
 -- Believed: the output of a script whose sessions run at the same time.
 use Rattle.std.specs.Prelude.{◌≡◌, ◌⊎◌, ℕ, ◌==◌, ◌&&◌, ◌≤◌, Option, Some, if◌then◌else◌, List, [], ◌∷◌, ◌++◌, length, map, slice_get}
+use Rattle.std.specs.List.{AllByRecursion}
 use Rattle.std.specs.Io.KnownBytes.{Appends}
 use Rattle.escrow_num.specs.declared.session.TheConstants.Session.{MAX_SHARED}
 use Rattle.escrow_num.specs.declared.refusal.Refusal.{Refusal}
@@ -17,6 +18,7 @@ use Rattle.escrow_stats.specs.Tally.{tally_of}
 use Rattle.escrow_stats.specs.Text.{rendered_totals}
 use Rattle.escrow_shards.specs.Answer.{IsUnserved}
 use Rattle.escrow_shards.specs.Receipts.{receipts_of}
+use Rattle.escrow_shards.specs.Whole.{IsOfSessions}
 use Rattle.escrow_shards.specs.declared.pass.Receipt.{Receipt}
 use Rattle.escrow_script.specs.declared.limits.TheConstants.{MAX_SCRIPT}
 use Rattle.escrow_script.specs.Line.{Reading, nothing, join, restart, statement, no_line, database_name, Reads, lines_of}
@@ -99,12 +101,15 @@ DoLines databases taken (line ∷ lines) out new =
     × DoLines databases mid lines rest new × (out ≡ first ++ rest)
 
 -- THE OUTPUT OF A SCRIPT whose databases have these histories. Its lines wrote it one after another. At the end, the
--- lines of each session have taken all its entries, each once, in their order.
+-- lines of each session have taken all its entries, each once, in their order. Each entry is of a session that lines
+-- may name: one from 1 to 64.
 pub record FreeOutput (script : List ℕ) (histories : List (List Entry)) (out : List ℕ) : Type 0 where
   pub taken : List Taken
   pub lines : DoLines (length histories) [] (lines_of script) out taken
   pub all : (place session : ℕ) (entries : List Entry) → slice_get histories place ≡ Some entries → IsShared session
       → taken_by place session taken ≡ receipts_of session entries
+  pub named : (place : ℕ) (entries : List Entry) → slice_get histories place ≡ Some entries
+      → AllByRecursion (IsOfSessions MAX_SHARED) entries
 
 -- the whole script was served: it is no longer than a script may be, and its output was written
 pub record ServesFree (script : List ℕ) (histories : List (List Entry))

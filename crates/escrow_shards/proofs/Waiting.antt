@@ -1,12 +1,12 @@
 -- The sessions whose COMMITs wait, place by place.
-use Rattle.std.specs.Prelude.{sum_by}
-use Rattle.std.proofs.Common.{◌≡◌, ℕ, ◌+◌, ◌<◌, ◌≤◌, min, Option, Some, None, IfNone, IfSome, Vec, vec_len, Global, List, [], ◌∷◌, ◌++◌, length, get_or, drop, inl, inr, refl, sym, ap, ◌∙◌, append_assoc, arith}
+use Rattle.std.specs.Prelude.{Bool, is_some, sum_by}
+use Rattle.std.proofs.Common.{◌≡◌, ℕ, suc, ◌+◌, ◌<◌, ◌≤◌, min, Option, Some, None, IfNone, IfSome, Vec, vec_len, Global, List, [], ◌∷◌, ◌++◌, length, get_or, drop, inl, inr, refl, sym, ap, ◌∙◌, append_assoc, arith}
 use Rattle.std.proofs.lemmas.Bool.{cases_lt}
 use Rattle.std.proofs.lemmas.List.{drop_more, get_or_past}
 use Rattle.std.proofs.lemmas.List.Sums.{sum_by-cons}
 use Rattle.escrow_shards.specs.declared.commit_queue.CommitState.{CommitState}
 use Rattle.escrow_shards.specs.declared.commit_queue.CommitState.TheVariants as state
-use Rattle.escrow_shards.specs.CommitQueue.{asking, waits_in, NoneWaits, NoneWaitsIn}
+use Rattle.escrow_shards.specs.CommitQueue.{asking, waits_in, AreInPlaces, NoneWaits, NoneWaitsIn, Queue}
 
 waits_first : (before : ℕ) (here : CommitState) (places : List CommitState) → here ≡ state.Asked → asking before (here ∷ places) ≡ (before + 1) ∷ asking (before + 1) places
 waits_first before here places asked = ap (λ (s : CommitState). asking before (s ∷ places)) asked
@@ -39,12 +39,12 @@ next_does_not_wait places before taken now all below is not all_is =
     ∙ all_is
 
 -- none waits in the later places, nor in the earlier ones
-pub none_in_either : {S : Type 0} (next : Option S) (places : List CommitState) (own most end : ℕ) → length places ≤ most → end ≡ min own most → NoneWaitsIn own most places → IfNone next (NoneWaitsIn 0 end places)
-    → IfNone next (NoneWaits places)
-none_in_either (Some s) places own most end count least later earlier = tt
-none_in_either None places own most end count least later earlier = λ before asked.
+pub none_in_either : {S : Type 0} (next : Option S) (queue : Queue) (own most end : ℕ) → length queue.places ≤ most → end ≡ min own most → NoneWaitsIn own most queue.places
+    → IfNone next (NoneWaitsIn 0 end queue.places) → IfNone next (NoneWaits queue)
+none_in_either (Some s) queue own most end count least later earlier = tt
+none_in_either None queue own most end count least later earlier = λ before asked.
     elim (cases_lt before most) [
-      | inr past ↦ let free = get_or_past places before state.Free (omega (arith, count, past)) in absurd (cc)
+      | inr past ↦ let free = get_or_past queue.places before state.Free (omega (arith, count, past)) in absurd (cc)
       | inl within ↦ elim (cases_lt before own) [
         | inl below ↦ earlier before (omega arith) (omega (arith, least, below, within)) asked
         | inr from ↦ later before (omega (arith, from)) within asked
@@ -65,6 +65,32 @@ few_wait (here ∷ places) =
     let one = waits_once here in
     let rest = few_wait places in
     omega (arith, more, one, rest)
+
+-- if none waits, none is counted
+none_in_place : (here : CommitState) → ¬ (here ≡ state.Asked) → waits_in here ≡ 0
+none_in_place state.Free not = refl
+none_in_place state.Asked not = absurd (not refl)
+none_in_place state.Leads not = refl
+none_in_place (state.Answered outcome) not = refl
+
+none_counted : (places : List CommitState) → ((before : ℕ) → ¬ (get_or places before state.Free ≡ state.Asked)) → sum_by waits_in places ≡ 0
+none_counted [] none = refl
+none_counted (here ∷ places) none =
+    let more = sum_by-cons waits_in here places in
+    let first = none_in_place here (none 0) in
+    let rest = none_counted places (λ before. none (suc before)) in
+    omega (arith, more, first, rest)
+
+-- if none waits, the lead may end
+pub lead_may_end : {S : Type 0} (next : Option S) (queue : Queue) (waiting : ℕ) (led : Bool) → AreInPlaces queue waiting → IfNone next (NoneWaits queue) → led ≡ is_some next
+    → AreInPlaces (record { places = queue.places; is_led = led }) waiting
+lead_may_end (Some next) queue waiting led all none is = record { count = all.count; counted = all.counted; named = all.named; led = λ some. is }
+lead_may_end None queue waiting led all none is = record {
+  count = all.count;
+  counted = all.counted;
+  named = all.named;
+  led = λ some. let zero = none_counted queue.places none in let counted = all.counted in absurd (omega (arith, some, zero, counted));
+}
 
 -- those that wait are as many as are counted
 pub asking_counts : (before : ℕ) (places : List CommitState) → length (asking before places) ≡ sum_by waits_in places

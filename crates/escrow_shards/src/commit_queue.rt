@@ -46,28 +46,29 @@ pub(crate) enum Turn {
 }
 
 impl Model for CommitQueue {
-    ghost use Rattle.std.specs.Prelude.{List};
-    ghost use Rattle.escrow_shards.specs.declared.commit_queue.CommitState.{CommitState};
-    ghost use Rattle.escrow_shards.specs.CommitQueue.{AreInPlaces};
+    ghost use Rattle.escrow_shards.specs.CommitQueue.{AreInPlaces, Queue};
 
-    ghost Value = { List CommitState };
+    ghost Value = { Queue };
 
-    ghost view = { λ w. w.places };
+    ghost view = { λ w. record { places = w.places; is_led = w.is_led } };
 
-    ghost invariant = { λ w. AreInPlaces w.places w.count };
+    ghost invariant = { λ w. AreInPlaces (record { places = w.places; is_led = w.is_led }) w.count };
 }
 
 impl CommitQueue {
-    ghost use Rattle.std.specs.Prelude.{◌≡◌, ◌⊎◌, ◌∷◌, ◌↔◌, ◌≤◌, IfNone, IfOk, IfSome, IsTrue, vec_len};
+    ghost use Rattle.std.specs.Prelude.{◌≡◌, ◌≢◌, ◌⊎◌, ◌∷◌, ◌↔◌, ◌<◌, ◌≤◌, false, length, replicate, true, IfNone, IfOk, IfSome, IsTrue, vec_len};
     ghost use Rattle.escrow_num.specs.declared.session.TheConstants.Session.{MAX_SHARED};
     ghost use Rattle.escrow_history.specs.Commits.{NameTheirs};
-    ghost use Rattle.escrow_shards.specs.CommitQueue.{answered, asking, at, turn_in, with_place, IsPassedOn, IsPlaceOf, IsTurnOf, NoneWaits, NoneWaitsIn};
+    ghost use Rattle.escrow_shards.specs.declared.commit_queue.TheConstants.CommitQueue.{COUNT};
+    ghost use Rattle.escrow_shards.specs.CommitQueue.{answered, asking, at, turn_in, with_place, EndsLead, HandsOnLead, IsPlaceOf, IsTurnOf, NoneWaits, NoneWaitsIn};
 
     /// The number of places: one for each session of a database that threads share.
     pub const COUNT: usize = Session::MAX_SHARED as usize;
 
     /// Returns places in which no COMMIT waits. No call leads.
-    pub(crate) fn new() -> Self {
+    pub(crate) fn new() -> Self
+        ensures { result ≡ record { places = replicate COUNT CommitState.Free; is_led = false } }
+    {
         CommitQueue {
             places: [CommitState::Free; Self::COUNT],
             count: 0,
@@ -80,7 +81,10 @@ impl CommitQueue {
         ensures turn { (result ≡ Turn.Leads) ⊎ (result ≡ Turn.Waits) ⊎ (result ≡ Turn.Alone) }
         ensures waits { result ≡ Turn.Waits → (at self.old session ≡ CommitState.Free)
             × (self.new ≡ with_place self.old session CommitState.Asked) }
-        ensures same { (result ≡ Turn.Leads) ⊎ (result ≡ Turn.Alone) → self.new ≡ self.old }
+        ensures same { (result ≡ Turn.Leads) ⊎ (result ≡ Turn.Alone) → self.new.places ≡ self.old.places }
+        ensures leads { (result ≡ Turn.Leads) ↔ (self.old.is_led ≡ false) }
+        ensures led { self.new.is_led ≡ true }
+        ensures alone { result ≡ Turn.Alone → (at self.old session ≢ CommitState.Free) ⊎ (MAX_SHARED < session) }
     {
         let place = usize::from(session.get()) - 1;
         if !self.is_led {
@@ -119,7 +123,7 @@ impl CommitQueue {
     /// is refused.
     pub(crate) fn those_with(&self, alloc: Global, first: Session) -> Option<Vec<Session>>
         ensures some { IfSome result (λ sessions. 2 ≤ vec_len sessions) }
-        ensures sessions { IfSome result (λ sessions. sessions.items ≡ first ∷ asking 0 self.now) }
+        ensures sessions { IfSome result (λ sessions. sessions.items ≡ first ∷ asking 0 self.now.places) }
     {
         if self.count == 0 {
             return None;
@@ -129,7 +133,7 @@ impl CommitQueue {
 
     /// Returns a session, and then those whose COMMITs wait. Fails only if memory is refused.
     fn with_those(&self, alloc: Global, first: Session) -> Result<Vec<Session>, AllocError>
-        ensures { IfOk result (λ sessions. sessions.items ≡ first ∷ asking 0 self.now) }
+        ensures { IfOk result (λ sessions. sessions.items ≡ first ∷ asking 0 self.now.places) }
     {
         let mut sessions = Vec::with_capacity(alloc, self.count.saturating_add(1))?;
         sessions.push(first)?;
@@ -146,7 +150,8 @@ impl CommitQueue {
 
     /// Leaves the outcomes of sessions' COMMITs in their places.
     pub(crate) fn answer(&mut self, sessions: &[Session], outcomes: &[Result<Committed, Failure>])
-        requires { NameTheirs sessions.now outcomes.now }
+        requires each { length outcomes.now ≡ length sessions.now }
+        requires named { NameTheirs sessions.now outcomes.now }
         ensures { self.new ≡ answered sessions.now outcomes.now self.old }
     {
         for (session, outcome) in sessions.iter().zip(outcomes) {
@@ -157,7 +162,7 @@ impl CommitQueue {
     /// Ends the lead of a call. The next session after its own whose COMMIT waits leads, or none
     /// does.
     pub(crate) fn pass_on(&mut self, from: Session)
-        ensures { IsPassedOn self.old self.new }
+        ensures { EndsLead self.old self.new ⊎ HandsOnLead self.old self.new }
     {
         let next = self.next_after(from);
         self.is_led = next.is_some();
@@ -186,7 +191,7 @@ impl CommitQueue {
     fn first_waiting(&self, before: u16, last: u16) -> Option<Session>
         requires shared { last ≤ MAX_SHARED }
         ensures waits { IfSome result (λ next. at self.now next ≡ CommitState.Asked) }
-        ensures none { IfNone result (NoneWaitsIn before last self.now) }
+        ensures none { IfNone result (NoneWaitsIn before last self.now.places) }
     {
         for before in before..last {
             let Some(session) = Session::new(before + 1) else {
@@ -203,6 +208,7 @@ impl CommitQueue {
     /// session has no place, nothing changes, and the state returned is `Free`.
     fn put(&mut self, session: Session, new: CommitState) -> CommitState
         requires named { IsPlaceOf session new }
+        requires led { new ≡ CommitState.Asked → self.old.is_led ≡ true }
         ensures found { result ≡ at self.old session }
         ensures named { IsPlaceOf session result }
         ensures put { self.new ≡ with_place self.old session new }

@@ -15,7 +15,7 @@ use escrow_statement::Statement;
 use sqlite::Alter;
 use std::alloc::Global;
 use std::marker::Model;
-use std::sync::{Condvar, Mutex, Wait};
+use std::sync::{Condvar, Mutex, MutexGuard, Wait};
 
 /// A call of a session, as its gate sees it: `n` is one more than the number of receipts of the
 /// pass.
@@ -50,10 +50,11 @@ impl<S: Alter, L> Model for Shard<S, L> {
 }
 
 impl<S: Alter, L: UnderLock<S>> Shard<S, L> {
-    ghost use Rattle.std.specs.Prelude.{◌≡◌, None, IfOk, IfErr, IfSome};
+    ghost use Rattle.std.specs.Prelude.{◌≡◌, None, IfNone, IfOk, IfErr, IfSome};
+    ghost use Rattle.std.specs.Sync.Mutex.{mutex_guard_value};
     ghost use Rattle.escrow_machine.specs.Reply.{failure_of};
-    ghost use Rattle.escrow_shards.specs.CommitQueue.{IsTurnOf};
-    ghost use Rattle.escrow_history.specs.Calls.{IsAnswer, IsNotDrained};
+    ghost use Rattle.escrow_history.specs.Calls.{IsAnswer, IsNotDrained, Stays};
+    ghost use Rattle.escrow_shards.specs.CommitQueue.{AreTogether, IsTurnOf};
 
     /// Puts a database under its lock.
     pub(crate) fn new(locked: L, opening: Opening<S>) -> Self
@@ -185,26 +186,32 @@ impl<S: Alter, L: UnderLock<S>> Shard<S, L> {
         ensures succeeds { IfOk result (λ r. failure_of r.reply ≡ None) }
         ensures answers { IfOk result (λ r. IsAnswer r.reply) }
     {
-        match self.commit_together(rt, alloc, locked, session) {
+        let queue = self.queue.lock(rt);
+        match self.commit_together(rt, alloc, locked, queue, session) {
             Some(outcome) => served(outcome),
             None => locked.serve_locked(rt, alloc, session, &Statement::Commit),
         }
     }
 
-    /// Serves the COMMITs that wait, together with that of a session, and leaves the outcomes in
-    /// their places. Returns the outcome of the session's own. Returns `None` if none waits, or if
-    /// they can't be served together because memory or room in the transcript is refused. Then none
-    /// was served.
+    /// Serves the COMMIT of a session together with just those that wait in the queue, and leaves
+    /// their outcomes in their places. Lets the queue go while it serves. Returns the outcome of
+    /// the session's own. Returns `None` if none waits, or if they can't be served together because
+    /// memory or room in the transcript is refused. Then none was served.
     fn commit_together<R: Wait>(
         &self,
         rt: &R,
         alloc: Global,
         locked: &mut L,
+        queue: MutexGuard<'_, CommitQueue>,
         session: Session,
     ) -> Option<Result<Committed, Failure>>
-        ensures { IfSome result (λ outcome. IfOk outcome (λ c. c.session ≡ session)) }
+        ensures together { IfSome result (λ own. AreTogether S.Store
+            (L.history locked.old) session (mutex_guard_value queue.entry) own (L.history locked.new)) }
+        ensures none { IfNone result (Stays S.Store (L.history locked.old) (L.history locked.new)) }
+        ensures named { IfSome result (λ own. IfOk own (λ c. c.session ≡ session)) }
     {
-        let sessions = self.queue.lock(rt).those_with(alloc, session)?;
+        let sessions = queue.those_with(alloc, session)?;
+        drop(queue);
         let Ok(outcomes) = locked.commit_locked(rt, alloc, &sessions) else {
             return None;
         };

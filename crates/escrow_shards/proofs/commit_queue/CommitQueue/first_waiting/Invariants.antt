@@ -2,4 +2,4 @@ use Rattle.escrow_shards.specs.CommitQueue.{NoneWaitsIn}
 use Rattle.escrow_shards.proofs.commit_queue.CommitQueue.first_waiting.Given as goal
 
 abbrev pub invariant-loop-before : goal.invariant-loop-before
-invariant-loop-before l = NoneWaitsIn l.fn.before l.before l.fn.self
+invariant-loop-before l = NoneWaitsIn l.fn.before l.before l.fn.self.places

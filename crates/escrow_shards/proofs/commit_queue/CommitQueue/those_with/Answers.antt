@@ -6,7 +6,7 @@ use Rattle.escrow_shards.proofs.commit_queue.CommitQueue.those_with.Goals as goa
 
 pub returns-clause-some : goal.returns-clause-some
 returns-clause-some c =
-    let all : IfSome c.ok.result (λ v. v.items ≡ c.args.first ∷ asking 0 c.args.self.now) = search rules in
+    let all : IfSome c.ok.result (λ v. v.items ≡ c.args.first ∷ asking 0 c.args.self.now.places) = search rules in
     let some : 1 ≤ c.self.inside.count = omega (arith, c.if-self-eq0.false) in
-    let counted : c.self.inside.count ≡ sum_by waits_in c.args.self.now = rw (← c.self.view_is) c.self.invariant.counted in
-    two_or_more c.ok.result c.args.first c.args.self.now c.self.inside.count some counted all
+    let counted : c.self.inside.count ≡ sum_by waits_in c.args.self.now.places = rw (← c.self.view_is) c.self.invariant.counted in
+    two_or_more c.ok.result c.args.first c.args.self.now.places c.self.inside.count some counted all
