@@ -6,7 +6,8 @@ use Rattle.escrow_num.specs.declared.failure.Failure.{Failure}
 use Rattle.escrow_machine.specs.declared.reply.Reply.TheVariants as reply
 use Rattle.escrow_history.specs.Calls.{IsAnswer}
 use Rattle.escrow_history.specs.declared.committed.Committed.{Committed}
-use Rattle.escrow_shards.specs.CommitQueue.{answered, Queue}
+use Rattle.escrow_shards.specs.CommitPlaces.{answered}
+use Rattle.escrow_shards.specs.CommitQueue.{Queue}
 
 no_outcome_left : (sessions : List ℕ) (outcomes : List (Result Committed Failure)) (queue : Queue) → outcomes ≡ [] → answered sessions outcomes queue ≡ queue
 no_outcome_left [] outcomes queue none = refl

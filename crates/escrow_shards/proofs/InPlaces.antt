@@ -5,7 +5,7 @@ use Rattle.std.proofs.lemmas.List.{length-replicate}
 use Rattle.std.proofs.lemmas.List.Sums.{sum_by-cons}
 use Rattle.escrow_shards.specs.declared.commit_queue.CommitState.TheVariants as state
 use Rattle.escrow_shards.specs.declared.commit_queue.TheConstants.CommitQueue.{COUNT}
-use Rattle.escrow_shards.specs.CommitQueue.{waits_in, AreInPlaces, IsPlaceOf}
+use Rattle.escrow_shards.specs.CommitPlaces.{waits_in, AreInPlaces, IsPlaceOf}
 
 free_at : (count k : ℕ) → get_or (replicate count state.Free) k state.Free ≡ state.Free
 free_at zero k = refl

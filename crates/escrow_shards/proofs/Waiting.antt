@@ -6,7 +6,8 @@ use Rattle.std.proofs.lemmas.List.{drop_more, get_or_past}
 use Rattle.std.proofs.lemmas.List.Sums.{sum_by-cons}
 use Rattle.escrow_shards.specs.declared.commit_queue.CommitState.{CommitState}
 use Rattle.escrow_shards.specs.declared.commit_queue.CommitState.TheVariants as state
-use Rattle.escrow_shards.specs.CommitQueue.{asking, waits_in, AreInPlaces, NoneWaits, NoneWaitsIn, Queue}
+use Rattle.escrow_shards.specs.CommitPlaces.{waits_in, AreInPlaces, NoneWaitsIn}
+use Rattle.escrow_shards.specs.CommitQueue.{asking, NoneWaits, Queue}
 
 waits_first : (before : ℕ) (here : CommitState) (places : List CommitState) → here ≡ state.Asked → asking before (here ∷ places) ≡ (before + 1) ∷ asking (before + 1) places
 waits_first before here places asked = ap (λ (s : CommitState). asking before (s ∷ places)) asked

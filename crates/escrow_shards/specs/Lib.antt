@@ -1,5 +1,6 @@
 pub mod Answer
 pub mod Closed
+pub mod CommitPlaces
 pub mod CommitQueue
 pub mod Counted
 pub mod Found

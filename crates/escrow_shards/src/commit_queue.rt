@@ -46,7 +46,8 @@ pub(crate) enum Turn {
 }
 
 impl Model for CommitQueue {
-    ghost use Rattle.escrow_shards.specs.CommitQueue.{AreInPlaces, Queue};
+    ghost use Rattle.escrow_shards.specs.CommitPlaces.{AreInPlaces};
+    ghost use Rattle.escrow_shards.specs.CommitQueue.{Queue};
 
     ghost Value = { Queue };
 
@@ -60,7 +61,8 @@ impl CommitQueue {
     ghost use Rattle.escrow_num.specs.declared.session.TheConstants.Session.{MAX_SHARED};
     ghost use Rattle.escrow_history.specs.Commits.{NameTheirs};
     ghost use Rattle.escrow_shards.specs.declared.commit_queue.TheConstants.CommitQueue.{COUNT};
-    ghost use Rattle.escrow_shards.specs.CommitQueue.{answered, asking, at, turn_in, with_place, EndsLead, HandsOnLead, IsPlaceOf, IsTurnOf, NoneWaits, NoneWaitsIn};
+    ghost use Rattle.escrow_shards.specs.CommitPlaces.{answered, turn_in, with_place, IsPlaceOf, IsTurnOf, NoneWaitsIn};
+    ghost use Rattle.escrow_shards.specs.CommitQueue.{asking, at, EndsLead, HandsOnLead, NoneWaits};
 
     /// The number of places: one for each session of a database that threads share.
     pub const COUNT: usize = Session::MAX_SHARED as usize;
@@ -76,7 +78,8 @@ impl CommitQueue {
         }
     }
 
-    /// Enters the COMMIT of a session: its call leads if none does, or else waits.
+    /// Enters the COMMIT of a session: its call leads if none does, or else waits. It neither leads
+    /// nor waits if another call is in the session's place, or if the session has none.
     pub(crate) fn ask(&mut self, session: Session) -> Turn
         ensures turn { (result ≡ Turn.Leads) ⊎ (result ≡ Turn.Waits) ⊎ (result ≡ Turn.Alone) }
         ensures waits { result ≡ Turn.Waits → (at self.old session ≡ CommitState.Free)
@@ -148,7 +151,7 @@ impl CommitQueue {
         Ok(sessions)
     }
 
-    /// Leaves the outcomes of sessions' COMMITs in their places.
+    /// Leaves the outcomes of sessions' COMMITs in their places, one for each session.
     pub(crate) fn answer(&mut self, sessions: &[Session], outcomes: &[Result<Committed, Failure>])
         requires each { length outcomes.now ≡ length sessions.now }
         requires named { NameTheirs sessions.now outcomes.now }
@@ -162,7 +165,7 @@ impl CommitQueue {
     /// Ends the lead of a call. The next session after its own whose COMMIT waits leads, or none
     /// does.
     pub(crate) fn pass_on(&mut self, from: Session)
-        ensures { EndsLead self.old self.new ⊎ HandsOnLead self.old self.new }
+        ensures lead { EndsLead self.old self.new ⊎ HandsOnLead self.old self.new }
     {
         let next = self.next_after(from);
         self.is_led = next.is_some();

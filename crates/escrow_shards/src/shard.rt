@@ -54,7 +54,8 @@ impl<S: Alter, L: UnderLock<S>> Shard<S, L> {
     ghost use Rattle.std.specs.Sync.Mutex.{mutex_guard_value};
     ghost use Rattle.escrow_machine.specs.Reply.{failure_of};
     ghost use Rattle.escrow_history.specs.Calls.{IsAnswer, IsNotDrained, Stays};
-    ghost use Rattle.escrow_shards.specs.CommitQueue.{AreTogether, IsTurnOf};
+    ghost use Rattle.escrow_shards.specs.CommitPlaces.{IsTurnOf};
+    ghost use Rattle.escrow_shards.specs.CommitQueue.{AreTogether};
 
     /// Puts a database under its lock.
     pub(crate) fn new(locked: L, opening: Opening<S>) -> Self

@@ -1,5 +1,5 @@
 use Rattle.std.proofs.Common.{◌≡◌, ◌⊎◌, inl, inr, length}
-use Rattle.escrow_shards.specs.CommitQueue.{answered}
+use Rattle.escrow_shards.specs.CommitPlaces.{answered}
 use Rattle.escrow_shards.proofs.Asking.{no_more_answers}
 use Rattle.escrow_shards.proofs.commit_queue.CommitQueue.answer.Goals as goal
 

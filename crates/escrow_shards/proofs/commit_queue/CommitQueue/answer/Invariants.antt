@@ -1,6 +1,6 @@
 use Rattle.std.proofs.Common.{◌≡◌}
 use Rattle.escrow_history.specs.Commits.{NameTheirs}
-use Rattle.escrow_shards.specs.CommitQueue.{answered}
+use Rattle.escrow_shards.specs.CommitPlaces.{answered}
 use Rattle.escrow_shards.proofs.commit_queue.CommitQueue.answer.Given as goal
 
 abbrev pub invariant-loop-session : goal.invariant-loop-session

@@ -1,4 +1,4 @@
-use Rattle.escrow_shards.specs.CommitQueue.{NoneWaitsIn}
+use Rattle.escrow_shards.specs.CommitPlaces.{NoneWaitsIn}
 use Rattle.escrow_shards.proofs.commit_queue.CommitQueue.first_waiting.Given as goal
 
 abbrev pub invariant-loop-before : goal.invariant-loop-before

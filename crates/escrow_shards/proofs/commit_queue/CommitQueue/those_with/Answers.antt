@@ -1,6 +1,7 @@
 use Rattle.std.proofs.Common.{rules, ◌≡◌, ◌∷◌, ◌≤◌, IfSome, arith}
 use Rattle.std.specs.Prelude.{sum_by}
-use Rattle.escrow_shards.specs.CommitQueue.{asking, waits_in}
+use Rattle.escrow_shards.specs.CommitPlaces.{waits_in}
+use Rattle.escrow_shards.specs.CommitQueue.{asking}
 use Rattle.escrow_shards.proofs.Waiting.{two_or_more}
 use Rattle.escrow_shards.proofs.commit_queue.CommitQueue.those_with.Goals as goal
 
