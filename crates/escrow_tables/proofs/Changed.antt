@@ -1,49 +1,17 @@
 -- Changes added to amounts, column by column, and amounts replaced.
-use Rattle.std.proofs.Common.{◌≡◌, ℕ, ℤ, zero, suc, Bool, Option, None, Some, unwrap_or, pos, ◌+◌, ◌-◌, ◌<◌, ◌≤◌, ◌+ℤ◌, ◌||◌, List, [], ◌∷◌, ◌++◌, map, length, min, take, drop, get_or, set, refl, ap, sym, ◌∙◌, subst, subst₂, true, false, arith, add-one, inl, inr}
+use Rattle.std.proofs.Common.{◌≡◌, ℕ, ℤ, zero, suc, Option, None, Some, unwrap_or, pos, ◌+◌, ◌-◌, ◌<◌, ◌≤◌, ◌+ℤ◌, List, [], ◌∷◌, ◌++◌, map, length, min, take, get_or, set, refl, ap, sym, ◌∙◌, subst, subst₂, false, arith, add-one}
 use Rattle.std.specs.Borrow.{Bor}
-use Rattle.std.specs.List.{list_any}
-use Rattle.std.proofs.lemmas.Bool.{cases_Bool, false_from_ne_true, false≢true}
-use Rattle.std.proofs.lemmas.List.{length-drop, length-map, length-take-le, drop-map, map_more, take_all, take_more, take-map, get_or-map, length_push}
+use Rattle.std.proofs.lemmas.List.{length-map, length-take-le, take_all, take_more, take-map, get_or-map, length_push}
 use Rattle.escrow_num.specs.declared.reservation.Reservation.{Reservation}
 use Rattle.escrow_num.specs.declared.value.RowName.{RowName}
 use Rattle.escrow_num.specs.Order.{same_row}
 use Rattle.escrow_num.specs.Reservation.{deltas, changes_at}
-use Rattle.escrow_num.proofs.Orders.{row_same, same_row_itself}
 use Rattle.escrow_checks.specs.Form.{changed, all_changed}
 use Rattle.escrow_schema.specs.Rows.{replaced}
-use Rattle.escrow_tables.specs.Puts.{changed_by}
 
 -- the reservations behind a list of references
 abbrev pub read : List (Bor Reservation) → List Reservation
 read reservations = map (λ (r : Bor Reservation). r.now) reservations
-
-pub length-read : (reservations : List (Bor Reservation)) → length (read reservations) ≡ length reservations
-length-read reservations = length-map reservations (λ (r : Bor Reservation). r.now)
-
--- the reservation at a place
-pub read_at : (reservations : List (Bor Reservation)) (i : ℕ) (r : Bor Reservation) → i < length reservations → r ≡ get_or reservations i r
-    → (i < length (read reservations)) × (r.now ≡ get_or (read reservations) i r.now)
-read_at reservations i r below at = (
-  omega (arith, length-read reservations, below),
-  ap (λ (q : Bor Reservation). q.now) at ∙ sym (get_or-map (λ (q : Bor Reservation). q.now) reservations i r r.now below),
-)
-
--- whether a row is named by a reservation before a place, and the reservations from the place on
-any_read : (p : Reservation → Bool) (reservations : List (Bor Reservation)) → list_any (λ (r : Bor Reservation). p r.now) reservations ≡ list_any p (read reservations)
-any_read p [] = refl
-any_read p (r ∷ reservations) = ap (λ (b : Bool). p r.now || b) (any_read p reservations)
-
-pub named_read : (name : RowName) (reservations : List (Bor Reservation)) (i : ℕ)
-    → list_any (λ (r : Bor Reservation). same_row r.now.row name) (take i reservations) ≡ list_any (λ (r : Reservation). same_row r.row name) (take i (read reservations))
-named_read name reservations i =
-    any_read (λ (r : Reservation). same_row r.row name) (take i reservations)
-    ∙ ap (list_any (λ (r : Reservation). same_row r.row name)) (sym (take-map (λ (r : Bor Reservation). r.now) i reservations))
-
-read_from : (reservations : List (Bor Reservation)) (i : ℕ) → read (take (length reservations - i) (drop i reservations)) ≡ take (length (read reservations) - i) (drop i (read reservations))
-read_from reservations i =
-    sym (take-map (λ (r : Bor Reservation). r.now) (length reservations - i) (drop i reservations))
-    ∙ ap (take (length reservations - i)) (sym (drop-map (λ (r : Bor Reservation). r.now) i reservations))
-    ∙ ap (λ (n : ℕ). take (n - i) (drop i (read reservations))) (sym (length-read reservations))
 
 -- an empty list of changes changes nothing
 pub changed_nil : (amounts : List ℤ) → changed amounts [] ≡ amounts
@@ -88,43 +56,13 @@ pub counted_past : (amounts : List ℤ) (changes : List (Option ℤ)) (i : ℕ) 
 counted_past amounts changes i past = rw (add-one, counted_take (suc i) changes, counted_take i changes) (changed_past amounts (deltas changes) i past)
 
 -- one more list of changes
-all_changed_push : (amounts : List ℤ) (before : List (List ℤ)) (changes : List ℤ) → all_changed amounts (before ++ changes ∷ []) ≡ changed (all_changed amounts before) changes
+pub all_changed_push : (amounts : List ℤ) (before : List (List ℤ)) (changes : List ℤ) → all_changed amounts (before ++ changes ∷ []) ≡ changed (all_changed amounts before) changes
 all_changed_push amounts [] changes = refl
 all_changed_push amounts (first ∷ before) changes = all_changed_push (changed amounts first) before changes
 
--- one more reservation, of this row or of another
-pub changes_more : (name : RowName) (before : List ℤ) (reservations : List Reservation) (i : ℕ) (r : Reservation) → i < length reservations → r ≡ get_or reservations i r
-    → changed_by (take (i + 1) reservations) name before ≡ changed (changed_by (take i reservations) name before) (changes_at name r)
-changes_more name before reservations i r below at =
-    ap (all_changed before) (map_more (changes_at name) reservations i r below ∙ ap (λ x. map (changes_at name) (take i reservations) ++ changes_at name x ∷ []) (sym at))
-    ∙ all_changed_push before (map (changes_at name) (take i reservations)) (changes_at name r)
-
-pub changes_own : (name : RowName) (r : Reservation) → same_row name r.row ≡ true → changes_at name r ≡ deltas r.changes
-changes_own name r same = rw same refl
-
+-- a reservation of another row changes nothing
 pub changes_other : (name : RowName) (r : Reservation) → same_row name r.row ≡ false → changes_at name r ≡ []
 changes_other name r other = rw other refl
-
--- if no earlier reservation is of this row, the earlier ones change nothing
-changed_later : (name : RowName) (before : List ℤ) (reservations : List Reservation) (i : ℕ) → list_any (λ r. same_row r.row name) (take i reservations) ≡ false
-    → changed_by (drop i reservations) name before ≡ changed_by reservations name before
-changed_later name before [] zero none = refl
-changed_later name before [] (suc i) none = refl
-changed_later name before (r ∷ reservations) zero none = refl
-changed_later name before (r ∷ reservations) (suc i) none = elim (cases_Bool (same_row r.row name)) [
-  | inl own ↦ absurd (let t = rw own at none in cc)
-  | inr apart ↦ (let later = rw apart at none in
-      let other : same_row name r.row ≡ false = false_from_ne_true _ (λ own. false≢true (sym apart ∙ subst (λ (n : RowName). same_row r.row n ≡ true) (sym (row_same name r.row own)) (same_row_itself r.row))) in
-      let same : changed before (changes_at name r) ≡ before = ap (changed before) (changes_other name r other) ∙ changed_nil before in
-      changed_later name before reservations i later ∙ sym (ap (λ (zs : List ℤ). all_changed zs (map (changes_at name) reservations)) same))
-]
-
-pub changed_from : (name : RowName) (before : List ℤ) (reservations : List (Bor Reservation)) (i : ℕ) → list_any (λ r. same_row r.row name) (take i (read reservations)) ≡ false
-    → changed_by (read (take (length reservations - i) (drop i reservations))) name before ≡ changed_by (read reservations) name before
-changed_from name before reservations i none =
-    let all = read reservations in
-    ap (λ rs. changed_by rs name before) (read_from reservations i ∙ take_all (length all - i) (drop i all) (omega (arith, length-drop i all)))
-    ∙ changed_later name before all i none
 
 -- one more item, replaced or kept
 replaced_push : {A : Type 0} (news : List (Option A)) (new : Option A) (xs : List A) (x : A) → length news ≡ length xs

@@ -15,6 +15,7 @@ pub mod Puts
 pub mod Putting
 pub mod Reading
 pub mod Redefined
+pub mod RowChanges
 pub mod RowWrites
 pub mod Verifying
 pub mod WholeReads

@@ -108,9 +108,8 @@ puts_apply puts rows reservations order for tell = map_each (all_into puts) (row
     ]
 
 -- one more write
-pub for_more : (puts : List NewAmounts) (put : NewAmounts) (reservations : List Reservation) → AllByRecursion (IsFor puts) reservations → AllByRecursion (IsFor (puts ++ put ∷ [])) reservations
-for_more puts put reservations = all_weaker (IsFor puts) (IsFor (puts ++ put ∷ []))
-    (λ r for. list_any-append (λ p. same_row r.row (row_put p)) puts (put ∷ []) ∙ ap (λ b. b || list_any (λ p. same_row r.row (row_put p)) (put ∷ [])) for) reservations
+pub for_more : (puts : List NewAmounts) (put : NewAmounts) (r : Reservation) → IsFor puts r → IsFor (puts ++ put ∷ []) r
+for_more puts put r for = list_any-append (λ p. same_row r.row (row_put p)) puts (put ∷ []) ∙ ap (λ b. b || list_any (λ p. same_row r.row (row_put p)) (put ∷ [])) for
 
 -- a write is for the row that it names
 pub for_itself : (puts : List NewAmounts) (put : NewAmounts) (r : Reservation) → row_put put ≡ r.row → IsFor (puts ++ put ∷ []) r
@@ -121,12 +120,3 @@ for_itself puts put r is =
     or_true : (b : Bool) → (b || true) ≡ true
     or_true true = refl
     or_true false = refl
-
--- writes that cover the row of one reservation cover each other reservation of that row
-pub for_same : (puts : List NewAmounts) (reservations : List Reservation) (r : Reservation) → list_any (λ other. same_row other.row r.row) reservations ≡ true
-    → AllByRecursion (IsFor puts) reservations → IsFor puts r
-for_same puts [] r named for = absurd (cc)
-for_same puts (other ∷ reservations) r named for = elim (cases_Bool (same_row other.row r.row)) [
-  | inl same ↦ subst (λ (n : RowName). list_any (λ put. same_row n (row_put put)) puts ≡ true) (row_same other.row r.row same) for.0
-  | inr apart ↦ (let later = rw apart at named in for_same puts reservations r later for.1)
-]

@@ -3,6 +3,7 @@ pub mod Inside
 pub mod Judged
 pub mod Judging
 pub mod Puts
+pub mod RowChanges
 pub mod Spanned
 pub mod Tables
 pub mod Whole

@@ -1,19 +1,21 @@
-ghost use Rattle.std.specs.Prelude.{◌≡◌, ◌+ℤ◌, List, map, length, is_ok, IfOk, IfSome, OnOk};
-ghost use Rattle.std.specs.List.{AllByRecursion, list_any};
+ghost use Rattle.std.specs.Prelude.{◌≡◌, ◌<◌, ◌+ℤ◌, List, ◌∷◌, map, length, is_ok, IfOk, IfSome, OnOk};
+ghost use Rattle.std.specs.List.{AllByRecursion};
 ghost use Rattle.sqlite.specs.Held.{state};
 ghost use Rattle.sqlite.specs.State.{HasCleanDisk};
-ghost use Rattle.escrow_num.specs.Order.{same_row};
 ghost use Rattle.escrow_num.specs.Reservation.{deltas};
 ghost use Rattle.escrow_num.specs.declared.row.Row.{Row};
-ghost use Rattle.escrow_checks.specs.Form.{changed};
+ghost use Rattle.escrow_checks.specs.Form.{changed, all_changed};
 ghost use Rattle.escrow_schema.specs.Rows.{applied, replaced};
 ghost use Rattle.escrow_rows.specs.Changes.{Stands};
 ghost use Rattle.escrow_tables.specs.Calls.{AreGiven, Writes};
 ghost use Rattle.escrow_tables.specs.Inside.{stored_of};
-ghost use Rattle.escrow_tables.specs.Puts.{ArePuts, TellsPut, changed_by, row_put};
+ghost use Rattle.escrow_tables.specs.Puts.{ArePuts, TellsPut, row_put};
+ghost use Rattle.escrow_tables.specs.RowChanges.{added_by, row_of};
+ghost use Rattle.escrow_tables.specs.declared.changed_rows.RowChange.{RowChange as Change};
 
+use crate::changed_rows::{RowChange, put_in_order, row_changes};
 use crate::tables::Tables;
-use escrow_num::{Amount, Changes, Failure, Reservation, RowName, Seq};
+use escrow_num::{Amount, Changes, Failure, Reservation, Seq};
 use escrow_rows::NewAmounts;
 use escrow_schema::{CountedTable, find_by_name};
 use sqlite::Alter;
@@ -44,13 +46,13 @@ impl<S: Alter> Tables<S> {
 }
 
 /// Returns the new amounts of each row that has one of the reservations. The caller also gives the
-/// amounts that each reservation's row has. A row's first reservation brings the new amounts by all
-/// of them, since no earlier one is of that row.
+/// amounts that each reservation's row has. The reservations of a row are brought together first,
+/// so that each is looked at once.
 fn news_by<'a>(
     alloc: Global,
     tables: &'a [CountedTable],
     reservations: &'a [&Reservation],
-    before: &[&[Amount]],
+    before: &'a [&[Amount]],
 ) -> Result<Vec<NewAmounts<'a>>, Failure>
     requires { length before.now ≡ length reservations.now }
     ensures puts { IfOk result (λ news. ArePuts (stored_of tables.now) (map (λ r. r.now) reservations.now) news.items) }
@@ -59,63 +61,56 @@ fn news_by<'a>(
         → AreGiven rows (map (λ r. r.now) reservations.now) (map (λ amounts. amounts.now) before.now)
         → AllByRecursion (TellsPut rows (map (λ r. r.now) reservations.now)) news.items) }
 {
+    let mut changes = row_changes(alloc, reservations, before)?;
+    put_in_order(&mut changes)?;
     let mut news = Vec::new(alloc);
-    for (i, r) in reservations.iter().enumerate() {
-        if !is_named(&reservations[..i], &r.row) {
-            let new = new_of(alloc, tables, &r.row, before[i], &reservations[i..])?;
-            news.push(new)?;
-        }
+    for of_row in changes.chunk_by(|a, b| a.reservation.row.is_same(&b.reservation.row)) {
+        news.push(new_of(alloc, tables, of_row)?)?;
     }
     Ok(news)
 }
 
-/// Returns the new amounts that reservations give to the row of a name, which has these amounts. If
-/// its table isn't there, or a sum is no amount, somebody else has changed the store.
+/// Returns the new amounts that changes of one row give to it. If its table isn't there, or a sum is
+/// no amount, somebody else has changed the store.
 fn new_of<'a>(
     alloc: Global,
     tables: &'a [CountedTable],
-    name: &'a RowName,
-    before: &[Amount],
-    reservations: &[&Reservation],
+    changes: &[RowChange<'a>],
 ) -> Result<NewAmounts<'a>, Failure>
+    requires { 0 < length changes.now }
     ensures stands { IfOk result (λ new. Stands (stored_of tables.now) new.table.now) }
-    ensures row { IfOk result (λ new. row_put new ≡ name.now) }
-    ensures amounts { IfOk result
-        (λ new. replaced new.amounts before.now ≡ changed_by (map (λ r. r.now) reservations.now) name.now before.now) }
+    ensures row { IfOk result
+        (λ new. (first : Change) (others : List Change) → changes.now ≡ first ∷ others → row_put new ≡ row_of first) }
+    ensures amounts { IfOk result (λ new. (first : Change) (others : List Change) → changes.now ≡ first ∷ others
+        → replaced new.amounts first.before.now ≡ all_changed first.before.now (map added_by changes.now)) }
 {
+    let RowChange {
+        reservation,
+        before,
+    } = changes[0];
+    let name = &reservation.row;
     let Some(counted) = find_by_name(tables, name.table) else {
         return Err(Failure::Store);
     };
     Ok(NewAmounts {
         table: &counted.stored,
         key: &name.key,
-        amounts: new_amounts(alloc, name, before, reservations)?,
+        amounts: new_amounts(alloc, before, changes)?,
     })
 }
 
-/// Returns whether one of the reservations is of the row of a name.
-fn is_named(reservations: &[&Reservation], row: &RowName) -> bool
-    ensures { result ≡ list_any (λ r. same_row r.now.row row.now) reservations.now }
-{
-    reservations.iter().any(|r| r.row.is_same(row))
-}
-
-/// Returns the new amounts that reservations give to the row of a name, which has these amounts;
-/// `None` for an amount that stays.
+/// Returns the new amounts that changes give to a row that has these amounts; `None` for an amount
+/// that stays.
 fn new_amounts(
     alloc: Global,
-    name: &RowName,
     before: &[Amount],
-    reservations: &[&Reservation],
+    changes: &[RowChange<'_>],
 ) -> Result<Changes, Failure>
-    ensures { IfOk result (λ news.
-        replaced news before.now ≡ changed_by (map (λ r. r.now) reservations.now) name.now before.now) }
+    ensures { IfOk result (λ news. replaced news before.now ≡ all_changed before.now (map added_by changes.now)) }
 {
     let mut after = copied(alloc, before)?;
-    for r in reservations {
-        if name.is_same(&r.row) {
-            add_changes(&mut after, r.changes.as_slice())?;
-        }
+    for change in changes {
+        add_changes(&mut after, change.reservation.changes.as_slice())?;
     }
     Ok(differing(alloc, before, after.as_slice())?)
 }

@@ -9,6 +9,7 @@
 #![tactic(auto)]
 
 mod apply;
+mod changed_rows;
 mod create;
 mod judge;
 mod judged;
