@@ -25,7 +25,7 @@ impl<S: Alter> Database<S> {
     pub(crate) fn commit(&mut self, alloc: Global, session: Session) -> Answer
         ensures { Answers S.Store session Statement.Commit self.old result self.new }
     {
-        let count = self.apply(alloc, session)?;
+        let count = self.end_by_commit(alloc, session)?;
         Ok(Reply::Committed { count })
     }
 
@@ -55,14 +55,14 @@ impl<S: Alter> Database<S> {
             (committed_by ((session, end) ∷ []) self.old.state.reservations ≡ []) (AreHeldOf self.new.state)) }
     {
         match end {
-            End::Commit => self.apply(alloc, session),
+            End::Commit => self.end_by_commit(alloc, session),
             End::Rollback => Ok(self.rollback(session)),
         }
     }
 
     /// Ends a session's transaction by COMMIT, in one write ([`Database::commit_all`]). Returns how
     /// many reservations it held. If there are none, the store isn't asked.
-    fn apply(&mut self, alloc: Global, session: Session) -> Result<u32, Failure>
+    fn end_by_commit(&mut self, alloc: Global, session: Session) -> Result<u32, Failure>
         ensures done { IfOk result
             (λ count. Serves S.Store session Statement.Commit self.old (Reply.Committed count) self.new) }
         ensures failed { IfErr result

@@ -5,8 +5,7 @@ use crate::database::Database;
 use escrow_num::{End, Session};
 use sqlite::Alter;
 
-/// The most reservations that are written together. The time to gather those of each row grows with
-/// the square of their number.
+/// The most reservations that are written together. It bounds the memory that their write takes.
 const MAX_TOGETHER: usize = 1024;
 
 impl<S: Alter> Database<S> {

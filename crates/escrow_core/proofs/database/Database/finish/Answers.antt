@@ -12,7 +12,7 @@ pub returns-in-Rollback-clause-crash : goal.returns-in-Rollback-clause-crash
 returns-in-Rollback-clause-crash g c = rw c.rollback.ensures.store (survives_itself (state g.S.Store c.args.self.now.store) _)
 
 pub returns-in-Commit-clause-durable : goal.returns-in-Commit-clause-durable
-returns-in-Commit-clause-durable g c = rw c.in-Commit.is (commit_lasts g.S.Store c.args.session c.args.self.now c.apply.new.self c.apply.result c.apply.ensures.done c.apply.ensures.count)
+returns-in-Commit-clause-durable g c = rw c.in-Commit.is (commit_lasts g.S.Store c.args.session c.args.self.now c.end_by_commit.new.self c.end_by_commit.result c.end_by_commit.ensures.done c.end_by_commit.ensures.count)
 
 pub returns-in-Rollback-clause-durable : goal.returns-in-Rollback-clause-durable
 returns-in-Rollback-clause-durable g c =

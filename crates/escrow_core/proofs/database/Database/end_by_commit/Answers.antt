@@ -5,9 +5,9 @@ use Rattle.escrow_journal.specs.Reservations.{own}
 use Rattle.escrow_core.specs.Database.{Database}
 use Rattle.escrow_core.proofs.Committing.{holds_none, holds_some, just_ended, just_ended_holds}
 use Rattle.escrow_core.proofs.Together.{one_counted, one_done, one_failed}
-use Rattle.escrow_core.proofs.database.Database.apply.Given as given
-use Rattle.escrow_core.proofs.database.Database.apply.Goals as goal
-use Rattle.escrow_core.proofs.database.Database.apply.Goals.{After-is_empty}
+use Rattle.escrow_core.proofs.database.Database.end_by_commit.Given as given
+use Rattle.escrow_core.proofs.database.Database.end_by_commit.Goals as goal
+use Rattle.escrow_core.proofs.database.Database.end_by_commit.Goals.{After-is_empty}
 
 -- the applied reservations are those of the session
 mine : (g : given.Over) (c : After-is_empty g) → c.reservations.result.now ≡ own c.args.session c.self.inside.reserved.txns.reservations
