@@ -1,3 +1,4 @@
+pub mod ClientLemmas
 pub mod LineLemmas
 pub mod OutcomeLemmas
 pub mod ReadingLemmas

@@ -150,7 +150,7 @@ kept_front zero seen bytes = refl
 kept_front (suc most) [] bytes = refl
 kept_front (suc most) (x ∷ seen) bytes = ap (λ (xs : List ℕ). x ∷ xs) (kept_front most seen bytes)
 
-kept_more : (seen line bytes kept : List ℕ) → line ≡ take (MAX_LINE + 1) seen → kept ≡ take (MAX_LINE + 1) (line ++ bytes) → kept ≡ take (MAX_LINE + 1) (seen ++ bytes)
+pub kept_more : (seen line bytes kept : List ℕ) → line ≡ take (MAX_LINE + 1) seen → kept ≡ take (MAX_LINE + 1) (line ++ bytes) → kept ≡ take (MAX_LINE + 1) (seen ++ bytes)
 kept_more seen line bytes kept is_line is_kept = is_kept ∙ ap (λ (l : List ℕ). take (MAX_LINE + 1) (l ++ bytes)) is_line ∙ kept_front (MAX_LINE + 1) seen bytes
 
 -- a turn that finds a line feed takes the line

@@ -1,3 +1,4 @@
+pub mod Client
 pub mod Laws
 pub mod Line
 pub mod Reading

@@ -1,6 +1,6 @@
 -- Believed: the lines of a script, and what each is made of.
-use Rattle.std.specs.Prelude.{◌≡◌, ◌≤◌, ◌<◌, ◌⊎◌, ℕ, ◌+◌, ◌-◌, ◌==◌, Bool, ◌||◌, if◌then◌else◌, List, [], ◌∷◌, ◌++◌, length, take, drop, slice_index, codes, decimal}
-use Rattle.std.specs.List.{AllPass, prefix_len}
+use Rattle.std.specs.Prelude.{◌≡◌, ◌≢◌, ◌≤◌, ◌<◌, ◌⊎◌, ℕ, ◌+◌, ◌-◌, ◌==◌, Bool, ◌||◌, if◌then◌else◌, List, [], ◌∷◌, ◌++◌, length, take, drop, slice_index, codes, decimal}
+use Rattle.std.specs.List.{AllByRecursion, AllPass, prefix_len}
 use Rattle.std.specs.Str.{IsUtf8}
 use Rattle.escrow_num.specs.Session.{IsSession}
 use Rattle.escrow_script.specs.declared.limits.TheConstants.{MAX_LINE}
@@ -16,6 +16,10 @@ onto_first b (first ∷ lines) = (b ∷ first) ∷ lines
 abbrev pub lines_of : List ℕ → List (List ℕ)
 lines_of [] = []
 lines_of (b ∷ bytes) = if b == 10 then [] ∷ lines_of bytes else onto_first b (lines_of bytes)
+
+-- none of the bytes is a line feed
+abbrev pub HasNoFeed : List ℕ → Type 0
+HasNoFeed bytes = AllByRecursion (λ b. b ≢ 10) bytes
 
 -- THE NAMES OF DATABASES
 

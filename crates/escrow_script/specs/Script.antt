@@ -16,20 +16,21 @@ most_bytes limit.Stream = MAX_STREAM
 abbrev pub is_feed : ℕ → Bool
 is_feed b = b == 10
 
--- whether a line is in hand: calls of the reader are left, and a line feed is among the bytes that were read and aren't
+-- whether a line is in hand: reads of the client are left, and a line feed is among the bytes that were read and aren't
 -- taken
 abbrev pub has_line : ℕ → List ℕ → Bool
 has_line reads unread = nat_lt 0 reads && nat_lt (position_or_len is_feed unread) (length unread)
 
--- the bytes that a script has left: those that were read and aren't taken, and those of its reader, if these are known
+-- the bytes that a script has left: those that were read and aren't taken, and those that its client still sends, if
+-- these are known
 abbrev pub left : List ℕ → Option (List ℕ) → Option (List ℕ)
 left unread remaining = prepend_known unread remaining
 
--- a script has nothing left: all that was read is taken, and its reader is at its end
+-- a script has nothing left: all that was read is taken, and its client is at its end
 abbrev pub HasEnded : List ℕ → Option (List ℕ) → Type 0
 HasEnded unread remaining = (unread ≡ []) × IsAtEnd remaining
 
--- what a reader returned, if its bytes are known, was taken from what a script may still have
+-- what a client sent, if its bytes are known, was taken from what a script may still have
 abbrev pub Spends : Option (List ℕ) → Option (List ℕ) → ℕ → ℕ → Type 0
 Spends None rest old new = ⊤
 Spends (Some bytes) None old new = ⊥

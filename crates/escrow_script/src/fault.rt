@@ -50,7 +50,7 @@ pub enum WriteFault {
     /// way.
     #[error("standard output is closed or isn't open for writing")]
     Closed,
-    /// The writer accepted none of the bytes, and reported no error.
+    /// The client accepted none of the bytes, and reported no error.
     #[error("standard output accepts no data")]
     TakesNothing,
     /// The system fails with another error.
@@ -71,10 +71,10 @@ impl From<io::Error> for WriteFault {
 /// Why a script isn't served to its end. The lines before the fault are served.
 #[derive(Clone, Copy, Debug, Error)]
 pub enum ServeFault {
-    /// The reader returned an error, or returned more than a script may have.
+    /// The client returned an error, or returned more than a script may have.
     #[error("the script can't be read: {0}")]
     Read(ReadFault),
-    /// The writer returned an error, or accepted none of the bytes that were left.
+    /// The client returned an error, or accepted none of the bytes that were left.
     #[error("a reply can't be written: {0}")]
     Write(WriteFault),
     /// Memory was refused outside a statement.

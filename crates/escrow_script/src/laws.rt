@@ -6,8 +6,8 @@ pub fn lines_are_read_in_one_way()
 {}
 
 /// The limits of scripts. A program serves at most 16 databases. A line has at most 4,096 bytes, a
-/// script 16,777,216, and a stream 2^64 - 1. A script is read by at most 33,554,432 calls of its
-/// reader.
+/// script 16,777,216, and a stream 2^64 - 1. A script is read by at most 33,554,432 reads of its
+/// client.
 pub fn limits()
     ensures { Limits }
 {}

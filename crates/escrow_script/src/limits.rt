@@ -9,18 +9,18 @@ pub const MAX_LINE: usize = 4096;
 /// The most bytes of a script.
 pub const MAX_SCRIPT: usize = 16_777_216;
 
-/// The most calls of a script's reader.
+/// The most reads of a script's client.
 pub const MAX_READS: usize = 33_554_432;
 
-/// The most bytes of a stream, and the most calls of its reader: the greatest number of 64 bits.
+/// The most bytes of a stream, and the most reads of its client: the greatest number of 64 bits.
 pub const MAX_STREAM: usize = 18_446_744_073_709_551_615;
 
-/// How much is read from a reader.
+/// How much is read from a client.
 #[derive(Clone, Copy, Debug, PartialEq, Eq)]
 pub enum Limit {
-    /// As much as a script may have: [`MAX_SCRIPT`] bytes, in [`MAX_READS`] calls.
+    /// As much as a script may have: [`MAX_SCRIPT`] bytes, in [`MAX_READS`] reads.
     Script,
-    /// Everything up to the reader's end: [`MAX_STREAM`] bytes, in as many calls.
+    /// Everything that the client sends: [`MAX_STREAM`] bytes, in as many reads.
     Stream,
 }
 
@@ -38,7 +38,7 @@ impl Limit {
         }
     }
 
-    /// Returns the most calls of the reader.
+    /// Returns the most reads of the client.
     pub(crate) fn reads(self) -> usize {
         match self {
             Limit::Script => MAX_READS,
@@ -46,7 +46,7 @@ impl Limit {
         }
     }
 
-    /// Returns the fault of a reader that returns more bytes, or needs more calls.
+    /// Returns the fault of a client that returns more bytes, or needs more reads.
     pub(crate) fn fault(self) -> ReadFault {
         match self {
             Limit::Script => ReadFault::TooLong,

@@ -1,16 +1,18 @@
 ghost use Rattle.std.specs.Prelude.{◌≡◌, ◌≢◌, ◌≤◌, ◌<◌, ◌+◌, ◌++◌, [], Option, List, ℕ, length, take, true, false, vec_len, IfOk, IfErr, OnOk, OnErr};
 ghost use Rattle.std.specs.List.{position_or_len};
 ghost use Rattle.std.specs.Io.KnownBytes.{Consumes, IsAtEnd};
+ghost use Rattle.escrow_script.specs.Client.{Receives, ReceivesLine, ReceivesPart};
+ghost use Rattle.escrow_script.specs.Line.{HasNoFeed};
 ghost use Rattle.escrow_script.specs.Script.{is_feed};
 ghost use Rattle.escrow_script.specs.declared.fault.WriteFault.{WriteFault};
 ghost use Rattle.escrow_script.specs.declared.limits.TheConstants.{MAX_LINE, MAX_SCRIPT};
 
+use crate::client::Client;
 use crate::fault::ServeFault;
 use crate::limits::{Limit, MAX_LINE};
 use crate::unread::Unread;
 use memchr::memchr;
 use std::alloc::{AllocError, Global};
-use std::io::Read;
 
 /// A script that is read line by line: the bytes that aren't taken yet, and the line that was taken
 /// last. Of a line that is too long, one byte more than a line may have is kept, which shows that
@@ -22,7 +24,7 @@ pub struct Script {
     limit: Limit,
     bytes_left: usize,
     reads_left: usize,
-    // The reader has reported its end, and isn't called again.
+    // The client has reported its end, and isn't read again.
     has_ended: bool,
     ghost short: { vec_len line ≤ MAX_LINE + 1 },
 }
@@ -77,30 +79,38 @@ impl Script {
     }
 
     /// Takes the next line, and returns whether there was one. If a line is in hand, it is taken or
-    /// memory is refused. A reader that has reported its end isn't called again: at a terminal it
+    /// memory is refused. A client that has reported its end isn't read again: at a terminal it
     /// would continue.
     ///
-    /// Each call must be given the same reader.
+    /// Each call must be given the same client. It is read only if no line feed is unread, and then
+    /// until the next one comes. So it must let itself be read then, also after further bytes of the
+    /// line.
     ///
     /// # Errors
     ///
-    /// Fails with [`ServeFault::Read`] if the reader returns an error, returns more bytes than the
+    /// Fails with [`ServeFault::Read`] if the client returns an error, returns more bytes than the
     /// limit, or needs more calls than the limit. Fails with [`ServeFault::Memory`] if memory is
     /// refused. There are no other errors.
-    pub fn next_line<R: Read>(&mut self, reader: &mut R) -> Result<bool, ServeFault>
-        requires ended { self.old.has_ended ≡ true → HasEnded self.old.unread (R.remaining reader.old) }
-        ensures taken { IfOk result (λ found. TakesLine found (left self.old.unread (R.remaining reader.old))
-            (left self.new.unread (R.remaining reader.new)) self.new.line.items) }
+    pub fn next_line<C: Client>(&mut self, client: &mut C) -> Result<bool, ServeFault>
+        requires ended { self.old.has_ended ≡ true → HasEnded self.old.unread (C.remaining client.old) }
+        requires may { self.old.has_ended ≡ false → HasNoFeed self.old.unread → (c : C)
+            → ReceivesPart (C.received client.old) (C.received c) → C.sent c ≡ C.sent client.old → C.may_read c }
+        ensures taken { IfOk result (λ found. TakesLine found (left self.old.unread (C.remaining client.old))
+            (left self.new.unread (C.remaining client.new)) self.new.line.items) }
         ensures less { IfOk result (λ found. found ≡ true →
             self.new.bytes_left + length self.new.unread < self.old.bytes_left + length self.old.unread) }
         ensures spent { OnOk result
-            (Spends (R.remaining reader.old) (R.remaining reader.new) self.old.bytes_left self.new.bytes_left) }
+            (Spends (C.remaining client.old) (C.remaining client.new) self.old.bytes_left self.new.bytes_left) }
         ensures in_hand { IfOk result (λ found. has_line self.old.reads_left self.old.unread ≡ true → found ≡ true) }
         ensures cause { IfErr result
             (λ fault. has_line self.old.reads_left self.old.unread ≡ true → fault ≡ ServeFault.Memory) }
         ensures ended { IfOk result
-            (λ _. self.new.has_ended ≡ true → HasEnded self.new.unread (R.remaining reader.new)) }
-        // No error is the writer's.
+            (λ _. self.new.has_ended ≡ true → HasEnded self.new.unread (C.remaining client.new)) }
+        ensures over { IfOk result (λ found. self.old.has_ended ≡ true → found ≡ false) }
+        ensures received { OnOk result (self.new.has_ended ≡ false → ReceivesLine
+            (C.received client.old) (C.received client.new) self.old.unread self.new.unread self.new.line.items) }
+        ensures sent { C.sent client.new ≡ C.sent client.old }
+        // No error is one of writing.
         ensures kind { IfErr result (λ fault. (cause : WriteFault) → fault ≢ ServeFault.Write cause) }
     {
         if self.has_ended {
@@ -111,7 +121,7 @@ impl Script {
             if self.take_front()? {
                 return Ok(true);
             }
-            if self.fill(reader)? == 0 {
+            if self.fill(client)? == 0 {
                 self.has_ended = true;
                 return Ok(!self.line.is_empty());
             }
@@ -164,12 +174,15 @@ impl Script {
     }
 
     /// Reads the next bytes, once all that were read are taken, and returns how many.
-    fn fill<R: Read>(&mut self, reader: &mut R) -> Result<usize, ServeFault>
+    fn fill<C: Client>(&mut self, client: &mut C) -> Result<usize, ServeFault>
         requires taken { self.old.unread ≡ [] }
         requires more { 1 ≤ self.old.reads_left }
-        ensures read { OnOk result (Consumes (R.remaining reader.old) (R.remaining reader.new) self.new.unread) }
+        requires may { C.may_read client.old }
+        ensures read { OnOk result (Consumes (C.remaining client.old) (C.remaining client.new) self.new.unread) }
         ensures count { IfOk result (λ count. count ≡ length self.new.unread) }
-        ensures end { IfOk result (λ count. count ≡ 0 → IsAtEnd (R.remaining reader.new)) }
+        ensures end { IfOk result (λ count. count ≡ 0 → IsAtEnd (C.remaining client.new)) }
+        ensures received { OnOk result (Receives (C.received client.old) (C.received client.new) self.new.unread) }
+        ensures sent { C.sent client.new ≡ C.sent client.old }
         ensures line { self.new.line ≡ self.old.line }
         ensures bytes { IfOk result (λ count. self.new.bytes_left + count ≡ self.old.bytes_left) }
         ensures reads { self.new.reads_left + 1 ≡ self.old.reads_left }
@@ -177,7 +190,7 @@ impl Script {
         ensures kind { IfErr result (λ fault. (cause : WriteFault) → fault ≢ ServeFault.Write cause) }
     {
         self.reads_left -= 1;
-        let count = self.unread.fill(reader)?;
+        let count = self.unread.fill(client)?;
         if count > self.bytes_left {
             return Err(ServeFault::Read(self.limit.fault()));
         }

@@ -1,15 +1,16 @@
 ghost use Rattle.std.specs.Prelude.{◌≡◌, [], length, drop, IfOk, OnOk};
+ghost use Rattle.escrow_script.specs.Client.{Receives};
 ghost use Rattle.std.specs.Io.KnownBytes.{Consumes, IsAtEnd};
 
+use crate::client::Client;
 use crate::fault::ReadFault;
 use std::alloc::{AllocError, Global};
-use std::io::Read;
 use std::marker::Model;
 
-/// How many bytes are requested from a reader at a time.
+/// How many bytes are requested from a client at a time.
 const CHUNK: usize = 8192;
 
-/// The bytes that were read from a reader and aren't taken yet.
+/// The bytes that were read from a client and aren't taken yet.
 #[derive(Debug, Drop)]
 pub(crate) struct Unread {
     chunk: Vec<u8>,
@@ -58,14 +59,17 @@ impl Unread {
     }
 
     /// Reads the next bytes, once all are taken, and returns how many. There are none only at the
-    /// reader's end.
-    pub(crate) fn fill<R: Read>(&mut self, reader: &mut R) -> Result<usize, ReadFault>
-        requires { self.old ≡ [] }
-        ensures read { OnOk result (Consumes (R.remaining reader.old) (R.remaining reader.new) self.new) }
+    /// end of what the client sends.
+    pub(crate) fn fill<C: Client>(&mut self, client: &mut C) -> Result<usize, ReadFault>
+        requires taken { self.old ≡ [] }
+        requires may { C.may_read client.old }
+        ensures read { OnOk result (Consumes (C.remaining client.old) (C.remaining client.new) self.new) }
         ensures count { IfOk result (λ count. count ≡ length self.new) }
-        ensures end { IfOk result (λ count. count ≡ 0 → IsAtEnd (R.remaining reader.new)) }
+        ensures end { IfOk result (λ count. count ≡ 0 → IsAtEnd (C.remaining client.new)) }
+        ensures received { OnOk result (Receives (C.received client.old) (C.received client.new) self.new) }
+        ensures sent { C.sent client.new ≡ C.sent client.old }
     {
-        let count = reader.read(self.chunk.as_mut_slice())?;
+        let count = client.read(self.chunk.as_mut_slice())?;
         self.from = 0;
         self.to = count;
         Ok(count)

@@ -7,10 +7,10 @@ use Rattle.escrow_script.proofs.written.out_of_memory.Goals as goal
 
 pub returns-in-Ok : goal.returns-in-Ok
 returns-in-Ok g c =
-    let contents = g.W.Write.contents in
+    let sent = g.C.Client.sent in
     let items = c.args.replies.now.items in (
       length items,
-      subst (λ (bytes : List ℕ). Appends (contents c.args.writer.now) (contents c.write_gathered.new.writer) bytes) (sym (take_all (length items) items (omega arith))) c.in-Ok.ensures.ok,
+      subst (λ (bytes : List ℕ). Appends (sent c.args.client.now) (sent c.write_gathered.new.client) bytes) (sym (take_all (length items) items (omega arith))) c.in-Ok.ensures.ok,
       drop_of_length-le items (omega arith),
     )
 
