@@ -1,3 +1,4 @@
+pub mod AnsweredLemmas
 pub mod Elements
 pub mod GatherLemmas
 pub mod GaveLemmas

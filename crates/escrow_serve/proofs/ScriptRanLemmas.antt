@@ -41,7 +41,7 @@ each_ran_then g olds mids news given more count one two = λ place old new found
 -- WHAT LINES GIVE
 
 -- what the kept part of lines gives, the lines give
-gives_kept : (databases sessions : ℕ) (lines kept : List (List ℕ)) (given : List Given) (out : List ℕ) → AreKept lines kept → GivesLines databases sessions kept given out
+pub gives_kept : (databases sessions : ℕ) (lines kept : List (List ℕ)) (given : List Given) (out : List ℕ) → AreKept lines kept → GivesLines databases sessions kept given out
     → GivesLines databases sessions lines given out
 gives_kept databases sessions [] [] given out are gives = gives
 gives_kept databases sessions [] (k ∷ kept) given out are gives = absurd are

@@ -1,10 +1,13 @@
 ghost use Rattle.std.specs.Prelude.{◌≡◌, ◌≤◌, ◌<◌, ◌+◌, ◌*◌, ◌++◌, ◌∷◌, [], Option, List, ℕ, true, false, length, take, drop, vec_len, vec_capacity, OnOk, IfOk, IfErr, IfSome};
 ghost use Rattle.std.specs.Io.KnownBytes.{Appends, IsAtEnd};
 ghost use Rattle.std.specs.List.{AllByRecursion};
+ghost use Rattle.escrow_script.specs.Client.{ReceivesLine, ReceivesPart};
+ghost use Rattle.escrow_script.specs.Line.{HasNoFeed};
 ghost use Rattle.escrow_script.specs.Script.{left, has_line, most_bytes, HasEnded, Spends, TakesLine};
 ghost use Rattle.escrow_script.specs.Written.{Leaves};
 ghost use Rattle.escrow_script.specs.declared.limits.TheConstants.{MAX_LINE};
 ghost use Rattle.escrow_num.specs.declared.session.TheConstants.Session.{MAX_SHARED};
+ghost use Rattle.escrow_serve.specs.Answered.{AllAnswered, IsFresh};
 ghost use Rattle.escrow_serve.specs.Batch.{Gathers, GathersLines, HasRoom, TakesLines};
 ghost use Rattle.escrow_serve.specs.Left.{LeavesItsRows};
 ghost use Rattle.escrow_serve.specs.Output.{states_of, HaveCleanDisks, ServesAll, ServesWhole, StopsWithin};
@@ -19,48 +22,51 @@ use escrow_core::Database;
 use escrow_num::Session;
 use escrow_reply::MAX_SHORT;
 use escrow_script::{
-    Limit, MAX_DATABASES, MOST_GATHERED, Script, ServeFault, out_of_memory, write_gathered,
+    Client, Limit, MAX_DATABASES, MOST_GATHERED, Script, ServeFault, out_of_memory, write_gathered,
 };
 use sqlite::Alter;
 use std::alloc::Global;
-use std::io::{Read, Write};
 
 /// The most lines that wait to be served together.
 const MOST_WAITING: usize = 256;
 
-/// Serves a script: reads its lines in order, and serves each in the database that it names. Lines
-/// that are in hand are served together, so that their COMMITs can share a write. Replies are
-/// gathered while the next line is in hand, and written before the reader is called again, so a
-/// client that waits for a reply gets it. There must be 1 to 16 databases. SHOW STATISTICS shows
-/// the totals of its session in this call, since the last restart of its database.
+/// Serves a client's script: reads its lines in order, and serves each in the database that it
+/// names. Lines that are in hand are served together, so that their COMMITs can share a write.
+/// Replies are gathered while the next line is in hand, and written before the client is read
+/// again, so a client that waits for a reply gets it. There must be 1 to 16 databases. SHOW
+/// STATISTICS shows the totals of its session in this call, since the last restart of its database.
 ///
 /// After a fault, the databases have the lines that were served so far, and all their replies were
-/// written. If the writer failed, a prefix of the replies was written. A line is served only if
-/// there is room for a short reply. All replies are short but those to queries. If memory for a
-/// query's lines is refused, the reply is 51.
-pub fn serve_script<S: Alter, R: Read, W: Write>(
+/// written. If that failed, a prefix of the replies was written. A line is served only if there is
+/// room for a short reply. All replies are short but those to queries. If memory for a query's
+/// lines is refused, the reply is 51.
+pub fn serve_script<S: Alter, C: Client>(
     alloc: Global,
     databases: &mut Vec<Database<S>>,
-    reader: &mut R,
-    writer: &mut W,
+    client: &mut C,
 ) -> Result<(), ServeFault>
     requires some { 1 ≤ vec_len databases.old }
     requires few { vec_len databases.old ≤ MAX_DATABASES }
+
+    // A client can be served that lets itself be read only when all of its complete lines are
+    // answered: whenever it is read, they are.
+    requires fresh { IsFresh (C.received client.old) (C.sent client.old) }
+    requires waits { (c : C) → AllAnswered (vec_len databases.old) MAX_SHARED (C.received c) (C.sent c) → C.may_read c }
 
     // If each disk returned what was written, the output and the states after it are those of the
     // script, all of which was read. This holds even if a fault has shut a store.
     ensures output { HaveCleanDisks S.Store databases.new.items
-        → OnOk result (IfSome (R.remaining reader.old) (λ script.
+        → OnOk result (IfSome (C.remaining client.old) (λ script.
         ServesWhole MAX_SHARED script (states_of databases.old.items) (states_of databases.new.items)
-        (W.contents writer.old) (W.contents writer.new))) }
-    ensures end { OnOk result (IfSome (R.remaining reader.old) (λ script. IsAtEnd (R.remaining reader.new))) }
+        (C.sent client.old) (C.sent client.new))) }
+    ensures end { OnOk result (IfSome (C.remaining client.old) (λ script. IsAtEnd (C.remaining client.new))) }
 
-    // After a fault some lines were served, and their output was written, or a prefix of it if the
-    // writer failed.
+    // After a fault some lines were served, and their output was written, or a prefix of it if that
+    // failed.
     ensures fault { HaveCleanDisks S.Store databases.new.items
-        → IfErr result (λ fault. IfSome (R.remaining reader.old) (λ script.
+        → IfErr result (λ fault. IfSome (C.remaining client.old) (λ script.
         StopsWithin MAX_SHARED fault script (states_of databases.old.items) (states_of databases.new.items)
-        (W.contents writer.old) (W.contents writer.new))) }
+        (C.sent client.old) (C.sent client.new))) }
 
     // If each disk has returned what was written by the end of the call, it had before the call
     // too.
@@ -73,48 +79,45 @@ pub fn serve_script<S: Alter, R: Read, W: Write>(
     // However the call ends, each database by itself served what its lines gave it, if its own disk
     // returned what was written. After a crash no write that was answered is missing, also if a
     // fault has shut the store.
-    ensures ran { IfSome (R.remaining reader.old)
-        (λ script. ScriptRan S.Store MAX_SHARED script databases.old.items databases.new.items (W.contents writer.old)
-        (W.contents writer.new) (LeftBy result)) }
+    ensures ran { IfSome (C.remaining client.old)
+        (λ script. ScriptRan S.Store MAX_SHARED script databases.old.items databases.new.items (C.sent client.old)
+        (C.sent client.new) (LeftBy result)) }
 {
-    let served = serve_from(
-        alloc,
-        Limit::Script,
-        Session::MAX_SHARED,
-        databases,
-        reader,
-        writer,
-    );
+    let served = serve_from(alloc, Limit::Script, Session::MAX_SHARED, databases, client);
     see_left(databases.as_slice());
     served
 }
 
-/// Serves lines as [`serve_script`] does, but with this many sessions, and until their reader ends,
-/// however many they are.
-pub fn serve_lines<S: Alter, R: Read, W: Write>(
+/// Serves lines as [`serve_script`] does, but with this many sessions, and until the client
+/// sends no more, however many they are.
+pub fn serve_lines<S: Alter, C: Client>(
     alloc: Global,
     sessions: u16,
     databases: &mut Vec<Database<S>>,
-    reader: &mut R,
-    writer: &mut W,
+    client: &mut C,
 ) -> Result<(), ServeFault>
     requires some { 1 ≤ vec_len databases.old }
     requires few { vec_len databases.old ≤ MAX_DATABASES }
 
+    // A client can be served that lets itself be read only when all of its complete lines are
+    // answered: whenever it is read, they are.
+    requires fresh { IsFresh (C.received client.old) (C.sent client.old) }
+    requires waits { (c : C) → AllAnswered (vec_len databases.old) sessions (C.received c) (C.sent c) → C.may_read c }
+
     // If each disk returned what was written, the output and the states after it are those of all
     // lines, all of which were read. This holds even if a fault has shut a store.
     ensures output { HaveCleanDisks S.Store databases.new.items
-        → OnOk result (IfSome (R.remaining reader.old) (λ script.
+        → OnOk result (IfSome (C.remaining client.old) (λ script.
         ServesAll sessions script (states_of databases.old.items) (states_of databases.new.items)
-        (W.contents writer.old) (W.contents writer.new))) }
-    ensures end { OnOk result (IfSome (R.remaining reader.old) (λ script. IsAtEnd (R.remaining reader.new))) }
+        (C.sent client.old) (C.sent client.new))) }
+    ensures end { OnOk result (IfSome (C.remaining client.old) (λ script. IsAtEnd (C.remaining client.new))) }
 
-    // After a fault some lines were served, and their output was written, or a prefix of it if the
-    // writer failed.
+    // After a fault some lines were served, and their output was written, or a prefix of it if that
+    // failed.
     ensures fault { HaveCleanDisks S.Store databases.new.items
-        → IfErr result (λ fault. IfSome (R.remaining reader.old) (λ script.
+        → IfErr result (λ fault. IfSome (C.remaining client.old) (λ script.
         StopsWithin sessions fault script (states_of databases.old.items) (states_of databases.new.items)
-        (W.contents writer.old) (W.contents writer.new))) }
+        (C.sent client.old) (C.sent client.new))) }
 
     // If each disk has returned what was written by the end of the call, it had before the call
     // too.
@@ -127,44 +130,45 @@ pub fn serve_lines<S: Alter, R: Read, W: Write>(
     // However the call ends, each database by itself served what its lines gave it, if its own disk
     // returned what was written. After a crash no write that was answered is missing, also if a
     // fault has shut the store.
-    ensures ran { IfSome (R.remaining reader.old)
-        (λ script. ScriptRan S.Store sessions script databases.old.items databases.new.items (W.contents writer.old)
-        (W.contents writer.new) (LeftBy result)) }
+    ensures ran { IfSome (C.remaining client.old)
+        (λ script. ScriptRan S.Store sessions script databases.old.items databases.new.items (C.sent client.old)
+        (C.sent client.new) (LeftBy result)) }
 {
-    let served = serve_from(alloc, Limit::Stream, sessions, databases, reader, writer);
+    let served = serve_from(alloc, Limit::Stream, sessions, databases, client);
     see_left(databases.as_slice());
     served
 }
 
 /// Serves lines as [`serve_script`] does, but reads no more of them than a limit allows.
-fn serve_from<S: Alter, R: Read, W: Write>(
+fn serve_from<S: Alter, C: Client>(
     alloc: Global,
     limit: Limit,
     sessions: u16,
     databases: &mut Vec<Database<S>>,
-    reader: &mut R,
-    writer: &mut W,
+    client: &mut C,
 ) -> Result<(), ServeFault>
     requires few { vec_len databases.old ≤ MAX_DATABASES }
+    requires fresh { IsFresh (C.received client.old) (C.sent client.old) }
+    requires waits { (c : C) → AllAnswered (vec_len databases.old) sessions (C.received c) (C.sent c) → C.may_read c }
     ensures output { HaveCleanDisks S.Store databases.new.items
-        → OnOk result (IfSome (R.remaining reader.old) (λ script. (length script ≤ most_bytes limit)
+        → OnOk result (IfSome (C.remaining client.old) (λ script. (length script ≤ most_bytes limit)
         × ServesAll sessions script (states_of databases.old.items) (states_of databases.new.items)
-        (W.contents writer.old) (W.contents writer.new))) }
-    ensures end { OnOk result (IfSome (R.remaining reader.old) (λ script. IsAtEnd (R.remaining reader.new))) }
+        (C.sent client.old) (C.sent client.new))) }
+    ensures end { OnOk result (IfSome (C.remaining client.old) (λ script. IsAtEnd (C.remaining client.new))) }
     ensures fault { HaveCleanDisks S.Store databases.new.items
-        → IfErr result (λ fault. IfSome (R.remaining reader.old) (λ script.
+        → IfErr result (λ fault. IfSome (C.remaining client.old) (λ script.
         StopsWithin sessions fault script (states_of databases.old.items) (states_of databases.new.items)
-        (W.contents writer.old) (W.contents writer.new))) }
+        (C.sent client.old) (C.sent client.new))) }
     ensures clean { HaveCleanDisks S.Store databases.new.items → HaveCleanDisks S.Store databases.old.items }
-    ensures ran { IfSome (R.remaining reader.old)
-        (λ script. ScriptRan S.Store sessions script databases.old.items databases.new.items (W.contents writer.old)
-        (W.contents writer.new) (LeftBy result)) }
+    ensures ran { IfSome (C.remaining client.old)
+        (λ script. ScriptRan S.Store sessions script databases.old.items databases.new.items (C.sent client.old)
+        (C.sent client.new) (LeftBy result)) }
 {
     let mut script = Script::up_to(alloc, limit)?;
     let mut totals = Totals::of_databases(alloc, databases.len())?;
     let mut batch = Batch::new(alloc, databases.len())?;
     let mut replies = Vec::new(alloc);
-    while take_line(&mut script, reader, writer, &mut replies)? {
+    while take_line(&mut script, client, &mut replies)? {
         serve_in_hand(
             alloc,
             sessions,
@@ -175,7 +179,7 @@ fn serve_from<S: Alter, R: Read, W: Write>(
             &mut replies,
         );
         if replies.len() >= MOST_GATHERED || !script.has_line() {
-            write_gathered(writer, &mut replies)?;
+            write_gathered(client, &mut replies)?;
         }
     }
     Ok(())
@@ -195,38 +199,42 @@ fn see_left<S: Alter>(databases: &[Database<S>])
 /// Takes the next line, with room for a short reply to it, and returns whether there was one. If
 /// memory is refused, what is gathered is written first, and a line that was taken must not be
 /// served.
-fn take_line<R: Read, W: Write>(
+fn take_line<C: Client>(
     script: &mut Script,
-    reader: &mut R,
-    writer: &mut W,
+    client: &mut C,
     replies: &mut Vec<u8>,
 ) -> Result<bool, ServeFault>
-    requires ended { script.old.has_ended ≡ true → HasEnded script.old.unread (R.remaining reader.old) }
+    requires ended { script.old.has_ended ≡ true → HasEnded script.old.unread (C.remaining client.old) }
     requires waits { has_line script.old.reads_left script.old.unread ≡ false → replies.old.items ≡ [] }
-    ensures taken { IfOk result (λ found. TakesLine found (left script.old.unread (R.remaining reader.old))
-        (left script.new.unread (R.remaining reader.new)) script.new.line.items) }
+    requires may { script.old.has_ended ≡ false → HasNoFeed script.old.unread → (c : C)
+        → ReceivesPart (C.received client.old) (C.received c) → C.sent c ≡ C.sent client.old → C.may_read c }
+    ensures taken { IfOk result (λ found. TakesLine found (left script.old.unread (C.remaining client.old))
+        (left script.new.unread (C.remaining client.new)) script.new.line.items) }
     ensures less { IfOk result (λ found. found ≡ true →
         script.new.bytes_left + length script.new.unread < script.old.bytes_left + length script.old.unread) }
     ensures spent { OnOk result
-        (Spends (R.remaining reader.old) (R.remaining reader.new) script.old.bytes_left script.new.bytes_left) }
+        (Spends (C.remaining client.old) (C.remaining client.new) script.old.bytes_left script.new.bytes_left) }
     ensures in_hand { IfOk result (λ found. has_line script.old.reads_left script.old.unread ≡ true → found ≡ true) }
     ensures ended { IfOk result
-        (λ _. script.new.has_ended ≡ true → HasEnded script.new.unread (R.remaining reader.new)) }
+        (λ _. script.new.has_ended ≡ true → HasEnded script.new.unread (C.remaining client.new)) }
     ensures room { IfOk result (λ found. found ≡ true → vec_len replies.new + MAX_SHORT ≤ vec_capacity replies.new) }
     ensures gathered { OnOk result (replies.new.items ≡ replies.old.items) }
-    ensures unwritten { OnOk result (W.contents writer.new ≡ W.contents writer.old) }
+    ensures over { IfOk result (λ found. script.old.has_ended ≡ true → found ≡ false) }
+    ensures received { OnOk result (script.new.has_ended ≡ false → ReceivesLine
+        (C.received client.old) (C.received client.new) script.old.unread script.new.unread script.new.line.items) }
+    ensures unwritten { OnOk result (C.sent client.new ≡ C.sent client.old) }
     ensures fault { IfErr result
-        (λ why. (len : ℕ) × Appends (W.contents writer.old) (W.contents writer.new) (take len replies.old.items)
+        (λ why. (len : ℕ) × Appends (C.sent client.old) (C.sent client.new) (take len replies.old.items)
         × Leaves why (drop len replies.old.items)) }
 {
-    match script.next_line(reader) {
+    match script.next_line(client) {
         Ok(true) => match replies.reserve(MAX_SHORT) {
             Ok(()) => Ok(true),
-            Err(_) => Err(out_of_memory(writer, replies)),
+            Err(_) => Err(out_of_memory(client, replies)),
         },
         Ok(false) => Ok(false),
         Err(ServeFault::Read(cause)) => Err(ServeFault::Read(cause)),
-        Err(ServeFault::Memory | ServeFault::Write(_)) => Err(out_of_memory(writer, replies)),
+        Err(ServeFault::Memory | ServeFault::Write(_)) => Err(out_of_memory(client, replies)),
     }
 }
 
