@@ -10,10 +10,10 @@ use thiserror::Error;
 /// back.
 #[derive(Clone, Copy, Debug, Error)]
 pub enum FreeFault {
-    /// The reader returned an error, or returned more than a script may have.
+    /// The client returned an error, or returned more than a script may have.
     #[error("the script can't be read: {0}")]
     Read(ReadFault),
-    /// The writer returned an error, or accepted none of the bytes that were left.
+    /// The client returned an error, or accepted none of the bytes that were left.
     #[error("a reply can't be written: {0}")]
     Write(WriteFault),
     /// Memory was refused outside a statement, or a watcher has no place to read at.

@@ -11,55 +11,57 @@ use escrow_machine::Reply;
 use escrow_num::{Refusal, Session};
 use escrow_reply::{render, render_lines};
 use escrow_script::{
-    MOST_GATHERED, ServeFault, database_name, fault_refusal, gather, out_of_memory, write_gathered,
+    Client, MOST_GATHERED, ServeFault, database_name, fault_refusal, gather, out_of_memory,
+    write_gathered,
 };
 use escrow_sessions::Given;
 use escrow_shards::Answer;
 use escrow_stats::Tally;
 use std::alloc::{AllocError, Global};
-use std::io::Write;
 
 /// Prints what is planned for the lines of a phase, in order. If a line asks for a reply, this is
 /// its session's next answer, which is counted in the session's totals. If a line asks for totals,
 /// these are the totals so far. If memory is refused, what is gathered is written first.
-pub(crate) fn print_phase<W: Write>(
+pub(crate) fn print_phase<C: Client>(
     alloc: Global,
     desks: &mut Vec<Desk>,
     totals: &mut Vec<Tally>,
     lines: Vec<Planned>,
-    writer: &mut W,
+    client: &mut C,
 ) -> Result<(), ServeFault>
     requires lines { AllByRecursion (HasItsDesk (vec_len desks.old)) lines.items }
     requires beside { vec_len totals.old ≡ vec_len desks.old }
-    ensures printed { OnOk result ((out : List ℕ) × Appends (W.contents writer.old) (W.contents writer.new) out
+    ensures printed { OnOk result ((out : List ℕ) × Appends (C.sent client.old) (C.sent client.new) out
         × PrintsTo lines.items desks.old.items totals.old.items out [] desks.new.items totals.new.items) }
+    ensures unread { OnOk result (C.remaining client.new ≡ C.remaining client.old) }
     ensures count { vec_len desks.new ≡ vec_len desks.old }
     ensures beside { vec_len totals.new ≡ vec_len desks.new }
 {
     let mut replies = Vec::new(alloc);
     for line in lines {
         let Ok(reply) = print_line(alloc, desks, totals, line) else {
-            return Err(out_of_memory(writer, &mut replies));
+            return Err(out_of_memory(client, &mut replies));
         };
-        pass_on(writer, &mut replies, reply)?;
+        pass_on(client, &mut replies, reply)?;
     }
-    write_gathered(writer, &mut replies)
+    write_gathered(client, &mut replies)
 }
 
 /// Adds a reply to those that are gathered, and writes them if they are long.
-fn pass_on<W: Write>(
-    writer: &mut W,
+fn pass_on<C: Client>(
+    client: &mut C,
     replies: &mut Vec<u8>,
     reply: Vec<u8>,
 ) -> Result<(), ServeFault>
-    ensures { OnOk result (PassesOn (W.contents writer.old) (W.contents writer.new)
+    ensures unread { OnOk result (C.remaining client.new ≡ C.remaining client.old) }
+    ensures passed { OnOk result (PassesOn (C.sent client.old) (C.sent client.new)
         (replies.old.items ++ reply.items) replies.new.items) }
 {
     let Ok(()) = gather(replies, reply) else {
-        return Err(out_of_memory(writer, replies));
+        return Err(out_of_memory(client, replies));
     };
     if replies.len() >= MOST_GATHERED {
-        write_gathered(writer, replies)?;
+        write_gathered(client, replies)?;
     }
     Ok(())
 }

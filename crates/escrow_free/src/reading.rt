@@ -4,9 +4,8 @@ ghost use Rattle.escrow_script.specs.Script.{left, HasEnded, Spends};
 ghost use Rattle.escrow_free.specs.Phases.{IsRead, IsOver};
 
 use crate::plan::Plan;
-use escrow_script::{MAX_DATABASES, Script, ServeFault};
+use escrow_script::{Client, MAX_DATABASES, Script, ServeFault};
 use std::alloc::Global;
-use std::io::Read;
 
 /// The lines of a phase.
 #[derive(Drop)]
@@ -16,28 +15,31 @@ pub(crate) struct Phase {
     pub(crate) has_more: bool,
 }
 
-/// Reads the lines of the next phase of a script, up to `@join` or to the script's end, and plans them.
-pub(crate) fn read_phase<R: Read>(
+/// Reads the lines of the next phase of a client's script, up to `@join` or to the script's end,
+/// and plans them.
+pub(crate) fn read_phase<C: Client>(
     alloc: Global,
     databases: usize,
     script: &mut Script,
-    reader: &mut R,
+    client: &mut C,
 ) -> Result<Phase, ServeFault>
     requires few { databases ≤ MAX_DATABASES }
-    requires ended { script.old.has_ended ≡ true → HasEnded script.old.unread (R.remaining reader.old) }
+    requires ended { script.old.has_ended ≡ true → HasEnded script.old.unread (C.remaining client.old) }
+    requires always { (c : C) → C.may_read c }
     ensures read { IfOk result
-        (λ phase. IsRead databases (left script.old.unread (R.remaining reader.old))
-        (left script.new.unread (R.remaining reader.new)) phase.plan) }
+        (λ phase. IsRead databases (left script.old.unread (C.remaining client.old))
+        (left script.new.unread (C.remaining client.new)) phase.plan) }
     ensures less { IfOk result (λ phase. phase.has_more ≡ true →
         script.new.bytes_left + length script.new.unread < script.old.bytes_left + length script.old.unread) }
     ensures spent { OnOk result
-        (Spends (R.remaining reader.old) (R.remaining reader.new) script.old.bytes_left script.new.bytes_left) }
-    ensures ended { OnOk result (script.new.has_ended ≡ true → HasEnded script.new.unread (R.remaining reader.new)) }
+        (Spends (C.remaining client.old) (C.remaining client.new) script.old.bytes_left script.new.bytes_left) }
+    ensures sent { OnOk result (C.sent client.new ≡ C.sent client.old) }
+    ensures ended { OnOk result (script.new.has_ended ≡ true → HasEnded script.new.unread (C.remaining client.new)) }
     ensures over { IfOk result (λ phase. phase.has_more ≡ false →
-        IsOver (left script.old.unread (R.remaining reader.old)) (left script.new.unread (R.remaining reader.new))) }
+        IsOver (left script.old.unread (C.remaining client.old)) (left script.new.unread (C.remaining client.new))) }
 {
     let mut plan = Plan::new(alloc);
-    'lines: while script.next_line(reader)? {
+    'lines: while script.next_line(client)? {
         if plan.add(alloc, databases, script.line())? {
             return Ok(Phase {
                 plan,

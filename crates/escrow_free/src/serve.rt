@@ -20,12 +20,11 @@ use crate::printing::print_phase;
 use crate::reading::{Phase, read_phase};
 use crate::stage::{Stage, close, share, share_watched};
 use escrow_core::Database;
-use escrow_script::{MAX_DATABASES, Script};
+use escrow_script::{Client, MAX_DATABASES, Script};
 use escrow_shards::{Audit, Gate, Part, Shared, UnderLock};
 use escrow_stats::{Tally, Watcher};
 use sqlite::Alter;
 use std::alloc::{AllocError, Global};
-use std::io::{Read, Write};
 use std::sync::Wait;
 use std::thread::Threads;
 
@@ -49,22 +48,18 @@ use std::thread::Threads;
 /// and with [`FreeFault::Mismatch`] if the histories don't match the replies to the sessions. May
 /// also fail with [`FreeFault::Read`], [`FreeFault::Write`] and [`FreeFault::Memory`]. After an
 /// error nothing is handed back.
-pub fn serve_free<
-    S: Alter + Drop + Send,
-    T: Threads + Wait + Sync,
-    R: Read,
-    W: Write,
-    G: Gate + Sync,
->(
+pub fn serve_free<S: Alter + Drop + Send, T: Threads + Wait + Sync, C: Client, G: Gate + Sync>(
     rt: &T,
     alloc: Global,
     databases: Vec<Database<S>>,
-    reader: &mut R,
-    writer: &mut W,
+    client: &mut C,
     gate: &G,
 ) -> Result<Audit<S>, FreeFault>
     requires some { 1 ≤ vec_len databases }
     requires few { vec_len databases ≤ MAX_DATABASES }
+
+    // The client may be read at any time: a phase is read before its lines are answered.
+    requires always { (c : C) → C.may_read c }
 
     // The history of each database is one legal run of the machine, from the state that was handed
     // in to the state that is handed back. This holds as long as the disk returned what was
@@ -73,16 +68,16 @@ pub fn serve_free<
 
     // The output is what the script's lines write according to the histories. All of the script was
     // read.
-    ensures output { IfOk result (λ audit. IfSome (R.remaining reader.old) (λ script.
-        ServesFree script (histories audit.parts.items audit.closed.items) (W.contents writer.old)
-        (W.contents writer.new))) }
-    ensures end { OnOk result (IfSome (R.remaining reader.old) (λ script. IsAtEnd (R.remaining reader.new))) }
+    ensures output { IfOk result (λ audit. IfSome (C.remaining client.old) (λ script.
+        ServesFree script (histories audit.parts.items audit.closed.items) (C.sent client.old)
+        (C.sent client.new))) }
+    ensures end { OnOk result (IfSome (C.remaining client.old) (λ script. IsAtEnd (C.remaining client.new))) }
 
     // The fault says that a transaction is open exactly if one is.
     ensures open { IsErrOf result FreeFault.Open ↔ (any_open databases.items ≡ true) }
 {
     let stage = share(alloc, databases)?;
-    let audit = serve_stage(rt, alloc, stage, reader, writer, gate, &mut Nobody)?;
+    let audit = serve_stage(rt, alloc, stage, client, gate, &mut Nobody)?;
     Ok(audit)
 }
 
@@ -98,30 +93,29 @@ pub fn serve_free<
 pub fn serve_free_watched<
     S: Alter + Drop + Send,
     T: Threads + Wait + Sync,
-    R: Read,
-    W: Write,
+    C: Client,
     G: Gate + Sync,
     A: Audience<Watcher<S>>,
 >(
     rt: &T,
     alloc: Global,
     databases: Vec<Database<S>>,
-    reader: &mut R,
-    writer: &mut W,
+    client: &mut C,
     gate: &G,
     audience: &mut A,
 ) -> Result<Audit<S>, FreeFault>
     requires some { 1 ≤ vec_len databases }
     requires few { vec_len databases ≤ MAX_DATABASES }
+    requires always { (c : C) → C.may_read c }
     ensures legal { IfOk result (λ audit. AreHistories S.Store databases.items audit.parts.items audit.closed.items) }
-    ensures output { IfOk result (λ audit. IfSome (R.remaining reader.old) (λ script.
-        ServesFree script (histories audit.parts.items audit.closed.items) (W.contents writer.old)
-        (W.contents writer.new))) }
-    ensures end { OnOk result (IfSome (R.remaining reader.old) (λ script. IsAtEnd (R.remaining reader.new))) }
+    ensures output { IfOk result (λ audit. IfSome (C.remaining client.old) (λ script.
+        ServesFree script (histories audit.parts.items audit.closed.items) (C.sent client.old)
+        (C.sent client.new))) }
+    ensures end { OnOk result (IfSome (C.remaining client.old) (λ script. IsAtEnd (C.remaining client.new))) }
     ensures open { IsErrOf result FreeFault.Open ↔ (any_open databases.items ≡ true) }
 {
     let stage = share_watched(rt, alloc, databases)?;
-    let audit = serve_stage(rt, alloc, stage, reader, writer, gate, audience)?;
+    let audit = serve_stage(rt, alloc, stage, client, gate, audience)?;
     Ok(audit)
 }
 
@@ -130,31 +124,30 @@ fn serve_stage<
     S: Alter + Drop + Send,
     L: UnderLock<S> + Drop + Send,
     T: Threads + Wait + Sync,
-    R: Read,
-    W: Write,
+    C: Client,
     G: Gate + Sync,
     A: Audience<Watcher<S>>,
 >(
     rt: &T,
     alloc: Global,
     stage: Stage<S, L>,
-    reader: &mut R,
-    writer: &mut W,
+    client: &mut C,
     gate: &G,
     audience: &mut A,
 ) -> Result<Audit<S>, FreeFault>
     requires few { length stage.shared.openings ≤ MAX_DATABASES }
     requires sessions { stage.shared.sessions ≡ MAX_SHARED }
+    requires always { (c : C) → C.may_read c }
     requires passes { stage.passes.items ≡ new_passes (length stage.shared.openings) MAX_SHARED }
 
     // This holds for whichever databases were read when the sharing began.
     ensures legal { IfOk result
         (λ audit. (databases : List (Database S)) → AreRead S.Store databases (map database_at stage.shared.openings)
         → AreHistories S.Store databases audit.parts.items audit.closed.items) }
-    ensures output { IfOk result (λ audit. IfSome (R.remaining reader.old) (λ script.
-        ServesFree script (histories audit.parts.items audit.closed.items) (W.contents writer.old)
-        (W.contents writer.new))) }
-    ensures end { OnOk result (IfSome (R.remaining reader.old) (λ script. IsAtEnd (R.remaining reader.new))) }
+    ensures output { IfOk result (λ audit. IfSome (C.remaining client.old) (λ script.
+        ServesFree script (histories audit.parts.items audit.closed.items) (C.sent client.old)
+        (C.sent client.new))) }
+    ensures end { OnOk result (IfSome (C.remaining client.old) (λ script. IsAtEnd (C.remaining client.new))) }
     ensures shared { IfErr result (λ fault. fault ≢ FreeFault.Open) }
 {
     let Stage {
@@ -165,7 +158,7 @@ fn serve_stage<
     let desks = desks_of(alloc, passes)?;
     audience.watch(alloc, watchers);
     let workers = Workers { rt, gate };
-    let served = serve_phases(&workers, alloc, &shared, desks, reader, writer, audience)?;
+    let served = serve_phases(&workers, alloc, &shared, desks, client, audience)?;
     let passes = passes_of(alloc, served.desks)?;
     let audit = close(shared, passes, served.parts)?;
     Ok(audit)
@@ -184,8 +177,7 @@ fn serve_phases<
     S: Alter + Drop + Send,
     L: UnderLock<S> + Send,
     T: Threads + Wait + Sync,
-    R: Read,
-    W: Write,
+    C: Client,
     G: Gate + Sync,
     A: Audience<Watcher<S>>,
 >(
@@ -193,16 +185,16 @@ fn serve_phases<
     alloc: Global,
     shared: &Shared<S, L>,
     mut desks: Vec<Desk>,
-    reader: &mut R,
-    writer: &mut W,
+    client: &mut C,
     audience: &mut A,
 ) -> Result<Served<S>, FreeFault>
     requires few { length shared.now.openings ≤ MAX_DATABASES }
     requires seats { HavePasses shared.now desks.items }
     requires fits { Fits [] [] desks.items }
-    ensures served { IfOk result (λ s. IfSome (R.remaining reader.old) (λ script.
-        IsServed (length shared.now.openings) script s.desks.items (W.contents writer.old) (W.contents writer.new))) }
-    ensures end { OnOk result (IfSome (R.remaining reader.old) (λ script. IsAtEnd (R.remaining reader.new))) }
+    requires always { (c : C) → C.may_read c }
+    ensures served { IfOk result (λ s. IfSome (C.remaining client.old) (λ script.
+        IsServed (length shared.now.openings) script s.desks.items (C.sent client.old) (C.sent client.new))) }
+    ensures end { OnOk result (IfSome (C.remaining client.old) (λ script. IsAtEnd (C.remaining client.new))) }
     ensures shared { IfErr result (λ fault. fault ≢ FreeFault.Open) }
 {
     let databases = shared.databases();
@@ -210,11 +202,11 @@ fn serve_phases<
     let mut script = Script::new(alloc)?;
     let mut drains = Drains::new(alloc, databases)?;
     'phases: loop {
-        let Phase { plan, has_more } = read_phase(alloc, databases, &mut script, reader)?;
+        let Phase { plan, has_more } = read_phase(alloc, databases, &mut script, client)?;
         let Plan { lines, items } = plan;
         let had_statements = !items.is_empty();
         desks = run_phase(workers, alloc, shared, desks, items, audience)?;
-        print_phase(alloc, &mut desks, &mut totals, lines, writer)?;
+        print_phase(alloc, &mut desks, &mut totals, lines, client)?;
         drains.drain_long(workers.rt, alloc, shared, desks.as_slice(), had_statements);
         if !has_more {
             let parts = drains.parts;

@@ -19,11 +19,12 @@ loop-line-preserved g c =
       count = c.print_line.ensures.count ∙ at.invariant.count;
       beside = c.print_line.ensures.beside;
       lines = lines.1;
+      unread = c.in_ok-pass_on.ensures.unread ∙ at.invariant.unread;
       printed =
           printed_more _ c.in-Some.line (into_iter_items c.next.new.self) c.args.desks.now.items at.desks.items c.print_line.new.desks.items
           c.args.totals.now.items at.totals.items c.print_line.new.totals.items
-          (g.W.Write.contents c.args.writer.now) (g.W.Write.contents at.writer) (g.W.Write.contents c.pass_on.new.writer) at.replies.items c.in-Ok.reply.items c.pass_on.new.replies.items
-          (c.in-Ok.ensures.printed _) c.in_ok-pass_on.ensures (rw (← steps) at.invariant.printed);
+          (g.C.Client.sent c.args.client.now) (g.C.Client.sent at.client) (g.C.Client.sent c.pass_on.new.client) at.replies.items c.in-Ok.reply.items c.pass_on.new.replies.items
+          (c.in-Ok.ensures.printed _) c.in_ok-pass_on.ensures.passed (rw (← steps) at.invariant.printed);
     }
 
 pub loop-line-init : goal.loop-line-init
@@ -35,7 +36,8 @@ loop-line-init g c =
       count = refl;
       beside = c.requires.beside;
       lines = subst (AllByRecursion (HasItsDesk (vec_len c.args.desks.now))) (sym gives.0) c.requires.lines;
-      printed = printed_none left c.args.desks.now.items c.args.totals.now.items (g.W.Write.contents c.args.writer.now) c.new-replies.result.items c.new-replies.ensures.items;
+      unread = refl;
+      printed = printed_none left c.args.desks.now.items c.args.totals.now.items (g.C.Client.sent c.args.client.now) c.new-replies.result.items c.new-replies.ensures.items;
     }
 
 pub returns-clause-printed : goal.returns-clause-printed
@@ -44,5 +46,5 @@ returns-clause-printed g c =
     let gives = c.into_iter-line-iterator.ensures.into_iter_gives in
     let none : into_iter_items at.line-iterator ≡ [] = nil_from_length (into_iter_items at.line-iterator) (omega (arith, at.invariant.long, c.in-None.ensures.steps.0)) in
     on_ok_weaker c.write_gathered.result (λ wrote.
-    printed_all c.args.lines.items c.args.desks.now.items at.desks.items c.args.totals.now.items at.totals.items (into_iter_items at.line-iterator) (g.W.Write.contents c.args.writer.now) (g.W.Write.contents at.writer)
-    (g.W.Write.contents c.write_gathered.new.writer) at.replies.items none (rw (← gives.0) at.invariant.printed) wrote) c.write_gathered.ensures.ok
+    printed_all c.args.lines.items c.args.desks.now.items at.desks.items c.args.totals.now.items at.totals.items (into_iter_items at.line-iterator) (g.C.Client.sent c.args.client.now) (g.C.Client.sent at.client)
+    (g.C.Client.sent c.write_gathered.new.client) at.replies.items none (rw (← gives.0) at.invariant.printed) wrote) c.write_gathered.ensures.ok

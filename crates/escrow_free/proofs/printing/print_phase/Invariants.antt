@@ -11,6 +11,7 @@ invariant-loop-line g l = record {
   count : vec_len l.desks ≡ vec_len l.fn.desks;
   lines : AllByRecursion (HasItsDesk (vec_len l.fn.desks)) (into_iter_items l.line-iterator);
   beside : vec_len l.totals ≡ vec_len l.desks;
+  unread : g.C.Client.remaining l.client ≡ g.C.Client.remaining l.fn.client;
   printed : Printed (into_iter_items l.initial.line-iterator) l.fn.desks.items l.fn.totals.items (into_iter_items l.line-iterator) l.desks.items l.totals.items
-      (g.W.Write.contents l.fn.writer) (g.W.Write.contents l.writer) l.replies.items;
+      (g.C.Client.sent l.fn.client) (g.C.Client.sent l.client) l.replies.items;
 }

@@ -2,16 +2,18 @@ use Rattle.std.proofs.Common.{◌≡◌, ◌<◌, ◌*◌, [], length, vec_len, 
 use Rattle.std.proofs.lemmas.Bool.{false≢true}
 use Rattle.std.proofs.lemmas.List.{length-replicate}
 use Rattle.escrow_stats.specs.Tally.{tally_of}
+use Rattle.std.specs.Io.KnownBytes.{Appends, IsAtEnd}
+use Rattle.std.specs.Prelude.{IfSome}
 use Rattle.std.specs.List.{AllByRecursion}
 use Rattle.escrow_num.specs.declared.session.TheConstants.Session.{MAX_SHARED}
 use Rattle.escrow_script.specs.declared.limits.TheConstants.{MAX_SCRIPT}
-use Rattle.escrow_script.specs.Script.{left, Spends}
+use Rattle.escrow_script.specs.Script.{left, HasEnded, Spends}
 use Rattle.escrow_script.proofs.ScriptLemmas.{spends_more, spends_none}
 use Rattle.escrow_free.specs.Phases.{IsRead}
 use Rattle.escrow_free.specs.Printing.{HasItsDesk}
 use Rattle.escrow_free.proofs.Desks.{all_have_desks, totals_new}
 use Rattle.escrow_sessions.proofs.Places.{all_places}
-use Rattle.escrow_free.proofs.Phases.{stands_new, stands_more, finished, at_end, over_all}
+use Rattle.escrow_free.proofs.Phases.{Stands, stands_new, stands_more, finished, at_end, over_all}
 use Rattle.escrow_free.proofs.Planning.{plan_desks, item_desks}
 use Rattle.escrow_free.proofs.serve.serve_phases.Goals as goal
 
@@ -24,7 +26,7 @@ pub run_phase-requires-clause-places : goal.run_phase-requires-clause-places
 run_phase-requires-clause-places g c κs within =
     let n = length c.args.shared.now.openings in
     let plan = c.in_ok-plan.field-0.plan in
-    let phase = subst (λ k. IsRead k (left c.phases.script.unread (g.R.Read.remaining c.phases.reader)) (left c.read_phase.new.script.unread (g.R.Read.remaining c.read_phase.new.reader)) plan)
+    let phase = subst (λ k. IsRead k (left c.phases.script.unread (g.C.Client.remaining c.phases.client)) (left c.read_phase.new.script.unread (g.C.Client.remaining c.read_phase.new.client)) plan)
     c.databases-databases.ensures c.in_ok-plan.ensures.read in
     all_places (λ x. x.0 < length c.phases.desks.items) plan.items.items
     (subst (λ k. AllByRecursion (λ x. x.0 < k) plan.items.items) (sym c.phases.invariant.count) (item_desks n phase.lines plan.lines.items plan.items.items c.requires.few phase.plans))
@@ -38,7 +40,7 @@ pub print_phase-requires-clause-lines : goal.print_phase-requires-clause-lines
 print_phase-requires-clause-lines g c =
     let n = length c.args.shared.now.openings in
     let plan = c.in_ok-plan.field-0.plan in
-    let phase = subst (λ k. IsRead k (left c.phases.script.unread (g.R.Read.remaining c.phases.reader)) (left c.read_phase.new.script.unread (g.R.Read.remaining c.read_phase.new.reader)) plan)
+    let phase = subst (λ k. IsRead k (left c.phases.script.unread (g.C.Client.remaining c.phases.client)) (left c.read_phase.new.script.unread (g.C.Client.remaining c.read_phase.new.client)) plan)
     c.databases-databases.ensures c.in_ok-plan.ensures.read in
     let count : vec_len c.in_ok-desks.desks ≡ n * MAX_SHARED = c.in_ok-desks.desks.ok.0 ∙ c.in_ok-desks.ensures.count ∙ c.phases.invariant.count in
     subst (λ k. AllByRecursion (HasItsDesk k) plan.lines.items) (sym count) (plan_desks n phase.lines plan.lines.items plan.items.items c.requires.few phase.plans)
@@ -48,51 +50,57 @@ phases-preserved g c =
     let n = length c.args.shared.now.openings in
     let at = c.phases in
     let plan = c.in_ok-plan.field-0.plan in
-    let mid = left at.script.unread (g.R.Read.remaining at.reader) in
-    let rest = left c.read_phase.new.script.unread (g.R.Read.remaining c.read_phase.new.reader) in
+    let mid = left at.script.unread (g.C.Client.remaining at.client) in
+    let rest = left c.read_phase.new.script.unread (g.C.Client.remaining c.read_phase.new.client) in
     let phase = subst (λ k. IsRead k mid rest plan) c.databases-databases.ensures c.in_ok-plan.ensures.read in
     let printed = c.in_ok-print_phase.ensures.printed in
+    let appends = subst (λ sent. Appends sent (g.C.Client.sent c.print_phase.new.client) printed.0) c.in_ok-plan.ensures.sent printed.1 in
+    let unread = sym c.in_ok-print_phase.ensures.unread in
     record {
       drained = c.drain_long.ensures ∙ at.invariant.drained;
       count = sym c.print_phase.new.desks.ok.0 ∙ c.in_ok-print_phase.ensures.count ∙ c.in_ok-desks.desks.ok.0 ∙ c.in_ok-desks.ensures.count ∙ at.invariant.count;
-      stands =
-          stands_more n (g.R.Read.remaining c.args.reader.now) mid rest (g.W.Write.contents c.args.writer.now) (g.W.Write.contents at.writer) (g.W.Write.contents c.print_phase.new.writer) plan
-          at.desks.items c.in_ok-desks.desks.items c.print_phase.new.desks.items at.totals.items c.print_phase.new.totals.items printed.0 phase c.in_ok-desks.ensures printed.2 printed.1 at.invariant.stands;
+      stands = subst (λ rem. Stands n (g.C.Client.remaining c.args.client.now) (left c.read_phase.new.script.unread rem) (g.C.Client.sent c.args.client.now)
+          (g.C.Client.sent c.print_phase.new.client) c.print_phase.new.desks.items c.print_phase.new.totals.items) unread
+          (stands_more n (g.C.Client.remaining c.args.client.now) mid rest (g.C.Client.sent c.args.client.now) (g.C.Client.sent at.client) (g.C.Client.sent c.print_phase.new.client) plan
+          at.desks.items c.in_ok-desks.desks.items c.print_phase.new.desks.items at.totals.items c.print_phase.new.totals.items printed.0 phase c.in_ok-desks.ensures printed.2 appends at.invariant.stands);
       beside = c.in_ok-print_phase.ensures.beside ∙ c.in_ok-print_phase.ensures.count ∙ c.in_ok-desks.desks.ok.0 ∙ c.in_ok-desks.ensures.count ∙ at.invariant.count;
-      ended = c.in_ok-plan.ensures.ended;
-      spent = spends_more _ _ _ MAX_SCRIPT at.script.bytes_left c.read_phase.new.script.bytes_left at.invariant.spent c.in_ok-plan.ensures.spent;
+      ended = λ over. subst (HasEnded c.read_phase.new.script.unread) unread (c.in_ok-plan.ensures.ended over);
+      spent = subst (λ rem. Spends (g.C.Client.remaining c.args.client.now) rem MAX_SCRIPT c.read_phase.new.script.bytes_left) unread
+          (spends_more _ _ _ MAX_SCRIPT at.script.bytes_left c.read_phase.new.script.bytes_left at.invariant.spent c.in_ok-plan.ensures.spent);
     }
 
 pub returns-then-not-has_more-clause-end : goal.returns-then-not-has_more-clause-end
 returns-then-not-has_more-clause-end g c =
     let at = c.phases in
     let over = c.in_ok-plan.ensures.over c.if-not-has_more.true in
-    at_end (g.R.Read.remaining c.args.reader.now) (g.R.Read.remaining at.reader) (g.R.Read.remaining c.read_phase.new.reader) at.script.unread c.read_phase.new.script.unread MAX_SCRIPT at.script.bytes_left
-    at.invariant.spent over
+    subst (λ rem. IfSome (g.C.Client.remaining c.args.client.now) (λ script. IsAtEnd rem)) (sym c.in_ok-print_phase.ensures.unread)
+    (at_end (g.C.Client.remaining c.args.client.now) (g.C.Client.remaining at.client) (g.C.Client.remaining c.read_phase.new.client) at.script.unread c.read_phase.new.script.unread MAX_SCRIPT at.script.bytes_left
+    at.invariant.spent over)
 
 pub returns-then-not-has_more-clause-served : goal.returns-then-not-has_more-clause-served
 returns-then-not-has_more-clause-served g c =
     let n = length c.args.shared.now.openings in
     let at = c.phases in
     let plan = c.in_ok-plan.field-0.plan in
-    let script = g.R.Read.remaining c.args.reader.now in
-    let mid = left at.script.unread (g.R.Read.remaining at.reader) in
-    let rest = left c.read_phase.new.script.unread (g.R.Read.remaining c.read_phase.new.reader) in
+    let script = g.C.Client.remaining c.args.client.now in
+    let mid = left at.script.unread (g.C.Client.remaining at.client) in
+    let rest = left c.read_phase.new.script.unread (g.C.Client.remaining c.read_phase.new.client) in
     let phase = subst (λ k. IsRead k mid rest plan) c.databases-databases.ensures c.in_ok-plan.ensures.read in
     let printed = c.in_ok-print_phase.ensures.printed in
+    let appends = subst (λ sent. Appends sent (g.C.Client.sent c.print_phase.new.client) printed.0) c.in_ok-plan.ensures.sent printed.1 in
     let over = c.in_ok-plan.ensures.over c.if-not-has_more.true in
-    let ends = at_end script (g.R.Read.remaining at.reader) (g.R.Read.remaining c.read_phase.new.reader) at.script.unread c.read_phase.new.script.unread MAX_SCRIPT at.script.bytes_left at.invariant.spent over in
+    let ends = at_end script (g.C.Client.remaining at.client) (g.C.Client.remaining c.read_phase.new.client) at.script.unread c.read_phase.new.script.unread MAX_SCRIPT at.script.bytes_left at.invariant.spent over in
     let count = sym c.print_phase.new.desks.ok.0 ∙ c.in_ok-print_phase.ensures.count ∙ c.in_ok-desks.desks.ok.0 ∙ c.in_ok-desks.ensures.count ∙ at.invariant.count in
-    let stands = stands_more n script mid rest (g.W.Write.contents c.args.writer.now) (g.W.Write.contents at.writer) (g.W.Write.contents c.print_phase.new.writer) plan
-    at.desks.items c.in_ok-desks.desks.items c.print_phase.new.desks.items at.totals.items c.print_phase.new.totals.items printed.0 phase c.in_ok-desks.ensures printed.2 printed.1 at.invariant.stands in
-    let spent = spends_more script (g.R.Read.remaining at.reader) (g.R.Read.remaining c.read_phase.new.reader) MAX_SCRIPT at.script.bytes_left c.read_phase.new.script.bytes_left at.invariant.spent c.in_ok-plan.ensures.spent in
-    finished n script rest (g.R.Read.remaining c.read_phase.new.reader) (g.W.Write.contents c.args.writer.now) (g.W.Write.contents c.print_phase.new.writer) c.print_phase.new.desks.items
+    let stands = stands_more n script mid rest (g.C.Client.sent c.args.client.now) (g.C.Client.sent at.client) (g.C.Client.sent c.print_phase.new.client) plan
+    at.desks.items c.in_ok-desks.desks.items c.print_phase.new.desks.items at.totals.items c.print_phase.new.totals.items printed.0 phase c.in_ok-desks.ensures printed.2 appends at.invariant.stands in
+    let spent = spends_more script (g.C.Client.remaining at.client) (g.C.Client.remaining c.read_phase.new.client) MAX_SCRIPT at.script.bytes_left c.read_phase.new.script.bytes_left at.invariant.spent c.in_ok-plan.ensures.spent in
+    finished n script rest (g.C.Client.remaining c.read_phase.new.client) (g.C.Client.sent c.args.client.now) (g.C.Client.sent c.print_phase.new.client) c.print_phase.new.desks.items
     c.print_phase.new.totals.items c.read_phase.new.script.bytes_left count stands (over_all script mid rest at.invariant.stands.lines at.invariant.stands.read over) spent ends
 
 pub phases-init : goal.phases-init
 phases-init g c =
-    let script = g.R.Read.remaining c.args.reader.now in
-    let written = g.W.Write.contents c.args.writer.now in
+    let script = g.C.Client.remaining c.args.client.now in
+    let written = g.C.Client.sent c.args.client.now in
     let totals = c.in_ok-totals.totals in
     let made = c.in_ok-script.ensures in
     let count = c.requires.seats.count in

@@ -20,7 +20,7 @@ returns-clause-legal g c databases read =
 
 pub returns-clause-output : goal.returns-clause-output
 returns-clause-output g c =
-    serves_each g.S.Store c.args.stage.shared c.in_ok-audit.audit.parts.items c.in_ok-audit.audit.closed.items (g.R.Read.remaining c.args.reader.now)
+    serves_each g.S.Store c.args.stage.shared c.in_ok-audit.audit.parts.items c.in_ok-audit.audit.closed.items (g.C.Client.remaining c.args.client.now)
     c.in_ok-served.served.desks.items c.in_ok-passes.passes.items _ _ c.requires.sessions c.in_ok-passes.ensures c.in_ok-audit.ensures c.in_ok-served.ensures.served
 
 pub returns-clause-end : goal.returns-clause-end
