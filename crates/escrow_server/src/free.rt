@@ -11,7 +11,7 @@ use crate::monitor::start;
 use crate::screen::Screen;
 use escrow_core::Database;
 use escrow_free::{FreeFault, serve_free, serve_free_watched};
-use escrow_script::MAX_DATABASES;
+use escrow_script::{Duplex, MAX_DATABASES};
 use escrow_shards::{Audit, Closed, NoGate};
 use sqlite::Alter;
 use std::alloc::Global;
@@ -32,15 +32,16 @@ pub(crate) fn serve_phases<
     rt: &T,
     alloc: Global,
     databases: &mut Vec<Database<S>>,
-    reader: &mut R,
-    writer: &mut W,
+    client: &mut Duplex<R, W>,
     screen: Option<X>,
 ) -> Result<(), FreeFault>
     requires some { 1 ≤ vec_len databases.old }
     requires few { vec_len databases.old ≤ MAX_DATABASES }
-    ensures served { HoldCleanDisks S.Store → OnOk result (IfSome (R.remaining reader.old) (λ script.
-        RunsFree script (states_of databases.old.items) (W.contents writer.old) (W.contents writer.new))) }
-    ensures end { OnOk result (IfSome (R.remaining reader.old) (λ script. IsAtEnd (R.remaining reader.new))) }
+    ensures served { HoldCleanDisks S.Store → OnOk result (IfSome (R.remaining client.old.reader) (λ script.
+        RunsFree script (states_of databases.old.items) (W.contents client.old.writer)
+            (W.contents client.new.writer))) }
+    ensures end { OnOk result
+        (IfSome (R.remaining client.old.reader) (λ script. IsAtEnd (R.remaining client.new.reader))) }
 
     // Whatever the disks did, each database is at its place again, as its history ends.
     ensures back { OnOk result (AreEnded S.Store databases.old.items databases.new.items) }
@@ -48,7 +49,7 @@ pub(crate) fn serve_phases<
     // The databases that are handed back must be kept, so room for them is made first.
     let room = Vec::with_capacity(alloc, usize::from(MAX_DATABASES))?;
     let handed = mem::replace(databases, room);
-    let audit = serve_before(rt, alloc, handed, reader, writer, screen)?;
+    let audit = serve_before(rt, alloc, handed, client, screen)?;
     put_back(databases, audit.closed);
     Ok(())
 }
@@ -65,33 +66,25 @@ fn serve_before<
     rt: &T,
     alloc: Global,
     databases: Vec<Database<S>>,
-    reader: &mut R,
-    writer: &mut W,
+    client: &mut Duplex<R, W>,
     screen: Option<X>,
 ) -> Result<Audit<S>, FreeFault>
     requires some { 1 ≤ vec_len databases }
     requires few { vec_len databases ≤ MAX_DATABASES }
     ensures legal { IfOk result (λ audit. AreHistories S.Store databases.items audit.parts.items audit.closed.items) }
-    ensures output { IfOk result (λ audit. IfSome (R.remaining reader.old) (λ script.
-        ServesFree script (histories audit.parts.items audit.closed.items) (W.contents writer.old)
-        (W.contents writer.new))) }
-    ensures end { OnOk result (IfSome (R.remaining reader.old) (λ script. IsAtEnd (R.remaining reader.new))) }
+    ensures output { IfOk result (λ audit. IfSome (R.remaining client.old.reader) (λ script.
+        ServesFree script (histories audit.parts.items audit.closed.items) (W.contents client.old.writer)
+        (W.contents client.new.writer))) }
+    ensures end { OnOk result
+        (IfSome (R.remaining client.old.reader) (λ script. IsAtEnd (R.remaining client.new.reader))) }
 {
     match start(rt, alloc, screen) {
         Some(mut shower) => {
-            let audit = serve_free_watched(
-                rt,
-                alloc,
-                databases,
-                reader,
-                writer,
-                &NoGate,
-                &mut shower,
-            );
+            let audit = serve_free_watched(rt, alloc, databases, client, &NoGate, &mut shower);
             shower.stop();
             audit
         }
-        None => serve_free(rt, alloc, databases, reader, writer, &NoGate),
+        None => serve_free(rt, alloc, databases, client, &NoGate),
     }
 }
 

@@ -25,7 +25,8 @@ mod stores;
 pub use args::{ArgFault, Args, Mode, read_args};
 pub use escrow_free::{FreeFault, serve_free};
 pub use escrow_script::{
-    MAX_DATABASES, MAX_LINE, MAX_READS, MAX_SCRIPT, MAX_STREAM, ReadFault, ServeFault, WriteFault,
+    Client, Duplex, MAX_DATABASES, MAX_LINE, MAX_READS, MAX_SCRIPT, MAX_STREAM, ReadFault,
+    ServeFault, WriteFault,
 };
 pub use escrow_serve::{serve_lines, serve_script};
 pub use monitor::Monitor;

@@ -14,7 +14,7 @@ use crate::fault::RunFault;
 use crate::free::serve_phases;
 use crate::screen::Screen;
 use escrow_core::Database;
-use escrow_script::MAX_DATABASES;
+use escrow_script::{Duplex, MAX_DATABASES};
 use escrow_serve::{serve_lines, serve_script};
 use sqlite::Alter;
 use std::alloc::Global;
@@ -28,8 +28,7 @@ pub(crate) fn serve_in_turn<S: Alter, R: Read, W: Write>(
     opened: Result<(), RunFault>,
     args: &Args,
     databases: &mut Vec<Database<S>>,
-    input: &mut R,
-    output: &mut W,
+    client: &mut Duplex<R, W>,
 ) -> Result<(), RunFault>
     requires mode { args.now.mode ≢ Mode.Free }
     requires least { OnOk opened (1 ≤ vec_len databases.old) }
@@ -38,48 +37,50 @@ pub(crate) fn serve_in_turn<S: Alter, R: Read, W: Write>(
     // If each disk returned what was written, the script was served from the states of the
     // databases.
     ensures served { args.now.mode ≡ Mode.Run → HaveCleanDisks S.Store databases.new.items
-        → OnOk result (IfSome (R.remaining input.old) (λ script. (old : List State)
+        → OnOk result (IfSome (R.remaining client.old.reader) (λ script. (old : List State)
         × IsOpened S.Store opened databases.old.items old
-        × ServesWhole MAX_SHARED script old (states_of databases.new.items) (W.contents output.old)
-        (W.contents output.new))) }
+        × ServesWhole MAX_SHARED script old (states_of databases.new.items) (W.contents client.old.writer)
+        (W.contents client.new.writer))) }
     ensures stopped { args.now.mode ≡ Mode.Run → HaveCleanDisks S.Store databases.new.items
-        → IfErr result (λ fault. IfSome (R.remaining input.old) (λ script.
+        → IfErr result (λ fault. IfSome (R.remaining client.old.reader) (λ script.
         Stops MAX_SHARED fault (IsOpened S.Store opened databases.old.items) (states_of databases.new.items) script
-        (R.remaining input.new) (W.contents output.old) (W.contents output.new))) }
+        (R.remaining client.new.reader) (W.contents client.old.writer) (W.contents client.new.writer))) }
 
     // The same, for lines that are served until they end, of as many sessions as are asked for.
     ensures lines { args.now.mode ≡ Mode.Serve → HaveCleanDisks S.Store databases.new.items
-        → OnOk result (IfSome (R.remaining input.old) (λ script. (old : List State)
+        → OnOk result (IfSome (R.remaining client.old.reader) (λ script. (old : List State)
         × IsOpened S.Store opened databases.old.items old
-        × ServesAll args.now.sessions script old (states_of databases.new.items) (W.contents output.old)
-        (W.contents output.new))) }
+        × ServesAll args.now.sessions script old (states_of databases.new.items) (W.contents client.old.writer)
+        (W.contents client.new.writer))) }
     ensures cut { args.now.mode ≡ Mode.Serve → HaveCleanDisks S.Store databases.new.items
-        → IfErr result (λ fault. IfSome (R.remaining input.old) (λ script.
+        → IfErr result (λ fault. IfSome (R.remaining client.old.reader) (λ script.
         Stops args.now.sessions fault (IsOpened S.Store opened databases.old.items)
-        (states_of databases.new.items) script (R.remaining input.new) (W.contents output.old)
-        (W.contents output.new))) }
+        (states_of databases.new.items) script (R.remaining client.new.reader) (W.contents client.old.writer)
+        (W.contents client.new.writer))) }
 
     // However that ends, each database by itself served what its lines gave it, if its own disk
     // returned what was written. After a crash no write that was answered is missing, also if a
     // fault has shut the store.
-    ensures ran { args.now.mode ≡ Mode.Run → OnOk opened (IfSome (R.remaining input.old) (λ script.
-        ScriptRan S.Store MAX_SHARED script databases.old.items databases.new.items (W.contents output.old)
-        (W.contents output.new) (LeftBy result))) }
-    ensures lines_ran { args.now.mode ≡ Mode.Serve → OnOk opened (IfSome (R.remaining input.old) (λ script.
-        ScriptRan S.Store args.now.sessions script databases.old.items databases.new.items (W.contents output.old)
-        (W.contents output.new) (LeftBy result))) }
+    ensures ran { args.now.mode ≡ Mode.Run → OnOk opened (IfSome (R.remaining client.old.reader) (λ script.
+        ScriptRan S.Store MAX_SHARED script databases.old.items databases.new.items (W.contents client.old.writer)
+        (W.contents client.new.writer) (LeftBy result))) }
+    ensures lines_ran { args.now.mode ≡ Mode.Serve → OnOk opened (IfSome (R.remaining client.old.reader) (λ script.
+        ScriptRan S.Store args.now.sessions script databases.old.items databases.new.items
+            (W.contents client.old.writer)
+        (W.contents client.new.writer) (LeftBy result))) }
 
     // Whatever the stores do, all of the script was read if the call succeeds, and nothing if a store
     // can't be opened.
-    ensures end { OnOk result (IfSome (R.remaining input.old) (λ script. IsAtEnd (R.remaining input.new))) }
+    ensures end { OnOk result
+        (IfSome (R.remaining client.old.reader) (λ script. IsAtEnd (R.remaining client.new.reader))) }
     ensures unopened { IfErr result
-        (λ fault. run_status fault ≡ 3 → Keeps (R.remaining input.old) (R.remaining input.new)
-        × WritesNothing (W.contents output.old) (W.contents output.new)) }
+        (λ fault. run_status fault ≡ 3 → Keeps (R.remaining client.old.reader) (R.remaining client.new.reader)
+        × WritesNothing (W.contents client.old.writer) (W.contents client.new.writer)) }
 {
     opened?;
     match args.mode {
-        Mode::Run => serve_script(alloc, databases, input, output)?,
-        Mode::Serve => serve_lines(alloc, args.sessions, databases, input, output)?,
+        Mode::Run => serve_script(alloc, databases, client)?,
+        Mode::Serve => serve_lines(alloc, args.sessions, databases, client)?,
         Mode::Free => unreachable!(),
     }
     Ok(())
@@ -98,26 +99,27 @@ pub(crate) fn serve_at_once<
     alloc: Global,
     opened: Result<(), RunFault>,
     databases: &mut Vec<Database<S>>,
-    input: &mut R,
-    output: &mut W,
+    client: &mut Duplex<R, W>,
     screen: Option<X>,
 ) -> Result<(), RunFault>
     requires least { OnOk opened (1 ≤ vec_len databases.old) }
     requires most { OnOk opened (vec_len databases.old ≤ MAX_DATABASES) }
     requires kind { IfErr opened (λ fault. run_status fault ≡ 3) }
     // The script was served like this if disks always return what was written.
-    ensures free { HoldCleanDisks S.Store → OnOk result (IfSome (R.remaining input.old) (λ script. (old : List State)
+    ensures free { HoldCleanDisks S.Store
+        → OnOk result (IfSome (R.remaining client.old.reader) (λ script. (old : List State)
         × IsOpened S.Store opened databases.old.items old
-        × RunsFree script old (W.contents output.old) (W.contents output.new))) }
+        × RunsFree script old (W.contents client.old.writer) (W.contents client.new.writer))) }
 
     // Whatever the stores do, all of the script was read if the call succeeds, and nothing if a store
     // can't be opened.
-    ensures end { OnOk result (IfSome (R.remaining input.old) (λ script. IsAtEnd (R.remaining input.new))) }
+    ensures end { OnOk result
+        (IfSome (R.remaining client.old.reader) (λ script. IsAtEnd (R.remaining client.new.reader))) }
     ensures unopened { IfErr result
-        (λ fault. run_status fault ≡ 3 → Keeps (R.remaining input.old) (R.remaining input.new)
-        × WritesNothing (W.contents output.old) (W.contents output.new)) }
+        (λ fault. run_status fault ≡ 3 → Keeps (R.remaining client.old.reader) (R.remaining client.new.reader)
+        × WritesNothing (W.contents client.old.writer) (W.contents client.new.writer)) }
 {
     opened?;
-    serve_phases(threads, alloc, databases, input, output, screen)?;
+    serve_phases(threads, alloc, databases, client, screen)?;
     Ok(())
 }

@@ -18,7 +18,7 @@ use crate::site::Site;
 use crate::stores::{CloseFault, InFiles, InMemory, file_of};
 use escrow_core::Database;
 use escrow_memory::BlockStore;
-use escrow_script::{MAX_DATABASES, database_name, write_whole};
+use escrow_script::{Duplex, MAX_DATABASES, database_name, write_whole};
 use sqlite::{File, FileStore};
 use std::alloc::{AllocError, Global};
 use std::convert::AsStr;
@@ -121,8 +121,8 @@ fn read_words<S: AsStr, W: Write, F: Write>(
 }
 
 /// Serves a script line by line, in the databases that the arguments ask for: the modes `run` and
-/// `serve`. Opens the databases, in memory or in files. Serves what comes from `input`, and writes
-/// the replies to `output`. If that ends early, the reason goes to `errors`. It waits for no thread.
+/// `serve`. Opens the databases, in memory or in files. Serves what comes from `client`, and sends
+/// it the replies. If that ends early, the reason goes to `errors`. It waits for no thread.
 ///
 /// At the end, also if that is early, the stores in files are closed. If one can't be closed, a
 /// line on `errors` says so, and the status is the same.
@@ -130,13 +130,12 @@ fn read_words<S: AsStr, W: Write, F: Write>(
 /// Exit status:
 ///
 /// - 0 if everything was served and written;
-/// - 1 if the input can't be read, a reply can't be written, or memory is refused;
+/// - 1 if the client can't be read, a reply can't be written, or memory is refused;
 /// - 3 if the store of a database can't be opened; then nothing was read.
 pub fn run_in_turn<R: Read, W: Write, F: Write>(
     rt: &HostRuntime,
     args: &Args,
-    input: &mut R,
-    output: &mut W,
+    client: &mut Duplex<R, W>,
     errors: &mut F,
 ) -> ExitCode
     requires mode { args.now.mode ≢ Mode.Free }
@@ -145,12 +144,12 @@ pub fn run_in_turn<R: Read, W: Write, F: Write>(
     // In memory the script is served in as many databases as the arguments ask for, in their mode.
     // Of files no contract says what they hold: with status 0 all of the script was read, and with 3
     // nothing was read or written.
-    ensures memory { args.now.path ≡ None → IfSome (R.remaining input.old) (λ script.
+    ensures memory { args.now.path ≡ None → IfSome (R.remaining client.old.reader) (λ script.
         EndsInMemory args.now.mode args.now.sessions args.now.databases (exit_status result) script
-        (R.remaining input.new) (W.contents output.old) (W.contents output.new)) }
-    ensures files { IfSome (R.remaining input.old) (λ script.
-        EndsOverFiles (exit_status result) script (R.remaining input.new) (W.contents output.old)
-        (W.contents output.new)) }
+        (R.remaining client.new.reader) (W.contents client.old.writer) (W.contents client.new.writer)) }
+    ensures files { IfSome (R.remaining client.old.reader) (λ script.
+        EndsOverFiles (exit_status result) script (R.remaining client.new.reader) (W.contents client.old.writer)
+        (W.contents client.new.writer)) }
 
     // With status 0, nothing is written to `errors` but lines about the stores of a path: those
     // that were migrated, and those that can't be closed. With any other status, the program's name
@@ -161,8 +160,8 @@ pub fn run_in_turn<R: Read, W: Write, F: Write>(
     ensures said { exit_status result ≢ 0 → SaysWhy args.now.path (F.contents errors.old) (F.contents errors.new) }
 {
     let status = match &args.path {
-        None => in_turn_in_memory(rt.alloc(), args, input, output, errors),
-        Some(path) => in_turn_over_files(rt, path.as_str(), args, input, output, errors),
+        None => in_turn_in_memory(rt.alloc(), args, client, errors),
+        Some(path) => in_turn_over_files(rt, path.as_str(), args, client, errors),
     };
     ExitCode::from(status)
 }
@@ -186,30 +185,29 @@ pub fn run_at_once<
     rt: &HostRuntime,
     threads: &T,
     args: &Args,
-    input: &mut R,
-    output: &mut W,
+    client: &mut Duplex<R, W>,
     errors: &mut F,
     screen: Option<X>,
 ) -> ExitCode
     requires mode { args.now.mode ≡ Mode.Free }
     requires least { 1 ≤ args.now.databases }
     requires most { args.now.databases ≤ MAX_DATABASES }
-    ensures memory { args.now.path ≡ None → IfSome (R.remaining input.old) (λ script.
+    ensures memory { args.now.path ≡ None → IfSome (R.remaining client.old.reader) (λ script.
         EndsInMemory args.now.mode args.now.sessions args.now.databases (exit_status result) script
-        (R.remaining input.new) (W.contents output.old) (W.contents output.new)) }
-    ensures files { IfSome (R.remaining input.old) (λ script.
-        EndsOverFiles (exit_status result) script (R.remaining input.new) (W.contents output.old)
-        (W.contents output.new)) }
+        (R.remaining client.new.reader) (W.contents client.old.writer) (W.contents client.new.writer)) }
+    ensures files { IfSome (R.remaining client.old.reader) (λ script.
+        EndsOverFiles (exit_status result) script (R.remaining client.new.reader) (W.contents client.old.writer)
+        (W.contents client.new.writer)) }
     ensures silent { args.now.path ≡ None → exit_status result ≡ 0
         → WritesNothing (F.contents errors.old) (F.contents errors.new) }
     ensures quiet { exit_status result ≡ 0 → IsQuiet args.now.path (F.contents errors.old) (F.contents errors.new) }
     ensures said { exit_status result ≢ 0 → SaysWhy args.now.path (F.contents errors.old) (F.contents errors.new) }
 {
     let status = match &args.path {
-        None => at_once_in_memory(rt.alloc(), threads, args, input, output, errors, screen),
+        None => at_once_in_memory(rt.alloc(), threads, args, client, errors, screen),
         Some(path) => {
             let path = path.as_str();
-            at_once_over_files(rt, threads, path, args, input, output, errors, screen)
+            at_once_over_files(rt, threads, path, args, client, errors, screen)
         }
     };
     ExitCode::from(status)
@@ -219,24 +217,24 @@ pub fn run_at_once<
 fn in_turn_in_memory<R: Read, W: Write, F: Write>(
     alloc: Global,
     args: &Args,
-    input: &mut R,
-    output: &mut W,
+    client: &mut Duplex<R, W>,
     errors: &mut F,
 ) -> u8
     requires mode { args.now.mode ≢ Mode.Free }
     requires least { 1 ≤ args.now.databases }
     requires most { args.now.databases ≤ MAX_DATABASES }
-    ensures memory { IfSome (R.remaining input.old) (λ script.
-        EndsInMemory args.now.mode args.now.sessions args.now.databases result script (R.remaining input.new)
-        (W.contents output.old) (W.contents output.new)) }
-    ensures files { IfSome (R.remaining input.old) (λ script.
-        EndsOverFiles result script (R.remaining input.new) (W.contents output.old) (W.contents output.new)) }
+    ensures memory { IfSome (R.remaining client.old.reader) (λ script.
+        EndsInMemory args.now.mode args.now.sessions args.now.databases result script (R.remaining client.new.reader)
+        (W.contents client.old.writer) (W.contents client.new.writer)) }
+    ensures files { IfSome (R.remaining client.old.reader) (λ script.
+        EndsOverFiles result script (R.remaining client.new.reader) (W.contents client.old.writer)
+            (W.contents client.new.writer)) }
     ensures silent { result ≡ 0 → WritesNothing (F.contents errors.old) (F.contents errors.new) }
     ensures said { result ≢ 0 → SaysReason (F.contents errors.old) (F.contents errors.new) }
 {
     let mut databases = Vec::new(alloc);
     let opened = open_in_memory(alloc, args.databases, &mut databases);
-    let served = serve_in_turn(alloc, opened, args, &mut databases, input, output);
+    let served = serve_in_turn(alloc, opened, args, &mut databases, client);
     status_in_memory(alloc, errors, served)
 }
 
@@ -246,15 +244,15 @@ fn in_turn_over_files<R: Read, W: Write, F: Write>(
     rt: &HostRuntime,
     path: &str,
     args: &Args,
-    input: &mut R,
-    output: &mut W,
+    client: &mut Duplex<R, W>,
     errors: &mut F,
 ) -> u8
     requires mode { args.now.mode ≢ Mode.Free }
     requires least { 1 ≤ args.now.databases }
     requires most { args.now.databases ≤ MAX_DATABASES }
-    ensures files { IfSome (R.remaining input.old) (λ script.
-        EndsOverFiles result script (R.remaining input.new) (W.contents output.old) (W.contents output.new)) }
+    ensures files { IfSome (R.remaining client.old.reader) (λ script.
+        EndsOverFiles result script (R.remaining client.new.reader) (W.contents client.old.writer)
+            (W.contents client.new.writer)) }
     ensures quiet { result ≡ 0 → IsQuiet (Some path.now) (F.contents errors.old) (F.contents errors.new) }
     ensures said { result ≢ 0 → SaysWhy (Some path.now) (F.contents errors.old) (F.contents errors.new) }
 {
@@ -262,7 +260,7 @@ fn in_turn_over_files<R: Read, W: Write, F: Write>(
     let mut databases = Vec::new(alloc);
     let mut sites = Vec::new(alloc);
     let opened = open_over_files(rt, path, args.databases, &mut databases, &mut sites, errors);
-    let served = serve_in_turn(alloc, opened, args, &mut databases, input, output);
+    let served = serve_in_turn(alloc, opened, args, &mut databases, client);
     close_over_files(rt, path, served, databases, sites.as_slice(), errors)
 }
 
@@ -278,33 +276,25 @@ fn at_once_in_memory<
     alloc: Global,
     threads: &T,
     args: &Args,
-    input: &mut R,
-    output: &mut W,
+    client: &mut Duplex<R, W>,
     errors: &mut F,
     screen: Option<X>,
 ) -> u8
     requires mode { args.now.mode ≡ Mode.Free }
     requires least { 1 ≤ args.now.databases }
     requires most { args.now.databases ≤ MAX_DATABASES }
-    ensures memory { IfSome (R.remaining input.old) (λ script.
-        EndsInMemory args.now.mode args.now.sessions args.now.databases result script (R.remaining input.new)
-        (W.contents output.old) (W.contents output.new)) }
-    ensures files { IfSome (R.remaining input.old) (λ script.
-        EndsOverFiles result script (R.remaining input.new) (W.contents output.old) (W.contents output.new)) }
+    ensures memory { IfSome (R.remaining client.old.reader) (λ script.
+        EndsInMemory args.now.mode args.now.sessions args.now.databases result script (R.remaining client.new.reader)
+        (W.contents client.old.writer) (W.contents client.new.writer)) }
+    ensures files { IfSome (R.remaining client.old.reader) (λ script.
+        EndsOverFiles result script (R.remaining client.new.reader) (W.contents client.old.writer)
+            (W.contents client.new.writer)) }
     ensures silent { result ≡ 0 → WritesNothing (F.contents errors.old) (F.contents errors.new) }
     ensures said { result ≢ 0 → SaysReason (F.contents errors.old) (F.contents errors.new) }
 {
     let mut databases = Vec::new(alloc);
     let opened = open_in_memory(alloc, args.databases, &mut databases);
-    let served = serve_at_once(
-        threads,
-        alloc,
-        opened,
-        &mut databases,
-        input,
-        output,
-        screen,
-    );
+    let served = serve_at_once(threads, alloc, opened, &mut databases, client, screen);
     status_in_memory(alloc, errors, served)
 }
 
@@ -321,15 +311,15 @@ fn at_once_over_files<
     threads: &T,
     path: &str,
     args: &Args,
-    input: &mut R,
-    output: &mut W,
+    client: &mut Duplex<R, W>,
     errors: &mut F,
     screen: Option<X>,
 ) -> u8
     requires least { 1 ≤ args.now.databases }
     requires most { args.now.databases ≤ MAX_DATABASES }
-    ensures files { IfSome (R.remaining input.old) (λ script.
-        EndsOverFiles result script (R.remaining input.new) (W.contents output.old) (W.contents output.new)) }
+    ensures files { IfSome (R.remaining client.old.reader) (λ script.
+        EndsOverFiles result script (R.remaining client.new.reader) (W.contents client.old.writer)
+            (W.contents client.new.writer)) }
     ensures quiet { result ≡ 0 → IsQuiet (Some path.now) (F.contents errors.old) (F.contents errors.new) }
     ensures said { result ≢ 0 → SaysWhy (Some path.now) (F.contents errors.old) (F.contents errors.new) }
 {
@@ -337,15 +327,7 @@ fn at_once_over_files<
     let mut databases = Vec::new(alloc);
     let mut sites = Vec::new(alloc);
     let opened = open_over_files(rt, path, args.databases, &mut databases, &mut sites, errors);
-    let served = serve_at_once(
-        threads,
-        alloc,
-        opened,
-        &mut databases,
-        input,
-        output,
-        screen,
-    );
+    let served = serve_at_once(threads, alloc, opened, &mut databases, client, screen);
     close_over_files(rt, path, served, databases, sites.as_slice(), errors)
 }
 

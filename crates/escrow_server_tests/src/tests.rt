@@ -6,4 +6,5 @@ mod program;
 mod put_back;
 mod runs;
 mod streams;
+mod strict;
 mod texts;

@@ -1,7 +1,7 @@
 //! The program `escrowd`: gives the runtime, its command line and its streams to the library.
 #![tactic(auto)]
 
-use escrow_server::{Mode, Terminal, read_line, run_at_once, run_in_turn};
+use escrow_server::{Duplex, Mode, Terminal, read_line, run_at_once, run_in_turn};
 use std::env;
 use std::io::{IsTerminal, Stderr};
 use std::process::ExitCode;
@@ -11,24 +11,18 @@ use std::time::Duration;
 const PAUSE: u64 = 500;
 
 fn main(rt: HostRuntime) -> ExitCode {
-    let mut input = rt.stdin();
-    let mut output = rt.stdout();
+    let mut client = Duplex {
+        reader: rt.stdin(),
+        writer: rt.stdout(),
+    };
     let mut errors = rt.stderr();
-    let args = match read_line(rt.alloc(), &rt, &mut output, &mut errors) {
+    let args = match read_line(rt.alloc(), &rt, &mut client.writer, &mut errors) {
         Ok(args) => args,
         Err(code) => return code,
     };
     match args.mode {
-        Mode::Run | Mode::Serve => { run_in_turn(&rt, &args, &mut input, &mut output, &mut errors) }
-        Mode::Free => run_at_once(
-            &rt,
-            &rt,
-            &args,
-            &mut input,
-            &mut output,
-            &mut errors,
-            terminal(rt),
-        ),
+        Mode::Run | Mode::Serve => run_in_turn(&rt, &args, &mut client, &mut errors),
+        Mode::Free => run_at_once(&rt, &rt, &args, &mut client, &mut errors, terminal(rt)),
     }
 }
 

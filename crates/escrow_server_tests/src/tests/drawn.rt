@@ -1,6 +1,6 @@
 //! What is sent to a terminal while the sessions of a phase run at the same time.
 use super::program::run_line;
-use escrow_server::Terminal;
+use escrow_server::{Duplex, Terminal};
 use std::alloc::Global;
 use std::io::{self, Write};
 use std::process::{Abort, ExitCode};
@@ -106,7 +106,7 @@ fn serve<R: Wait + Clock + Copy + Drop + Send + 'static, T: Abort + Threads + Wa
     script: &str,
     sent: &Sent,
 ) {
-    let mut output = Tape {
+    let output = Tape {
         rt: own,
         sent: Arc::try_clone(sent).expect(to, "memory"),
     };
@@ -120,16 +120,11 @@ fn serve<R: Wait + Clock + Copy + Drop + Send + 'static, T: Abort + Threads + Wa
         pause: Duration::from_millis(1),
         rows: 24,
     };
-    let mut input = script.as_bytes();
+    let mut client = Duplex {
+        reader: script.as_bytes(),
+        writer: output,
+    };
     let mut errors = Vec::new(rt.alloc());
-    let code = run_line(
-        rt,
-        to,
-        line,
-        &mut input,
-        &mut output,
-        &mut errors,
-        Some(screen),
-    );
+    let code = run_line(rt, to, line, &mut client, &mut errors, Some(screen));
     assert!(to; code == ExitCode::SUCCESS && errors.is_empty());
 }

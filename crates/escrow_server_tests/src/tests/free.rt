@@ -5,7 +5,7 @@ use escrow_core::Database;
 use escrow_memory::BlockStore;
 use escrow_num::Session;
 use escrow_recover::open_store;
-use escrow_server::{FreeFault, serve_free};
+use escrow_server::{Duplex, FreeFault, serve_free};
 use escrow_shards::{Audit, Gate, NoGate};
 use escrow_sql::{Request, parse};
 use escrow_transcript::Entry;
@@ -36,16 +36,23 @@ pub(super) fn databases<R: Abort + AllocGlobal>(rt: &R, count: usize) -> Vec<Dat
     databases
 }
 
-/// Serves in databases what a reader returns, with a gate. May wait.
+/// Serves a client in databases, with a gate. May wait.
 fn serve_in<R: Abort + AllocGlobal + Threads + Wait + Sync, I: Read, W: Write, G: Gate + Sync>(
     rt: &R,
     databases: Vec<Database<BlockStore>>,
-    reader: &mut I,
-    writer: &mut W,
+    client: &mut Duplex<I, W>,
     gate: &G,
 ) -> Result<Audit<BlockStore>, FreeFault> {
     assert!(rt; !databases.is_empty() && databases.len() <= 16);
-    serve_free(rt, rt.alloc(), databases, reader, writer, gate)
+    serve_free(rt, rt.alloc(), databases, client, gate)
+}
+
+/// Returns a client that sends a script.
+fn client<'a, R: AllocGlobal>(rt: &R, script: &'a str) -> Duplex<&'a [u8], Vec<u8>> {
+    Duplex {
+        reader: script.as_bytes(),
+        writer: Vec::new(rt.alloc()),
+    }
 }
 
 /// How often a session looks whether the other one has come.
@@ -115,12 +122,11 @@ fn meet<R: Abort + AllocGlobal + Threads + Wait + Sync>(
         has_other: AtomicU64::new(0),
         missed: AtomicU64::new(0),
     };
-    let mut reader = script.as_bytes();
-    let mut written = Vec::new(rt.alloc());
-    let served = serve_in(rt, databases(rt, 2), &mut reader, &mut written, &gate);
+    let mut client = client(rt, script);
+    let served = serve_in(rt, databases(rt, 2), &mut client, &gate);
     assert!(rt; served.is_ok());
     assert_eq!(rt; gate.missed.load(Ordering::SeqCst), 0);
-    assert_eq!(rt; written.as_slice(), replies.as_bytes());
+    assert_eq!(rt; client.writer.as_slice(), replies.as_bytes());
 }
 
 /// The sessions of a database arrive at their first calls together.
@@ -145,7 +151,7 @@ fn gate_inside(rt: HostRuntime) {
 fn phase_by_phase(rt: HostRuntime) {
     for at_a_time in [1, 3, 20, 33] {
         let written = Cell::new(0);
-        let mut reader = Source {
+        let reader = Source {
             rest: THREE.as_bytes(),
             at_a_time,
             fails: false,
@@ -153,7 +159,7 @@ fn phase_by_phase(rt: HostRuntime) {
             written: &written,
             reads: Vec::new(rt.alloc()),
         };
-        let mut writer = Sink {
+        let writer = Sink {
             taken: Vec::new(rt.alloc()),
             room: usize::MAX,
             at_a_time: usize::MAX,
@@ -161,13 +167,14 @@ fn phase_by_phase(rt: HostRuntime) {
             calls: 0,
             written: &written,
         };
-        let served = serve_in(&rt, databases(&rt, 1), &mut reader, &mut writer, &NoGate);
+        let mut client = Duplex { reader, writer };
+        let served = serve_in(&rt, databases(&rt, 1), &mut client, &NoGate);
         assert!(rt; served.is_ok());
-        assert_eq!(rt; reader.given, THREE.len());
-        for (given, stood) in reader.reads.as_slice() {
+        assert_eq!(rt; client.reader.given, THREE.len());
+        for (given, stood) in client.reader.reads.as_slice() {
             assert_eq!(rt; *stood, due(BY_PHASES, *given), "behind {given} bytes");
         }
-        assert_eq!(rt; writer.taken.as_slice(), THREE_REPLIES.as_bytes());
+        assert_eq!(rt; client.writer.taken.as_slice(), THREE_REPLIES.as_bytes());
     }
 }
 
@@ -219,9 +226,8 @@ fn histories(rt: HostRuntime) {
             .expect(&rt, "memory");
         }
     }
-    let mut reader = script.as_bytes();
-    let mut written = Vec::new(rt.alloc());
-    let served = serve_in(&rt, databases(&rt, 2), &mut reader, &mut written, &NoGate);
+    let mut client = client(&rt, script.as_str());
+    let served = serve_in(&rt, databases(&rt, 2), &mut client, &NoGate);
     let Ok(audit) = served else {
         rt.panic("served")
     };
@@ -313,12 +319,11 @@ fn check_long<R: Abort + AllocGlobal + Threads + Wait + Sync>(rt: &R, long: &Lon
         }
     }
     let databases = databases(rt, long.last.len());
-    let mut written = Vec::new(rt.alloc());
-    let mut reader = script.as_bytes();
-    let Ok(audit) = serve_in(rt, databases, &mut reader, &mut written, &NoGate) else {
+    let mut client = client(rt, script.as_str());
+    let Ok(audit) = serve_in(rt, databases, &mut client, &NoGate) else {
         rt.panic("served")
     };
-    assert!(rt; written.as_slice() == wanted.as_bytes());
+    assert!(rt; client.writer.as_slice() == wanted.as_bytes());
     assert_eq!(rt; audit.parts.len(), long.parts.len());
     for (part, (database, number, entries, first)) in audit.parts.iter().zip(long.parts) {
         assert_eq!(rt; part.database(), *database);
@@ -356,15 +361,14 @@ fn fault_of<R: Abort + AllocGlobal + Threads + Wait + Sync>(
         }
         database.set_step_limit(limit);
     }
-    let mut reader = "bank.1: COMMIT".as_bytes();
-    let mut written = Vec::new(rt.alloc());
-    let fault = serve_in(rt, databases, &mut reader, &mut written, &NoGate).err();
+    let mut client = client(rt, "bank.1: COMMIT");
+    let fault = serve_in(rt, databases, &mut client, &NoGate).err();
     let (left, replies) = match fault {
         Some(_) => (14, ""),
         None => (0, "bank.1> OK committed 0\n"),
     };
-    assert_eq!(rt; reader.len(), left);
-    assert_eq!(rt; written.as_slice(), replies.as_bytes());
+    assert_eq!(rt; client.reader.len(), left);
+    assert_eq!(rt; client.writer.as_slice(), replies.as_bytes());
     fault
 }
 

@@ -1,6 +1,6 @@
 //! Runs of the program.
 use super::streams::{Sink, Source};
-use escrow_server::{Mode, NO_SCREEN, Screen, read_line, run_at_once, run_in_turn};
+use escrow_server::{Duplex, Mode, NO_SCREEN, Screen, read_line, run_at_once, run_in_turn};
 use std::cell::Cell;
 use std::env::{Env, FillError};
 use std::io::{Read, Write};
@@ -48,18 +48,17 @@ pub(super) fn run_line<
     rt: &HostRuntime,
     to: &T,
     line: &[u8],
-    input: &mut R,
-    output: &mut W,
+    client: &mut Duplex<R, W>,
     errors: &mut F,
     screen: Option<X>,
 ) -> ExitCode {
-    let args = match read_line(rt.alloc(), &CommandLine(line), output, errors) {
+    let args = match read_line(rt.alloc(), &CommandLine(line), &mut client.writer, errors) {
         Ok(args) => args,
         Err(code) => return code,
     };
     match args.mode {
-        Mode::Run | Mode::Serve => run_in_turn(rt, &args, input, output, errors),
-        Mode::Free => run_at_once(rt, to, &args, input, output, errors, screen),
+        Mode::Run | Mode::Serve => run_in_turn(rt, &args, client, errors),
+        Mode::Free => run_at_once(rt, to, &args, client, errors, screen),
     }
 }
 
@@ -97,7 +96,7 @@ pub(super) fn check<T: Abort + Threads + Wait + Sync>(
     replies: &str,
 ) -> usize {
     let written = Cell::new(0);
-    let mut input = Source {
+    let reader = Source {
         rest: script.as_bytes(),
         at_a_time: run.at_a_time,
         fails: run.fails,
@@ -105,7 +104,7 @@ pub(super) fn check<T: Abort + Threads + Wait + Sync>(
         written: &written,
         reads: Vec::new(rt.alloc()),
     };
-    let mut output = Sink {
+    let writer = Sink {
         taken: Vec::new(rt.alloc()),
         room: run.room,
         at_a_time: if run.room == usize::MAX {
@@ -117,21 +116,14 @@ pub(super) fn check<T: Abort + Threads + Wait + Sync>(
         calls: 0,
         written: &written,
     };
+    let mut client = Duplex { reader, writer };
     let mut said = Vec::new(rt.alloc());
-    let code = run_line(
-        rt,
-        to,
-        run.line,
-        &mut input,
-        &mut output,
-        &mut said,
-        NO_SCREEN,
-    );
+    let code = run_line(rt, to, run.line, &mut client, &mut said, NO_SCREEN);
     let words = str::from_utf8(run.line).unwrap_or_default();
     let told = str::from_utf8(said.as_slice()).unwrap_or_default();
-    let answered = str::from_utf8(output.taken.as_slice()).unwrap_or_default();
+    let answered = str::from_utf8(client.writer.taken.as_slice()).unwrap_or_default();
     assert_eq!(to; told, run.errors, "{words}");
     assert_eq!(to; answered, replies, "{words}");
     assert!(to; code == ExitCode::from(run.status), "{words}");
-    output.calls
+    client.writer.calls
 }

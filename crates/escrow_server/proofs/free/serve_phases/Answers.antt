@@ -8,7 +8,7 @@ returns-clause-served g c = λ clean.
     let audit = c.in_ok-audit.audit in
     let legal = subst (λ handed. AreHistories g.S.Store handed.items audit.parts.items audit.closed.items) c.replace-handed.ensures.value c.in_ok-audit.ensures.legal in
     runs_free g.S.Store c.args.databases.now.items audit.parts.items audit.closed.items
-    (g.R.Read.remaining c.args.reader.now) (g.W.Write.contents c.args.writer.now) (g.W.Write.contents c.serve_before.new.writer)
+    (g.R.Read.remaining c.args.client.now.reader) (g.W.Write.contents c.args.client.now.writer) (g.W.Write.contents c.serve_before.new.client.writer)
     clean legal c.in_ok-audit.ensures.output
 
 pub returns-clause-back : goal.returns-clause-back

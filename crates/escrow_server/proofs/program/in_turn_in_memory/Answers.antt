@@ -14,7 +14,7 @@ returns-clause-memory g c =
     let new = c.serve_in_turn-served.new.databases.items in
     let served = c.serve_in_turn-served.ensures in
     ends_in_memory c.args.args.now.mode c.args.args.now.sessions c.serve_in_turn-served.result c.status_in_memory.result count (IsOpened over_blocks opened old) (states_of new)
-    (g.R.Read.remaining c.args.input.now) (g.R.Read.remaining c.serve_in_turn-served.new.input) (g.W.Write.contents c.args.output.now) (g.W.Write.contents c.serve_in_turn-served.new.output)
+    (g.R.Read.remaining c.args.client.now.reader) (g.R.Read.remaining c.serve_in_turn-served.new.client.reader) (g.W.Write.contents c.args.client.now.writer) (g.W.Write.contents c.serve_in_turn-served.new.client.writer)
     (opened_empty over_blocks opened old count c.open_in_memory-opened.ensures.found) c.status_in_memory.ensures.ok c.status_in_memory.ensures.err
     (λ run. served.served run (memory_are_clean new)) (λ run. served.stopped run (memory_are_clean new))
     (λ serve. served.lines serve (memory_are_clean new)) (λ serve. served.cut serve (memory_are_clean new)) (λ free. absurd (c.requires.mode free)) served.unopened
