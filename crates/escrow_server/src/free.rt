@@ -39,7 +39,7 @@ pub(crate) fn serve_phases<
     requires few { vec_len databases.old ≤ MAX_DATABASES }
     ensures served { HoldCleanDisks S.Store → OnOk result (IfSome (R.remaining client.old.reader) (λ script.
         RunsFree script (states_of databases.old.items) (W.contents client.old.writer)
-            (W.contents client.new.writer))) }
+        (W.contents client.new.writer))) }
     ensures end { OnOk result
         (IfSome (R.remaining client.old.reader) (λ script. IsAtEnd (R.remaining client.new.reader))) }
 

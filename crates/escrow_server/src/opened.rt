@@ -66,7 +66,7 @@ pub(crate) fn serve_in_turn<S: Alter, R: Read, W: Write>(
         (W.contents client.new.writer) (LeftBy result))) }
     ensures lines_ran { args.now.mode ≡ Mode.Serve → OnOk opened (IfSome (R.remaining client.old.reader) (λ script.
         ScriptRan S.Store args.now.sessions script databases.old.items databases.new.items
-            (W.contents client.old.writer)
+        (W.contents client.old.writer)
         (W.contents client.new.writer) (LeftBy result))) }
 
     // Whatever the stores do, all of the script was read if the call succeeds, and nothing if a store

@@ -228,7 +228,7 @@ fn in_turn_in_memory<R: Read, W: Write, F: Write>(
         (W.contents client.old.writer) (W.contents client.new.writer)) }
     ensures files { IfSome (R.remaining client.old.reader) (λ script.
         EndsOverFiles result script (R.remaining client.new.reader) (W.contents client.old.writer)
-            (W.contents client.new.writer)) }
+        (W.contents client.new.writer)) }
     ensures silent { result ≡ 0 → WritesNothing (F.contents errors.old) (F.contents errors.new) }
     ensures said { result ≢ 0 → SaysReason (F.contents errors.old) (F.contents errors.new) }
 {
@@ -252,7 +252,7 @@ fn in_turn_over_files<R: Read, W: Write, F: Write>(
     requires most { args.now.databases ≤ MAX_DATABASES }
     ensures files { IfSome (R.remaining client.old.reader) (λ script.
         EndsOverFiles result script (R.remaining client.new.reader) (W.contents client.old.writer)
-            (W.contents client.new.writer)) }
+        (W.contents client.new.writer)) }
     ensures quiet { result ≡ 0 → IsQuiet (Some path.now) (F.contents errors.old) (F.contents errors.new) }
     ensures said { result ≢ 0 → SaysWhy (Some path.now) (F.contents errors.old) (F.contents errors.new) }
 {
@@ -288,7 +288,7 @@ fn at_once_in_memory<
         (W.contents client.old.writer) (W.contents client.new.writer)) }
     ensures files { IfSome (R.remaining client.old.reader) (λ script.
         EndsOverFiles result script (R.remaining client.new.reader) (W.contents client.old.writer)
-            (W.contents client.new.writer)) }
+        (W.contents client.new.writer)) }
     ensures silent { result ≡ 0 → WritesNothing (F.contents errors.old) (F.contents errors.new) }
     ensures said { result ≢ 0 → SaysReason (F.contents errors.old) (F.contents errors.new) }
 {
@@ -319,7 +319,7 @@ fn at_once_over_files<
     requires most { args.now.databases ≤ MAX_DATABASES }
     ensures files { IfSome (R.remaining client.old.reader) (λ script.
         EndsOverFiles result script (R.remaining client.new.reader) (W.contents client.old.writer)
-            (W.contents client.new.writer)) }
+        (W.contents client.new.writer)) }
     ensures quiet { result ≡ 0 → IsQuiet (Some path.now) (F.contents errors.old) (F.contents errors.new) }
     ensures said { result ≢ 0 → SaysWhy (Some path.now) (F.contents errors.old) (F.contents errors.new) }
 {
