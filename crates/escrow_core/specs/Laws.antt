@@ -3,7 +3,7 @@ use Rattle.std.specs.Prelude.{◌≡◌}
 use Rattle.escrow_num.specs.declared.changes.TheConstants.Changes.{IN_PLACE}
 use Rattle.escrow_reserved.specs.declared.recent.TheConstants.Recent.{MAX_ROWS}
 use Rattle.escrow_core.specs.declared.database.held.TheConstants.HeldBack.{MAX}
-use Rattle.escrow_core.specs.declared.database.part.TheConstants.{MAX_TOGETHER}
+use Rattle.escrow_core.specs.declared.database.ending.part.TheConstants.{MAX_TOGETHER}
 
 -- the limits of a database's memory and of what is written at once, as numbers
 pub record Limits : Type 0 where
