@@ -17,14 +17,14 @@ use Rattle.escrow_shards.specs.Pass.{Pass}
 use Rattle.escrow_shards.specs.Shared.{Shared}
 use Rattle.escrow_shards.specs.Whole.{AreWhole, HasItsReceipts, IsOfSessions}
 use Rattle.escrow_script.specs.Line.{lines_of}
-use Rattle.escrow_free.specs.Desks.{desk_of, pass_of, answers_of, seat_after}
+use Rattle.escrow_free.specs.Outboxes.{outbox_of, pass_of, answers_of, seat_after}
 use Rattle.escrow_free.specs.FreeOutput.{taken_by, DoLines, ServesFree}
 use Rattle.escrow_free.specs.Histories.{histories, histories_from, AreHistories}
 use Rattle.escrow_free.specs.Phases.{IsServed}
-use Rattle.escrow_free.specs.declared.desk.Desk.{Desk}
-use Rattle.escrow_free.proofs.Desks.{nothing_served}
+use Rattle.escrow_free.specs.declared.outbox.Outbox.{Outbox}
+use Rattle.escrow_free.proofs.Outboxes.{nothing_served}
 use Rattle.escrow_sessions.proofs.Places.{some_same, none_some, at_below, below_at, all_at}
-use Rattle.escrow_free.proofs.Planning.{within_desks}
+use Rattle.escrow_free.proofs.Planning.{within_outboxes}
 
 map_at : {A B : Type 0} (f : A → B) (xs : List A) (i : ℕ) (x : A) → slice_get xs i ≡ Some x → slice_get (map f xs) i ≡ Some (f x)
 map_at f [] i x at = absurd (none_some x at)
@@ -94,10 +94,10 @@ history_at place parts (c ∷ closed) (suc i) entries at =
 
 -- THE OUTPUT
 
-pub serves_free : {S : Type 0} (g : Ghosts S) (sharing : Shared S) (parts : List (Part S)) (closed : List (Closed S)) (script : List ℕ) (desks : List Desk) (old_bytes new_bytes : Option (List ℕ))
-    → sharing.sessions ≡ MAX_SHARED → AreWhole g sharing (map pass_of desks) parts closed → IsServed (length sharing.openings) script desks old_bytes new_bytes
+pub serves_free : {S : Type 0} (g : Ghosts S) (sharing : Shared S) (parts : List (Part S)) (closed : List (Closed S)) (script : List ℕ) (outboxes : List Outbox) (old_bytes new_bytes : Option (List ℕ))
+    → sharing.sessions ≡ MAX_SHARED → AreWhole g sharing (map pass_of outboxes) parts closed → IsServed (length sharing.openings) script outboxes old_bytes new_bytes
     → ServesFree script (histories parts closed) old_bytes new_bytes
-serves_free {S} g sharing parts closed script desks old_bytes new_bytes sessions whole served = record {
+serves_free {S} g sharing parts closed script outboxes old_bytes new_bytes sessions whole served = record {
   limit = served.limit;
   out = served.out;
   output = record {
@@ -124,16 +124,16 @@ serves_free {S} g sharing parts closed script desks old_bytes new_bytes sessions
   all place session entries at is =
       let history = history_at 0 parts closed place entries at in
       let below : place < length sharing.openings = subst (λ n. place < n) count (below_at (histories parts closed) place entries at) in
-      let desk = at_below desks (desk_of place session) (subst (λ n. desk_of place session < n) (sym served.count) (within_desks (length sharing.openings) place session below is)) in
-      let was = nothing_served (seat_after place session served.taken) (answers_of desk.0) (desk.0).pass (served.fits place session desk.0 is desk.1) in
-      let found : HasItsReceipts parts closed (desk.0).pass = all_at (HasItsReceipts parts closed) (map pass_of desks) (desk_of place session) (desk.0).pass whole.receipts (map_at pass_of desks (desk_of place session) desk.0 desk.1) in
+      let outbox = at_below outboxes (outbox_of place session) (subst (λ n. outbox_of place session < n) (sym served.count) (within_outboxes (length sharing.openings) place session below is)) in
+      let was = nothing_served (seat_after place session served.taken) (answers_of outbox.0) (outbox.0).pass (served.fits place session outbox.0 is outbox.1) in
+      let found : HasItsReceipts parts closed (outbox.0).pass = all_at (HasItsReceipts parts closed) (map pass_of outboxes) (outbox_of place session) (outbox.0).pass whole.receipts (map_at pass_of outboxes (outbox_of place session) outbox.0 outbox.1) in
       let its : HasItsReceipts parts closed (seat_after place session served.taken) = subst (HasItsReceipts parts closed) was.same found in
       its history.closing history.there ∙ ap (receipts_of session) (entries_of place entries history)
 
 -- the bytes of the script are known
-pub serves_each : {S : Type 0} (g : Ghosts S) (sharing : Shared S) (parts : List (Part S)) (closed : List (Closed S)) (script : Option (List ℕ)) (desks : List Desk) (passes : List Pass)
-    (old_bytes new_bytes : Option (List ℕ)) → sharing.sessions ≡ MAX_SHARED → passes ≡ map pass_of desks → AreWhole g sharing passes parts closed
-    → IfSome script (λ bytes. IsServed (length sharing.openings) bytes desks old_bytes new_bytes) → IfSome script (λ bytes. ServesFree bytes (histories parts closed) old_bytes new_bytes)
-serves_each g sharing parts closed None desks passes old_bytes new_bytes sessions same whole served = tt
-serves_each g sharing parts closed (Some bytes) desks passes old_bytes new_bytes sessions same whole served =
-    serves_free g sharing parts closed bytes desks old_bytes new_bytes sessions (subst (λ (s : List Pass). AreWhole g sharing s parts closed) same whole) served
+pub serves_each : {S : Type 0} (g : Ghosts S) (sharing : Shared S) (parts : List (Part S)) (closed : List (Closed S)) (script : Option (List ℕ)) (outboxes : List Outbox) (passes : List Pass)
+    (old_bytes new_bytes : Option (List ℕ)) → sharing.sessions ≡ MAX_SHARED → passes ≡ map pass_of outboxes → AreWhole g sharing passes parts closed
+    → IfSome script (λ bytes. IsServed (length sharing.openings) bytes outboxes old_bytes new_bytes) → IfSome script (λ bytes. ServesFree bytes (histories parts closed) old_bytes new_bytes)
+serves_each g sharing parts closed None outboxes passes old_bytes new_bytes sessions same whole served = tt
+serves_each g sharing parts closed (Some bytes) outboxes passes old_bytes new_bytes sessions same whole served =
+    serves_free g sharing parts closed bytes outboxes old_bytes new_bytes sessions (subst (λ (s : List Pass). AreWhole g sharing s parts closed) same whole) served

@@ -11,8 +11,8 @@ use Rattle.escrow_sessions.specs.declared.feed.Done.{Done}
 use Rattle.escrow_sessions.specs.declared.feed.Given.{Given}
 use Rattle.escrow_sessions.specs.declared.feed.Feed.{Feed}
 use Rattle.escrow_free.specs.Dealing.{AreDealt, IsAdded, IsNewFeed}
-use Rattle.escrow_free.specs.Desks.{answers_of, ArePassesServed, IsDoneDesk, IsUnservedDesk}
-use Rattle.escrow_free.specs.declared.desk.Desk.{Desk}
+use Rattle.escrow_free.specs.Outboxes.{answers_of, ArePassesServed, IsDoneOutbox, IsUnservedOutbox}
+use Rattle.escrow_free.specs.declared.outbox.Outbox.{Outbox}
 use Rattle.escrow_sessions.proofs.Places.{some_same, long_set, set_cases, at_below, below_at, beside, zip_long, all_at, all_of_each}
 use Rattle.escrow_sessions.proofs.Placing.{of_here, of_else}
 
@@ -59,35 +59,35 @@ answered passes items feeds place seat feed gs end dealt at there serves =
     let is = dealt.each place seat feed at there in
     subst (λ (s : Pass). Serves s (of place items) gs end) is.0 (subst (λ (rs : List Request). Serves feed.pass rs gs end) is.1 serves)
 
--- the desks after their feeds were served
-pub dealt_served : (passes : List Pass) (items : List (ℕ × Request)) (feeds : List Feed) (done : List Done) (desks : List Desk) → AreDealt passes items feeds → AreDone feeds done → AllZip IsDoneDesk done desks
-    → ArePassesServed passes items desks
-dealt_served passes items feeds done desks dealt were all = record {
-  count = sym (zip_long _ done desks all) ∙ sym (zip_long _ feeds done were) ∙ dealt.count;
-  each = λ place seat desk at there.
+-- the outboxes after their feeds were served
+pub dealt_served : (passes : List Pass) (items : List (ℕ × Request)) (feeds : List Feed) (done : List Done) (outboxes : List Outbox) → AreDealt passes items feeds → AreDone feeds done → AllZip IsDoneOutbox done outboxes
+    → ArePassesServed passes items outboxes
+dealt_served passes items feeds done outboxes dealt were all = record {
+  count = sym (zip_long _ done outboxes all) ∙ sym (zip_long _ feeds done were) ∙ dealt.count;
+  each = λ place seat outbox at there.
       let feed = at_below feeds place (subst (λ n. place < n) (sym dealt.count) (below_at passes place seat at)) in
       let worker = beside (λ (f : Feed) (d : Done). IsDone f.pass f.requests.items d) feeds done place feed.0 were feed.1 in
-      let its = beside IsDoneDesk done desks place worker.0 all worker.1.0 in
-      let same : its.0 ≡ desk = some_same its.0 desk (sym its.1.0 ∙ there) in
+      let its = beside IsDoneOutbox done outboxes place worker.0 all worker.1.0 in
+      let same : its.0 ≡ outbox = some_same its.0 outbox (sym its.1.0 ∙ there) in
       let serves : Serves seat (of place items) (worker.0).answers.items (worker.0).pass =
       answered passes items feeds place seat feed.0 (worker.0).answers.items (worker.0).pass dealt at feed.1 worker.1.1.serves in
       let given : Serves seat (of place items) (answers_of its.0) (worker.0).pass =
       subst (λ (gs : List Given). Serves seat (of place items) gs (worker.0).pass) (sym its.1.1.1) serves in
       let passed : Serves seat (of place items) (answers_of its.0) (its.0).pass =
       subst (λ (p : Pass). Serves seat (of place items) (answers_of its.0) p) (sym its.1.1.0) given in
-      subst (λ (d : Desk). Serves seat (of place items) (answers_of d) d.pass) same passed;
+      subst (λ (d : Outbox). Serves seat (of place items) (answers_of d) d.pass) same passed;
 }
 
--- the desks if their feeds were not served
-pub dealt_unserved : (passes : List Pass) (items : List (ℕ × Request)) (feeds : List Feed) (desks : List Desk) → AreDealt passes items feeds → AllZip IsUnservedDesk feeds desks → ArePassesServed passes items desks
-dealt_unserved passes items feeds desks dealt all = record {
-  count = sym (zip_long IsUnservedDesk feeds desks all) ∙ dealt.count;
-  each = λ place seat desk at there.
+-- the outboxes if their feeds were not served
+pub dealt_unserved : (passes : List Pass) (items : List (ℕ × Request)) (feeds : List Feed) (outboxes : List Outbox) → AreDealt passes items feeds → AllZip IsUnservedOutbox feeds outboxes → ArePassesServed passes items outboxes
+dealt_unserved passes items feeds outboxes dealt all = record {
+  count = sym (zip_long IsUnservedOutbox feeds outboxes all) ∙ dealt.count;
+  each = λ place seat outbox at there.
       let feed = at_below feeds place (subst (λ n. place < n) (sym dealt.count) (below_at passes place seat at)) in
-      let its = beside IsUnservedDesk feeds desks place feed.0 all feed.1 in
-      let same : its.0 ≡ desk = some_same its.0 desk (sym its.1.0 ∙ there) in
+      let its = beside IsUnservedOutbox feeds outboxes place feed.0 all feed.1 in
+      let same : its.0 ≡ outbox = some_same its.0 outbox (sym its.1.0 ∙ there) in
       let is = dealt.each place seat feed.0 at feed.1 in
       let none : Serves seat (of place items) (answers_of its.0) (its.0).pass =
       subst (λ (gs : List Given). Serves seat (of place items) gs (its.0).pass) (sym its.1.1.1) (its.1.1.0 ∙ is.0) in
-      subst (λ (d : Desk). Serves seat (of place items) (answers_of d) d.pass) same none;
+      subst (λ (d : Outbox). Serves seat (of place items) (answers_of d) d.pass) same none;
 }

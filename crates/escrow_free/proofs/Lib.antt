@@ -1,7 +1,7 @@
 pub mod Closing
 pub mod Dealt
-pub mod Desks
 pub mod Marking
+pub mod Outboxes
 pub mod Phases
 pub mod Planning
 pub mod Prints

@@ -1,22 +1,22 @@
--- Steps of the loops over desks, marks and items.
+-- Steps of the loops over outboxes, marks and items.
 use Rattle.std.proofs.Common.{◌≡◌, ℕ, zero, suc, ◌+◌, ◌<◌, ◌≤◌, Bool, true, if◌then◌else◌, List, [], ◌∷◌, ◌++◌, length, map, take, drop, set, get_or, refl, sym, ap, ap₂, subst, ◌∙◌, append_assoc, arith}
 use Rattle.std.specs.List.{AllByRecursion, AllZip}
 use Rattle.std.proofs.lemmas.List.{append-nil, drop_more, drop_all, take_all, take_more_set, drop-set-lt}
 use Rattle.escrow_statement.specs.declared.statement.Request.{Request}
 use Rattle.escrow_sessions.proofs.AtOnce.{zip_by}
 use Rattle.escrow_free.specs.Ranks.{marked_by, ranks_from}
-use Rattle.escrow_free.specs.declared.desk.Desk.{Desk}
+use Rattle.escrow_free.specs.declared.outbox.Outbox.{Outbox}
 
 -- the remaining items, one step later
 drop_next : {A : Type 0} (xs : List A) (i : ℕ) (x : A) → i < length xs → x ≡ get_or xs i x → drop i xs ≡ x ∷ drop (i + 1) xs
 drop_next xs i x within same = drop_more xs i x within ∙ ap (λ y. y ∷ drop (i + 1) xs) (sym same)
 
--- one more item marks its desk
+-- one more item marks its outbox
 pub marked_more : (items : List (ℕ × Request)) (i : ℕ) (item : ℕ × Request) (marks all : List Bool) → i < length items → item ≡ get_or items i item
     → marked_by (drop i items) marks ≡ all → marked_by (drop (i + 1) items) (set marks item.0 true) ≡ all
 marked_more items i item marks all within same so_far = sym (ap (λ (xs : List (ℕ × Request)). marked_by xs marks) (drop_next items i item within same)) ∙ so_far
 
--- one more desk has its rank
+-- one more outbox has its rank
 pub ranked_more : (marks : List Bool) (i n : ℕ) (mark : Bool) (ranks all : List ℕ) → i < length marks → mark ≡ get_or marks i mark
     → ranks ++ ranks_from n (drop i marks) ≡ all → (ranks ++ n ∷ []) ++ ranks_from (if mark then n + 1 else n) (drop (i + 1) marks) ≡ all
 ranked_more marks i n mark ranks all within same so_far =
@@ -48,17 +48,17 @@ zip_as R T so xs ys all = zip_by R (λ y z. y ≡ z) T (λ x y z r e. subst (T x
 pub one_less : (left rest n m : ℕ) → left ≡ n → rest + 1 ≡ left → n ≡ m + 1 → rest ≡ m
 one_less left rest n m same gone short = omega arith
 
--- one more desk is included in a list or left out of it
-module _ {X : Type 0} (F : List Bool → List Desk → List X) (marks : List Bool) (i : ℕ) (mark : Bool) (desks olds news : List Desk) (done all : List X)
-    (within : i < length marks) (same : mark ≡ get_or marks i mark) (are : desks ≡ olds) (so_far : done ++ F (drop i marks) desks ≡ all) where
-  now : F (drop i marks) desks ≡ F (mark ∷ drop (i + 1) marks) olds
+-- one more outbox is included in a list or left out of it
+module _ {X : Type 0} (F : List Bool → List Outbox → List X) (marks : List Bool) (i : ℕ) (mark : Bool) (outboxes olds news : List Outbox) (done all : List X)
+    (within : i < length marks) (same : mark ≡ get_or marks i mark) (are : outboxes ≡ olds) (so_far : done ++ F (drop i marks) outboxes ≡ all) where
+  now : F (drop i marks) outboxes ≡ F (mark ∷ drop (i + 1) marks) olds
   now = ap₂ F (drop_next marks i mark within same) are
 
-  pub desk_taken : (x : X) → F (mark ∷ drop (i + 1) marks) olds ≡ x ∷ F (drop (i + 1) marks) news → (done ++ x ∷ []) ++ F (drop (i + 1) marks) news ≡ all
-  desk_taken x step = append_assoc done (x ∷ []) (F (drop (i + 1) marks) news) ∙ ap (λ (xs : List X). done ++ xs) (sym (now ∙ step)) ∙ so_far
+  pub outbox_taken : (x : X) → F (mark ∷ drop (i + 1) marks) olds ≡ x ∷ F (drop (i + 1) marks) news → (done ++ x ∷ []) ++ F (drop (i + 1) marks) news ≡ all
+  outbox_taken x step = append_assoc done (x ∷ []) (F (drop (i + 1) marks) news) ∙ ap (λ (xs : List X). done ++ xs) (sym (now ∙ step)) ∙ so_far
 
-  pub desk_left : F (mark ∷ drop (i + 1) marks) olds ≡ F (drop (i + 1) marks) news → done ++ F (drop (i + 1) marks) news ≡ all
-  desk_left step = ap (λ (xs : List X). done ++ xs) (sym (now ∙ step)) ∙ so_far
+  pub outbox_left : F (mark ∷ drop (i + 1) marks) olds ≡ F (drop (i + 1) marks) news → done ++ F (drop (i + 1) marks) news ≡ all
+  outbox_left step = ap (λ (xs : List X). done ++ xs) (sym (now ∙ step)) ∙ so_far
 
 -- within a list, it does not matter which default is used
 pub any_default : {A : Type 0} (xs : List A) (i : ℕ) (d e : A) → i < length xs → get_or xs i d ≡ get_or xs i e

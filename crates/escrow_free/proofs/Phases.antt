@@ -11,14 +11,14 @@ use Rattle.escrow_script.proofs.TakenLemmas.{kept_line, within_limit}
 use Rattle.escrow_script.proofs.WrittenLemmas.{appends_more, appends_none}
 use Rattle.escrow_free.specs.Adding.{Adds}
 use Rattle.escrow_stats.specs.declared.tally.Tally.{Tally}
-use Rattle.escrow_free.specs.Desks.{Fits, AreServed, AreTotals}
+use Rattle.escrow_free.specs.Outboxes.{Fits, AreServed, AreTotals}
 use Rattle.escrow_free.specs.FreeOutput.{Taken, DoLines}
 use Rattle.escrow_free.specs.Phases.{TakesLines, IsRead, IsOver, IsServed}
 use Rattle.escrow_free.specs.Planning.{PlansBytes, Plans}
 use Rattle.escrow_free.specs.Printing.{PrintsTo}
-use Rattle.escrow_free.specs.declared.desk.Desk.{Desk}
+use Rattle.escrow_free.specs.declared.outbox.Outbox.{Outbox}
 use Rattle.escrow_free.specs.declared.plan.Plan.{Plan}
-use Rattle.escrow_free.proofs.Desks.{fits_served}
+use Rattle.escrow_free.proofs.Outboxes.{fits_served}
 use Rattle.escrow_free.proofs.Planning.{plans_one, plans_match, lines_do, do_more}
 use Rattle.escrow_free.proofs.Prints.{all_printed}
 
@@ -76,21 +76,21 @@ read_one n bytes mid rest kept line found old new is_found same short taken adds
 
 -- PHASES
 
--- Some phases were served: their lines were read and their output was written. The desks and totals match what the
+-- Some phases were served: their lines were read and their output was written. The outboxes and totals match what the
 -- lines took.
-pub record Stands (n : ℕ) (script rest old_bytes new_bytes : Option (List ℕ)) (desks : List Desk) (totals : List Tally) : Type 0 where
+pub record Stands (n : ℕ) (script rest old_bytes new_bytes : Option (List ℕ)) (outboxes : List Outbox) (totals : List Tally) : Type 0 where
   pub lines : List (List ℕ)
   pub out : List ℕ
   pub taken : List Taken
   pub read : TakesLines lines script rest
   pub does : DoLines n [] lines out taken
   pub appends : Appends old_bytes new_bytes out
-  pub fits : Fits [] taken desks
+  pub fits : Fits [] taken outboxes
   pub counts : AreTotals taken totals
 
-pub stands_new : (n : ℕ) (script bytes : Option (List ℕ)) (unread : List ℕ) (desks : List Desk) (totals : List Tally) → unread ≡ [] → Fits [] [] desks → AreTotals [] totals
-    → Stands n script (left unread script) bytes bytes desks totals
-stands_new n script bytes unread desks totals none fits counts = record {
+pub stands_new : (n : ℕ) (script bytes : Option (List ℕ)) (unread : List ℕ) (outboxes : List Outbox) (totals : List Tally) → unread ≡ [] → Fits [] [] outboxes → AreTotals [] totals
+    → Stands n script (left unread script) bytes bytes outboxes totals
+stands_new n script bytes unread outboxes totals none fits counts = record {
   lines = [];
   out = [];
   taken = [];
@@ -105,7 +105,7 @@ stands_new n script bytes unread desks totals none fits counts = record {
   first (Some b) = refl
 
 -- one more phase
-pub stands_more : (n : ℕ) (script mid rest old_bytes now_bytes new_bytes : Option (List ℕ)) (plan : Plan) (before served after : List Desk) (counted totals : List Tally) (out : List ℕ)
+pub stands_more : (n : ℕ) (script mid rest old_bytes now_bytes new_bytes : Option (List ℕ)) (plan : Plan) (before served after : List Outbox) (counted totals : List Tally) (out : List ℕ)
     → IsRead n mid rest plan → AreServed before plan.items.items served → PrintsTo plan.lines.items served counted out [] after totals → Appends now_bytes new_bytes out
     → Stands n script mid old_bytes now_bytes before counted → Stands n script rest old_bytes new_bytes after totals
 stands_more n script mid rest old_bytes now_bytes new_bytes plan before served after counted totals out phase serves prints wrote stood =
@@ -140,12 +140,12 @@ at_end (Some bytes) (Some rest) None was_unread unread limit now spends over = t
 at_end (Some bytes) (Some rest) (Some more) was_unread unread limit now spends over = nothing_behind unread more over
 
 -- the whole script was served
-pub finished : (n : ℕ) (script rest remaining old_bytes new_bytes : Option (List ℕ)) (desks : List Desk) (totals : List Tally) (now : ℕ) → length desks ≡ n * MAX_SHARED → Stands n script rest old_bytes new_bytes desks totals
+pub finished : (n : ℕ) (script rest remaining old_bytes new_bytes : Option (List ℕ)) (outboxes : List Outbox) (totals : List Tally) (now : ℕ) → length outboxes ≡ n * MAX_SHARED → Stands n script rest old_bytes new_bytes outboxes totals
     → IsOver script rest → Spends script remaining MAX_SCRIPT now → IfSome script (λ bytes. IsAtEnd remaining)
-    → IfSome script (λ bytes. IsServed n bytes desks old_bytes new_bytes)
-finished n None rest remaining old_bytes new_bytes desks totals now count stood all spends ends = tt
-finished n (Some bytes) None remaining old_bytes new_bytes desks totals now count stood all spends ends = absurd all
-finished n (Some bytes) (Some rest) remaining old_bytes new_bytes desks totals now count stood all spends ends =
+    → IfSome script (λ bytes. IsServed n bytes outboxes old_bytes new_bytes)
+finished n None rest remaining old_bytes new_bytes outboxes totals now count stood all spends ends = tt
+finished n (Some bytes) None remaining old_bytes new_bytes outboxes totals now count stood all spends ends = absurd all
+finished n (Some bytes) (Some rest) remaining old_bytes new_bytes outboxes totals now count stood all spends ends =
     let whole : stood.lines ≡ lines_of bytes = sym (stood.read ∙ ap (λ (r : List ℕ). stood.lines ++ lines_of r) all ∙ append-nil stood.lines) in
     record {
       limit = within_limit bytes remaining MAX_SCRIPT now spends ends;

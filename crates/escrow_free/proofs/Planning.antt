@@ -11,10 +11,10 @@ use Rattle.escrow_stats.specs.Text.{rendered_totals}
 use Rattle.escrow_script.specs.declared.limits.TheConstants.{MAX_DATABASES}
 use Rattle.escrow_script.specs.Line.{Reading, nothing, join, restart, statement, no_line, database_name, Reads}
 use Rattle.escrow_script.specs.Written.{no_line_text, fault_refusal}
-use Rattle.escrow_free.specs.Desks.{desk_of}
+use Rattle.escrow_free.specs.Outboxes.{outbox_of}
 use Rattle.escrow_free.specs.FreeOutput.{Taken, refused, replies_by, DoesLine, DoLines}
 use Rattle.escrow_free.specs.Planning.{PlansText, PlansReading, PlansBytes, Plans}
-use Rattle.escrow_free.specs.Printing.{HasItsDesk, Matches, Prints}
+use Rattle.escrow_free.specs.Printing.{HasItsOutbox, Matches, Prints}
 use Rattle.escrow_free.specs.declared.plan.Planned.{Planned}
 use Rattle.escrow_free.specs.declared.plan.Planned.TheVariants as planned
 
@@ -53,7 +53,7 @@ module _ (ps : List Planned) (is : List (ℕ × Request)) (m : Matches ps is) wh
 
   text_matches : (place session : ℕ) (text : List ℕ) (p : List Planned) (i : List (ℕ × Request)) → PlansText place session text p i → Matches (p ++ ps) (i ++ is)
   text_matches place session text p i (inl asked) =
-      backward (λ (x : List Planned) (y : List (ℕ × Request)). Matches (x ++ ps) (y ++ is)) p (planned.Asked place session ∷ []) i ((desk_of place session, request.Statement asked.0) ∷ [])
+      backward (λ (x : List Planned) (y : List (ℕ × Request)). Matches (x ++ ps) (y ++ is)) p (planned.Asked place session ∷ []) i ((outbox_of place session, request.Statement asked.0) ∷ [])
       asked.2 asked.3 (refl, (asked.0, refl), m)
   text_matches place session text p i (inr (inl shown)) =
       backward (λ (x : List Planned) (y : List (ℕ × Request)). Matches (x ++ ps) (y ++ is)) p (planned.Totals place session ∷ []) i [] shown.1 shown.2 m
@@ -72,7 +72,7 @@ plans_match n [] plan items h = backward Matches plan [] items [] h.0 h.1 refl
 plans_match n (line ∷ lines) plan items h =
     backward Matches plan (h.0 ++ h.1) items (h.2 ++ h.3) h.6 h.7 (reading_matches h.1 h.3 (plans_match n lines h.1 h.3 h.5) h.4.0 h.0 h.2 h.4.2)
 
--- EACH REQUEST NAMES A DESK
+-- EACH REQUEST NAMES A OUTBOX
 
 is_line : (place session : ℕ) (text : List ℕ) → statement place session text ≡ no_line → ⊥
 is_line place session text e = cc
@@ -82,55 +82,55 @@ pub named : (n : ℕ) (bytes : List ℕ) (place session : ℕ) (text : List ℕ)
 named n bytes place session text (inl good) = (good.1.within, (good.1.is_session.0, good.1.among))
 named n bytes place session text (inr bad) = absurd (is_line place session text bad.1)
 
-pub within_desks : (n place session : ℕ) → place < n → IsShared session → desk_of place session < n * MAX_SHARED
-within_desks n place session below is = let most = is.1 in let least = is.0 in omega arith
+pub within_outboxes : (n place session : ℕ) → place < n → IsShared session → outbox_of place session < n * MAX_SHARED
+within_outboxes n place session below is = let most = is.1 in let least = is.0 in omega arith
 
--- the requests of a line name existing desks
-record NamesDesks (n : ℕ) (p : List Planned) (i : List (ℕ × Request)) : Type 0 where
-  lines : AllByRecursion (HasItsDesk (n * MAX_SHARED)) p
+-- the requests of a line name existing outboxes
+record NamesOutboxes (n : ℕ) (p : List Planned) (i : List (ℕ × Request)) : Type 0 where
+  lines : AllByRecursion (HasItsOutbox (n * MAX_SHARED)) p
   items : AllByRecursion (λ x. x.0 < n * MAX_SHARED) i
 
-no_desks : (n : ℕ) → NamesDesks n [] []
-no_desks n = record { lines = tt; items = tt }
+no_outboxes : (n : ℕ) → NamesOutboxes n [] []
+no_outboxes n = record { lines = tt; items = tt }
 
-names_none : (n : ℕ) → NamesDesks n (planned.NoLine ∷ []) []
+names_none : (n : ℕ) → NamesOutboxes n (planned.NoLine ∷ []) []
 names_none n = record { lines = (tt, tt); items = tt }
 
-text_desks : (n place session : ℕ) (text : List ℕ) (p : List Planned) (i : List (ℕ × Request)) → n ≤ MAX_DATABASES → place < n → IsShared session → PlansText place session text p i → NamesDesks n p i
-text_desks n place session text p i few below is (inl asked) =
-    let within = within_desks n place session below is in
-    backward (NamesDesks n) p (planned.Asked place session ∷ []) i ((desk_of place session, request.Statement asked.0) ∷ []) asked.2 asked.3
+text_outboxes : (n place session : ℕ) (text : List ℕ) (p : List Planned) (i : List (ℕ × Request)) → n ≤ MAX_DATABASES → place < n → IsShared session → PlansText place session text p i → NamesOutboxes n p i
+text_outboxes n place session text p i few below is (inl asked) =
+    let within = within_outboxes n place session below is in
+    backward (NamesOutboxes n) p (planned.Asked place session ∷ []) i ((outbox_of place session, request.Statement asked.0) ∷ []) asked.2 asked.3
     (record { lines = ((omega (arith, few, below), is.1, within), tt); items = (within, tt) })
-text_desks n place session text p i few below is (inr (inl shown)) =
-    backward (NamesDesks n) p (planned.Totals place session ∷ []) i [] shown.1 shown.2 (record { lines = ((omega (arith, few, below), is.1, within_desks n place session below is), tt); items = tt })
-text_desks n place session text p i few below is (inr (inr bad)) =
-    backward (NamesDesks n) p (planned.Refused place session bad.0 ∷ []) i [] bad.2 bad.3 (record { lines = (omega (arith, few, below), tt); items = tt })
+text_outboxes n place session text p i few below is (inr (inl shown)) =
+    backward (NamesOutboxes n) p (planned.Totals place session ∷ []) i [] shown.1 shown.2 (record { lines = ((omega (arith, few, below), is.1, within_outboxes n place session below is), tt); items = tt })
+text_outboxes n place session text p i few below is (inr (inr bad)) =
+    backward (NamesOutboxes n) p (planned.Refused place session bad.0 ∷ []) i [] bad.2 bad.3 (record { lines = (omega (arith, few, below), tt); items = tt })
 
-reading_desks : (n : ℕ) (bytes : List ℕ) (reading : Reading) (p : List Planned) (i : List (ℕ × Request)) → n ≤ MAX_DATABASES → Reads n MAX_SHARED bytes reading → PlansReading reading p i → NamesDesks n p i
-reading_desks n bytes nothing p i few reads h = backward (NamesDesks n) p [] i [] h.0 h.1 (no_desks n)
-reading_desks n bytes join p i few reads h = backward (NamesDesks n) p [] i [] h.0 h.1 (no_desks n)
-reading_desks n bytes (restart place) p i few reads h = backward (NamesDesks n) p (planned.NoLine ∷ []) i [] h.0 h.1 (names_none n)
-reading_desks n bytes (statement place session text) p i few reads h =
+reading_outboxes : (n : ℕ) (bytes : List ℕ) (reading : Reading) (p : List Planned) (i : List (ℕ × Request)) → n ≤ MAX_DATABASES → Reads n MAX_SHARED bytes reading → PlansReading reading p i → NamesOutboxes n p i
+reading_outboxes n bytes nothing p i few reads h = backward (NamesOutboxes n) p [] i [] h.0 h.1 (no_outboxes n)
+reading_outboxes n bytes join p i few reads h = backward (NamesOutboxes n) p [] i [] h.0 h.1 (no_outboxes n)
+reading_outboxes n bytes (restart place) p i few reads h = backward (NamesOutboxes n) p (planned.NoLine ∷ []) i [] h.0 h.1 (names_none n)
+reading_outboxes n bytes (statement place session text) p i few reads h =
     let is = named n bytes place session text reads in
-    text_desks n place session text p i few is.0 is.1 h
-reading_desks n bytes no_line p i few reads h = backward (NamesDesks n) p (planned.NoLine ∷ []) i [] h.0 h.1 (names_none n)
+    text_outboxes n place session text p i few is.0 is.1 h
+reading_outboxes n bytes no_line p i few reads h = backward (NamesOutboxes n) p (planned.NoLine ∷ []) i [] h.0 h.1 (names_none n)
 
-plans_name : (n : ℕ) (lines : List (List ℕ)) (plan : List Planned) (items : List (ℕ × Request)) → n ≤ MAX_DATABASES → Plans n lines plan items → NamesDesks n plan items
-plans_name n [] plan items few h = backward (NamesDesks n) plan [] items [] h.0 h.1 (no_desks n)
+plans_name : (n : ℕ) (lines : List (List ℕ)) (plan : List Planned) (items : List (ℕ × Request)) → n ≤ MAX_DATABASES → Plans n lines plan items → NamesOutboxes n plan items
+plans_name n [] plan items few h = backward (NamesOutboxes n) plan [] items [] h.0 h.1 (no_outboxes n)
 plans_name n (line ∷ lines) plan items few h =
-    let first = reading_desks n line h.4.0 h.0 h.2 few h.4.1 h.4.2 in
+    let first = reading_outboxes n line h.4.0 h.0 h.2 few h.4.1 h.4.2 in
     let rest = plans_name n lines h.1 h.3 few h.5 in
-    backward (NamesDesks n) plan (h.0 ++ h.1) items (h.2 ++ h.3) h.6 h.7
+    backward (NamesOutboxes n) plan (h.0 ++ h.1) items (h.2 ++ h.3) h.6 h.7
     (record {
-      lines = all_append (HasItsDesk (n * MAX_SHARED)) h.0 h.1 first.lines rest.lines;
+      lines = all_append (HasItsOutbox (n * MAX_SHARED)) h.0 h.1 first.lines rest.lines;
       items = all_append (λ (x : ℕ × Request). x.0 < n * MAX_SHARED) h.2 h.3 first.items rest.items;
     })
 
-pub plan_desks : (n : ℕ) (lines : List (List ℕ)) (plan : List Planned) (items : List (ℕ × Request)) → n ≤ MAX_DATABASES → Plans n lines plan items → AllByRecursion (HasItsDesk (n * MAX_SHARED)) plan
-plan_desks n lines plan items few h = (plans_name n lines plan items few h).lines
+pub plan_outboxes : (n : ℕ) (lines : List (List ℕ)) (plan : List Planned) (items : List (ℕ × Request)) → n ≤ MAX_DATABASES → Plans n lines plan items → AllByRecursion (HasItsOutbox (n * MAX_SHARED)) plan
+plan_outboxes n lines plan items few h = (plans_name n lines plan items few h).lines
 
-pub item_desks : (n : ℕ) (lines : List (List ℕ)) (plan : List Planned) (items : List (ℕ × Request)) → n ≤ MAX_DATABASES → Plans n lines plan items → AllByRecursion (λ x. x.0 < n * MAX_SHARED) items
-item_desks n lines plan items few h = (plans_name n lines plan items few h).items
+pub item_outboxes : (n : ℕ) (lines : List (List ℕ)) (plan : List Planned) (items : List (ℕ × Request)) → n ≤ MAX_DATABASES → Plans n lines plan items → AllByRecursion (λ x. x.0 < n * MAX_SHARED) items
+item_outboxes n lines plan items few h = (plans_name n lines plan items few h).items
 
 -- WHAT LINES DO, given what is printed
 
@@ -147,7 +147,7 @@ module _ (ps : List Planned) (is : List (ℕ × Request)) (taken end : List Take
   text_does : (place session : ℕ) (text : List ℕ) (p : List Planned) (i : List (ℕ × Request)) → PlansText place session text p i → Prints taken (p ++ ps) (i ++ is) out end
       → Heads taken end out (statement place session text) ps is
   text_does place session text p i (inl asked) h =
-      let q = forward (λ (x : List Planned) (y : List (ℕ × Request)). Prints taken (x ++ ps) (y ++ is) out end) p (planned.Asked place session ∷ []) i ((desk_of place session, request.Statement asked.0) ∷ [])
+      let q = forward (λ (x : List Planned) (y : List (ℕ × Request)). Prints taken (x ++ ps) (y ++ is) out end) p (planned.Asked place session ∷ []) i ((outbox_of place session, request.Statement asked.0) ∷ [])
       asked.2 asked.3 h in
       record { first = q.0; rest = q.1; mid = q.2; does = inl (request.Statement asked.0, asked.1, q.3); prints = q.4; parts = q.5 }
   text_does place session text p i (inr (inl shown)) h =

@@ -1,4 +1,4 @@
--- A line's turn: its session's desk returns the next answer, and the line takes one entry or none.
+-- A line's turn: its session's outbox returns the next answer, and the line takes one entry or none.
 use Rattle.std.proofs.Common.{◌≡◌, ◌≢◌, ◌⊎◌, ℕ, Bool, true, false, ◌&&◌, ◌<◌, ◌≤◌, eqb, if◌then◌else◌, Option, Some, None, List, [], ◌∷◌, ◌++◌, length, map, set, slice_get, refl, sym, ap, subst, ◌∙◌, inl, inr, arith}
 use Rattle.std.proofs.lemmas.Bool.{eq-eqb, ne_eqb, cases_eq}
 use Rattle.std.proofs.lemmas.List.{length-append, length-map, map-append}
@@ -17,10 +17,10 @@ use Rattle.escrow_sessions.specs.Serving.{IsGiven, Serves}
 use Rattle.escrow_sessions.specs.declared.feed.Given.{Given}
 use Rattle.escrow_sessions.specs.declared.feed.Given.TheVariants as given
 use Rattle.escrow_script.specs.Line.{database_name}
-use Rattle.escrow_free.specs.Desks.{desk_of, answers_of, IsNext, IsCounted, seat_after, Fits, AreTotals}
+use Rattle.escrow_free.specs.Outboxes.{outbox_of, answers_of, IsNext, IsCounted, seat_after, Fits, AreTotals}
 use Rattle.escrow_free.specs.FreeOutput.{Taken, taken_by, replies_by, Does}
 use Rattle.escrow_free.specs.Printing.{given_text, Matches, GoesOn, PrintsTo}
-use Rattle.escrow_free.specs.declared.desk.Desk.{Desk}
+use Rattle.escrow_free.specs.declared.outbox.Outbox.{Outbox}
 use Rattle.escrow_free.specs.declared.plan.Planned.{Planned}
 use Rattle.escrow_free.specs.declared.plan.Planned.TheVariants as planned
 use Rattle.escrow_sessions.proofs.Places.{set_cases}
@@ -130,7 +130,7 @@ given_turns place session taken asked (given.Reply (answer.Unserved cause)) mid 
 }
 given_turns place session taken asked (given.Totals shown) mid pass counted totals h most counts = absurd h
 
--- the next answer of a desk, in each case
+-- the next answer of an outbox, in each case
 record NextTurned (place session : ℕ) (taken : List Taken) (asked : Statement) (rs : List Request) (out : List ℕ) (news : List Given) (pass : Pass) (counted totals : Tally) : Type 0 where
   mid : Pass
   turned : Turned place session taken asked out mid counted totals
@@ -159,11 +159,11 @@ next_turns place session taken asked rs None olds news pass counted totals is co
       (subst (λ (gs : List Given). Serves (seat_after place session taken) (request.Statement asked ∷ rs) gs pass) is.0 serves);
 }
 
--- DESKS
+-- OUTBOXES
 
--- sessions with the same desk are equal
-one_desk : (p s place session : ℕ) → IsShared s → IsShared session → desk_of p s ≡ desk_of place session → (p ≡ place) × (s ≡ session)
-one_desk p s place session is also same =
+-- sessions with the same outbox are equal
+one_outbox : (p s place session : ℕ) → IsShared s → IsShared session → outbox_of p s ≡ outbox_of place session → (p ≡ place) × (s ≡ session)
+one_outbox p s place session is also same =
     let a = is.0 in let b = is.1 in let c = also.0 in let d = also.1 in (omega arith, omega arith)
 
 of_first : (k : ℕ) (item : ℕ × Request) (items : List (ℕ × Request)) → item.0 ≡ k → of k (item ∷ items) ≡ item.1 ∷ of k items
@@ -173,61 +173,61 @@ of_other : (k : ℕ) (item : ℕ × Request) (items : List (ℕ × Request)) →
 of_other k item items apart = rw (ne_eqb item.0 k apart) refl
 
 -- a line that requests something prints its session's next answer
-module _ (place session : ℕ) (desks : List Desk) (totals : List Tally) (old new : Desk) (counted tally : Tally) (next : Option Given) (plan : List Planned) (is_session : IsShared session)
-    (at : slice_get desks (desk_of place session) ≡ Some old) (beside : slice_get totals (desk_of place session) ≡ Some counted) (pass : new.pass ≡ old.pass)
+module _ (place session : ℕ) (outboxes : List Outbox) (totals : List Tally) (old new : Outbox) (counted tally : Tally) (next : Option Given) (plan : List Planned) (is_session : IsShared session)
+    (at : slice_get outboxes (outbox_of place session) ≡ Some old) (beside : slice_get totals (outbox_of place session) ≡ Some counted) (pass : new.pass ≡ old.pass)
     (nexts : IsNext (answers_of old) next (answers_of new)) (counts : IsCounted next old.pass counted tally) where
-  fits_after : (item : ℕ × Request) (items : List (ℕ × Request)) (taken : List Taken) (asked : Statement) → item.0 ≡ desk_of place session → Fits (item ∷ items) taken desks
-      → (turn : NextTurned place session taken asked (of (desk_of place session) items) (given_text (database_name place) session next) (answers_of new) old.pass counted tally)
-      → Fits items turn.turned.took (set desks (desk_of place session) new)
-  fits_after item items taken asked named fits turn p s desk is there = found (set_cases desks (desk_of place session) (desk_of p s) new desk there) where
-    found : ((desk_of p s ≡ desk_of place session) × (new ≡ desk)) ⊎ ((desk_of p s ≢ desk_of place session) × (slice_get desks (desk_of p s) ≡ Some desk))
-        → Serves (seat_after p s turn.turned.took) (of (desk_of p s) items) (answers_of desk) desk.pass
+  fits_after : (item : ℕ × Request) (items : List (ℕ × Request)) (taken : List Taken) (asked : Statement) → item.0 ≡ outbox_of place session → Fits (item ∷ items) taken outboxes
+      → (turn : NextTurned place session taken asked (of (outbox_of place session) items) (given_text (database_name place) session next) (answers_of new) old.pass counted tally)
+      → Fits items turn.turned.took (set outboxes (outbox_of place session) new)
+  fits_after item items taken asked named fits turn p s outbox is there = found (set_cases outboxes (outbox_of place session) (outbox_of p s) new outbox there) where
+    found : ((outbox_of p s ≡ outbox_of place session) × (new ≡ outbox)) ⊎ ((outbox_of p s ≢ outbox_of place session) × (slice_get outboxes (outbox_of p s) ≡ Some outbox))
+        → Serves (seat_after p s turn.turned.took) (of (outbox_of p s) items) (answers_of outbox) outbox.pass
     found (inl same) =
-        let one = one_desk p s place session is is_session same.0 in
-        let here : Serves turn.mid (of (desk_of place session) items) (answers_of new) new.pass =
-        subst (λ (seat : Pass). Serves turn.mid (of (desk_of place session) items) (answers_of new) seat) (sym pass) turn.serves in
-        let mine : Serves (seat_after place session turn.turned.took) (of (desk_of place session) items) (answers_of new) new.pass =
-        subst (λ (seat : Pass). Serves seat (of (desk_of place session) items) (answers_of new) new.pass) (sym turn.turned.here) here in
-        let its : Serves (seat_after place session turn.turned.took) (of (desk_of place session) items) (answers_of desk) desk.pass =
-        subst (λ (d : Desk). Serves (seat_after place session turn.turned.took) (of (desk_of place session) items) (answers_of d) d.pass) same.1 mine in
-        subst (λ (q : ℕ). Serves (seat_after q s turn.turned.took) (of (desk_of q s) items) (answers_of desk) desk.pass) (sym one.0)
-        (subst (λ (t : ℕ). Serves (seat_after place t turn.turned.took) (of (desk_of place t) items) (answers_of desk) desk.pass) (sym one.1) its)
+        let one = one_outbox p s place session is is_session same.0 in
+        let here : Serves turn.mid (of (outbox_of place session) items) (answers_of new) new.pass =
+        subst (λ (seat : Pass). Serves turn.mid (of (outbox_of place session) items) (answers_of new) seat) (sym pass) turn.serves in
+        let mine : Serves (seat_after place session turn.turned.took) (of (outbox_of place session) items) (answers_of new) new.pass =
+        subst (λ (seat : Pass). Serves seat (of (outbox_of place session) items) (answers_of new) new.pass) (sym turn.turned.here) here in
+        let its : Serves (seat_after place session turn.turned.took) (of (outbox_of place session) items) (answers_of outbox) outbox.pass =
+        subst (λ (d : Outbox). Serves (seat_after place session turn.turned.took) (of (outbox_of place session) items) (answers_of d) d.pass) same.1 mine in
+        subst (λ (q : ℕ). Serves (seat_after q s turn.turned.took) (of (outbox_of q s) items) (answers_of outbox) outbox.pass) (sym one.0)
+        (subst (λ (t : ℕ). Serves (seat_after place t turn.turned.took) (of (outbox_of place t) items) (answers_of outbox) outbox.pass) (sym one.1) its)
     found (inr other) =
         let apart = other.0 in
         let stays : taken_by p s turn.turned.took ≡ taken_by p s taken =
-        turn.turned.others p s (λ same also. apart (ap (λ (q : ℕ). desk_of q s) same ∙ ap (λ (t : ℕ). desk_of place t) also)) in
-        let before : Serves (seat_after p s taken) (of (desk_of p s) items) (answers_of desk) desk.pass =
-        subst (λ (rs : List Request). Serves (seat_after p s taken) rs (answers_of desk) desk.pass)
-        (of_other (desk_of p s) item items (λ e. apart (sym e ∙ named))) (fits p s desk is other.1) in
-        subst (λ (rs : List Receipt). Serves (record { database = p; session = s; receipts = rs }) (of (desk_of p s) items) (answers_of desk) desk.pass) (sym stays) before
+        turn.turned.others p s (λ same also. apart (ap (λ (q : ℕ). outbox_of q s) same ∙ ap (λ (t : ℕ). outbox_of place t) also)) in
+        let before : Serves (seat_after p s taken) (of (outbox_of p s) items) (answers_of outbox) outbox.pass =
+        subst (λ (rs : List Request). Serves (seat_after p s taken) rs (answers_of outbox) outbox.pass)
+        (of_other (outbox_of p s) item items (λ e. apart (sym e ∙ named))) (fits p s outbox is other.1) in
+        subst (λ (rs : List Receipt). Serves (record { database = p; session = s; receipts = rs }) (of (outbox_of p s) items) (answers_of outbox) outbox.pass) (sym stays) before
 
   totals_after : (taken : List Taken) (asked : Statement) (rs : List Request) → AreTotals taken totals
       → (turn : NextTurned place session taken asked rs (given_text (database_name place) session next) (answers_of new) old.pass counted tally)
-      → AreTotals turn.turned.took (set totals (desk_of place session) tally)
-  totals_after taken asked rs are turn p s shown is there = found (set_cases totals (desk_of place session) (desk_of p s) tally shown there) where
-    found : ((desk_of p s ≡ desk_of place session) × (tally ≡ shown)) ⊎ ((desk_of p s ≢ desk_of place session) × (slice_get totals (desk_of p s) ≡ Some shown))
+      → AreTotals turn.turned.took (set totals (outbox_of place session) tally)
+  totals_after taken asked rs are turn p s shown is there = found (set_cases totals (outbox_of place session) (outbox_of p s) tally shown there) where
+    found : ((outbox_of p s ≡ outbox_of place session) × (tally ≡ shown)) ⊎ ((outbox_of p s ≢ outbox_of place session) × (slice_get totals (outbox_of p s) ≡ Some shown))
         → shown ≡ tally_of (replies_by p s turn.turned.took)
     found (inl same) =
-        let one = one_desk p s place session is is_session same.0 in
+        let one = one_outbox p s place session is is_session same.0 in
         let mine : shown ≡ tally_of (replies_by place session turn.turned.took) = sym same.1 ∙ turn.turned.counts (are place session counted is_session beside) in
         subst (λ (q : ℕ). shown ≡ tally_of (replies_by q s turn.turned.took)) (sym one.0)
         (subst (λ (t : ℕ). shown ≡ tally_of (replies_by place t turn.turned.took)) (sym one.1) mine)
     found (inr other) =
         let apart = other.0 in
         let stays : taken_by p s turn.turned.took ≡ taken_by p s taken =
-        turn.turned.others p s (λ same also. apart (ap (λ (q : ℕ). desk_of q s) same ∙ ap (λ (t : ℕ). desk_of place t) also)) in
+        turn.turned.others p s (λ same also. apart (ap (λ (q : ℕ). outbox_of q s) same ∙ ap (λ (t : ℕ). outbox_of place t) also)) in
         are p s shown is other.1 ∙ ap (λ (rs : List Receipt). tally_of (map (λ (r : Receipt). r.reply) rs)) (sym stays)
 
-  turns : (items : List (ℕ × Request)) (taken : List Taken) → Matches (planned.Asked place session ∷ plan) items → Fits items taken desks → AreTotals taken totals
-      → GoesOn taken (planned.Asked place session ∷ plan) items (given_text (database_name place) session next) plan (set desks (desk_of place session) new) (set totals (desk_of place session) tally)
+  turns : (items : List (ℕ × Request)) (taken : List Taken) → Matches (planned.Asked place session ∷ plan) items → Fits items taken outboxes → AreTotals taken totals
+      → GoesOn taken (planned.Asked place session ∷ plan) items (given_text (database_name place) session next) plan (set outboxes (outbox_of place session) new) (set totals (outbox_of place session) tally)
   turns [] taken m fits are = absurd m
   turns (item ∷ items) taken m fits are =
       let asked = m.1.0 in
-      let serves : Serves (seat_after place session taken) (item.1 ∷ of (desk_of place session) items) (answers_of old) old.pass =
-      subst (λ (rs : List Request). Serves (seat_after place session taken) rs (answers_of old) old.pass) (of_first (desk_of place session) item items m.0) (fits place session old is_session at) in
-      let its : Serves (seat_after place session taken) (request.Statement asked ∷ of (desk_of place session) items) (answers_of old) old.pass =
-      subst (λ (r : Request). Serves (seat_after place session taken) (r ∷ of (desk_of place session) items) (answers_of old) old.pass) m.1.1 serves in
-      let turn = next_turns place session taken asked (of (desk_of place session) items) next (answers_of old) (answers_of new) old.pass counted tally nexts counts its in
+      let serves : Serves (seat_after place session taken) (item.1 ∷ of (outbox_of place session) items) (answers_of old) old.pass =
+      subst (λ (rs : List Request). Serves (seat_after place session taken) rs (answers_of old) old.pass) (of_first (outbox_of place session) item items m.0) (fits place session old is_session at) in
+      let its : Serves (seat_after place session taken) (request.Statement asked ∷ of (outbox_of place session) items) (answers_of old) old.pass =
+      subst (λ (r : Request). Serves (seat_after place session taken) (r ∷ of (outbox_of place session) items) (answers_of old) old.pass) m.1.1 serves in
+      let turn = next_turns place session taken asked (of (outbox_of place session) items) next (answers_of old) (answers_of new) old.pass counted tally nexts counts its in
       let text = given_text (database_name place) session next in
       let does : Does taken place session item.1 text turn.turned.took = subst (λ (r : Request). Does taken place session r text turn.turned.took) (sym m.1.1) turn.turned.does in
       record {
@@ -235,10 +235,10 @@ module _ (place session : ℕ) (desks : List Desk) (totals : List Tally) (old ne
         took = turn.turned.took;
         matches = m.2;
         fits = fits_after item items taken asked m.0 fits turn;
-        counts = totals_after taken asked (of (desk_of place session) items) are turn;
+        counts = totals_after taken asked (of (outbox_of place session) items) are turn;
         prints = λ back end p. (text, back, turn.turned.took, does, p, refl);
       }
 
-  pub asked_prints : PrintsTo (planned.Asked place session ∷ plan) desks totals (given_text (database_name place) session next) plan
-      (set desks (desk_of place session) new) (set totals (desk_of place session) tally)
+  pub asked_prints : PrintsTo (planned.Asked place session ∷ plan) outboxes totals (given_text (database_name place) session next) plan
+      (set outboxes (outbox_of place session) new) (set totals (outbox_of place session) tally)
   asked_prints = turns

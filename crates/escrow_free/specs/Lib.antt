@@ -1,8 +1,8 @@
 pub mod Adding
 pub mod Dealing
-pub mod Desks
 pub mod FreeOutput
 pub mod Histories
+pub mod Outboxes
 pub mod Phases
 pub mod Planning
 pub mod Printing

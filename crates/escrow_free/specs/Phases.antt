@@ -4,10 +4,10 @@ use Rattle.std.specs.Io.KnownBytes.{Appends}
 use Rattle.escrow_num.specs.declared.session.TheConstants.Session.{MAX_SHARED}
 use Rattle.escrow_script.specs.declared.limits.TheConstants.{MAX_SCRIPT}
 use Rattle.escrow_script.specs.Line.{lines_of}
-use Rattle.escrow_free.specs.Desks.{Fits}
+use Rattle.escrow_free.specs.Outboxes.{Fits}
 use Rattle.escrow_free.specs.FreeOutput.{Taken, DoLines}
 use Rattle.escrow_free.specs.Planning.{Plans}
-use Rattle.escrow_free.specs.declared.desk.Desk.{Desk}
+use Rattle.escrow_free.specs.declared.outbox.Outbox.{Outbox}
 use Rattle.escrow_free.specs.declared.plan.Plan.{Plan}
 
 -- these lines and the remaining ones are the lines of the bytes, if these are known
@@ -28,13 +28,13 @@ IsOver None rest = ⊤
 IsOver (Some bytes) None = ⊥
 IsOver (Some bytes) (Some rest) = rest ≡ []
 
--- a script was served: what its lines do was written, and the desks fit what they took
-pub record IsServed (databases : ℕ) (script : List ℕ) (desks : List Desk)
+-- a script was served: what its lines do was written, and the outboxes fit what they took
+pub record IsServed (databases : ℕ) (script : List ℕ) (outboxes : List Outbox)
     (old_bytes new_bytes : Option (List ℕ)) : Type 0 where
   pub limit : length script ≤ MAX_SCRIPT
   pub out : List ℕ
   pub taken : List Taken
   pub lines : DoLines databases [] (lines_of script) out taken
-  pub count : length desks ≡ databases * MAX_SHARED
-  pub fits : Fits [] taken desks
+  pub count : length outboxes ≡ databases * MAX_SHARED
+  pub fits : Fits [] taken outboxes
   pub appends : Appends old_bytes new_bytes out

@@ -7,16 +7,16 @@ use Rattle.escrow_statement.specs.declared.statement.Request.{Request}
 use Rattle.escrow_statement.specs.declared.statement.Request.TheVariants as request
 use Rattle.escrow_sql.specs.Parser.{Asks, IsFaultIn}
 use Rattle.escrow_script.specs.Line.{Reading, nothing, join, restart, statement, no_line, Reads}
-use Rattle.escrow_free.specs.Desks.{desk_of}
+use Rattle.escrow_free.specs.Outboxes.{outbox_of}
 use Rattle.escrow_free.specs.declared.plan.Planned.{Planned}
 use Rattle.escrow_free.specs.declared.plan.Planned.TheVariants as planned
 
--- what a text adds to a plan: a statement for the desk of its session, and a line that asks for its answer; or a line
+-- what a text adds to a plan: a statement for the outbox of its session, and a line that asks for its answer; or a line
 -- that asks for totals; or a line that refuses the text
 abbrev pub PlansText : ℕ → ℕ → List ℕ → List Planned → List (ℕ × Request) → Type 0
 PlansText place session text lines items =
     ((asked : Statement) × Asks text (request.Statement asked) × (lines ≡ planned.Asked place session ∷ [])
-    × (items ≡ (desk_of place session, request.Statement asked) ∷ []))
+    × (items ≡ (outbox_of place session, request.Statement asked) ∷ []))
     ⊎ (Asks text request.Statistics × (lines ≡ planned.Totals place session ∷ []) × (items ≡ []))
     ⊎ ((f : ParseFault) × IsFaultIn text f × (lines ≡ planned.Refused place session f ∷ []) × (items ≡ []))
 

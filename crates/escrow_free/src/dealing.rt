@@ -2,7 +2,7 @@
 ghost use Rattle.std.specs.Prelude.{◌≡◌, ◌<◌, [], length, All, IfOk, OnOk};
 ghost use Rattle.escrow_free.specs.Dealing.{AreDealt, IsAdded, IsNewFeed};
 
-use crate::desk::each_of;
+use crate::outbox::each_of;
 use escrow_sessions::Feed;
 use escrow_shards::Pass;
 use escrow_statement::Request;

@@ -1,5 +1,5 @@
 //! Hands out long histories in parts.
-use crate::desk::Desk;
+use crate::outbox::Outbox;
 use escrow_num::Session;
 use escrow_shards::{Part, Shared, UnderLock};
 use sqlite::Alter;
@@ -31,14 +31,14 @@ impl<S: Alter + Drop> Drains<S> {
         })
     }
 
-    /// Drains each database whose transcript is long, by the receipts at the desks. Called after a
-    /// phase. If the phase had no statements, no transcript has grown, so no desk is looked at.
+    /// Drains each database whose transcript is long, by the receipts at the outboxes. Called after a
+    /// phase. If the phase had no statements, no transcript has grown, so no outbox is looked at.
     pub(crate) fn drain_long<L: UnderLock<S>, R: Wait>(
         &mut self,
         rt: &R,
         alloc: Global,
         shared: &Shared<S, L>,
-        desks: &[Desk],
+        outboxes: &[Outbox],
         had_statements: bool,
     )
         requires { vec_len self.old.last_drained ≡ length shared.now.openings }
@@ -48,7 +48,7 @@ impl<S: Alter + Drop> Drains<S> {
             return;
         }
         for database in 0..self.last_drained.len() {
-            let last = last_number(database, desks);
+            let last = last_number(database, outboxes);
             if last.saturating_sub(self.last_drained[database]) >= LONG {
                 self.drain(rt, alloc, shared, database, last);
             }
@@ -79,16 +79,16 @@ impl<S: Alter + Drop> Drains<S> {
     }
 }
 
-/// Returns the number of the last entry of a database, by the receipts at its desks, or 0 if there
-/// is none. The desks of a database are consecutive.
-fn last_number(database: usize, desks: &[Desk]) -> u64 {
+/// Returns the number of the last entry of a database, by the receipts at its outboxes, or 0 if there
+/// is none. The outboxes of a database are consecutive.
+fn last_number(database: usize, outboxes: &[Outbox]) -> u64 {
     let sessions = usize::from(Session::MAX_SHARED);
-    let Some(its_desks) = desks.chunks(sessions).nth(database) else {
+    let Some(its_outboxes) = outboxes.chunks(sessions).nth(database) else {
         return 0;
     };
     let mut last = 0;
-    for desk in its_desks {
-        if let Some(receipt) = desk.pass.receipts().last() {
+    for outbox in its_outboxes {
+        if let Some(receipt) = outbox.pass.receipts().last() {
             last = last.max(receipt.number);
         }
     }

@@ -9,10 +9,10 @@
 
 mod audience;
 mod dealing;
-mod desk;
 mod drains;
 mod fault;
 mod marks;
+mod outbox;
 mod parting;
 mod phase;
 mod plan;

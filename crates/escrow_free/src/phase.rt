@@ -2,13 +2,13 @@
 ghost use Rattle.std.specs.Prelude.{◌≡◌, ◌≢◌, ◌<◌, length, All, MatchResult};
 ghost use Rattle.std.specs.List.{AllByRecursion};
 ghost use Rattle.escrow_shards.specs.Shared.{HasPass};
-ghost use Rattle.escrow_free.specs.Desks.{ArePassesServed, AreServed, HasDesk};
+ghost use Rattle.escrow_free.specs.Outboxes.{ArePassesServed, AreServed, HasOutbox};
 
 use crate::audience::Audience;
 use crate::dealing::deal;
-use crate::desk::{Desk, served_desks, unserved_desks};
 use crate::fault::FreeFault;
-use crate::marks::rank_desks;
+use crate::marks::rank_outboxes;
+use crate::outbox::{Outbox, served_outboxes, unserved_outboxes};
 use crate::parting::{merge, part};
 use escrow_sessions::{Cause, NotRun, run_sessions};
 use escrow_shards::{Gate, Pass, Shared, UnderLock};
@@ -43,17 +43,17 @@ pub(crate) fn run_phase<
     workers: &Workers<R, G>,
     alloc: Global,
     shared: &Shared<S, L>,
-    desks: Vec<Desk>,
+    outboxes: Vec<Outbox>,
     items: Vec<(usize, Request)>,
     audience: &mut A,
-) -> Result<Vec<Desk>, FreeFault>
-    requires seats { AllByRecursion (HasDesk shared.now) desks.items }
-    requires places { All (λ x. x.0 < length desks.items) items.items }
-    ensures { MatchResult result (λ new. AreServed desks.items items.items new.items)
+) -> Result<Vec<Outbox>, FreeFault>
+    requires seats { AllByRecursion (HasOutbox shared.now) outboxes.items }
+    requires places { All (λ x. x.0 < length outboxes.items) items.items }
+    ensures { MatchResult result (λ new. AreServed outboxes.items items.items new.items)
         (λ fault. fault ≢ FreeFault.Open) }
 {
     audience.begin(items.len());
-    let served = serve_requests(workers, alloc, shared, desks, items);
+    let served = serve_requests(workers, alloc, shared, outboxes, items);
     audience.end();
     served
 }
@@ -68,22 +68,22 @@ fn serve_requests<
     workers: &Workers<R, G>,
     alloc: Global,
     shared: &Shared<S, L>,
-    desks: Vec<Desk>,
+    outboxes: Vec<Outbox>,
     mut items: Vec<(usize, Request)>,
-) -> Result<Vec<Desk>, FreeFault>
-    requires seats { AllByRecursion (HasDesk shared.now) desks.items }
-    requires places { All (λ x. x.0 < length desks.items) items.items }
-    ensures { MatchResult result (λ new. AreServed desks.items items.items new.items)
+) -> Result<Vec<Outbox>, FreeFault>
+    requires seats { AllByRecursion (HasOutbox shared.now) outboxes.items }
+    requires places { All (λ x. x.0 < length outboxes.items) items.items }
+    ensures { MatchResult result (λ new. AreServed outboxes.items items.items new.items)
         (λ fault. fault ≢ FreeFault.Open) }
 {
     if items.is_empty() {
-        return Ok(desks);
+        return Ok(outboxes);
     }
-    let marks = rank_desks(alloc, desks.len(), &mut items)?;
-    let (passes, idle) = part(alloc, marks.as_slice(), desks)?;
+    let marks = rank_outboxes(alloc, outboxes.len(), &mut items)?;
+    let (passes, idle) = part(alloc, marks.as_slice(), outboxes)?;
     let served = serve_passes(workers, alloc, shared, passes, items)?;
-    let desks = merge(alloc, marks.as_slice(), served, idle)?;
-    Ok(desks)
+    let outboxes = merge(alloc, marks.as_slice(), served, idle)?;
+    Ok(outboxes)
 }
 
 /// Serves items by the workers of the passes that they name by place. If memory is refused before a
@@ -94,7 +94,7 @@ fn serve_passes<S: Alter + Send, L: UnderLock<S> + Send, R: Threads + Wait + Syn
     shared: &Shared<S, L>,
     passes: Vec<Pass>,
     items: Vec<(usize, Request)>,
-) -> Result<Vec<Desk>, FreeFault>
+) -> Result<Vec<Outbox>, FreeFault>
     requires seats { AllByRecursion (HasPass shared.now) passes.items }
     requires places { All (λ x. x.0 < length passes.items) items.items }
     ensures { MatchResult result (λ served. ArePassesServed passes.items items.items served.items)
@@ -102,10 +102,10 @@ fn serve_passes<S: Alter + Send, L: UnderLock<S> + Send, R: Threads + Wait + Syn
 {
     let feeds = deal(alloc, passes, items)?;
     match run_sessions(workers.rt, alloc, shared, feeds, workers.gate) {
-        Ok(done) => Ok(served_desks(alloc, done)?),
+        Ok(done) => Ok(served_outboxes(alloc, done)?),
         Err(NotRun { feeds, cause }) => match cause {
             Cause::TooMany => Err(FreeFault::Sessions),
-            Cause::Memory => Ok(unserved_desks(alloc, feeds)?),
+            Cause::Memory => Ok(unserved_outboxes(alloc, feeds)?),
         },
     }
 }

@@ -2,7 +2,7 @@
 ghost use Rattle.std.specs.Prelude.{◌≡◌, ◌≤◌, ◌<◌, OnOk};
 ghost use Rattle.escrow_num.specs.declared.session.TheConstants.Session.{MAX_SHARED};
 
-use crate::desk::desk_of;
+use crate::outbox::outbox_of;
 use escrow_num::Session;
 use escrow_script::{Line, MAX_DATABASES, classify};
 use escrow_sql::{ParseFault, Request, parse};
@@ -39,7 +39,7 @@ pub(crate) enum Planned {
 }
 
 /// The plan of lines: what is printed, for each line that prints something; and the statements to
-/// serve, each with the place of its session's desk. Both are in the order of the lines.
+/// serve, each with the place of its session's outbox. Both are in the order of the lines.
 #[derive(Drop)]
 pub(crate) struct Plan {
     pub(crate) lines: Vec<Planned>,
@@ -104,7 +104,7 @@ impl Plan {
     {
         match parse(alloc, text) {
             Ok(Request::Statement(statement)) => {
-                let place = desk_of(database, session);
+                let place = outbox_of(database, session);
                 self.items.push((place, Request::Statement(statement)))?;
                 self.lines.push(Planned::Asked { database, session })?;
             }

@@ -3,9 +3,9 @@ ghost use Rattle.std.specs.Prelude.{◌≡◌, [], ◌∷◌, ◌++◌, List, �
 ghost use Rattle.std.specs.Io.KnownBytes.{Appends};
 ghost use Rattle.std.specs.List.{AllByRecursion};
 ghost use Rattle.escrow_free.specs.declared.plan.Planned.{Planned};
-ghost use Rattle.escrow_free.specs.Printing.{given_text, HasItsDesk, PassesOn, PrintsTo};
+ghost use Rattle.escrow_free.specs.Printing.{given_text, HasItsOutbox, PassesOn, PrintsTo};
 
-use crate::desk::{Desk, desk_of};
+use crate::outbox::{Outbox, outbox_of};
 use crate::plan::Planned;
 use escrow_machine::Reply;
 use escrow_num::{Refusal, Session};
@@ -24,22 +24,22 @@ use std::alloc::{AllocError, Global};
 /// these are the totals so far. If memory is refused, what is gathered is written first.
 pub(crate) fn print_phase<C: Client>(
     alloc: Global,
-    desks: &mut Vec<Desk>,
+    outboxes: &mut Vec<Outbox>,
     totals: &mut Vec<Tally>,
     lines: Vec<Planned>,
     client: &mut C,
 ) -> Result<(), ServeFault>
-    requires lines { AllByRecursion (HasItsDesk (vec_len desks.old)) lines.items }
-    requires beside { vec_len totals.old ≡ vec_len desks.old }
+    requires lines { AllByRecursion (HasItsOutbox (vec_len outboxes.old)) lines.items }
+    requires beside { vec_len totals.old ≡ vec_len outboxes.old }
     ensures printed { OnOk result ((out : List ℕ) × Appends (C.sent client.old) (C.sent client.new) out
-        × PrintsTo lines.items desks.old.items totals.old.items out [] desks.new.items totals.new.items) }
+        × PrintsTo lines.items outboxes.old.items totals.old.items out [] outboxes.new.items totals.new.items) }
     ensures unread { OnOk result (C.remaining client.new ≡ C.remaining client.old) }
-    ensures count { vec_len desks.new ≡ vec_len desks.old }
-    ensures beside { vec_len totals.new ≡ vec_len desks.new }
+    ensures count { vec_len outboxes.new ≡ vec_len outboxes.old }
+    ensures beside { vec_len totals.new ≡ vec_len outboxes.new }
 {
     let mut replies = Vec::new(alloc);
     for line in lines {
-        let Ok(reply) = print_line(alloc, desks, totals, line) else {
+        let Ok(reply) = print_line(alloc, outboxes, totals, line) else {
             return Err(out_of_memory(client, &mut replies));
         };
         pass_on(client, &mut replies, reply)?;
@@ -69,17 +69,18 @@ fn pass_on<C: Client>(
 /// Returns what is printed for a line. Fails only if memory is refused.
 fn print_line(
     alloc: Global,
-    desks: &mut Vec<Desk>,
+    outboxes: &mut Vec<Outbox>,
     totals: &mut Vec<Tally>,
     line: Planned,
 ) -> Result<Vec<u8>, AllocError>
-    requires desk { HasItsDesk (vec_len desks.old) line }
-    requires beside { vec_len totals.old ≡ vec_len desks.old }
+    requires outbox { HasItsOutbox (vec_len outboxes.old) line }
+    requires beside { vec_len totals.old ≡ vec_len outboxes.old }
     ensures printed { IfOk result
         (λ out. (plan : List Planned)
-        → PrintsTo (line ∷ plan) desks.old.items totals.old.items out.items plan desks.new.items totals.new.items) }
-    ensures count { vec_len desks.new ≡ vec_len desks.old }
-    ensures beside { vec_len totals.new ≡ vec_len desks.new }
+        → PrintsTo (line ∷ plan) outboxes.old.items totals.old.items out.items plan outboxes.new.items
+        totals.new.items) }
+    ensures count { vec_len outboxes.new ≡ vec_len outboxes.old }
+    ensures beside { vec_len totals.new ≡ vec_len outboxes.new }
 {
     match line {
         Planned::NoLine => render_lines(alloc, "script> ", &Reply::Refused(Refusal::Line)),
@@ -92,12 +93,12 @@ fn print_line(
             render(alloc, database_name(database), session, &reply)
         }
         Planned::Asked { database, session } => {
-            let place = desk_of(database, session);
-            let given = desks[place].next_answer(&mut totals[place]);
+            let place = outbox_of(database, session);
+            let given = outboxes[place].next_answer(&mut totals[place]);
             print_given(alloc, database_name(database), session, given)
         }
         Planned::Totals { database, session } => {
-            let tally = totals[desk_of(database, session)];
+            let tally = totals[outbox_of(database, session)];
             tally.render(alloc, database_name(database), session)
         }
     }

@@ -8,12 +8,12 @@ ghost use Rattle.escrow_shards.specs.Pass.{new_passes};
 ghost use Rattle.escrow_free.specs.FreeOutput.{ServesFree};
 ghost use Rattle.escrow_free.specs.Histories.{AreHistories, histories};
 ghost use Rattle.escrow_free.specs.Phases.{IsServed};
-ghost use Rattle.escrow_free.specs.Desks.{Fits, HavePasses};
+ghost use Rattle.escrow_free.specs.Outboxes.{Fits, HavePasses};
 
 use crate::audience::{Audience, Nobody};
-use crate::desk::{Desk, desks_of, passes_of};
 use crate::drains::Drains;
 use crate::fault::FreeFault;
+use crate::outbox::{Outbox, outboxes_of, passes_of};
 use crate::phase::{Workers, run_phase};
 use crate::plan::Plan;
 use crate::printing::print_phase;
@@ -155,11 +155,11 @@ fn serve_stage<
         passes,
         watchers,
     } = stage;
-    let desks = desks_of(alloc, passes)?;
+    let outboxes = outboxes_of(alloc, passes)?;
     audience.watch(alloc, watchers);
     let workers = Workers { rt, gate };
-    let served = serve_phases(&workers, alloc, &shared, desks, client, audience)?;
-    let passes = passes_of(alloc, served.desks)?;
+    let served = serve_phases(&workers, alloc, &shared, outboxes, client, audience)?;
+    let passes = passes_of(alloc, served.outboxes)?;
     let audit = close(shared, passes, served.parts)?;
     Ok(audit)
 }
@@ -167,7 +167,7 @@ fn serve_stage<
 /// What remains after all phases are served.
 #[derive(Drop)]
 struct Served<S: Alter> {
-    desks: Vec<Desk>,
+    outboxes: Vec<Outbox>,
     // The parts of histories that were handed out.
     parts: Vec<Part<S>>,
 }
@@ -184,33 +184,39 @@ fn serve_phases<
     workers: &Workers<T, G>,
     alloc: Global,
     shared: &Shared<S, L>,
-    mut desks: Vec<Desk>,
+    mut outboxes: Vec<Outbox>,
     client: &mut C,
     audience: &mut A,
 ) -> Result<Served<S>, FreeFault>
     requires few { length shared.now.openings ≤ MAX_DATABASES }
-    requires seats { HavePasses shared.now desks.items }
-    requires fits { Fits [] [] desks.items }
+    requires seats { HavePasses shared.now outboxes.items }
+    requires fits { Fits [] [] outboxes.items }
     requires always { (c : C) → C.may_read c }
     ensures served { IfOk result (λ s. IfSome (C.remaining client.old) (λ script.
-        IsServed (length shared.now.openings) script s.desks.items (C.sent client.old) (C.sent client.new))) }
+        IsServed (length shared.now.openings) script s.outboxes.items (C.sent client.old) (C.sent client.new))) }
     ensures end { OnOk result (IfSome (C.remaining client.old) (λ script. IsAtEnd (C.remaining client.new))) }
     ensures shared { IfErr result (λ fault. fault ≢ FreeFault.Open) }
 {
     let databases = shared.databases();
-    let mut totals = new_totals(alloc, desks.len())?;
+    let mut totals = new_totals(alloc, outboxes.len())?;
     let mut script = Script::new(alloc)?;
     let mut drains = Drains::new(alloc, databases)?;
     'phases: loop {
         let Phase { plan, has_more } = read_phase(alloc, databases, &mut script, client)?;
         let Plan { lines, items } = plan;
         let had_statements = !items.is_empty();
-        desks = run_phase(workers, alloc, shared, desks, items, audience)?;
-        print_phase(alloc, &mut desks, &mut totals, lines, client)?;
-        drains.drain_long(workers.rt, alloc, shared, desks.as_slice(), had_statements);
+        outboxes = run_phase(workers, alloc, shared, outboxes, items, audience)?;
+        print_phase(alloc, &mut outboxes, &mut totals, lines, client)?;
+        drains.drain_long(
+            workers.rt,
+            alloc,
+            shared,
+            outboxes.as_slice(),
+            had_statements,
+        );
         if !has_more {
             let parts = drains.parts;
-            return Ok(Served { desks, parts });
+            return Ok(Served { outboxes, parts });
         }
     }
 }

@@ -5,5 +5,5 @@ use Rattle.escrow_free.proofs.parting.merge.Given as goal
 
 abbrev pub invariant-loop-mark : goal.invariant-loop-mark
 invariant-loop-mark l =
-    l.desks.items ++ merged (drop l.mark-index l.marks) (into_iter_items l.served) (into_iter_items l.idle)
+    l.outboxes.items ++ merged (drop l.mark-index l.marks) (into_iter_items l.served) (into_iter_items l.idle)
     ≡ merged l.marks (into_iter_items l.initial.served) (into_iter_items l.initial.idle)

@@ -5,6 +5,6 @@ use Rattle.escrow_free.proofs.parting.part.Given as goal
 
 abbrev pub invariant-loop-mark : goal.invariant-loop-mark
 invariant-loop-mark l = record {
-  passes : l.passes.items ++ parted (drop l.mark-index l.marks) (into_iter_items l.desks) ≡ parted l.marks (into_iter_items l.initial.desks);
-  idle : l.idle.items ++ rested (drop l.mark-index l.marks) (into_iter_items l.desks) ≡ rested l.marks (into_iter_items l.initial.desks);
+  passes : l.passes.items ++ parted (drop l.mark-index l.marks) (into_iter_items l.outboxes) ≡ parted l.marks (into_iter_items l.initial.outboxes);
+  idle : l.idle.items ++ rested (drop l.mark-index l.marks) (into_iter_items l.outboxes) ≡ rested l.marks (into_iter_items l.initial.outboxes);
 }

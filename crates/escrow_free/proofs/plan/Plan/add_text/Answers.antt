@@ -2,7 +2,7 @@ use Rattle.std.proofs.Common.{◌∷◌, ◌++◌, [], ℕ, refl, sym, ap, subst
 use Rattle.std.proofs.lemmas.List.{append-nil}
 use Rattle.escrow_sql.specs.Parser.{Asks}
 use Rattle.escrow_statement.specs.declared.statement.Request.TheVariants as request
-use Rattle.escrow_free.specs.Desks.{desk_of}
+use Rattle.escrow_free.specs.Outboxes.{outbox_of}
 use Rattle.escrow_free.specs.declared.plan.Planned.TheVariants.{Asked, Refused, Totals}
 use Rattle.escrow_free.proofs.plan.Plan.add_text.Goals as goal
 
@@ -29,8 +29,8 @@ returns-in_ok-push-in-Ok-Statement-2 c =
     let asked = c.in-Ok-Statement.statement in
     record {
       more_lines = Asked c.args.database c.args.session ∷ [];
-      more_items = (desk_of c.args.database c.args.session, request.Statement asked) ∷ [];
+      more_items = (outbox_of c.args.database c.args.session, request.Statement asked) ∷ [];
       plans = inl (asked, subst (Asks c.args.text.now) c.in-Ok-Statement.field-0-is c.in-Ok-Statement.ensures.found, refl, refl);
       lines = c.in_ok-push-in-Ok-Statement-2.ensures.items;
-      items = c.in_ok-push-in-Ok-Statement.ensures.items ∙ ap (λ (k : ℕ). c.args.self.now.items.items ++ (k, request.Statement asked) ∷ []) c.desk_of-place.ensures.place;
+      items = c.in_ok-push-in-Ok-Statement.ensures.items ∙ ap (λ (k : ℕ). c.args.self.now.items.items ++ (k, request.Statement asked) ∷ []) c.outbox_of-place.ensures.place;
     }

@@ -1,9 +1,9 @@
-//! The desk of a session: its pass, and its answers that aren't printed yet.
+//! The outbox of a session: its pass, and its answers that aren't printed yet.
 ghost use Rattle.std.specs.Prelude.{◌≡◌, ◌<◌, ◌≤◌, map, IfOk};
 ghost use Rattle.std.specs.List.{AllZip};
 ghost use Rattle.escrow_num.specs.Session.{IsShared};
 ghost use Rattle.escrow_num.specs.declared.session.TheConstants.Session.{MAX_SHARED};
-ghost use Rattle.escrow_free.specs.Desks.{IsNewDesk, IsDoneDesk, IsUnservedDesk, desk_of, pass_of};
+ghost use Rattle.escrow_free.specs.Outboxes.{IsNewOutbox, IsDoneOutbox, IsUnservedOutbox, outbox_of, pass_of};
 
 use escrow_num::Session;
 use escrow_script::MAX_DATABASES;
@@ -15,32 +15,32 @@ use std::vec::IntoIter;
 
 /// A session between its calls: its pass, and the answers of a phase that aren't printed yet.
 #[derive(Drop)]
-pub(crate) struct Desk {
+pub(crate) struct Outbox {
     pub(crate) pass: Pass,
     pub(crate) answers: IntoIter<Given>,
 }
 
-impl Desk {
+impl Outbox {
     ghost use Rattle.std.specs.Prelude.{◌≡◌};
-    ghost use Rattle.escrow_free.specs.Desks.{answers_of, IsNewDesk, IsDoneDesk, IsNext, IsCounted};
+    ghost use Rattle.escrow_free.specs.Outboxes.{answers_of, IsNewOutbox, IsDoneOutbox, IsNext, IsCounted};
 
-    /// Returns a desk without answers. Takes no memory.
+    /// Returns an outbox without answers. Takes no memory.
     pub(crate) fn new(alloc: Global, pass: Pass) -> Self
-        ensures { IsNewDesk pass result }
+        ensures { IsNewOutbox pass result }
     {
-        Desk {
+        Outbox {
             pass,
             answers: Vec::new(alloc).into_iter(),
         }
     }
 
-    /// Returns the desk of a worker, with the worker's answers.
+    /// Returns the outbox of a worker, with the worker's answers.
     fn of_done(done: Done) -> Self
-        ensures { IsDoneDesk done result }
+        ensures { IsDoneOutbox done result }
     {
         let Done { pass, answers, .. } = done;
         let answers = answers.into_iter();
-        Desk { pass, answers }
+        Outbox { pass, answers }
     }
 
     /// Returns the next answer, if there is one, and counts its reply in the session's totals.
@@ -59,44 +59,44 @@ impl Desk {
     }
 }
 
-/// Returns the place of a session's desk among the desks of all databases.
-pub(crate) fn desk_of(database: usize, session: Session) -> usize
+/// Returns the place of a session's outbox among the outboxes of all databases.
+pub(crate) fn outbox_of(database: usize, session: Session) -> usize
     requires few { database < MAX_DATABASES }
     requires shared { session ≤ MAX_SHARED }
-    ensures place { result ≡ desk_of database session }
+    ensures place { result ≡ outbox_of database session }
     ensures is_session { IsShared session }
 {
     let first = database * usize::from(Session::MAX_SHARED);
     first + usize::from(session.get()) - 1
 }
 
-/// Returns the desks of passes, without answers. Fails only if memory is refused.
-pub(crate) fn desks_of(alloc: Global, passes: Vec<Pass>) -> Result<Vec<Desk>, AllocError>
-    ensures { IfOk result (λ desks. AllZip IsNewDesk passes.items desks.items) }
+/// Returns the outboxes of passes, without answers. Fails only if memory is refused.
+pub(crate) fn outboxes_of(alloc: Global, passes: Vec<Pass>) -> Result<Vec<Outbox>, AllocError>
+    ensures { IfOk result (λ outboxes. AllZip IsNewOutbox passes.items outboxes.items) }
 {
-    each_of(alloc, passes, |pass| Desk::new(alloc, pass))
+    each_of(alloc, passes, |pass| Outbox::new(alloc, pass))
 }
 
-/// Returns the desks of workers, with the workers' answers. Fails only if memory is refused.
-pub(crate) fn served_desks(alloc: Global, workers: Vec<Done>) -> Result<Vec<Desk>, AllocError>
-    ensures { IfOk result (λ desks. AllZip IsDoneDesk workers.items desks.items) }
+/// Returns the outboxes of workers, with the workers' answers. Fails only if memory is refused.
+pub(crate) fn served_outboxes(alloc: Global, workers: Vec<Done>) -> Result<Vec<Outbox>, AllocError>
+    ensures { IfOk result (λ outboxes. AllZip IsDoneOutbox workers.items outboxes.items) }
 {
-    each_of(alloc, workers, |done| Desk::of_done(done))
+    each_of(alloc, workers, |done| Outbox::of_done(done))
 }
 
-/// Returns the desks of feeds that weren't served, without answers. Fails only if memory is
+/// Returns the outboxes of feeds that weren't served, without answers. Fails only if memory is
 /// refused.
-pub(crate) fn unserved_desks(alloc: Global, feeds: Vec<Feed>) -> Result<Vec<Desk>, AllocError>
-    ensures { IfOk result (λ desks. AllZip IsUnservedDesk feeds.items desks.items) }
+pub(crate) fn unserved_outboxes(alloc: Global, feeds: Vec<Feed>) -> Result<Vec<Outbox>, AllocError>
+    ensures { IfOk result (λ outboxes. AllZip IsUnservedOutbox feeds.items outboxes.items) }
 {
-    each_of(alloc, feeds, |feed| Desk::new(alloc, feed.pass))
+    each_of(alloc, feeds, |feed| Outbox::new(alloc, feed.pass))
 }
 
-/// Returns the passes of desks. Fails only if memory is refused.
-pub(crate) fn passes_of(alloc: Global, desks: Vec<Desk>) -> Result<Vec<Pass>, AllocError>
-    ensures { IfOk result (λ passes. passes.items ≡ map pass_of desks.items) }
+/// Returns the passes of outboxes. Fails only if memory is refused.
+pub(crate) fn passes_of(alloc: Global, outboxes: Vec<Outbox>) -> Result<Vec<Pass>, AllocError>
+    ensures { IfOk result (λ passes. passes.items ≡ map pass_of outboxes.items) }
 {
-    each_of(alloc, desks, |desk| desk.pass)
+    each_of(alloc, outboxes, |outbox| outbox.pass)
 }
 
 /// Applies a function to each value, and returns the results. Fails only if memory is refused.

@@ -2,7 +2,7 @@ use Rattle.std.proofs.Common.{◌≡◌, ◌∷◌, [], length, ap, ◌∙◌, a
 use Rattle.std.specs.Vec.Iter.{into_iter_items}
 use Rattle.escrow_sessions.proofs.Places.{zip_one}
 use Rattle.escrow_free.proofs.Marking.{one_less}
-use Rattle.escrow_free.proofs.desk.each_of.Goals as goal
+use Rattle.escrow_free.proofs.outbox.each_of.Goals as goal
 
 pub loop-x-preserved : goal.loop-x-preserved
 loop-x-preserved g c =
