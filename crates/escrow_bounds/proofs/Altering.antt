@@ -13,13 +13,14 @@ use Rattle.escrow_num.proofs.Orders.{row_same, same_row_itself}
 use Rattle.escrow_checks.specs.declared.check.Check.{Check}
 use Rattle.escrow_checks.specs.Form.{form as form_of, IsCovered}
 use Rattle.escrow_checks.specs.Spread.{IsSpread}
-use Rattle.escrow_bounds.specs.declared.tracked.Tracked.{Tracked}
 use Rattle.escrow_bounds.specs.Altered.{Goes, TableGoes, IsWithout, IsOver, ArePrepared, adopted, Adopts}
 use Rattle.escrow_bounds.specs.Columns.{column_checks}
 use Rattle.escrow_bounds.specs.Counts.{HaveSums, Counts}
+use Rattle.escrow_bounds.specs.declared.sums.Sum.{Sum}
+use Rattle.escrow_bounds.specs.Listed.{tracked, all_tracked, AreListed}
 use Rattle.escrow_bounds.specs.Held.{of_row, CountsJust, CountsAll, AllCount}
 use Rattle.escrow_bounds.specs.Inside.{IsPlace}
-use Rattle.escrow_bounds.specs.Place.{Place, checks_of}
+use Rattle.escrow_bounds.specs.Place.{Place, checks_of, Tracked}
 use Rattle.escrow_bounds.specs.Bounds.{Bounds, place_at, OthersStay}
 use Rattle.escrow_bounds.proofs.Forms.{values_at}
 use Rattle.escrow_bounds.proofs.LawLemmas.{split, each_row, other_way}
@@ -58,6 +59,14 @@ some_of forms first count = take count (drop first forms)
 pub some_checks : (forms : List Tracked) (first count : ℕ) → checks_of (some_of forms first count) ≡ take count (drop first (checks_of forms))
 some_checks forms first count = simp (drop-map, take-map) refl
 
+pub some_tracked : (list : List Check) (sums : List Sum) (first count : ℕ) → all_tracked list (take count (drop first sums)) ≡ some_of (all_tracked list sums) first count
+some_tracked list sums first count = simp (drop-map, take-map) refl
+
+pub some_listed : (list : List Check) (sums : List Sum) (first count : ℕ) → AreListed list sums → AreListed list (take count (drop first sums))
+some_listed list sums first count all =
+    let P : Sum → Type 0 = λ sum. sum.check < length list in
+    all_taken P count (drop first sums) (all_dropped P first sums all)
+
 pub some_covered : (forms : List Tracked) (amounts : List ℤ) (first count : ℕ) → AllByRecursion (λ (check : Check). IsCovered check.coeffs amounts) (checks_of forms)
     → AllByRecursion (λ (check : Check). IsCovered check.coeffs amounts) (checks_of (some_of forms first count))
 some_covered forms amounts first count all =
@@ -82,6 +91,10 @@ without_counts index old new count checks columns reservations known = (
   subst (λ (forms : List Tracked). HaveSums forms reservations) (sym checks) (all_without (λ (form : Tracked). IsSpread form.check.coeffs reservations form.spread) old.checks index known.1),
   subst (λ (forms : List Tracked). HaveSums forms reservations) (sym columns) known.2,
 )
+
+-- the forms of the remaining sums
+pub tracked_without : (list : List Check) (sums left : List Sum) (index : ℕ) → left ≡ remove sums index → all_tracked list left ≡ remove (all_tracked list sums) index
+tracked_without list sums left index is = ap (all_tracked list) is ∙ map-remove (tracked list) sums index
 
 -- removing a value gives the values of the remaining forms
 pub values_without : (forms : List Tracked) (amounts values : List ℤ) (index : ℕ) → values ≡ values_at amounts (checks_of forms)

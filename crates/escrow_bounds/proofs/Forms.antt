@@ -1,8 +1,8 @@
 -- The forms of a place when one reservation more or less is counted.
-use Rattle.std.proofs.Common.{◌≡◌, ℕ, zero, suc, ◌+◌, ℤ, ◌<◌, ◌≤◌, true, false, Option, Some, None, List, [], ◌∷◌, ◌++◌, length, get_or, take, drop, map, refl, sym, ap, ap₂, ◌∙◌, subst, arith, add-one, drop-cons}
+use Rattle.std.proofs.Common.{◌≡◌, ℕ, zero, suc, ◌+◌, ℤ, ◌<◌, true, false, Option, Some, None, List, [], ◌∷◌, ◌++◌, length, get_or, drop, map, refl, sym, ap, ap₂, ◌∙◌, subst, arith, add-one, drop-cons}
 use Rattle.std.specs.List.{AllByRecursion}
 use Rattle.std.specs.Prelude.{is_some, slice_get}
-use Rattle.std.proofs.lemmas.List.{get_or-map, take_all}
+use Rattle.std.proofs.lemmas.List.{get_or-map}
 use Rattle.std.proofs.lemmas.Simd.{map-map}
 use Rattle.escrow_num.specs.declared.refusal.Violation.{Violation}
 use Rattle.escrow_num.proofs.Items.{all_at}
@@ -10,11 +10,10 @@ use Rattle.escrow_checks.specs.declared.check.Check.{Check}
 use Rattle.escrow_checks.specs.Form.{form as form_of, IsCovered}
 use Rattle.escrow_checks.specs.Grant.{broken_by, broken}
 use Rattle.escrow_checks.specs.Spread.{IsSpread}
-use Rattle.escrow_bounds.specs.declared.tracked.Tracked.{Tracked}
 use Rattle.escrow_bounds.specs.Counts.{HaveSums}
-use Rattle.escrow_bounds.specs.Place.{checks_of}
+use Rattle.escrow_bounds.specs.Place.{checks_of, Tracked}
 use Rattle.escrow_bounds.specs.Recounting.{counted_before, counted_after, AreRecounted}
-use Rattle.escrow_bounds.specs.declared.tracked.Counting.{Counting}
+use Rattle.escrow_bounds.specs.declared.sums.Counting.{Counting}
 use Rattle.escrow_bounds.proofs.Steps.{AllStepped}
 
 -- ---- one form
@@ -106,10 +105,3 @@ value_at forms amounts values place form value below at read are =
     let value_of : Check → ℤ = λ check. form_of check.coeffs amounts in
     read ∙ ap (λ (vs : List ℤ). get_or vs place value) (are ∙ map-map value_of (λ (f : Tracked). f.check) forms)
     ∙ get_or-map (λ (f : Tracked). value_of f.check) forms place form value below ∙ ap (λ (f : Tracked). value_of f.check) (sym at)
-
--- once all values are read, they are those of the checks
-pub values_all : (forms : List Tracked) (amounts values : List ℤ) (place : ℕ) → length values ≡ length forms → length forms ≤ place
-    → take place values ≡ map (λ (form : Tracked). form_of form.check.coeffs amounts) (take place forms) → values ≡ values_at amounts (checks_of forms)
-values_all forms amounts values place each past are =
-    sym (take_all place values (omega arith)) ∙ are ∙ ap (map (λ (form : Tracked). form_of form.check.coeffs amounts)) (take_all place forms past)
-    ∙ sym (map-map (λ (check : Check). form_of check.coeffs amounts) (λ (form : Tracked). form.check) forms)

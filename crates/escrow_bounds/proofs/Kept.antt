@@ -11,15 +11,14 @@ use Rattle.escrow_checks.specs.declared.check.Check.{Check}
 use Rattle.escrow_checks.specs.Extremes.{least, greatest}
 use Rattle.escrow_checks.specs.Form.{IsCovered}
 use Rattle.escrow_checks.specs.Spread.{IsSpread}
-use Rattle.escrow_bounds.specs.declared.tracked.Tracked.{Tracked}
 use Rattle.escrow_bounds.specs.Columns.{unit_form, column_check, column_checks}
 use Rattle.escrow_bounds.specs.Counts.{Counts, GivesBack}
 use Rattle.escrow_bounds.specs.Inside.{IsPlace}
-use Rattle.escrow_bounds.specs.Place.{Place, checks_of}
+use Rattle.escrow_bounds.specs.Place.{Place, checks_of, Tracked}
 use Rattle.escrow_bounds.specs.Moved.{all_moved, amounts_after}
 use Rattle.escrow_bounds.specs.Recounting.{counted_before, counted_after, AreRecounted, CanRecount, HasRoom, IsRecounted}
-use Rattle.escrow_bounds.specs.declared.tracked.Counting.{Counting}
-use Rattle.escrow_bounds.specs.declared.tracked.Counting.TheVariants as counting
+use Rattle.escrow_bounds.specs.declared.sums.Counting.{Counting}
+use Rattle.escrow_bounds.specs.declared.sums.Counting.TheVariants as counting
 use Rattle.escrow_bounds.proofs.Moving.{length-all_moved}
 use Rattle.escrow_bounds.proofs.Forms.{sums_at, check_at, covered_at}
 

@@ -5,6 +5,7 @@ pub mod Filling
 pub mod Forms
 pub mod Kept
 pub mod LawLemmas
+pub mod Listing
 pub mod Moving
 pub mod Reordering
 pub mod Standing

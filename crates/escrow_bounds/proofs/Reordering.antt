@@ -10,10 +10,9 @@ use Rattle.escrow_num.specs.Order.{same_row}
 use Rattle.escrow_num.specs.Reservation.{deltas}
 use Rattle.escrow_checks.specs.Form.{form}
 use Rattle.escrow_checks.specs.Spread.{falls, rises, AreContributions}
-use Rattle.escrow_bounds.specs.declared.tracked.Tracked.{Tracked}
 use Rattle.escrow_bounds.specs.Counts.{HaveSums}
 use Rattle.escrow_bounds.specs.Held.{of_row, CountsJust, CountsAll}
-use Rattle.escrow_bounds.specs.Place.{Place}
+use Rattle.escrow_bounds.specs.Place.{Place, Tracked}
 use Rattle.escrow_bounds.specs.Bounds.{Bounds, place_at}
 use Rattle.escrow_bounds.proofs.LawLemmas.{of_append}
 

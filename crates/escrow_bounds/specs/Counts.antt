@@ -5,8 +5,7 @@ use Rattle.std.specs.Option.{option_map_or}
 use Rattle.escrow_num.specs.declared.session.End.{End}
 use Rattle.escrow_checks.specs.Spread.{IsSpread}
 use Rattle.escrow_checks.specs.declared.check.Check.{Check}
-use Rattle.escrow_bounds.specs.declared.tracked.Tracked.{Tracked}
-use Rattle.escrow_bounds.specs.Place.{Place, checks_of}
+use Rattle.escrow_bounds.specs.Place.{Place, checks_of, Tracked}
 use Rattle.escrow_bounds.specs.Moved.{amounts_after}
 
 -- the spread of each form is that of these reservations, each a list of changes

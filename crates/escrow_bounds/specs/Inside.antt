@@ -6,6 +6,7 @@ use Rattle.escrow_checks.specs.declared.check.Check.{Check}
 use Rattle.escrow_bounds.specs.declared.place.Place.TheInside.{Inside}
 use Rattle.escrow_bounds.specs.Columns.{column_checks}
 use Rattle.escrow_bounds.specs.Counts.{Counts}
+use Rattle.escrow_bounds.specs.Listed.{all_tracked, all_columns}
 use Rattle.escrow_bounds.specs.Place.{Place, checks_of}
 
 -- what the fields keep
@@ -14,8 +15,8 @@ place_of place =
     record {
       amounts = place.amounts.items;
       count = place.count;
-      checks = place.checks.items;
-      columns = place.columns.items;
+      checks = all_tracked place.list.value place.sums.items;
+      columns = all_columns place.columns.items;
     }
 
 -- a valid place: there is an amount for each coefficient, a form for each column, and it counts some reservations

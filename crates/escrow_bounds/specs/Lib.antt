@@ -8,6 +8,7 @@ pub mod Filling
 pub mod Held
 pub mod Inside
 pub mod Laws
+pub mod Listed
 pub mod Moved
 pub mod Place
 pub mod Recounting

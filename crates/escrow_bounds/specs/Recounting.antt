@@ -1,11 +1,10 @@
 -- Helps: which reservations are counted before and after one more is counted, or one is removed.
 use Rattle.std.specs.Prelude.{◌≡◌, ℤ, ◌<◌, List, ◌∷◌, ◌++◌, length}
 use Rattle.escrow_checks.specs.declared.spread.TheConstants.Spread.{MAX_OPEN}
-use Rattle.escrow_bounds.specs.declared.tracked.Tracked.{Tracked}
-use Rattle.escrow_bounds.specs.declared.tracked.Counting.{Counting}
-use Rattle.escrow_bounds.specs.declared.tracked.Counting.TheVariants as counting
+use Rattle.escrow_bounds.specs.declared.sums.Counting.{Counting}
+use Rattle.escrow_bounds.specs.declared.sums.Counting.TheVariants as counting
 use Rattle.escrow_bounds.specs.Counts.{HaveSums, Counts}
-use Rattle.escrow_bounds.specs.Place.{Place, checks_of}
+use Rattle.escrow_bounds.specs.Place.{Place, checks_of, Tracked}
 
 -- those that are counted before
 abbrev pub counted_before : Counting → List (List ℤ) → List ℤ → List (List ℤ) → List (List ℤ)

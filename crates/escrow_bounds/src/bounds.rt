@@ -12,15 +12,15 @@ ghost use Rattle.escrow_bounds.specs.Columns.{unit_form};
 ghost use Rattle.escrow_bounds.specs.Counts.{Counts, is_counting, IsNew, TakesIn, GivesBack};
 ghost use Rattle.escrow_bounds.specs.Ended.{AreEnded};
 ghost use Rattle.escrow_bounds.specs.Held.{CountsAll, AllCount};
-ghost use Rattle.escrow_bounds.specs.Place.{Place, checks_of};
+ghost use Rattle.escrow_bounds.specs.Place.{Place, Tracked, checks_of};
 ghost use Rattle.escrow_bounds.specs.Bounds.{place_at, OthersStay, Becomes};
 ghost use Rattle.escrow_bounds.specs.Verdict.{verdict_of};
-ghost use Rattle.escrow_bounds.specs.declared.tracked.Tracked.{Tracked};
 
 mod addition;
 mod altered;
 
 use crate::changes::deltas;
+use crate::lists::Lists;
 use crate::place::Place;
 use crate::verdict::Verdict;
 pub use addition::Addition;
@@ -39,12 +39,17 @@ use std::marker::Model;
 #[derive(Debug)]
 pub struct Bounds {
     places: IndexMap<RowName, Place>,
+    /// The checks of tables, which their places share.
+    lists: Lists,
 }
 
 // Written out, so that crates above need not prove again how its parts are dropped.
 impl Drop for Bounds {
     fn drop(self) {
-        let Bounds { places: _ } = self;
+        let Bounds {
+            places: _,
+            lists: _,
+        } = self;
     }
 }
 
@@ -63,6 +68,7 @@ impl Bounds {
     {
         Bounds {
             places: IndexMap::new(alloc),
+            lists: Lists::new(alloc),
         }
     }
 
@@ -109,7 +115,8 @@ impl Bounds {
         ensures err { OnErr result (self.new ≡ self.old) }
     {
         let alloc = *self.places.allocator();
-        let place = Place::new(alloc, amounts, checks)?;
+        let list = self.lists.share(row.table, checks)?;
+        let place = Place::new(alloc, amounts, list)?;
         let (index, _) = self.places.insert_full(row.copy(alloc)?, place)?;
         Ok(index)
     }

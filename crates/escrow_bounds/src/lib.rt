@@ -11,8 +11,9 @@
 mod bounds;
 mod changes;
 pub mod laws;
+mod lists;
 mod place;
-mod tracked;
+mod sums;
 mod verdict;
 
 pub use bounds::{Addition, Bounds};

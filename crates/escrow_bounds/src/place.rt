@@ -6,33 +6,35 @@ ghost use Rattle.escrow_checks.specs.Grant.{broken};
 ghost use Rattle.escrow_checks.specs.declared.coefficients.TheConstants.Coefficients.{MAX_LEN};
 ghost use Rattle.escrow_checks.specs.declared.spread.TheConstants.Spread.{MAX_OPEN};
 ghost use Rattle.escrow_bounds.specs.Altered.{IsWithout};
-ghost use Rattle.escrow_bounds.specs.Columns.{unit_form, column_check, column_checks};
-ghost use Rattle.escrow_bounds.specs.Counts.{HaveSums, Counts, IsNew, TakesIn, GivesBack};
+ghost use Rattle.escrow_bounds.specs.Columns.{unit_form};
+ghost use Rattle.escrow_bounds.specs.Counts.{Counts, IsNew, TakesIn, GivesBack};
 ghost use Rattle.escrow_bounds.specs.Held.{of_row};
-ghost use Rattle.escrow_bounds.specs.Place.{checks_of};
+ghost use Rattle.escrow_bounds.specs.Place.{Tracked, checks_of};
 ghost use Rattle.escrow_bounds.specs.Moved.{moved, all_moved, amounts_after_all};
 ghost use Rattle.escrow_bounds.specs.Recounting.{CanRecount, IsRecounted};
-ghost use Rattle.escrow_bounds.specs.declared.tracked.Tracked.{Tracked};
 
 use crate::changes::deltas;
-use crate::tracked::{
-    Counting, Tracked, all_values, first_violation, push_check, recount, revalue,
+use crate::sums::{
+    Counting, Sum, all_spreads, all_sums, all_values, column_check, first_violation, recount,
+    recount_columns, revalue,
 };
-use escrow_checks::{Check, Coefficients, Sparse};
-use escrow_num::{Amount, End, Name, Reservation, RowName, Scale, Span, Violation, Wide};
+use escrow_checks::{Check, Sparse, Spread};
+use escrow_num::{Amount, End, Reservation, RowName, Seq, Violation, Wide};
 use std::alloc::{AllocError, Global};
 use std::marker::Model;
+use std::sync::Arc;
 
 /// What is kept of a row: its committed amounts, the number of its open reservations, and their
 /// spread under each check and each RESERVABLE column. It also keeps the value of each check's form
-/// at the amounts.
+/// at the amounts. The checks are in a list, which all rows of the table share.
 #[derive(Debug)]
 pub struct Place {
     amounts: Vec<Amount>,
     count: usize,
-    checks: Vec<Tracked>,
+    list: Arc<Seq<Check>>,
+    sums: Vec<Sum>,
     values: Vec<Wide>,
-    columns: Vec<Tracked>,
+    columns: Vec<Spread>,
 }
 
 // Written out, so that crates above need not prove again how its parts are dropped.
@@ -41,7 +43,8 @@ impl Drop for Place {
         let Place {
             amounts: _,
             count: _,
-            checks: _,
+            list: _,
+            sums: _,
             values: _,
             columns: _,
         } = self;
@@ -49,12 +52,14 @@ impl Drop for Place {
 }
 
 impl Model for Place {
-    ghost use Rattle.std.specs.Prelude.{◌≡◌, map};
+    ghost use Rattle.std.specs.Prelude.{◌≡◌, ◌≤◌, length, map};
     ghost use Rattle.std.specs.List.{AllByRecursion};
     ghost use Rattle.escrow_checks.specs.Contribution.{IsContribution};
     ghost use Rattle.escrow_checks.specs.Form.{form};
     ghost use Rattle.escrow_checks.specs.declared.check.Check.{Check};
+    ghost use Rattle.escrow_checks.specs.declared.coefficients.TheConstants.Coefficients.{MAX_LEN};
     ghost use Rattle.escrow_bounds.specs.Inside.{place_of, IsPlace};
+    ghost use Rattle.escrow_bounds.specs.Listed.{AreListed};
     ghost use Rattle.escrow_bounds.specs.Place.{Place, checks_of};
 
     ghost Value = { Place };
@@ -62,27 +67,30 @@ impl Model for Place {
     ghost view = { λ p. place_of p };
 
     ghost invariant = { λ p. IsPlace (place_of p)
-        × (p.values.items ≡ map (λ (check : Check). form check.coeffs p.amounts.items) (checks_of p.checks.items))
-        × AllByRecursion IsContribution p.values.items };
+        × (p.values.items ≡ map (λ (check : Check). form check.coeffs p.amounts.items) (checks_of (place_of p).checks))
+        × AllByRecursion IsContribution p.values.items
+        × AreListed p.list.value p.sums.items
+        × (length p.amounts.items ≤ MAX_LEN) };
 }
 
 impl Place {
-    /// Returns the place of a row that has no open reservation.
+    /// Returns the place of a row that has no open reservation, over all checks of a list.
     pub(crate) fn new(
         alloc: Global,
         amounts: &[Amount],
-        checks: &[Check],
+        list: Arc<Seq<Check>>,
     ) -> Result<Place, AllocError>
-        requires covered { AllByRecursion (λ check. IsCovered check.coeffs amounts.now) checks.now }
+        requires covered { AllByRecursion (λ check. IsCovered check.coeffs amounts.now) list.value }
         requires few { length amounts.now ≤ MAX_LEN }
-        ensures { IfOk result (λ place. IsNew amounts.now checks.now place) }
+        ensures { IfOk result (λ place. IsNew amounts.now list.value place) }
     {
         Ok(Place {
             amounts: Vec::from_slice(alloc, amounts)?,
             count: 0,
-            checks: all_forms(alloc, checks)?,
-            values: all_values(alloc, checks, amounts)?,
-            columns: all_columns(alloc, amounts.len())?,
+            sums: all_sums(alloc, list.as_slice())?,
+            values: all_values(alloc, list.as_slice(), amounts)?,
+            columns: all_spreads(alloc, amounts.len())?,
+            list,
         })
     }
 
@@ -108,8 +116,9 @@ impl Place {
             → (result.0 ≡ least form.check.coeffs self.now.amounts reservations)
             × (result.1 ≡ greatest form.check.coeffs self.now.amounts reservations) }
     {
-        let form = &self.checks[check];
-        form.check.extremes(&self.amounts, &form.spread)
+        let sum = &self.sums[check];
+        let form = &self.list.as_slice()[sum.check];
+        form.extremes(&self.amounts, &sum.spread)
     }
 
     /// Returns the least and the greatest value of a column.
@@ -119,8 +128,8 @@ impl Place {
             → (result.0 ≡ least (unit_form (length self.now.amounts) column) self.now.amounts reservations)
             × (result.1 ≡ greatest (unit_form (length self.now.amounts) column) self.now.amounts reservations) }
     {
-        let form = &self.columns[column];
-        form.check.extremes(&self.amounts, &form.spread)
+        let spread = &self.columns[column];
+        column_check(self.amounts.len(), column).extremes(&self.amounts, spread)
     }
 
     /// Returns what changes would break of the first check that they can break, if any.
@@ -128,7 +137,7 @@ impl Place {
         ensures { (reservations : List (List ℤ)) → Counts self.now reservations
             → result ≡ broken (checks_of self.now.checks) self.now.amounts changes.now reservations }
     {
-        first_violation(&self.checks, &self.values, changes)
+        first_violation(self.list.as_slice(), &self.sums, &self.values, changes)
     }
 
     /// Returns what the counted reservations could break of the first check that they can break, if
@@ -139,7 +148,8 @@ impl Place {
             → result ≡ broken (take count (drop first (checks_of self.now.checks))) self.now.amounts [] reservations }
     {
         first_violation(
-            &self.checks[first..first + count],
+            self.list.as_slice(),
+            &self.sums[first..first + count],
             &self.values[first..first + count],
             &[],
         )
@@ -149,8 +159,8 @@ impl Place {
     pub(crate) fn drop_check(&mut self, index: usize)
         ensures { IsWithout index self.old self.new }
     {
-        if index < self.checks.len() {
-            self.checks.remove(index);
+        if index < self.sums.len() {
+            self.sums.remove(index);
             self.values.remove(index);
         }
     }
@@ -182,8 +192,8 @@ impl Place {
         ensures { IsRecounted counting changes.now self.old self.new }
     {
         let changes = Sparse::of(changes);
-        recount(&mut self.checks, &changes, counting);
-        recount(&mut self.columns, &changes, counting);
+        recount(self.list.as_slice(), &mut self.sums, &changes, counting);
+        recount_columns(&mut self.columns, &changes, counting);
         self.count = counting.number(self.count);
     }
 
@@ -192,46 +202,12 @@ impl Place {
         ensures { self.new ≡ record self.old { amounts = all_moved self.old.amounts changes.now } }
     {
         move_all(&mut self.amounts, changes);
-        revalue(&mut self.values, &self.checks, &self.amounts);
-    }
-}
-
-/// Returns the forms of checks, with no reservation counted.
-fn all_forms(alloc: Global, checks: &[Check]) -> Result<Vec<Tracked>, AllocError>
-    ensures checks { IfOk result (λ forms. checks_of forms.items ≡ checks.now) }
-    ensures sums { IfOk result (λ forms. HaveSums forms.items []) }
-{
-    let mut forms = Vec::with_capacity(alloc, checks.len())?;
-    for check in checks {
-        push_check(&mut forms, *check)?;
-    }
-    Ok(forms)
-}
-
-/// Returns the forms of columns, with no reservation counted.
-fn all_columns(alloc: Global, columns: usize) -> Result<Vec<Tracked>, AllocError>
-    requires { columns ≤ MAX_LEN }
-    ensures checks { IfOk result (λ forms. checks_of forms.items ≡ column_checks columns columns) }
-    ensures sums { IfOk result (λ forms. HaveSums forms.items []) }
-{
-    let mut forms = Vec::with_capacity(alloc, columns)?;
-    for place in 0..columns {
-        push_check(&mut forms, column_check(columns, place))?;
-    }
-    Ok(forms)
-}
-
-/// Returns a check without limits whose form is a column.
-fn column_check(columns: usize, place: usize) -> Check
-    requires within { place < columns }
-    requires few { columns ≤ MAX_LEN }
-    ensures { result ≡ column_check columns place }
-{
-    Check {
-        name: Name::new(b"COLUMN").unwrap(),
-        coeffs: Coefficients::unit(columns, place),
-        scale: Scale::ZERO,
-        span: Span { lo: None, hi: None },
+        revalue(
+            &mut self.values,
+            self.list.as_slice(),
+            &self.sums,
+            &self.amounts,
+        );
     }
 }
 

@@ -11,9 +11,8 @@ use Rattle.escrow_checks.specs.Checks.{unit_of}
 use Rattle.escrow_checks.specs.Condition.{amount_of}
 use Rattle.escrow_checks.specs.Form.{IsCovered}
 use Rattle.escrow_checks.proofs.CoefficientsLemmas.{length-unit_of}
-use Rattle.escrow_bounds.specs.declared.tracked.Tracked.{Tracked}
 use Rattle.escrow_bounds.specs.Held.{of_row}
-use Rattle.escrow_bounds.specs.Place.{checks_of}
+use Rattle.escrow_bounds.specs.Place.{Tracked, checks_of}
 use Rattle.escrow_bounds.proofs.LawLemmas.{other_way, same_extremes}
 use Rattle.escrow_num.specs.declared.value.RowName.{RowName}
 use Rattle.escrow_num.specs.Order.{same_row}

@@ -5,8 +5,7 @@ use Rattle.std.proofs.lemmas.List.{length-map}
 use Rattle.escrow_num.specs.declared.session.End.{End}
 use Rattle.escrow_num.specs.declared.value.RowName.{RowName}
 use Rattle.escrow_bounds.specs.Counts.{TakesIn, GivesBack}
-use Rattle.escrow_bounds.specs.declared.tracked.Tracked.{Tracked}
-use Rattle.escrow_bounds.specs.Place.{Place, checks_of}
+use Rattle.escrow_bounds.specs.Place.{Place, Tracked, checks_of}
 use Rattle.escrow_bounds.specs.Bounds.{Bounds, place_at, Becomes}
 use Rattle.escrow_tests.specs.Placed.{IsPlaced}
 

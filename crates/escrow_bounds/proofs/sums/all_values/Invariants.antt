@@ -3,7 +3,7 @@ use Rattle.std.specs.List.{AllByRecursion}
 use Rattle.escrow_checks.specs.Contribution.{IsContribution}
 use Rattle.escrow_checks.specs.Form.{form}
 use Rattle.escrow_checks.specs.declared.check.Check.{Check}
-use Rattle.escrow_bounds.proofs.tracked.all_values.Given as goal
+use Rattle.escrow_bounds.proofs.sums.all_values.Given as goal
 
 abbrev pub invariant-loop-check : goal.invariant-loop-check
 invariant-loop-check l = record {

@@ -1,5 +1,5 @@
 use Rattle.std.proofs.Common.{◌++◌}
-use Rattle.escrow_bounds.proofs.tracked.Counting.spread.Goals as goal
+use Rattle.escrow_bounds.proofs.sums.Counting.spread.Goals as goal
 
 pub with-requires-clause-room : goal.with-requires-clause-room
 with-requires-clause-room c =
