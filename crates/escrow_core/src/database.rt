@@ -196,8 +196,8 @@ impl<S: Alter> Database<S> {
             → (r : Refusal) → (step self.old.state session statement.now).0 ≡ Reply.Refused r
             → result ≡ Reply.Refused r }
 
-        // A statement that a rule without rows refuses meets that refusal, whatever the disk did and
-        // however little memory there is. The store stays as it is.
+        // The machine's first early refusal, which needs neither memory nor the store, is the reply
+        // whatever the disk did and however little memory there is. Nothing changes.
         ensures early { (r : Refusal)
             → first_refusal (transition_of self.old.state session statement.now).early ≡ Some r
             → (result ≡ Reply.Refused r) × (self.new ≡ self.old) }
