@@ -68,9 +68,8 @@ pub data Event : Type 0 where
   -- An owner that has lost its place grants what it likes.
   stale : (epoch : ℕ) → (session : ℕ) → (r : Reservation) → (notes : List Reservation) → Event
   -- PostgreSQL crashes, or stops, or a standby is promoted. These moments are lost; this one is left, and those before
-  -- it.
-  -- Of the transactions that ran at that moment some stay, and may commit: they were prepared, or their commit record
-  -- is written.
+  -- it. Of the transactions that ran at that moment some stay, and may commit: they were prepared, or their commit
+  -- record is written.
   crash : (lost : List Moment) → (left : Moment) → (older : List Moment) → (stay : ℕ → ℕ → Bool) → Event
 
 -- THE RULES, with their numbers in gateway/proxy/PROTOCOL.md

@@ -19,11 +19,11 @@ fault_refusal fault.Memory = refusal.Memory
 abbrev pub no_line_text : List ℕ
 no_line_text = with_prefix (codes "script> ") (reply_lines (reply.Refused refusal.Line))
 
--- the fault is the writer's, with some cause
+-- the fault is one of writing, with some cause
 abbrev pub IsOfWriter : ServeFault → Type 0
 IsOfWriter fault = (cause : WriteFault) × (fault ≡ serve_fault.Write cause)
 
--- after a fault of memory or of the reader, no reply is left to write; after one of the writer, some of one is
+-- after a fault of memory or of a read, no reply is left to write; after one of a write, some of one is
 abbrev pub Leaves : ServeFault → List ℕ → Type 0
 Leaves (serve_fault.Read cause) unwritten = unwritten ≡ []
 Leaves (serve_fault.Write cause) unwritten = 0 < length unwritten

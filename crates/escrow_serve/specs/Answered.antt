@@ -8,8 +8,8 @@ abbrev pub AreComplete : List ℕ → Type 0
 AreComplete bytes = (bytes ≡ []) ⊎ ((front : List ℕ) × (bytes ≡ front ++ 10 ∷ []))
 
 -- Of the bytes that came from a client, each complete line was answered. Behind the complete lines is at most a part of
--- a line, without a line feed. What was sent is what the complete lines write: the reply to each, whole, in their
--- order, and nothing else.
+-- a line, without a line feed. What was sent is what the complete lines write: a reply to each that asks for one, whole,
+-- in their order, whichever reply it is, and nothing else.
 pub record IsAnswered (databases sessions : ℕ) (received sent : List ℕ) : Type 0 where
   pub complete : List ℕ
   pub part : List ℕ
@@ -24,7 +24,7 @@ abbrev pub AllAnswered : ℕ → ℕ → Option (List ℕ) → Option (List ℕ)
 AllAnswered databases sessions (Some received) (Some sent) = IsAnswered databases sessions received sent
 AllAnswered databases sessions _ _ = ⊤
 
--- nothing came from a client yet, and nothing was sent to it, if it is known what comes
+-- nothing came from a client yet, and nothing was sent to it, if it is known what came
 abbrev pub IsFresh : Option (List ℕ) → Option (List ℕ) → Type 0
 IsFresh (Some received) sent = (received ≡ []) × (sent ≡ Some [])
 IsFresh None sent = ⊤

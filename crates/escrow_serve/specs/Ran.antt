@@ -55,7 +55,7 @@ LeftBy (Ok done) unserved unwritten = (unserved ≡ []) × (unwritten ≡ [])
 LeftBy (Err fault) unserved unwritten = Leaves fault unwritten
 
 -- WHAT A SCRIPT GAVE EACH DATABASE: some of its lines from its first on were served, and a prefix of their output was
--- written: all of it, unless the writer failed. Without a fault all lines were served
+-- written: all of it, unless a write failed. Without a fault all lines were served
 pub record ScriptRan {S : Type 0} (g : Ghosts S) (sessions : ℕ) (script : List ℕ) (olds news : List (Database S))
     (old_bytes new_bytes : Option (List ℕ)) (Left : List (List ℕ) → List ℕ → Type 0) : Type 0 where
   pub served : List (List ℕ)
