@@ -8,7 +8,7 @@ abbrev pub AreComplete : List ℕ → Type 0
 AreComplete bytes = (bytes ≡ []) ⊎ ((front : List ℕ) × (bytes ≡ front ++ 10 ∷ []))
 
 -- Of the bytes that came from a client, each complete line was answered. Behind the complete lines is at most a part of
--- a line, without a line feed. What was sent is what the complete lines write: a reply to each that asks for one, whole,
+-- a line, without a line feed. What was sent is what the complete lines write: a whole reply to each that asks for one,
 -- in their order, whichever reply it is, and nothing else.
 pub record IsAnswered (databases sessions : ℕ) (received sent : List ℕ) : Type 0 where
   pub complete : List ℕ
